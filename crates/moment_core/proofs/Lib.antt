@@ -1,0 +1,4 @@
+pub mod DateLemmas
+pub mod MonthLemmas
+pub mod FormLemmas
+pub mod PrintLemmas

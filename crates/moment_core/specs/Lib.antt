@@ -1,0 +1,4 @@
+pub mod Moments
+pub mod Calendar
+pub mod Printing
+pub mod Reading
