@@ -1,0 +1,6 @@
+pub mod NumberLemmas
+pub mod SetLemmas
+pub mod TickLemmas
+pub mod UnionLemmas
+pub mod UniqueLemmas
+pub mod WordLemmas

@@ -1,0 +1,39 @@
+-- The data intervals of a timetable, as Airflow 2's page 'Timetables' has them for a cron expression: from one tick to the
+-- next, start included and end excluded; a run by hand has the last one that has ended.
+use Rattle.std.specs.Prelude.{◌≡◌, ℕ, ◌+◌, ◌<◌, ◌≤◌, Option, None, Some, MatchOption}
+use Rattle.cron_timetable.specs.Fields.{Fields}
+use Rattle.cron_timetable.specs.Ticks.{IsTick, NoneBetween}
+use Rattle.cron_timetable.specs.declared.timetables.Interval.{Interval}
+use Rattle.cron_timetable.specs.declared.timetables.Timetable.{Timetable}
+use Rattle.cron_timetable.specs.declared.timetables.Timetable.TheVariants.{Cron, Once, Never}
+
+-- a pair of neighbouring ticks
+pub record IsInterval (c : Fields) (a b : ℕ) : Type 0 where
+  pub start : IsTick c a
+  pub end : IsTick c b
+  pub rising : a < b
+  pub between : NoneBetween c (a + 1) b
+
+-- the first interval whose start is at or after t: no tick stands between t and its start
+pub record IsFirstIntervalFrom (c : Fields) (t : ℕ) (i : Interval) : Type 0 where
+  pub interval : IsInterval c i.start i.end
+  pub from : t ≤ i.start
+  pub first : NoneBetween c t i.start
+
+-- the interval whose end is the greatest tick at or before t
+pub record IsLastIntervalTo (c : Fields) (t : ℕ) (i : Interval) : Type 0 where
+  pub interval : IsInterval c i.start i.end
+  pub to : i.end ≤ t
+  pub last : NoneBetween c (i.end + 1) (t + 1)
+
+-- the interval of a scheduled run from t on, or none where there is none
+abbrev pub IntervalFrom : Timetable → ℕ → Option Interval → Type 0
+IntervalFrom (Cron c) t r = MatchOption r ((a b : ℕ) → IsInterval c a b → t ≤ a → ⊥) (IsFirstIntervalFrom c t)
+IntervalFrom Once t r = r ≡ Some (record { start = t; end = t })
+IntervalFrom Never t r = r ≡ None
+
+-- the interval of a run by hand at t, or none where there is none
+abbrev pub ManualInterval : Timetable → ℕ → Option Interval → Type 0
+ManualInterval (Cron c) t r = MatchOption r ((a b : ℕ) → IsInterval c a b → b ≤ t → ⊥) (IsLastIntervalTo c t)
+ManualInterval Once t r = r ≡ Some (record { start = t; end = t })
+ManualInterval Never t r = r ≡ Some (record { start = t; end = t })
