@@ -1,0 +1,5 @@
+pub mod ListLemmas
+pub mod TableLemmas
+pub mod KeyLemmas
+pub mod ScheduleLemmas
+pub mod FaultLemmas

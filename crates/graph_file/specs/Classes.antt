@@ -1,0 +1,95 @@
+-- The classes of faults that have a place: what each says of a table that may have the given keys.
+use Rattle.std.specs.Prelude.{ℕ, ◌&&◌, ◌||◌, not, Bool, true, false, List, [], ◌∷◌, is_none, is_some, is_err, bytes_eq, int_lt}
+use Rattle.std.specs.List.{list_all, list_any}
+use Rattle.toml.specs.Data.{Data, Members, as_str, as_bool, as_integer, as_array, as_table}
+use Rattle.moment_core.specs.Reading.{read_of}
+use Rattle.graph_file.specs.Lists.{holds_at}
+use Rattle.graph_file.specs.Names.{is_name}
+use Rattle.graph_file.specs.Operators.{operator_of}
+use Rattle.graph_file.specs.Keys.{row_of, task_keys}
+use Rattle.graph_file.specs.Tables.{each_item, some_item, keys_in, member_at}
+use Rattle.graph_file.specs.declared.keys.Key.{Key}
+use Rattle.graph_file.specs.declared.keys.Kind.{Kind}
+use Rattle.graph_file.specs.declared.keys.Kind.TheVariants.{Text, Flag, Whole, Texts, Tables}
+use Rattle.graph_file.specs.declared.keys.Role.{Role}
+use Rattle.graph_file.specs.declared.keys.Role.TheVariants.{Name, Names, Moment, Range, Operator}
+use Rattle.graph_file.specs.declared.keys.Absent.{Absent}
+use Rattle.graph_file.specs.declared.keys.Absent.TheVariants.{Refused}
+use Rattle.graph_file.specs.declared.classes.Class.{Class}
+use Rattle.graph_file.specs.declared.classes.Class.TheVariants as class
+
+-- the classes, in the order in which they are answered
+abbrev pub classes : List Class
+classes = class.UnknownKey ∷ class.WrongType ∷ class.MissingKey ∷ class.BadName ∷ class.BadValue ∷ []
+
+-- the name is one of these keys
+abbrev pub is_key : List Key → List ℕ → Bool
+is_key keys name = list_any (λ k. bytes_eq (row_of k).name name) keys
+
+abbrev pub is_text : Data → Bool
+is_text d = is_some (as_str d)
+
+abbrev pub is_table : Data → Bool
+is_table d = is_some (as_table d)
+
+-- the value is of the kind
+abbrev pub is_kind : Kind → Data → Bool
+is_kind Text d = is_text d
+is_kind Flag d = is_some (as_bool d)
+is_kind Whole d = is_some (as_integer d)
+is_kind Texts d = holds_at (each_item is_text) (as_array d)
+is_kind Tables d = holds_at (each_item is_table) (as_array d)
+
+-- the value at the key is of another kind than the key's
+abbrev pub is_wrong : Key → Members → Bool
+is_wrong k t = holds_at (λ d. not (is_kind (row_of k).kind d)) (member_at k t)
+
+abbrev pub is_required : Absent → Bool
+is_required Refused = true
+is_required _ = false
+
+-- the key is required and absent
+abbrev pub is_missing : Key → Members → Bool
+is_missing k t = is_required (row_of k).absent && is_none (member_at k t)
+
+-- a text that is no name
+abbrev pub is_no_name : Data → Bool
+is_no_name d = holds_at (λ s. not (is_name s)) (as_str d)
+
+-- a name is wanted, and the text, or one of the texts, is none
+abbrev pub names_none : Role → Data → Bool
+names_none Name d = is_no_name d
+names_none Names d = holds_at (some_item is_no_name) (as_array d)
+names_none _ d = false
+
+abbrev pub is_misnamed : Key → Members → Bool
+is_misnamed k t = holds_at (names_none (row_of k).role) (member_at k t)
+
+-- the value is none of those that the role has
+abbrev pub is_outside : Role → Data → Bool
+is_outside Moment d = holds_at (λ s. is_err (read_of s)) (as_str d)
+is_outside (Range low high) d = holds_at (λ z. int_lt z low || int_lt high z) (as_integer d)
+is_outside Operator d = holds_at (λ s. is_none (operator_of s)) (as_str d)
+is_outside _ d = false
+
+abbrev pub is_bad : Key → Members → Bool
+is_bad k t = holds_at (is_outside (row_of k).role) (member_at k t)
+
+-- the table has a fault of the class
+abbrev pub has_fault : Class → List Key → Members → Bool
+has_fault class.UnknownKey keys t = list_any (λ name. not (is_key keys name)) (keys_in t)
+has_fault class.WrongType keys t = list_any (λ k. is_wrong k t) keys
+has_fault class.MissingKey keys t = list_any (λ k. is_missing k t) keys
+has_fault class.BadName keys t = list_any (λ k. is_misnamed k t) keys
+has_fault class.BadValue keys t = list_any (λ k. is_bad k t) keys
+
+-- the table has a fault of no class
+abbrev pub is_faultless : List Key → Members → Bool
+is_faultless keys t = list_all (λ c. not (has_fault c keys t)) classes
+
+-- the task is a table with a fault of the class, or one with none of any class
+abbrev pub task_has_fault : Class → Data → Bool
+task_has_fault c d = holds_at (has_fault c task_keys) (as_table d)
+
+abbrev pub is_faultless_task : Data → Bool
+is_faultless_task d = holds_at (is_faultless task_keys) (as_table d)

@@ -1,0 +1,57 @@
+-- The graph that a text describes, or its first fault.
+use Rattle.std.specs.Prelude.{ℕ, nat_lt, if◌then◌else◌, List, map, length, Option, Some, None, unwrap_or, Result, Ok, Err}
+use Rattle.std.specs.Result.{result_unwrap_or}
+use Rattle.toml.specs.Data.{Data, Members, no_members, as_table}
+use Rattle.toml.specs.Parse.{parse_document}
+use Rattle.cron_timetable.specs.declared.timetables.Timetable.TheVariants.{Never}
+use Rattle.graph_file.specs.Operators.{operator_of}
+use Rattle.graph_file.specs.Tables.{tasks_of}
+use Rattle.graph_file.specs.Values.{value_of, text_in, flag_in, number_in, moment_in}
+use Rattle.graph_file.specs.Schedules.{timetable_of}
+use Rattle.graph_file.specs.Faults.{fault_of}
+use Rattle.graph_file.specs.declared.keys.Key.TheVariants as key
+use Rattle.graph_file.specs.declared.operators.Operator.TheVariants.{Noop}
+use Rattle.graph_file.specs.declared.faults.GraphFault.{GraphFault}
+use Rattle.graph_file.specs.declared.faults.GraphFault.TheVariants.{NotToml, TooMany}
+use Rattle.graph_file.specs.declared.task_specs.TaskSpec.{TaskSpec}
+use Rattle.graph_file.specs.declared.graph_specs.GraphSpec.{GraphSpec}
+
+-- the bytes that a text may have
+abbrev pub text_limit : ℕ
+text_limit = 1048576
+
+-- the task of a table
+abbrev pub task_in : Members → TaskSpec
+task_in t = record {
+  task_id = text_in (value_of key.TaskId t);
+  operator = unwrap_or (operator_of (text_in (value_of key.Operator t))) Noop;
+}
+
+abbrev pub task_of : Data → TaskSpec
+task_of d = task_in (unwrap_or (as_table d) no_members)
+
+-- the graph of a table
+abbrev pub graph_in : Members → GraphSpec
+graph_in t = record {
+  dag_id = text_in (value_of key.DagId t);
+  schedule = result_unwrap_or (timetable_of (text_in (value_of key.Schedule t))) Never;
+  start_date = unwrap_or (moment_in (value_of key.StartDate t)) 0;
+  end_date = moment_in (value_of key.EndDate t);
+  catchup = flag_in (value_of key.Catchup t);
+  max_active_runs = number_in (value_of key.MaxActiveRuns t);
+  tasks = map task_of (tasks_of t);
+}
+
+-- the graph of a table, or its fault
+abbrev pub graph_or : Option GraphFault → Members → Result GraphSpec GraphFault
+graph_or (Some f) t = Err f
+graph_or None t = Ok (graph_in t)
+
+-- the graph of the table that a text is, if it is one
+abbrev pub graph_if : Option Members → Result GraphSpec GraphFault
+graph_if None = Err NotToml
+graph_if (Some t) = graph_or (fault_of t) t
+
+-- the graph of a text, or its fault
+abbrev pub graph_of : List ℕ → Result GraphSpec GraphFault
+graph_of text = if nat_lt text_limit (length text) then Err TooMany else graph_if (parse_document text)

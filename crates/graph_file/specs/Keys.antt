@@ -1,0 +1,38 @@
+-- The keys of a graph file, a row for each.
+--
+-- At the top, and in a task, a file may have the keys of the list there and no others.
+use Rattle.std.specs.Prelude.{ℕ, true, List, [], ◌∷◌, codes, pos}
+use Rattle.graph_file.specs.declared.keys.Key.{Key}
+use Rattle.graph_file.specs.declared.keys.Key.TheVariants as key
+use Rattle.graph_file.specs.declared.keys.Kind.{Kind}
+use Rattle.graph_file.specs.declared.keys.Kind.TheVariants.{Text, Flag, Whole, Tables}
+use Rattle.graph_file.specs.declared.keys.Role.{Role}
+use Rattle.graph_file.specs.declared.keys.Role.TheVariants as role
+use Rattle.graph_file.specs.declared.keys.Absent.{Absent}
+use Rattle.graph_file.specs.declared.keys.Absent.TheVariants as absent
+
+-- how a key is spelled, what its value is in TOML, what it has to be beyond that, and what stands where the key is absent
+pub record Row : Type 0 where
+  pub name : List ℕ
+  pub kind : Kind
+  pub role : Role
+  pub absent : Absent
+
+abbrev pub row_of : Key → Row
+row_of key.DagId = record { name = codes "dag_id"; kind = Text; role = role.Name; absent = absent.Refused }
+row_of key.Schedule = record { name = codes "schedule"; kind = Text; role = role.Schedule; absent = absent.Refused }
+row_of key.StartDate = record { name = codes "start_date"; kind = Text; role = role.Moment; absent = absent.Refused }
+row_of key.EndDate = record { name = codes "end_date"; kind = Text; role = role.Moment; absent = absent.Empty }
+row_of key.Catchup = record { name = codes "catchup"; kind = Flag; role = role.Free; absent = absent.Flag true }
+row_of key.MaxActiveRuns = record { name = codes "max_active_runs"; kind = Whole; role = role.Range (pos 1) (pos 1000000); absent = absent.Whole 16 }
+row_of key.Task = record { name = codes "task"; kind = Tables; role = role.Free; absent = absent.Empty }
+row_of key.TaskId = record { name = codes "task_id"; kind = Text; role = role.Name; absent = absent.Refused }
+row_of key.Operator = record { name = codes "operator"; kind = Text; role = role.Operator; absent = absent.Refused }
+
+-- the keys at the top of a file
+abbrev pub top_keys : List Key
+top_keys = key.DagId ∷ key.Schedule ∷ key.StartDate ∷ key.EndDate ∷ key.Catchup ∷ key.MaxActiveRuns ∷ key.Task ∷ []
+
+-- the keys of a task
+abbrev pub task_keys : List Key
+task_keys = key.TaskId ∷ key.Operator ∷ []

@@ -1,0 +1,10 @@
+pub mod Names
+pub mod Lists
+pub mod Operators
+pub mod Keys
+pub mod Tables
+pub mod Values
+pub mod Schedules
+pub mod Classes
+pub mod Faults
+pub mod Graphs

@@ -1,0 +1,214 @@
+//! The classes of faults that have a place, each one test over the rows of the keys.
+//!
+//! A class speaks of a table only: that the first class that stands anywhere in the file is answered, and at its first
+//! place, is the business of `reading.rt`. So a value of the wrong type is no bad name and no bad value here.
+ghost use Rattle.std.specs.Prelude.{◌≡◌, not, string_bytes};
+ghost use Rattle.std.specs.List.{list_all, list_any};
+ghost use Rattle.std.specs.BTreeMap.{keys as entry_keys};
+ghost use Rattle.toml.specs.View.{table_view, view};
+ghost use Rattle.graph_file.specs.Classes as spec;
+
+use crate::keys::{Absent, Key, Kind, Role, TASK_KEYS};
+use crate::names::is_name;
+use crate::operators::Operator;
+use crate::tables::value_at;
+use moment_core::Moment;
+use toml::{Table, Value};
+
+/// A class of faults that have a place, in the order in which they are answered.
+#[derive(Clone, Copy)]
+pub enum Class {
+    UnknownKey,
+    WrongType,
+    MissingKey,
+    BadName,
+    BadValue,
+}
+
+/// The classes, in the order in which they are answered.
+pub const CLASSES: [Class; 5] = [
+    Class::UnknownKey,
+    Class::WrongType,
+    Class::MissingKey,
+    Class::BadName,
+    Class::BadValue,
+];
+
+// Whether the table, which may have these keys, has a fault of the class.
+pub fn has_fault(class: Class, keys: &[Key], table: &Table) -> bool
+    ensures { result ≡ spec.has_fault class keys.now (table_view table.now) }
+{
+    match class {
+        Class::UnknownKey => has_unknown_key(keys, table),
+        Class::WrongType => has_wrong_type(keys, table),
+        Class::MissingKey => has_missing_key(keys, table),
+        Class::BadName => has_bad_name(keys, table),
+        Class::BadValue => has_bad_value(keys, table),
+    }
+}
+
+// Whether the task is a table with a fault of the class.
+pub fn task_has_fault(class: Class, task: &Value) -> bool
+    ensures { result ≡ spec.task_has_fault class (view task.now) }
+{
+    match task.as_table() {
+        Some(table) => has_fault(class, &TASK_KEYS, table),
+        None => false,
+    }
+}
+
+fn has_unknown_key(keys: &[Key], table: &Table) -> bool
+    ensures { result ≡ spec.has_fault Class.UnknownKey keys.now (table_view table.now) }
+{
+    has_other_name(keys, table)
+}
+
+fn has_other_name(keys: &[Key], table: &Table) -> bool
+    ensures { result ≡ list_any (λ name. not (spec.is_key keys.now (string_bytes name))) (entry_keys table.now) }
+{
+    table.keys().any(|name| !is_key(keys, name.as_str()))
+}
+
+fn is_key(keys: &[Key], name: &str) -> bool
+    ensures { result ≡ spec.is_key keys.now name.now }
+{
+    keys.iter().any(|key| key.name() == name)
+}
+
+fn has_wrong_type(keys: &[Key], table: &Table) -> bool
+    ensures { result ≡ spec.has_fault Class.WrongType keys.now (table_view table.now) }
+{
+    keys.iter().any(|key| is_wrong(*key, table))
+}
+
+fn is_wrong(key: Key, table: &Table) -> bool
+    ensures { result ≡ spec.is_wrong key (table_view table.now) }
+{
+    match value_at(table, key) {
+        Some(value) => !is_kind(key.kind(), value),
+        None => false,
+    }
+}
+
+// Whether the value is of the kind.
+fn is_kind(kind: Kind, value: &Value) -> bool
+    ensures { result ≡ spec.is_kind kind (view value.now) }
+{
+    match kind {
+        Kind::Text => value.as_str().is_some(),
+        Kind::Flag => value.as_bool().is_some(),
+        Kind::Whole => value.as_integer().is_some(),
+        Kind::Texts => match value.as_array() {
+            Some(items) => are_texts(items.as_slice()),
+            None => false,
+        },
+        Kind::Tables => match value.as_array() {
+            Some(items) => are_tables(items.as_slice()),
+            None => false,
+        },
+    }
+}
+
+fn are_texts(items: &[Value]) -> bool
+    ensures { result ≡ list_all (λ v. spec.is_text (view v)) items.now }
+{
+    items.iter().all(|item| item.as_str().is_some())
+}
+
+fn are_tables(items: &[Value]) -> bool
+    ensures { result ≡ list_all (λ v. spec.is_table (view v)) items.now }
+{
+    items.iter().all(|item| item.as_table().is_some())
+}
+
+fn has_missing_key(keys: &[Key], table: &Table) -> bool
+    ensures { result ≡ spec.has_fault Class.MissingKey keys.now (table_view table.now) }
+{
+    keys.iter().any(|key| is_missing(*key, table))
+}
+
+fn is_missing(key: Key, table: &Table) -> bool
+    ensures { result ≡ spec.is_missing key (table_view table.now) }
+{
+    matches!(key.absent(), Absent::Refused) && value_at(table, key).is_none()
+}
+
+fn has_bad_name(keys: &[Key], table: &Table) -> bool
+    ensures { result ≡ spec.has_fault Class.BadName keys.now (table_view table.now) }
+{
+    keys.iter().any(|key| is_misnamed(*key, table))
+}
+
+fn is_misnamed(key: Key, table: &Table) -> bool
+    ensures { result ≡ spec.is_misnamed key (table_view table.now) }
+{
+    match value_at(table, key) {
+        Some(value) => names_none(key.role(), value),
+        None => false,
+    }
+}
+
+// Whether a name is wanted, and the text, or one of the texts, is none.
+fn names_none(role: Role, value: &Value) -> bool
+    ensures { result ≡ spec.names_none role (view value.now) }
+{
+    match role {
+        Role::Name => is_no_name(value),
+        Role::Names => match value.as_array() {
+            Some(items) => has_no_name(items.as_slice()),
+            None => false,
+        },
+        _ => false,
+    }
+}
+
+fn is_no_name(value: &Value) -> bool
+    ensures { result ≡ spec.is_no_name (view value.now) }
+{
+    match value.as_str() {
+        Some(text) => !is_name(text),
+        None => false,
+    }
+}
+
+fn has_no_name(items: &[Value]) -> bool
+    ensures { result ≡ list_any (λ v. spec.is_no_name (view v)) items.now }
+{
+    items.iter().any(|item| is_no_name(item))
+}
+
+fn has_bad_value(keys: &[Key], table: &Table) -> bool
+    ensures { result ≡ spec.has_fault Class.BadValue keys.now (table_view table.now) }
+{
+    keys.iter().any(|key| is_bad(*key, table))
+}
+
+fn is_bad(key: Key, table: &Table) -> bool
+    ensures { result ≡ spec.is_bad key (table_view table.now) }
+{
+    match value_at(table, key) {
+        Some(value) => is_outside(key.role(), value),
+        None => false,
+    }
+}
+
+// Whether the value is none of those that the role has.
+fn is_outside(role: Role, value: &Value) -> bool
+    ensures { result ≡ spec.is_outside role (view value.now) }
+{
+    match role {
+        Role::Moment => match value.as_str() {
+            Some(text) => Moment::read(text).is_err(),
+            None => false,
+        },
+        Role::Range(low, high) => match value.as_integer() {
+            Some(number) => number < low || high < number,
+            None => false,
+        },
+        Role::Operator => match value.as_str() {
+            Some(text) => Operator::read(text).is_none(),
+            None => false,
+        },
+        _ => false,
+    }
+}

@@ -1,0 +1,41 @@
+//! Graph files: the form in which a graph of tasks is read, refused and stated.
+//!
+//! [`read_graph`] gives the [`GraphSpec`] of a text in TOML, or the first [`GraphFault`] that stands in it. The table of
+//! keys in `keys.rt` says what a file may have; each class of faults is one test over its rows. Easy to get wrong: the
+//! first *class* is answered wherever it stands in the file, and only within a class does the first place count.
+//!
+//! ```text
+//! dag_id = "one"
+//! schedule = "@daily"
+//! start_date = "2024-02-28"
+//! [[task]]
+//! task_id = "t"
+//! operator = "noop"
+//! ```
+#![tactic(auto)]
+
+mod bounded;
+mod building;
+mod classes;
+mod faults;
+mod finding;
+mod graph_specs;
+mod keys;
+mod names;
+mod operators;
+mod reading;
+mod schedules;
+mod sequences;
+mod tables;
+mod task_specs;
+#[cfg(test)]
+mod tests;
+
+pub use bounded::Bounded;
+pub use faults::{GraphFault, Place};
+pub use graph_specs::GraphSpec;
+pub use names::{Name, NameFault};
+pub use operators::Operator;
+pub use reading::read_graph;
+pub use sequences::Sequence;
+pub use task_specs::TaskSpec;

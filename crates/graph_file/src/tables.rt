@@ -1,0 +1,37 @@
+//! A table of TOML: what stands at a key, and the tasks.
+ghost use Rattle.std.specs.Prelude.{◌≡◌, map, option_map, option_and_then};
+ghost use Rattle.toml.specs.Data.{as_array};
+ghost use Rattle.toml.specs.View.{table_view, array_view, view};
+ghost use Rattle.graph_file.specs.Tables.{member_at, tasks_of};
+
+use crate::keys::Key;
+use toml::value::Array;
+use toml::{Table, Value};
+
+// What the table has at the key.
+pub fn value_at<'a>(table: &'a Table, key: Key) -> Option<&'a Value>
+    ensures { option_map (λ v. view v.now) result ≡ member_at key (table_view table.now) }
+{
+    table.get(key.name())
+}
+
+// The array at the key.
+fn array_at<'a>(table: &'a Table, key: Key) -> Option<&'a Array>
+    ensures { option_map (λ v. array_view v.now) result
+        ≡ option_and_then as_array (member_at key (table_view table.now)) }
+{
+    match value_at(table, key) {
+        Some(value) => value.as_array(),
+        None => None,
+    }
+}
+
+// The tasks, in the order of the file.
+pub fn tasks(table: &Table) -> &[Value]
+    ensures { map view result.now ≡ tasks_of (table_view table.now) }
+{
+    match array_at(table, Key::Task) {
+        Some(items) => items.as_slice(),
+        None => &[],
+    }
+}
