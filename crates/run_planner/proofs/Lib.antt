@@ -1,0 +1,5 @@
+pub mod IndexLemmas
+pub mod RiseLemmas
+pub mod PlanLemmas
+pub mod MemberLemmas
+pub mod LatestLemmas

@@ -1,0 +1,5 @@
+use Rattle.run_planner.proofs.MemberLemmas.{due_members}
+use Rattle.run_planner.proofs.laws.due_intervals_are_intervals.Goals as goal
+
+pub returns : goal.returns
+returns c = due_members

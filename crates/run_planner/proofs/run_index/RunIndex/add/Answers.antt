@@ -1,0 +1,35 @@
+use Rattle.std.proofs.Common.{◌≡◌, ◌∙◌, ◌==◌, ◌<◌, ◌-◌, ◌||◌, ℕ, Bool, true, cond, length, get_or, ap, sym, subst, List, Err, arith, vec_len, vec_capacity}
+use Rattle.std.specs.List.{list_any, insert}
+use Rattle.std.specs.List.Sorted.{IsNonDecreasingBy}
+use Rattle.std.specs.Result.{is_ok}
+use Rattle.run_planner.specs.Index.{Index, has_date}
+use Rattle.run_planner.proofs.IndexLemmas.{Found, place, added-there, added-new, rises-insert}
+use Rattle.run_planner.proofs.run_index.RunIndex.add.Goals as goal
+
+pub returns-in-Ok-clause-added : goal.returns-in-Ok-clause-added
+returns-in-Ok-clause-added c m =
+    let found = place _ c.deref.result.now c.secs.result c.binary_search.result c.deref.ensures.value c.binary_search.ensures.position c.self.invariant in
+    let at = rw c.in-Ok.is at found in
+    let here : c.deref.result.now ≡ c.args.self.now.dates = c.deref.ensures.value ∙ ap (λ (v : Index). v.dates) c.self.view_is in
+    let below : c.in-Ok.field-0 < length c.args.self.now.dates = omega (arith, at.0, ap length here) in
+    added-there c.args.self.now.dates c.args.date m c.in-Ok.field-0 below (sym (ap (λ (l : List ℕ). get_or l c.in-Ok.field-0 0) here) ∙ (at.1 ∙ c.secs.ensures.value))
+
+pub invariant_of-self : goal.invariant_of-self
+invariant_of-self c =
+    let found = place _ c.deref.result.now c.secs.result c.binary_search.result c.deref.ensures.value c.binary_search.ensures.position c.self.invariant in
+    let at : Found c.deref.result.now c.secs.result (Err c.in-Err.at) = rw c.in-Err.is at found in
+    let room : 0 < vec_capacity c.self.inside.dates - vec_len c.self.inside.dates = subst (λ (v : Index). 0 < v.room) (sym c.self.view_is) c.requires in
+    let ok : is_ok c.insert.result ≡ true = c.insert.ensures.succeeds (omega (arith, room)) in
+    let items = c.insert.ensures.items ∙ ap (λ (b : Bool). cond b (insert c.self.inside.dates.items c.in-Err.at c.secs-in-Err.result) c.self.inside.dates.items) ok in
+    let same : c.secs.result ≡ c.secs-in-Err.result = c.secs.ensures.value ∙ sym c.secs-in-Err.ensures.value in
+    let rises = rises-insert c.self.inside.dates.items c.deref.result.now c.secs-in-Err.result c.in-Err.at c.deref.ensures.value c.self.invariant (subst (λ (n : ℕ). Found c.deref.result.now n (Err c.in-Err.at)) same at) in
+    subst (λ (l : List ℕ). IsNonDecreasingBy (λ z. z) l) (sym items) rises
+
+pub returns-in-Err-clause-added : goal.returns-in-Err-clause-added
+returns-in-Err-clause-added c m =
+    let room : 0 < vec_capacity c.self.inside.dates - vec_len c.self.inside.dates = subst (λ (v : Index). 0 < v.room) (sym c.self.view_is) c.requires in
+    let ok : is_ok c.insert.result ≡ true = c.insert.ensures.succeeds (omega (arith, room)) in
+    let items = c.insert.ensures.items ∙ ap (λ (b : Bool). cond b (insert c.self.inside.dates.items c.in-Err.at c.secs-in-Err.result) c.self.inside.dates.items) ok in
+    ap (list_any (λ z. z == m)) items
+    ∙ (added-new c.self.inside.dates.items c.secs-in-Err.result m c.in-Err.at
+    ∙ (ap (λ (n : ℕ). (n == m) || list_any (λ z. z == m) c.self.inside.dates.items) c.secs-in-Err.ensures.value ∙ ap (λ (v : Index). (c.args.date == m) || has_date v.dates m) c.self.view_is))

@@ -1,0 +1,207 @@
+use super::*;
+use cron_timetable::{Cron, Interval, Timetable};
+use graph_file::{Bounded, GraphSpec, Name, Sequence};
+use moment_core::Moment;
+use std::alloc::Global;
+use std::process::Abort;
+use std::test::Fail;
+
+// A moment, or none at an empty text.
+fn moment(text: &str) -> Option<Moment> {
+    Moment::read(text).ok()
+}
+
+// The timetable of a schedule's text: `@once`, `None`, or else a cron expression.
+fn timetable(text: &str) -> Result<Timetable, Fail> {
+    match text {
+        "@once" => Ok(Timetable::Once),
+        "None" => Ok(Timetable::Never),
+        _ => Ok(Timetable::Cron(Cron::read(text)?)),
+    }
+}
+
+// A graph with no tasks.
+fn graph(
+    alloc: Global,
+    schedule: &str,
+    dates: (&str, &str),
+    catchup: bool,
+) -> Result<GraphSpec, Fail> {
+    let (start_date, end_date) = dates;
+    Ok(GraphSpec {
+        dag_id: Name::read(alloc, "graph")?,
+        schedule: timetable(schedule)?,
+        start_date: moment(start_date).ok_or("no moment")?,
+        end_date: moment(end_date),
+        catchup,
+        max_active_runs: Bounded::new(16),
+        tasks: Sequence::new(Vec::new(alloc)),
+    })
+}
+
+// Adds the dates of a text with blanks between them.
+fn add(index: &mut RunIndex, dates: &str) -> Result<(), Fail> {
+    for text in dates.split_whitespace() {
+        index.reserve(1)?;
+        index.add(moment(text).ok_or("no moment")?);
+    }
+    Ok(())
+}
+
+// Asserts that these are the intervals, each written as `start/end`.
+fn assert_intervals(
+    rt: &impl Abort,
+    planned: &Planned,
+    texts: &str,
+    row: &str,
+) -> Result<(), Fail> {
+    let mut intervals = planned.intervals.iter();
+    for text in texts.split_whitespace() {
+        let (start, end) = text.split_once("/").ok_or("no interval")?;
+        let start = moment(start).ok_or("no moment")?;
+        let end = moment(end).ok_or("no moment")?;
+        assert_eq!(rt;
+            intervals.next().copied(),
+            Some(Interval { start, end }),
+            "{row}"
+        );
+    }
+    assert_eq!(rt; intervals.next().copied(), None, "{row}");
+    Ok(())
+}
+
+// By Airflow 2's page 'DAG Runs': a run comes after its interval has ended, and without catchup only the latest comes.
+#[test]
+fn plans_what_is_due(rt: HostRuntime) -> Result<(), Fail> {
+    let hours = ("2024-01-01", "2024-01-01T01:00:00Z");
+    let rows = [
+        // schedule, dates, catchup, now, dates of runs, intervals
+        (
+            "@daily",
+            ("2024-02-28", ""),
+            true,
+            "2024-02-29T23:59:59Z",
+            "",
+            "2024-02-28/2024-02-29",
+        ),
+        (
+            "@daily",
+            ("2024-02-28", ""),
+            true,
+            "2024-03-01",
+            "",
+            "2024-02-28/2024-02-29 2024-02-29/2024-03-01",
+        ),
+        (
+            "@daily",
+            ("2024-02-28", ""),
+            true,
+            "2024-03-01",
+            "2024-02-28",
+            "2024-02-29/2024-03-01",
+        ),
+        (
+            "@hourly",
+            ("2024-01-01", ""),
+            false,
+            "2024-01-02T01:00:00Z",
+            "",
+            "2024-01-02/2024-01-02T01:00:00Z",
+        ),
+        (
+            "@hourly",
+            hours,
+            true,
+            "2024-01-02T01:00:00Z",
+            "",
+            "2024-01-01/2024-01-01T01:00:00Z 2024-01-01T01:00:00Z/2024-01-01T02:00:00Z",
+        ),
+        (
+            "@hourly",
+            hours,
+            false,
+            "2024-01-02T01:00:00Z",
+            "",
+            "2024-01-01T01:00:00Z/2024-01-01T02:00:00Z",
+        ),
+        (
+            "@hourly",
+            hours,
+            false,
+            "2024-01-02T01:00:00Z",
+            "2024-01-01T01:00:00Z",
+            "",
+        ),
+        (
+            "@hourly",
+            ("2024-01-02T00:30:00Z", ""),
+            false,
+            "2024-01-02T01:00:00Z",
+            "",
+            "",
+        ),
+        (
+            "@once",
+            ("2024-01-01", ""),
+            true,
+            "2023-12-31T23:59:59Z",
+            "",
+            "",
+        ),
+        (
+            "@once",
+            ("2024-01-01", ""),
+            true,
+            "2024-01-01",
+            "",
+            "2024-01-01/2024-01-01",
+        ),
+        (
+            "@once",
+            ("2024-01-01", ""),
+            false,
+            "2024-01-01",
+            "",
+            "2024-01-01/2024-01-01",
+        ),
+        (
+            "@once",
+            ("2024-01-01", ""),
+            true,
+            "2024-01-01",
+            "2024-01-01",
+            "",
+        ),
+        ("None", ("2024-01-01", ""), true, "2024-03-01", "", ""),
+        ("None", ("2024-01-01", ""), false, "2024-03-01", "", ""),
+    ];
+    for (schedule, dates, catchup, now, runs, intervals) in rows {
+        let graph = graph(rt.alloc(), schedule, dates, catchup)?;
+        let mut index = RunIndex::new(rt.alloc());
+        add(&mut index, runs)?;
+        let now_moment = moment(now).ok_or("no moment")?;
+        let planned = due(rt.alloc(), &graph, now_moment, &index, 10)?;
+        assert_intervals(&rt, &planned, intervals, now)?;
+        assert!(rt; !planned.more, "{schedule} at {now}");
+    }
+    Ok(())
+}
+
+// Twenty-five hours have ended, and a call plans ten at most.
+#[test]
+fn plans_in_parts(rt: HostRuntime) -> Result<(), Fail> {
+    let graph = graph(rt.alloc(), "@hourly", ("2024-01-01", ""), true)?;
+    let now = moment("2024-01-02T01:00:00Z").ok_or("no moment")?;
+    let mut index = RunIndex::new(rt.alloc());
+    for (count, more) in [(10, true), (10, true), (5, false), (0, false)] {
+        let planned = due(rt.alloc(), &graph, now, &index, 10)?;
+        assert_eq!(rt; planned.intervals.len(), count);
+        assert_eq!(rt; planned.more, more);
+        for interval in &planned.intervals {
+            assert!(rt; !index.has(interval.start));
+            index.reserve(1)?;
+            index.add(interval.start);
+        }
+    }
+    Ok(())
+}

@@ -1,0 +1,6 @@
+pub mod InsertLemmas
+pub mod NamingLemmas
+pub mod PlanLemmas
+pub mod StepLemmas
+pub mod SweepLemmas
+pub mod TakeInLemmas

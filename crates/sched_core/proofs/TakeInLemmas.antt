@@ -1,0 +1,51 @@
+-- A text is taken in at its place, for which there is room.
+use Rattle.std.proofs.Common.{◌≡◌, refl, sym, ap, subst, ◌∙◌, ℕ, zero, suc, ◌+◌, ◌<◌, ◌≤◌, List, [], ◌∷◌, Bool, true, false, length, map, find, get_or, slice_get, slice_set, Option, Some, None, arith, insert}
+use Rattle.std.specs.List.{list_any}
+use Rattle.std.proofs.lemmas.List.{length-map}
+use Rattle.std.proofs.lemmas.List.Folds.{list_any_at}
+use Rattle.std.proofs.lemmas.Option.{slice_get-get_or}
+use Rattle.graph_file.specs.declared.graph_specs.GraphSpec.{GraphSpec}
+use Rattle.sched_state.specs.Lists.{same, insert_by}
+use Rattle.sched_state.specs.Schedule.{graph_before}
+use Rattle.sched_state.specs.declared.graphs.Graph.{Graph}
+use Rattle.sched_state.specs.Changes.{reloaded, new_graph, with_graph}
+use Rattle.sched_state.specs.Sound.{rises}
+use Rattle.sched_state.proofs.LoadLemmas.{replaced_at, with_known, with_unknown}
+use Rattle.sched_core.specs.Inside.{StandsAt, IsPlaceFor}
+use Rattle.sched_core.proofs.InsertLemmas.{insert-place}
+
+pub taken_known : (text : List ℕ) (spec : GraphSpec) (gs : List Graph) (i : ℕ) (g : Graph) → StandsAt spec.dag_id gs i → g ≡ get_or gs i g → rises graph_before gs ≡ true
+    → slice_set gs i (record { text = text; spec = spec; paused = g.paused }) ≡ with_graph text spec gs
+taken_known text spec gs i g stands read order =
+    let at : slice_get gs i ≡ Some g = slice_get-get_or gs i g stands.below ∙ ap (λ x. Some x) (sym read) in
+    let c : ◌≡◌ {A = Option Graph} (Some stands.graph) (Some g) = sym stands.there ∙ at in
+    let is : stands.graph ≡ g = cc in
+    let named : same g.spec.dag_id spec.dag_id ≡ true = ap (λ (k : Graph). same k.spec.dag_id spec.dag_id) (sym is) ∙ stands.named in
+    let known : list_any (λ (k : Graph). same k.spec.dag_id spec.dag_id) gs ≡ true =
+    list_any_at (λ (k : Graph). same k.spec.dag_id spec.dag_id) gs i g stands.below (ap (λ (k : Graph). same k.spec.dag_id spec.dag_id) (sym read) ∙ named) in
+    sym (with_known text spec gs known ∙ replaced_at text spec gs i g at named order)
+
+pub taken_new : (text : List ℕ) (spec : GraphSpec) (gs : List Graph) (i : ℕ) → list_any (λ (k : Graph). same k.spec.dag_id spec.dag_id) gs ≡ false
+    → IsPlaceFor graph_before (new_graph text spec) gs i → insert gs i (new_graph text spec) ≡ with_graph text spec gs
+taken_new text spec gs i unknown place = insert-place graph_before (new_graph text spec) gs i place ∙ sym (with_unknown text spec gs unknown)
+
+length-insert_by : {X : Type 0} (before : X → X → Bool) (x : X) (xs : List X) → length (insert_by before x xs) ≡ suc (length xs)
+length-insert_by before x [] = refl
+length-insert_by {X} before x (y ∷ ys) = elim (before x y) as (λ b. length (elim b as (λ d. List X) [ true ↦ x ∷ y ∷ ys | false ↦ y ∷ insert_by before x ys ]) ≡ suc (suc (length ys))) [
+  | true ↦ refl
+  | false ↦ ap suc (length-insert_by before x ys)
+]
+
+pub length-new : (text : List ℕ) (spec : GraphSpec) (gs : List Graph) → list_any (λ (k : Graph). same k.spec.dag_id spec.dag_id) gs ≡ false → length (with_graph text spec gs) ≡ length gs + 1
+length-new text spec gs unknown = ap length (with_unknown text spec gs unknown) ∙ (length-insert_by graph_before (new_graph text spec) gs ∙ omega arith)
+
+-- at most one graph is added
+pub length-with_graph : (text : List ℕ) (spec : GraphSpec) (gs : List Graph) → length (with_graph text spec gs) ≤ length gs + 1
+length-with_graph text spec gs =
+    elim (find (λ (g : Graph). same g.spec.dag_id spec.dag_id) gs) as (λ o. length (elim o as (λ p. List Graph) [
+      | Some g ↦ map (reloaded text spec) gs
+      | None ↦ insert_by graph_before (new_graph text spec) gs
+    ]) ≤ length gs + 1) [
+      | Some g ↦ omega (arith, length-map gs (reloaded text spec))
+      | None ↦ omega (arith, length-insert_by graph_before (new_graph text spec) gs)
+    ]

@@ -1,0 +1,42 @@
+//! A planned change.
+ghost use Rattle.std.specs.Prelude.{◌≡◌};
+
+use crate::answers::Answer;
+use crate::schedules::Schedule;
+use graph_file::GraphSpec;
+use moment_core::Moment;
+use sched_state::{Run, Text};
+use std::marker::Model;
+use std::snapshot::Snapshot;
+
+// What a change does to the schedule that it was planned for.
+#[derive(Drop)]
+pub enum Effect {
+    // Nothing.
+    Nothing,
+    // A text is taken in, which says this.
+    Load(Text, GraphSpec),
+    // The clock is set, and these are the runs.
+    Runs(Moment, Vec<Run>),
+}
+
+/// What an accepted event will do: it is made by `Schedule::plan`, and done by `Schedule::commit`.
+///
+/// Contracts see the schedule before it, the one after it, and the answer.
+#[derive(Drop)]
+pub struct Change {
+    pub(crate) before: Snapshot<Schedule>,
+    pub(crate) effect: Effect,
+    pub(crate) answer: Answer,
+}
+
+impl Model for Change {
+    ghost use Rattle.sched_core.specs.Changes.{Planned, IsKept};
+    ghost use Rattle.sched_core.specs.Effects.{applied};
+
+    ghost Value = { Planned };
+
+    ghost view = { λ c. record { before = c.before.value.content; after = applied c.effect c.before.value.content; answer = c.answer } };
+
+    ghost invariant = { λ c. IsKept (applied c.effect c.before.value.content) };
+}

@@ -1,0 +1,132 @@
+//! The schedule in memory: what it shows, and how a planned change is done.
+//!
+//! A change is planned against the schedule as it is, room is reserved for it, and it is committed: only the first two can fail,
+//! and neither changes what the schedule holds.
+ghost use Rattle.std.specs.Prelude.{◌≡◌, ◌≤◌, [], length, OnOk, true, vec_capacity};
+ghost use Rattle.sched_state.specs.Limits.{Bounds};
+ghost use Rattle.sched_state.specs.Schedule.{empty_schedule, graph_before};
+ghost use Rattle.sched_state.specs.Changes.{with_graph};
+ghost use Rattle.sched_state.specs.Sound.{rises};
+ghost use Rattle.sched_core.specs.Changes.{HasRoom, IsKept};
+
+use crate::answers::Answer;
+use crate::changes::{Change, Effect};
+use crate::lookups::place_of;
+use crate::ordering::place_for_graph;
+use graph_file::GraphSpec;
+use moment_core::Moment;
+use sched_state::{Graph, Limits, Run, Text};
+use std::alloc::{AllocError, Global};
+use std::marker::Model;
+
+/// A schedule (Airflow 2, "Scheduler"): graphs with their runs, and the last moment that it has seen.
+///
+/// Contracts see what it holds, `content`, and the `room` that is reserved.
+#[derive(Drop)]
+pub struct Schedule {
+    pub(crate) limits: Limits,
+    pub(crate) graphs: Vec<Graph>,
+    pub(crate) clock: Moment,
+    pub(crate) runs: Vec<Run>,
+}
+
+impl Model for Schedule {
+    ghost use Rattle.std.specs.Prelude.{◌-◌, vec_len, vec_capacity};
+    ghost use Rattle.sched_core.specs.Changes.{Held, IsKept};
+
+    ghost Value = { Held };
+
+    ghost view = { λ s. record {
+      content = record { limits = s.limits; graphs = s.graphs.items; now = s.clock; runs = s.runs.items };
+      room = record { graphs = vec_capacity s.graphs - vec_len s.graphs };
+    } };
+
+    ghost invariant = { λ s. IsKept (record { limits = s.limits; graphs = s.graphs.items; now = s.clock; runs = s.runs.items }) };
+}
+
+impl Schedule {
+    /// A schedule without graphs, whose clock stands at 1970-01-01T00:00:00Z. This takes no memory.
+    pub fn new(alloc: Global, limits: Limits) -> Schedule
+        ensures { result.content ≡ empty_schedule limits }
+    {
+        Schedule {
+            limits,
+            graphs: Vec::new(alloc),
+            clock: Moment::at(0),
+            runs: Vec::new(alloc),
+        }
+    }
+
+    /// The last moment that the schedule has seen.
+    pub fn now(&self) -> Moment
+        ensures { result ≡ self.now.content.now }
+    {
+        self.clock
+    }
+
+    /// The runs, by graph id and logical date.
+    pub fn runs(&self) -> &[Run]
+        ensures runs { result.now ≡ self.now.content.runs }
+        ensures kept { IsKept self.now.content }
+    {
+        self.runs.as_slice()
+    }
+
+    /// Makes room for a change, so that it can be committed. What the schedule holds stays.
+    pub fn reserve(&mut self, change: &Change) -> Result<(), AllocError>
+        ensures content { self.new.content ≡ self.old.content }
+        ensures room { OnOk result (HasRoom change.now self.new) }
+    {
+        match &change.effect {
+            Effect::Load(_, _) => self.graphs.reserve(1),
+            Effect::Nothing | Effect::Runs(_, _) => Ok(()),
+        }
+    }
+
+    /// Does a change that was planned for this schedule, and for which there is room. This takes no memory and cannot fail.
+    pub fn commit(&mut self, change: Change) -> Answer
+        requires planned { change.before ≡ self.old.content }
+        requires room { HasRoom change self.old }
+        ensures after { self.new.content ≡ change.after }
+        ensures answer { result ≡ change.answer }
+    {
+        let Change {
+            before: _,
+            effect,
+            answer,
+        } = change;
+        match effect {
+            Effect::Nothing => {}
+            Effect::Load(text, spec) => take_in(&mut self.graphs, text, spec),
+            Effect::Runs(moment, runs) => {
+                self.clock = moment;
+                self.runs = runs;
+            }
+        }
+        answer
+    }
+}
+
+// Takes a text in that says this: a known graph gets it in the place of its own, a new one is put at its place.
+fn take_in(graphs: &mut Vec<Graph>, text: Text, spec: GraphSpec)
+    requires order { rises graph_before graphs.old.items ≡ true }
+    requires room { length (with_graph text spec graphs.old.items) ≤ vec_capacity graphs.old }
+    ensures { graphs.new.items ≡ with_graph text spec graphs.old.items }
+{
+    match place_of(graphs, &spec.dag_id) {
+        Some(place) => {
+            let graph = &mut graphs[place];
+            graph.text = text;
+            graph.spec = spec;
+        }
+        None => {
+            let graph = Graph {
+                text,
+                spec,
+                paused: false,
+            };
+            let place = place_for_graph(graphs, &graph);
+            let _ = graphs.insert(place, graph);
+        }
+    }
+}

@@ -1,0 +1,56 @@
+//! A run as a schedule holds it.
+ghost use Rattle.std.specs.Prelude.{◌≡◌, IfOk};
+
+use cron_timetable::Interval;
+use graph_file::Name;
+use moment_core::Moment;
+use std::alloc::{AllocError, Global};
+
+/// How a run came to be, as the prefix of its run id says (Airflow 2, "DAG Runs").
+#[derive(Clone, Copy, Debug, PartialEq, Eq)]
+pub enum Kind {
+    /// By its timetable.
+    Scheduled,
+    /// By hand.
+    Manual,
+    /// By a backfill.
+    Backfill,
+}
+
+/// How far a run is.
+#[derive(Clone, Copy, Debug, PartialEq, Eq)]
+pub enum Phase {
+    /// Made, and not started.
+    Queued,
+    Running,
+    Success,
+    Failed,
+}
+
+/// A run of a graph for one data interval (Airflow 2, "DAG Runs"). A graph has at most one for each logical date.
+#[derive(Debug, Drop)]
+pub struct Run {
+    /// The graph's id.
+    pub graph: Name,
+    /// The logical date.
+    pub logical: Moment,
+    /// The data interval.
+    pub interval: Interval,
+    pub kind: Kind,
+    pub phase: Phase,
+}
+
+impl Run {
+    /// An equal run.
+    pub fn copy(&self, alloc: Global) -> Result<Run, AllocError>
+        ensures { IfOk result (λ run. run ≡ self.now) }
+    {
+        Ok(Run {
+            graph: self.graph.copy(alloc)?,
+            logical: self.logical,
+            interval: self.interval,
+            kind: self.kind,
+            phase: self.phase,
+        })
+    }
+}
