@@ -3,4 +3,3 @@ pub mod SetLemmas
 pub mod TickLemmas
 pub mod UnionLemmas
 pub mod UniqueLemmas
-pub mod WordLemmas

@@ -11,7 +11,7 @@ use Rattle.cron_timetable.specs.Sets.{set_of}
 use Rattle.cron_timetable.specs.Elements.{and_then, element_of, in_element, has_byte, before, after}
 use Rattle.cron_timetable.specs.Grammar.{elements_of, union_of, field_of}
 use Rattle.cron_timetable.proofs.SetLemmas.{bit_or-set_of, or_assoc}
-use Rattle.cron_timetable.proofs.WordLemmas.{slice_split_last}
+use Rattle.text_words.proofs.WordLemmas.{slice_split_last}
 
 abbrev commas : List ℕ → List (List ℕ)
 commas text = slice_split (λ x. x == 44) text

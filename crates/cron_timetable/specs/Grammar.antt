@@ -1,9 +1,10 @@
 -- What a cron text says, by crontab(5): five fields, each a list of elements; or in their place a preset, as Airflow 2's page
 -- 'DAG Runs' lists them.
-use Rattle.std.specs.Prelude.{◌≡◌, ◌⊎◌, ℕ, Bool, ◌==◌, ◌||◌, nat_lt, if◌then◌else◌, List, [], ◌∷◌, length, filter, slice_index, codes, find, Option, Some, option_map, Result, Ok, Err}
+use Rattle.std.specs.Prelude.{◌≡◌, ◌⊎◌, ℕ, ◌==◌, if◌then◌else◌, List, [], ◌∷◌, slice_index, codes, find, Option, Some, option_map, Result, Ok, Err}
 use Rattle.std.specs.List.{slice_split, list_any}
 use Rattle.std.specs.Str.{bytes_eq}
 use Rattle.moment_core.specs.Moments.{seconds_end}
+use Rattle.text_words.specs.Words.{words}
 use Rattle.cron_timetable.specs.Sets.{set_of}
 use Rattle.cron_timetable.specs.Fields.{Fields}
 use Rattle.cron_timetable.specs.Ticks.{IsTick, NoneBetween}
@@ -33,14 +34,6 @@ at_sign = 64
 -- the set of a field: elements with commas between them
 unfoldable pub field_of : Field → List ℕ → Result ℕ CronFault
 field_of f text = and_then (elements_of f (slice_split (λ x. x == comma) text)) (λ es. Ok (union_of f es))
-
--- blanks are spaces and tabs
-abbrev pub is_blank : ℕ → Bool
-is_blank b = b == 32 || b == 9
-
--- the words of a text: the parts between blanks that are not empty
-unfoldable pub words : List ℕ → List (List ℕ)
-words text = filter (λ w. nat_lt 0 (length w)) (slice_split is_blank text)
 
 -- the sets of five fields, or the first fault from the left
 unfoldable pub five_fields : List ℕ → List ℕ → List ℕ → List ℕ → List ℕ → Result Fields CronFault

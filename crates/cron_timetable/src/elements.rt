@@ -8,7 +8,7 @@ ghost use Rattle.cron_timetable.specs.Sets.{set_of};
 use crate::faults::CronFault;
 use crate::field_sets::FieldSet;
 use crate::fields::Field;
-use crate::words::{cut, number, same_bytes};
+use crate::pieces::{cut, number, same_bytes};
 
 /// Every `step`-th value from `first` to `last`.
 #[derive(Clone, Copy)]

@@ -17,12 +17,12 @@ mod faults;
 mod field_sets;
 mod fields;
 mod laws;
+mod pieces;
 mod reading;
 mod searches;
 #[cfg(test)]
 mod tests;
 mod timetables;
-mod words;
 
 pub use expressions::Cron;
 pub use faults::CronFault;

@@ -1,14 +1,16 @@
 //! Reading a cron text: five fields, or a preset in their place.
 ghost use Rattle.std.specs.Prelude.{◌≡◌, Some, None, MatchOption, MatchResult};
 ghost use Rattle.cron_timetable.specs.Grammar as spec;
-ghost use Rattle.cron_timetable.specs.Grammar.{field_of, preset_text, fields_of_words, fields_of, words, IsRead, FaultOf};
+ghost use Rattle.cron_timetable.specs.Grammar.{field_of, preset_text, fields_of_words, fields_of, IsRead, FaultOf};
+ghost use Rattle.text_words.specs.Words.{words};
 
 use crate::elements::element;
 use crate::field_sets::FieldSet;
 use crate::fields::Field;
-use crate::words::{cut, next_word, same_bytes};
+use crate::pieces::{cut, same_bytes};
 use crate::{Cron, CronFault};
 use moment_core::Moment;
+use text_words::next_word;
 
 impl Cron {
     /// Reads five fields (minute, hour, day of month, month, day of week) with blanks between them, or a preset.

@@ -1,5 +1,5 @@
 -- Texts that have a form.
-use Rattle.std.proofs.Common.{◌≡◌, ℕ, zero, suc, ◌<◌, ◌≤◌, List, [], ◌∷◌, length, slice_index, Bool, true, false, ◌&&◌, refl, arith, ◌≢◌}
+use Rattle.std.proofs.Common.{◌≡◌, ℕ, zero, suc, ◌<◌, List, [], ◌∷◌, length, slice_index, Bool, true, false, ◌&&◌, refl, arith, ◌≢◌}
 use Rattle.moment_core.specs.Reading.{byte_fits, fits_form}
 
 -- both tests hold
@@ -10,9 +10,6 @@ and_true false b h = cc
 and_false : (a : Bool) → (a && false) ≡ false
 and_false true = refl
 and_false false = refl
-
-pub digit_byte : (b : ℕ) → byte_fits 100 b ≡ true → (48 ≤ b) × (b ≤ 57)
-digit_byte b h = grind arith
 
 -- the text of a form is as long as it
 pub form-length : (f t : List ℕ) → fits_form f t ≡ true → length f ≡ length t

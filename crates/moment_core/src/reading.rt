@@ -28,7 +28,13 @@ impl Moment {
     pub fn read(text: &str) -> Result<Moment, MomentFault>
         ensures { result ≡ read_of text.now }
     {
-        let bytes = text.as_bytes();
+        Moment::read_bytes(text.as_bytes())
+    }
+
+    /// The moment that these bytes write, as [`Moment::read`] reads it; what is no text is `Shape`.
+    pub fn read_bytes(bytes: &[u8]) -> Result<Moment, MomentFault>
+        ensures { result ≡ read_of bytes.now }
+    {
         if is_timed(bytes) {
             return moment_at(
                 two_digits(bytes, 0) * 100 + two_digits(bytes, 2),

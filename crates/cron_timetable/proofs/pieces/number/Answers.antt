@@ -5,8 +5,8 @@ use Rattle.std.proofs.lemmas.List.{take_all}
 use Rattle.std.specs.List.{list_all}
 use Rattle.cron_timetable.specs.Elements.{decimal, is_digit}
 use Rattle.cron_timetable.proofs.NumberLemmas.{number_of-empty, number_of-long, number_of-bad, number_of-good, decimal-empty, decimal_more, digits_more, not_digit-low, not_digit-high}
-use Rattle.cron_timetable.proofs.words.number.Goals as goal
-use Rattle.cron_timetable.proofs.words.number.Goals.{then-is_empty-via-then-is_empty, then-is_empty-via-else-is_empty+then-text-most, then-byte-lt48-via-then-byte-lt48, then-byte-lt48-via-else-byte-lt48+then-byte-gt57}
+use Rattle.cron_timetable.proofs.pieces.number.Goals as goal
+use Rattle.cron_timetable.proofs.pieces.number.Goals.{then-is_empty-via-then-is_empty, then-is_empty-via-else-is_empty+then-text-most, then-byte-lt48-via-then-byte-lt48, then-byte-lt48-via-else-byte-lt48+then-byte-gt57}
 
 pub returns-then-is_empty : goal.returns-then-is_empty
 returns-then-is_empty c =

@@ -1,9 +1,8 @@
-//! The pieces of a text: words between blanks, parts before and after a byte, and numbers.
-ghost use Rattle.std.specs.Prelude.{◌≡◌, ◌<◌, ◌≤◌, true, false, not, ◌==◌, [], ◌∷◌, length, Some, None, MatchOption};
+//! The pieces of a word: parts before and after a byte, and numbers.
+ghost use Rattle.std.specs.Prelude.{◌≡◌, ◌<◌, ◌≤◌, true, false, ◌==◌, length, MatchOption};
 ghost use Rattle.std.specs.List.{position_or_len};
 ghost use Rattle.std.specs.Str.{bytes_eq};
 ghost use Rattle.cron_timetable.specs.Elements.{number_of, has_byte, before, after};
-ghost use Rattle.cron_timetable.specs.Grammar.{is_blank, words};
 
 // The number that one to `most` decimal digits write.
 pub(crate) fn number(text: &[u8], most: usize) -> Option<u32>
@@ -38,19 +37,6 @@ pub(crate) fn cut(text: &[u8], byte: u8) -> Option<(&[u8], &[u8])>
     }
 }
 
-// The first word of a text, and what follows it.
-pub(crate) fn next_word(text: &[u8]) -> Option<(&[u8], &[u8])>
-    ensures { MatchOption result
-        (words text.now ≡ [])
-        (λ p. (words text.now ≡ p.0.now ∷ words p.1.now) × (0 < length p.0.now)) }
-{
-    let (_, text) = text.split_at(first_of_word(text));
-    if text.is_empty() {
-        return None;
-    }
-    Some(text.split_at(first_blank(text)))
-}
-
 // Whether the two texts are the same.
 pub(crate) fn same_bytes(a: &[u8], b: &[u8]) -> bool
     ensures { result ≡ bytes_eq a.now b.now }
@@ -64,24 +50,4 @@ fn position_of(text: &[u8], byte: u8) -> usize
     ensures within { result ≤ length text.now }
 {
     text.iter().position(|b| *b == byte).unwrap_or(text.len())
-}
-
-// The place of the first blank, or the length.
-fn first_blank(text: &[u8]) -> usize
-    ensures value { result ≡ position_or_len is_blank text.now }
-    ensures within { result ≤ length text.now }
-{
-    text.iter()
-        .position(|b| *b == b' ' || *b == b'\t')
-        .unwrap_or(text.len())
-}
-
-// The place of the first byte that is no blank, or the length.
-fn first_of_word(text: &[u8]) -> usize
-    ensures value { result ≡ position_or_len (λ b. not (is_blank b)) text.now }
-    ensures within { result ≤ length text.now }
-{
-    text.iter()
-        .position(|b| !(*b == b' ' || *b == b'\t'))
-        .unwrap_or(text.len())
 }

@@ -1,13 +1,13 @@
 -- The words of a text, and the parts between separators.
-use Rattle.std.proofs.Common.{◌≡◌, ℕ, suc, ◌+◌, ◌<◌, ◌≤◌, Bool, true, false, not, cond, List, [], ◌∷◌, length, take, drop, get_or, filter, nat_lt, refl, ap, sym, ◌∙◌, arith, inl, inr}
+use Rattle.std.proofs.Common.{◌≡◌, ℕ, suc, ◌+◌, ◌<◌, ◌≤◌, Bool, true, false, not, ◌&&◌, cond, List, [], ◌∷◌, length, take, drop, get_or, filter, nat_lt, refl, ap, sym, ◌∙◌, arith, inl, inr}
 use Rattle.std.proofs.Common.{add-one}
 use Rattle.std.proofs.Math.Seq.{drop-cons}
-use Rattle.std.proofs.lemmas.Bool.{cases_lt, lt-ltb}
+use Rattle.std.proofs.lemmas.Bool.{cases_lt, lt-ltb, false≢true}
 use Rattle.std.proofs.lemmas.List.{length-take, length-take-le, length-drop, take_all, drop_all, get_or-drop}
 use Rattle.std.proofs.lemmas.List.Sums.{passes_at_first, prefix_len-le-length}
 use Rattle.std.proofs.lemmas.List.Splits.{slice_split-cons_yes, slice_split-cons_no, slice_split_first}
-use Rattle.std.specs.List.{slice_split, position_or_len, after_first, onto_first}
-use Rattle.cron_timetable.specs.Grammar.{words, is_blank}
+use Rattle.std.specs.List.{list_all, slice_split, position_or_len, after_first, onto_first}
+use Rattle.text_words.specs.Words.{words, is_blank}
 
 -- ---- the parts of a list that is cut where p passes
 last-step : (p : ℕ → Bool) (x : ℕ) (xs : List ℕ) (v : Bool) → p x ≡ v → length (x ∷ xs) ≤ position_or_len p (x ∷ xs) → (length xs ≤ position_or_len p xs → slice_split p xs ≡ xs ∷ []) → slice_split p (x ∷ xs) ≡ (x ∷ xs) ∷ []
@@ -93,3 +93,27 @@ words-next text rest word more n e start within cut some end inside front back =
     let skip : parts is_blank text ≡ parts is_blank rest = parts-skip is_blank text ∙ (ap (λ i. parts is_blank (drop i text)) (sym start) ∙ ap (parts is_blank) (sym cut)) in
     let first : parts is_blank rest ≡ take e rest ∷ parts is_blank (drop e rest) = parts-word is_blank rest long ∙ ap (λ i. take i rest ∷ parts is_blank (drop i rest)) (sym end) in
     (skip ∙ (first ∙ (ap (λ w. w ∷ parts is_blank (drop e rest)) (sym front) ∙ ap (λ m. word ∷ parts is_blank m) (sym back))), omega (arith, ap length front, length-take-le e rest inside))
+
+blank-step : (x : ℕ) (xs : List ℕ) (v : Bool) → is_blank x ≡ v → (list_all is_blank xs ≡ true → words xs ≡ []) → (v && list_all is_blank xs) ≡ true → words (x ∷ xs) ≡ []
+unfolding words
+blank-step x xs true e ih h = parts-cons_yes is_blank x xs e ∙ ih h
+blank-step x xs false e ih h = absurd (false≢true h)
+
+-- a text of blanks alone has no word
+pub words-blank : (text : List ℕ) → list_all is_blank text ≡ true → words text ≡ []
+unfolding words
+words-blank [] h = refl
+words-blank (x ∷ xs) h = blank-step x xs (is_blank x) refl (words-blank xs) h
+
+some-step : (x : ℕ) (xs : List ℕ) (v : Bool) → is_blank x ≡ v → (list_all is_blank xs ≡ false → 0 < length (words xs)) → (v && list_all is_blank xs) ≡ false → 0 < length (words (x ∷ xs))
+unfolding words
+some-step x xs true e ih h = let same : words (x ∷ xs) ≡ words xs = parts-cons_yes is_blank x xs e in rw same (ih h)
+some-step x xs false e ih h =
+    let starts : 0 < position_or_len is_blank (x ∷ xs) = omega (arith, ap (λ b. cond (not b) (1 + position_or_len is_blank xs) 0) e) in
+    let first : words (x ∷ xs) ≡ _ = parts-word is_blank (x ∷ xs) starts in
+    omega (arith, ap length first)
+
+-- any other text has one
+pub words-some : (text : List ℕ) → list_all is_blank text ≡ false → 0 < length (words text)
+words-some [] h = absurd (false≢true (sym h))
+words-some (x ∷ xs) h = some-step x xs (is_blank x) refl (words-some xs) h

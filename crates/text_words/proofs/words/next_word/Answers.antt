@@ -1,8 +1,8 @@
 use Rattle.std.proofs.Common.{arith, sym}
 use Rattle.std.proofs.lemmas.Bool.{eqb-true}
 use Rattle.std.proofs.lemmas.Bool.Decides.{nat_tests}
-use Rattle.cron_timetable.proofs.WordLemmas.{words-none, words-next}
-use Rattle.cron_timetable.proofs.words.next_word.Goals as goal
+use Rattle.text_words.proofs.WordLemmas.{words-none, words-next}
+use Rattle.text_words.proofs.words.next_word.Goals as goal
 
 pub returns-then-is_empty : goal.returns-then-is_empty
 returns-then-is_empty c =

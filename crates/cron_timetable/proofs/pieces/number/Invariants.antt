@@ -1,7 +1,7 @@
 use Rattle.std.proofs.Common.{◌≡◌, ◌<◌, ◌≤◌, take, true}
 use Rattle.std.specs.List.{list_all}
 use Rattle.cron_timetable.specs.Elements.{decimal, is_digit}
-use Rattle.cron_timetable.proofs.words.number.Given as goal
+use Rattle.cron_timetable.proofs.pieces.number.Given as goal
 
 abbrev pub invariant-loop-byte : goal.invariant-loop-byte
 invariant-loop-byte l = record {
