@@ -1,5 +1,5 @@
 -- What is put in at its place stands in order.
-use Rattle.std.proofs.Common.{◌≡◌, refl, ap, ℕ, zero, suc, ◌+◌, ◌<◌, ◌≤◌, List, [], ◌∷◌, ◌++◌, Bool, true, false, ◌||◌, length, take, drop, slice_get, Option, Some, arith, insert}
+use Rattle.std.proofs.Common.{◌≡◌, refl, ap, ℕ, zero, suc, ◌≤◌, List, [], ◌∷◌, ◌++◌, Bool, true, false, length, take, drop, slice_get, Some, arith, insert}
 use Rattle.std.specs.List.{list_any}
 use Rattle.sched_state.specs.Lists.{insert_by}
 use Rattle.sched_state.proofs.OrderLemmas.{or_left, or_right}

@@ -20,9 +20,6 @@ wanted_same g t dates others same = filter_same _ _ (λ (i : Interval). ap not (
 unpaused : (runs : List Run) (t : ℕ) (g : Graph) → g.paused ≡ false → wanted_by runs t g ≡ wanted_intervals g.spec t (dates_of runs g.spec.dag_id)
 unpaused runs t g e = ap (λ (b : Bool). let chosen : List Interval = elim b [ true ↦ [] | false ↦ wanted_intervals g.spec t (dates_of runs g.spec.dag_id) ] in chosen) e
 
-pub paused_none : (runs : List Run) (t : ℕ) (g : Graph) → g.paused ≡ true → wanted_by runs t g ≡ []
-paused_none runs t g e = ap (λ (b : Bool). let chosen : List Interval = elim b [ true ↦ [] | false ↦ wanted_intervals g.spec t (dates_of runs g.spec.dag_id) ] in chosen) e
-
 pub named_is : (runs : List Run) (t : ℕ) (g : Graph) (dates : List ℕ) (intervals : List Interval) (more : Bool) → g.paused ≡ false
     → ((d : ℕ) → has_date dates d ≡ has_date (dates_of runs g.spec.dag_id) d) → IsFirst (wanted_intervals g.spec t dates) 10 intervals more
     → (map (scheduled_run g.spec.dag_id) intervals ≡ named_of runs t g) × (more ≡ leaves_some runs t g)

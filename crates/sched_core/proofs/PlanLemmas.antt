@@ -1,9 +1,7 @@
 -- Which texts are refused, and what taking one in does.
-use Rattle.std.proofs.Common.{◌≡◌, refl, sym, ap, subst, ◌∙◌, ℕ, ◌≤◌, ◌<◌, List, [], ◌∷◌, ◌++◌, Bool, true, false, not, ◌&&◌, cond, find, is_none, is_some, length, nat_lt, nat_le, Option, Some, None, Result, Ok, Err, true≢false, get_or, slice_get}
+use Rattle.std.proofs.Common.{◌≡◌, refl, sym, ap, subst, ◌∙◌, ℕ, ◌≤◌, List, [], ◌∷◌, ◌++◌, Bool, true, false, not, ◌&&◌, is_none, is_some, length, nat_le, Option, Some, None, Ok, true≢false, get_or, slice_get}
 use Rattle.std.specs.List.{list_any}
 use Rattle.std.proofs.lemmas.Bool.{le-leb}
-use Rattle.std.proofs.lemmas.Bool.Decides.{nat_tests}
-use Rattle.std.proofs.lemmas.List.Folds.{list_any_at}
 use Rattle.std.proofs.lemmas.Option.{slice_get-get_or}
 use Rattle.graph_file.specs.Graphs.{graph_of}
 use Rattle.graph_file.specs.Lists.{when, first_some, holds_at}
@@ -21,7 +19,7 @@ use Rattle.sched_state.proofs.SettleLemmas.{settle_still, settle_ends}
 use Rattle.sched_state.proofs.SoundLemmas.{find_any, load_sound, add_sound, settle_sound}
 use Rattle.sched_state.proofs.NamedLemmas.{named_new}
 use Rattle.sched_state.proofs.LoadLemmas.{found_at, load_still, load_again}
-use Rattle.sched_core.specs.Changes.{Planned, IsKept}
+use Rattle.sched_core.specs.Changes.{IsKept}
 use Rattle.sched_core.specs.Events.{exceeds, differs, refused_text, refused, load_result}
 use Rattle.sched_core.specs.Steps.{step, no_runs}
 use Rattle.sched_core.specs.Plans.{IsPlanned}

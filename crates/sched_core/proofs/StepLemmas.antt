@@ -1,8 +1,9 @@
 -- What a step keeps and what it adds.
-use Rattle.std.proofs.Common.{◌≡◌, refl, sym, ap, subst, ◌∙◌, ℕ, zero, suc, ◌+◌, ◌<◌, ◌≤◌, List, [], ◌∷◌, Bool, true, false, ◌||◌, length, map, nat_lt, Option, Some, None, Result, Ok, Err, arith, true≢false}
+use Rattle.std.proofs.Common.{◌≡◌, refl, sym, ap, ◌∙◌, ℕ, suc, ◌+◌, ◌≤◌, List, [], ◌∷◌, Bool, true, false, ◌||◌, length, nat_lt, Option, Some, None, Result, Ok, Err, arith}
 use Rattle.std.specs.List.{list_any}
 use Rattle.std.proofs.lemmas.Bool.{ltb-false}
 use Rattle.std.proofs.lemmas.List.{length-map}
+use Rattle.std.proofs.lemmas.List.Folds.{list_any-append}
 use Rattle.graph_file.specs.Graphs.{graph_of}
 use Rattle.graph_file.specs.Lists.{when, first_some}
 use Rattle.graph_file.specs.declared.faults.GraphFault.{GraphFault}
@@ -10,9 +11,9 @@ use Rattle.graph_file.specs.declared.graph_specs.GraphSpec.{GraphSpec}
 use Rattle.sched_state.specs.Lists.{same, insert_by}
 use Rattle.sched_state.specs.Schedule.{Schedule, graph_named, run_before}
 use Rattle.sched_state.specs.Settle.{move, settle}
-use Rattle.sched_state.specs.Changes.{load_graph, set_now, add_runs, insert_runs}
+use Rattle.sched_state.specs.Changes.{set_now, add_runs, insert_runs}
 use Rattle.sched_state.specs.NamedRuns.{named_runs}
-use Rattle.sched_state.specs.Sound.{IsSound, is_at, has_run_at, are_new}
+use Rattle.sched_state.specs.Sound.{IsSound, is_at, has_run_at}
 use Rattle.sched_state.specs.declared.graphs.Graph.{Graph}
 use Rattle.sched_state.specs.declared.runs.Run.{Run}
 use Rattle.sched_state.proofs.SettleLemmas.{settle_ends, settle_still}
@@ -21,7 +22,7 @@ use Rattle.sched_state.proofs.LoadLemmas.{load_again}
 use Rattle.sched_state.proofs.NamedLemmas.{named_new}
 use Rattle.sched_core.specs.Changes.{IsKept}
 use Rattle.sched_core.specs.Events.{named_by, change_by, load_result, refused}
-use Rattle.sched_core.specs.Steps.{step}
+use Rattle.sched_core.specs.Steps.{step, steps, named_along}
 use Rattle.sched_core.specs.declared.events.Event.{Event}
 use Rattle.sched_core.specs.declared.events.Event.TheVariants.{Load, Tick}
 use Rattle.sched_core.specs.declared.events.Refusal.{Refusal}
@@ -53,6 +54,27 @@ step_dates (Tick t) a id date = settle_dates (add_runs (named_runs a t) (set_now
 pub same_text : (a : Schedule) (text : List ℕ) (spec : GraphSpec) (g : Graph) → IsKept a → graph_of text ≡ Ok spec → graph_named a spec.dag_id ≡ Some g → same g.text text ≡ true → step (Load text) a ≡ a
 same_text a text spec g kept said found text_is =
     ap (λ r. settle (load_result text r a)) said ∙ (ap settle (load_again text spec a g said kept.sound found text_is) ∙ settle_still a kept.settled)
+
+-- ---- lists of events
+pub steps_kept : (es : List Event) (a : Schedule) → IsKept a → IsKept (steps es a)
+steps_kept [] a kept = kept
+steps_kept (e ∷ es) a kept = steps_kept es (step e a) (record { sound = step_sound e a kept.sound; settled = step_settled e a })
+
+-- the later test comes first in the sum
+or-regroup : (later here before : Bool) → (later || (here || before)) ≡ ((here || later) || before)
+or-regroup true true before = refl
+or-regroup true false before = refl
+or-regroup false true before = refl
+or-regroup false false before = refl
+
+pub steps_dates : (es : List Event) (a : Schedule) (id : List ℕ) (date : ℕ) → has_run_at (steps es a) id date ≡ (list_any (is_at id date) (named_along es a) || has_run_at a id date)
+steps_dates [] a id date = refl
+steps_dates (e ∷ es) a id date =
+    let later = named_along es (step e a) in
+    steps_dates es (step e a) id date
+    ∙ (ap (λ b. list_any (is_at id date) later || b) (step_dates e a id date)
+    ∙ (or-regroup (list_any (is_at id date) later) (list_any (is_at id date) (named_by e a)) (has_run_at a id date)
+    ∙ ap (λ b. b || has_run_at a id date) (sym (list_any-append (is_at id date) (named_by e a) later))))
 
 -- ---- how many runs there are
 length-settle : (a : Schedule) → length (settle a).runs ≡ length a.runs

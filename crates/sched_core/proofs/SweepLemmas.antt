@@ -1,5 +1,5 @@
 -- Settling is one sweep over the runs, from the first to the last.
-use Rattle.std.proofs.Common.{◌≡◌, ◌≢◌, refl, sym, ap, subst, ◌∙◌, ℕ, zero, suc, ◌+◌, ◌<◌, ◌≤◌, ◌⊎◌, List, [], ◌∷◌, Bool, true, false, cond, not, ◌&&◌, length, get_or, slice_get, slice_set, count_by, sum_by, nat_lt, Option, Some, None, option_map, arith, true≢false, inl, inr}
+use Rattle.std.proofs.Common.{◌≡◌, ◌≢◌, refl, sym, ap, ◌∙◌, ℕ, zero, suc, ◌+◌, ◌<◌, ◌≤◌, List, [], ◌∷◌, Bool, true, false, cond, not, ◌&&◌, length, get_or, slice_get, slice_set, count_by, sum_by, nat_lt, Option, Some, None, option_map, arith, true≢false, inl, inr}
 use Rattle.std.proofs.lemmas.Bool.{cases_lt}
 use Rattle.std.proofs.lemmas.Bool.Decides.{nat_tests}
 use Rattle.std.proofs.lemmas.List.{get_or-set_same, get_or-set_other, length-set}
@@ -10,7 +10,7 @@ use Rattle.graph_file.specs.Lists.{when}
 use Rattle.sched_state.specs.Limits.{Bounds}
 use Rattle.sched_state.specs.Lists.{same, change_from, first_change}
 use Rattle.sched_state.specs.Schedule.{Schedule, is_queued, is_running, active_runs, max_active_runs_of, is_paused}
-use Rattle.sched_state.specs.Settle.{can_start, start_run, move, settle}
+use Rattle.sched_state.specs.Settle.{can_start, start_run, settle}
 use Rattle.sched_state.specs.declared.graphs.Graph.{Graph}
 use Rattle.sched_state.specs.declared.runs.Run.{Run}
 use Rattle.sched_state.specs.declared.runs.Phase.TheVariants.{Running}

@@ -1,5 +1,4 @@
 -- What the effect of a change makes of a schedule.
-use Rattle.std.specs.Prelude.{ℕ, List}
 use Rattle.sched_state.specs.Schedule.{Schedule}
 use Rattle.sched_state.specs.Changes.{load_graph}
 use Rattle.sched_core.specs.declared.changes.Effect.{Effect}

@@ -1,5 +1,5 @@
 -- What an event does: the runs that it names, its own change, and the causes for which it is refused.
-use Rattle.std.specs.Prelude.{◌≡◌, ℕ, ◌+◌, not, ◌&&◌, Bool, false, List, [], ◌∷◌, length, nat_lt, nat_le, is_none, Option, Some, Result, Ok, Err}
+use Rattle.std.specs.Prelude.{ℕ, ◌+◌, not, ◌&&◌, Bool, false, List, [], ◌∷◌, length, nat_lt, nat_le, is_none, Option, Some, Result, Ok, Err}
 use Rattle.graph_file.specs.Graphs.{graph_of}
 use Rattle.graph_file.specs.Lists.{when, first_some, holds_at}
 use Rattle.graph_file.specs.declared.faults.GraphFault.{GraphFault}

@@ -1,5 +1,5 @@
 -- The step that an accepted event makes, and its answer.
-use Rattle.std.specs.Prelude.{List, [], ◌∷◌, map, false}
+use Rattle.std.specs.Prelude.{List, [], ◌∷◌, ◌++◌, map, false}
 use Rattle.sched_state.specs.Schedule.{Schedule}
 use Rattle.sched_state.specs.Changes.{add_runs}
 use Rattle.sched_state.specs.Settle.{settle}
@@ -17,6 +17,11 @@ step e a = settle (add_runs (named_by e a) (change_by e a))
 abbrev pub steps : List Event → Schedule → Schedule
 steps [] a = a
 steps (e ∷ es) a = steps es (step e a)
+
+-- the runs that a list of events names, each at the schedule that it comes to
+abbrev pub named_along : List Event → Schedule → List Run
+named_along [] a = []
+named_along (e ∷ es) a = named_by e a ++ named_along es (step e a)
 
 abbrev pub id_of : Run → RunId
 id_of r = record { graph = r.graph; logical = r.logical; kind = r.kind }

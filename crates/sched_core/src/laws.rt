@@ -10,7 +10,7 @@ ghost use Rattle.sched_state.specs.Sound.{IsSound, is_at, has_run_at};
 ghost use Rattle.sched_state.specs.declared.graphs.Graph.{Graph};
 ghost use Rattle.sched_core.specs.Changes.{IsKept};
 ghost use Rattle.sched_core.specs.Events.{named_by, refused};
-ghost use Rattle.sched_core.specs.Steps.{step};
+ghost use Rattle.sched_core.specs.Steps.{step, steps, named_along};
 ghost use Rattle.sched_core.specs.declared.events.Event.{Event};
 ghost use Rattle.sched_core.specs.declared.events.Event.TheVariants.{Load};
 
@@ -36,4 +36,16 @@ pub fn the_same_text_changes_nothing()
 /// An accepted event leaves no more runs than the limit.
 pub fn runs_stay_within_the_limit()
     ensures { (e : Event) (a : ScheduleRecord) → length a.runs ≤ a.limits.runs → refused a e ≡ None → length (step e a).runs ≤ a.limits.runs }
+{}
+
+/// A list of events keeps the schedule: it stays sound, and no move is possible after it.
+pub fn lists_of_steps_keep_the_schedule()
+    ensures { (es : List Event) (a : ScheduleRecord) → IsKept a → IsKept (steps es a) }
+{}
+
+/// The runs after a list of events are those before it and those that the events name, each at the schedule that it comes to, by
+/// graph and logical date.
+pub fn lists_of_steps_add_their_runs()
+    ensures { (es : List Event) (a : ScheduleRecord) (id : List ℕ) (date : ℕ) →
+        has_run_at (steps es a) id date ≡ (list_any (is_at id date) (named_along es a) || has_run_at a id date) }
 {}

@@ -18,7 +18,7 @@ pub use answers::{Answer, RunId};
 pub use changes::Change;
 pub use events::{Event, Refusal};
 pub use laws::{
-    runs_stay_within_the_limit, steps_add_the_named_runs, steps_keep_the_schedule,
-    the_same_text_changes_nothing,
+    lists_of_steps_add_their_runs, lists_of_steps_keep_the_schedule, runs_stay_within_the_limit,
+    steps_add_the_named_runs, steps_keep_the_schedule, the_same_text_changes_nothing,
 };
 pub use schedules::Schedule;

@@ -2,15 +2,17 @@
 //!
 //! A change is planned against the schedule as it is, room is reserved for it, and it is committed: only the first two can fail,
 //! and neither changes what the schedule holds.
-ghost use Rattle.std.specs.Prelude.{◌≡◌, ◌≤◌, [], length, OnOk, true, vec_capacity};
+ghost use Rattle.std.specs.Prelude.{◌≡◌, ◌≤◌, [], length, IfOk, IfErr, OnOk, true, vec_capacity};
 ghost use Rattle.sched_state.specs.Limits.{Bounds};
 ghost use Rattle.sched_state.specs.Schedule.{empty_schedule, graph_before};
 ghost use Rattle.sched_state.specs.Changes.{with_graph};
 ghost use Rattle.sched_state.specs.Sound.{rises};
 ghost use Rattle.sched_core.specs.Changes.{HasRoom, IsKept};
+ghost use Rattle.sched_core.specs.Plans.{IsStepped, IsRefusal};
 
 use crate::answers::Answer;
 use crate::changes::{Change, Effect};
+use crate::events::{Event, Refusal};
 use crate::lookups::place_of;
 use crate::ordering::place_for_graph;
 use graph_file::GraphSpec;
@@ -104,6 +106,16 @@ impl Schedule {
             }
         }
         answer
+    }
+
+    /// Plans the event, reserves room for it and commits it. A refused event changes nothing.
+    pub fn step(&mut self, alloc: Global, event: &Event) -> Result<Answer, Refusal>
+        ensures accepted { IfOk result (IsStepped self.old.content event.now self.new.content) }
+        ensures refused { IfErr result (λ r. IsRefusal self.old.content event.now r × (self.new.content ≡ self.old.content)) }
+    {
+        let change = self.plan(alloc, event)?;
+        self.reserve(&change)?;
+        Ok(self.commit(change))
     }
 }
 

@@ -6,7 +6,7 @@ use std::alloc::{AllocError, Global};
 use std::process::Abort;
 use std::test::Fail;
 
-// The file of a graph of one task.
+// The file of a graph of one task. The text is written again where memory ran out.
 fn file(
     alloc: Global,
     id: &str,
@@ -14,9 +14,12 @@ fn file(
     start: &str,
     more: &str,
 ) -> Result<Event, AllocError> {
-    let text = format!(in alloc;
-        "dag_id = \"{id}\"\nschedule = \"{schedule}\"\nstart_date = \"{start}\"\n{more}\n[[task]]\ntask_id = \"t\"\noperator = \"noop\"\n"
-    )?;
+    let written = || {
+        format!(in alloc;
+            "dag_id = \"{id}\"\nschedule = \"{schedule}\"\nstart_date = \"{start}\"\n{more}\n[[task]]\ntask_id = \"t\"\noperator = \"noop\"\n"
+        )
+    };
+    let text = written().or_else(|_| written())?;
     Ok(Event::Load(Text::from_string(text)))
 }
 
@@ -31,24 +34,30 @@ fn moment(rt: &impl Abort, text: &str) -> Moment {
     }
 }
 
-// One event: planned, reserved, committed.
+// One step, asked for again where memory ran out.
 fn step(alloc: Global, schedule: &mut Schedule, event: &Event) -> Result<Answer, Refusal> {
-    let change = schedule.plan(alloc, event)?;
-    schedule.reserve(&change)?;
-    Ok(schedule.commit(change))
+    match schedule.step(alloc, event) {
+        Err(Refusal::Memory) => schedule.step(alloc, event),
+        answered => answered,
+    }
 }
 
-// How many runs a step makes, and whether it leaves some.
-fn made(rt: &impl Abort, alloc: Global, schedule: &mut Schedule, event: &Event) -> (usize, bool) {
+fn accepted(rt: &impl Abort, alloc: Global, schedule: &mut Schedule, event: &Event) -> Answer {
     match step(alloc, schedule, event) {
-        Ok(answer) => (answer.made.as_slice().len(), answer.more),
+        Ok(answer) => answer,
         Err(refusal) => panic!(rt; "refused: {refusal:?}"),
     }
 }
 
+// How many runs a step makes, and whether it leaves some.
+fn made(rt: &impl Abort, alloc: Global, schedule: &mut Schedule, event: &Event) -> (usize, bool) {
+    let answer = accepted(rt, alloc, schedule, event);
+    (answer.made.as_slice().len(), answer.more)
+}
+
 fn refusal(rt: &impl Abort, alloc: Global, schedule: &mut Schedule, event: &Event) -> Refusal {
     match step(alloc, schedule, event) {
-        Ok(_) => panic!(rt; "accepted"),
+        Ok(_) => panic!(rt; "not refused"),
         Err(refusal) => refusal,
     }
 }
@@ -89,27 +98,28 @@ fn a_tick_makes_ten_runs_of_a_graph(rt: HostRuntime) -> Result<(), Fail> {
     let alloc = rt.alloc();
     let day = tick(&rt, "2024-01-02T01:00:00Z");
     let mut schedule = Schedule::new(alloc, Limits::full());
-    step(
+    accepted(
+        &rt,
         alloc,
         &mut schedule,
         &file(alloc, "one", "@hourly", "2024-01-01", "")?,
-    )
-    .map_err(|_| "refused")?;
+    );
     for wanted in [(10, true), (10, true), (5, false)] {
         assert_eq!(rt; made(&rt, alloc, &mut schedule, &day), wanted);
     }
     let mut latest = Schedule::new(alloc, Limits::full());
-    step(
+    accepted(
+        &rt,
         alloc,
         &mut latest,
         &file(alloc, "one", "@hourly", "2024-01-01", "catchup = false")?,
-    )
-    .map_err(|_| "refused")?;
+    );
     assert_eq!(rt; made(&rt, alloc, &mut latest, &day), (1, false));
     assert_eq!(rt; latest.runs().len(), 1);
     assert_eq!(rt; latest.runs()[0].logical, moment(&rt, "2024-01-02"));
     let mut ended = Schedule::new(alloc, Limits::full());
-    step(
+    accepted(
+        &rt,
         alloc,
         &mut ended,
         &file(
@@ -119,8 +129,7 @@ fn a_tick_makes_ten_runs_of_a_graph(rt: HostRuntime) -> Result<(), Fail> {
             "2024-01-01",
             "end_date = \"2024-01-01T01:00:00Z\"",
         )?,
-    )
-    .map_err(|_| "refused")?;
+    );
     assert_eq!(rt; made(&rt, alloc, &mut ended, &day), (2, false));
     Ok(())
 }
@@ -129,12 +138,12 @@ fn a_tick_makes_ten_runs_of_a_graph(rt: HostRuntime) -> Result<(), Fail> {
 fn once_is_once(rt: HostRuntime) -> Result<(), Fail> {
     let alloc = rt.alloc();
     let mut schedule = Schedule::new(alloc, Limits::full());
-    step(
+    accepted(
+        &rt,
         alloc,
         &mut schedule,
         &file(alloc, "one", "@once", "2024-01-01", "")?,
-    )
-    .map_err(|_| "refused")?;
+    );
     assert_eq!(rt;
         made(
             &rt,
@@ -209,26 +218,26 @@ fn a_refusal_changes_nothing(rt: HostRuntime) -> Result<(), Fail> {
 fn a_graph_without_runs_is_replaced(rt: HostRuntime) -> Result<(), Fail> {
     let alloc = rt.alloc();
     let mut schedule = Schedule::new(alloc, Limits::full());
-    step(
+    accepted(
+        &rt,
         alloc,
         &mut schedule,
         &file(alloc, "b", "None", "2024-01-01", "")?,
-    )
-    .map_err(|_| "refused")?;
-    step(
+    );
+    accepted(
+        &rt,
         alloc,
         &mut schedule,
         &file(alloc, "b", "@daily", "2024-01-01", "max_active_runs = 1")?,
-    )
-    .map_err(|_| "refused")?;
-    step(
+    );
+    accepted(
+        &rt,
         alloc,
         &mut schedule,
         &file(alloc, "a", "@daily", "2024-01-02", "")?,
-    )
-    .map_err(|_| "refused")?;
-    let answer = step(alloc, &mut schedule, &tick(&rt, "2024-01-03")).map_err(|_| "refused")?;
-    let copy = answer.copy(alloc)?;
+    );
+    let answer = accepted(&rt, alloc, &mut schedule, &tick(&rt, "2024-01-03"));
+    let copy = answer.copy(alloc).or_else(|_| answer.copy(alloc))?;
     let ids = copy.made.as_slice();
     assert_eq!(rt; ids.len(), 3);
     assert_eq!(rt;
@@ -247,5 +256,22 @@ fn a_graph_without_runs_is_replaced(rt: HostRuntime) -> Result<(), Fail> {
     assert_eq!(rt; runs.len(), 3);
     assert_eq!(rt; runs[1].phase, Phase::Running);
     assert_eq!(rt; runs[2].phase, Phase::Queued);
+    Ok(())
+}
+
+#[test]
+fn a_copy_of_an_event_is_equal(rt: HostRuntime) -> Result<(), Fail> {
+    let alloc = rt.alloc();
+    let load = file(alloc, "one", "@daily", "2024-01-01", "")?;
+    match (&load, load.copy(alloc).or_else(|_| load.copy(alloc))?) {
+        (Event::Load(text), Event::Load(copied)) => {
+            assert_eq!(rt; copied.as_str(), text.as_str());
+        }
+        _ => panic!(rt; "no text"),
+    }
+    match tick(&rt, "2024-01-02").copy(alloc)? {
+        Event::Tick(copied) => assert_eq!(rt; copied, moment(&rt, "2024-01-02")),
+        Event::Load(_) => panic!(rt; "no moment"),
+    }
     Ok(())
 }

@@ -1,5 +1,4 @@
-use Rattle.std.proofs.Common.{◌≡◌, ◌∙◌, ap, map, List}
-use Rattle.cron_timetable.specs.declared.timetables.Interval.{Interval}
+use Rattle.std.proofs.Common.{◌∙◌, ap, map}
 use Rattle.sched_state.specs.NamedRuns.{scheduled_run}
 use Rattle.sched_core.proofs.NamingLemmas.{named_is}
 use Rattle.sched_core.proofs.naming.named_of.Goals as goal

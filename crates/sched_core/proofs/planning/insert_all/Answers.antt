@@ -1,4 +1,4 @@
-use Rattle.std.proofs.Common.{◌≡◌, ◌++◌, ◌∷◌, [], ◌∙◌, ap, sym, List}
+use Rattle.std.proofs.Common.{◌∙◌, ap, sym, List}
 use Rattle.sched_state.specs.Changes.{insert_runs}
 use Rattle.sched_state.specs.declared.runs.Run.{Run}
 use Rattle.sched_core.proofs.PlanLemmas.{insert_runs-last}

@@ -1,6 +1,5 @@
-use Rattle.std.proofs.Common.{◌≡◌, ◌≤◌, ◌∙◌, ℕ, Bool, true, false, List, length, nat_lt, nat_le, ap, sym, subst, arith, inr, None, Some}
+use Rattle.std.proofs.Common.{◌≡◌, ◌∙◌, ℕ, true, false, List, length, nat_lt, nat_le, ap, sym, subst, arith, inr, None, Some}
 use Rattle.std.specs.List.{list_any}
-use Rattle.std.proofs.lemmas.Bool.{lt-ltb}
 use Rattle.std.proofs.lemmas.Bool.Decides.{nat_tests}
 use Rattle.sched_state.specs.Lists.{same}
 use Rattle.sched_state.specs.Changes.{has_runs}
@@ -8,7 +7,7 @@ use Rattle.sched_state.specs.Schedule.{Schedule}
 use Rattle.sched_state.specs.declared.graphs.Graph.{Graph}
 use Rattle.sched_state.specs.declared.runs.Run.{Run}
 use Rattle.sched_state.proofs.LoadLemmas.{unknown_no_runs}
-use Rattle.sched_core.specs.Changes.{Held, IsKept, Planned}
+use Rattle.sched_core.specs.Changes.{Held, Planned}
 use Rattle.sched_core.specs.Events.{exceeds, refused}
 use Rattle.sched_core.specs.Inside.{StandsAt}
 use Rattle.sched_core.specs.Plans.{IsPlanned}

@@ -2,7 +2,7 @@ use Rattle.std.proofs.Common.{◌≤◌, ◌+◌, ◌-◌, length, subst, sym, a
 use Rattle.std.proofs.lemmas.Result.{on_ok_weaker}
 use Rattle.sched_state.specs.Schedule.{Schedule}
 use Rattle.sched_core.specs.declared.changes.Effect.{Effect}
-use Rattle.sched_core.specs.Changes.{Held, Planned, HasRoom}
+use Rattle.sched_core.specs.Changes.{Planned}
 use Rattle.sched_core.specs.Effects.{applied}
 use Rattle.sched_core.proofs.TakeInLemmas.{length-with_graph}
 use Rattle.sched_core.proofs.schedules.Schedule.reserve.Goals as goal
