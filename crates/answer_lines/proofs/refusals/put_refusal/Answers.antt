@@ -1,0 +1,24 @@
+use Rattle.std.proofs.Common.{◌++◌, append_assoc, codes}
+use Rattle.std.proofs.lemmas.Result.{on_ok_weaker}
+use Rattle.answer_lines.specs.Faults.{graph_fault_text}
+use Rattle.answer_lines.proofs.AppendLemmas.{appends_both}
+use Rattle.answer_lines.proofs.refusals.put_refusal.Goals as goal
+
+pub returns-in_ok-put_graph_fault-in-GraphFault : goal.returns-in_ok-put_graph_fault-in-GraphFault
+returns-in_ok-put_graph_fault-in-GraphFault g c =
+    rw c.in-GraphFault.is
+    (on_ok_weaker c.write_all-in-GraphFault.result (λ h. appends_both _ _ _ (codes "refused 1 GraphFault " ++ graph_fault_text c.in-GraphFault.fault) (codes "\n")
+    (appends_both _ _ _ (codes "refused 1 GraphFault ") (graph_fault_text c.in-GraphFault.fault) c.in_ok-write_all-in-GraphFault.ensures.bytes c.in_ok-put_graph_fault-in-GraphFault.ensures) h)
+    c.write_all-in-GraphFault.ensures.bytes)
+
+pub returns-in-TooManyGraphs : goal.returns-in-TooManyGraphs
+returns-in-TooManyGraphs g c = rw c.in-TooManyGraphs.is c.write_all-in-TooManyGraphs.ensures.bytes
+
+pub returns-in-GraphDiffers : goal.returns-in-GraphDiffers
+returns-in-GraphDiffers g c = rw c.in-GraphDiffers.is c.write_all-in-GraphDiffers.ensures.bytes
+
+pub returns-in-ClockBack : goal.returns-in-ClockBack
+returns-in-ClockBack g c = rw c.in-ClockBack.is (simp append_assoc (let h = simp append_assoc at c.writeln.ensures.bytes in h))
+
+pub returns-in-RecordFull : goal.returns-in-RecordFull
+returns-in-RecordFull g c = rw c.in-RecordFull.is c.write_all-in-RecordFull.ensures.bytes

@@ -1,0 +1,4 @@
+pub mod Runs
+pub mod Answers
+pub mod Faults
+pub mod Refusals

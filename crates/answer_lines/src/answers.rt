@@ -1,0 +1,51 @@
+//! The lines of an answer.
+ghost use Rattle.std.specs.Prelude.{◌≡◌, OnOk};
+ghost use Rattle.std.specs.Io.KnownBytes.{Appends};
+ghost use Rattle.std.specs.List.{flat_map};
+ghost use Rattle.answer_lines.specs.Answers.{answer_text, made_line};
+ghost use Rattle.answer_lines.specs.Runs as spec;
+
+use sched_core::{Answer, RunId};
+use sched_state::Kind;
+use std::io::{self, Write};
+
+/// Writes `made DAG RUNID` for each run made, `more` where some are left, and `ok`.
+pub fn put_answer<W: Write>(output: &mut W, answer: &Answer) -> io::Result<()>
+    ensures { OnOk result (Appends (W.contents output.old) (W.contents output.new) (answer_text answer.now)) }
+{
+    put_made(output, answer.made.as_slice())?;
+    if answer.more {
+        output.write_all(b"more\n")?;
+    }
+    output.write_all(b"ok\n")
+}
+
+// Writes a line for each run made.
+fn put_made<W: Write>(output: &mut W, made: &[RunId]) -> io::Result<()>
+    ensures { OnOk result (Appends (W.contents output.old) (W.contents output.new) (flat_map made_line made.now)) }
+{
+    for id in made {
+        put_made_line(output, id)?;
+    }
+    Ok(())
+}
+
+fn put_made_line<W: Write>(output: &mut W, id: &RunId) -> io::Result<()>
+    ensures { OnOk result (Appends (W.contents output.old) (W.contents output.new) (made_line id.now)) }
+{
+    let graph = id.graph.as_str();
+    let prefix = prefix(id.kind);
+    let logical = id.logical;
+    writeln!(output, "made {graph} {prefix}{logical}")
+}
+
+// What a run id of this kind begins with (Airflow 2, "DAG Runs").
+pub(crate) fn prefix(kind: Kind) -> &'static str
+    ensures { result.now ≡ spec.prefix kind }
+{
+    match kind {
+        Kind::Scheduled => "scheduled__",
+        Kind::Manual => "manual__",
+        Kind::Backfill => "backfill__",
+    }
+}

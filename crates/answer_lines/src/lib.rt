@@ -1,0 +1,24 @@
+//! The lines that a program prints: answers, refusals, faults and rows, byte by byte.
+//!
+//! Each function appends its lines to a writer, and its contract says their bytes. No call allocates; a write that fails is answered as
+//! the writer's error, after which nothing is known of what was written.
+//!
+//! ```text
+//! made one scheduled__2024-02-28T00:00:00+00:00
+//! ok
+//! refused 8 ClockBack 2024-03-01T00:00:00+00:00
+//! usage 1 Words
+//! ```
+#![tactic(auto)]
+
+mod answers;
+mod faults;
+mod refusals;
+mod runs;
+#[cfg(test)]
+mod tests;
+
+pub use answers::put_answer;
+pub use faults::put_fault;
+pub use refusals::put_refusal;
+pub use runs::put_runs;

@@ -1,0 +1,26 @@
+//! The lines of refusals.
+ghost use Rattle.std.specs.Prelude.{OnOk};
+ghost use Rattle.std.specs.Io.KnownBytes.{Appends};
+ghost use Rattle.answer_lines.specs.Refusals as spec;
+
+use crate::faults::put_graph_fault;
+use sched_core::Refusal;
+use std::io::{self, Write};
+
+/// Writes `refused N Name` with what the refusal carries, and `memory` for want of memory.
+pub fn put_refusal<W: Write>(output: &mut W, refusal: Refusal) -> io::Result<()>
+    ensures { OnOk result (Appends (W.contents output.old) (W.contents output.new) (spec.refusal_text refusal)) }
+{
+    match refusal {
+        Refusal::GraphFault(fault) => {
+            output.write_all(b"refused 1 GraphFault ")?;
+            put_graph_fault(output, fault)?;
+            output.write_all(b"\n")
+        }
+        Refusal::TooManyGraphs => output.write_all(b"refused 4 TooManyGraphs\n"),
+        Refusal::GraphDiffers => output.write_all(b"refused 5 GraphDiffers\n"),
+        Refusal::ClockBack(moment) => writeln!(output, "refused 8 ClockBack {moment}"),
+        Refusal::RecordFull => output.write_all(b"refused 17 RecordFull\n"),
+        Refusal::Memory => output.write_all(b"memory\n"),
+    }
+}

@@ -1,0 +1,174 @@
+use super::*;
+use cron_timetable::{CronFault, Interval};
+use graph_file::{GraphFault, Name, Place, Sequence};
+use moment_core::{Moment, MomentFault};
+use sched_core::{Answer, Refusal, RunId};
+use sched_state::{Kind, Phase, Run};
+use script_commands::{CommandFault, SourceFault, UsageFault};
+use std::alloc::Global;
+use std::io::{self, ErrorKind, Write};
+use std::test::Fail;
+
+fn moment(text: &str) -> Result<Moment, Fail> {
+    Ok(Moment::read(text).ok().ok_or("no moment")?)
+}
+
+fn name(alloc: Global, text: &str) -> Result<Name, Fail> {
+    Ok(Name::read(alloc, text).ok().ok_or("no name")?)
+}
+
+#[test]
+fn an_answer_has_its_lines(rt: HostRuntime) -> Result<(), Fail> {
+    let alloc = rt.alloc();
+    let mut made = Vec::new(alloc);
+    for (kind, logical) in [
+        (Kind::Scheduled, "2024-02-28"),
+        (Kind::Manual, "2024-02-29"),
+        (Kind::Backfill, "2024-03-01"),
+    ] {
+        made.push(RunId {
+            graph: name(alloc, "one")?,
+            logical: moment(logical)?,
+            kind,
+        })?;
+    }
+    let mut lines = Vec::new(alloc);
+    put_answer(
+        &mut lines,
+        &Answer {
+            made: Sequence::new(made),
+            more: true,
+        },
+    )?;
+    put_answer(
+        &mut lines,
+        &Answer {
+            made: Sequence::new(Vec::new(alloc)),
+            more: false,
+        },
+    )?;
+    let wanted =
+        b"made one scheduled__2024-02-28T00:00:00+00:00\nmade one manual__2024-02-29T00:00:00+00:00\nmade one backfill__2024-03-01T00:00:00+00:00\nmore\nok\nok\n";
+    assert_eq!(rt; lines.as_slice(), wanted.as_slice());
+    Ok(())
+}
+
+#[test]
+fn runs_have_a_row_each(rt: HostRuntime) -> Result<(), Fail> {
+    let alloc = rt.alloc();
+    let mut runs = Vec::new(alloc);
+    for phase in [Phase::Queued, Phase::Running, Phase::Success, Phase::Failed] {
+        runs.push(Run {
+            graph: name(alloc, "one")?,
+            logical: moment("2024-01-01")?,
+            interval: Interval {
+                start: moment("2024-01-01")?,
+                end: moment("2024-01-02")?,
+            },
+            kind: Kind::Scheduled,
+            phase,
+        })?;
+    }
+    let mut lines = Vec::new(alloc);
+    put_runs(&mut lines, runs.as_slice())?;
+    let mut wanted = Vec::new(alloc);
+    for phase in ["queued", "running", "success", "failed"] {
+        writeln!(
+            &mut wanted,
+            "one scheduled__2024-01-01T00:00:00+00:00 2024-01-01T00:00:00+00:00 2024-01-02T00:00:00+00:00 {phase}"
+        )?;
+    }
+    wanted.extend_from_slice(b"ok\n")?;
+    assert_eq!(rt; lines.as_slice(), wanted.as_slice());
+    Ok(())
+}
+
+#[test]
+fn faults_have_a_line_each(rt: HostRuntime) -> Result<(), Fail> {
+    let alloc = rt.alloc();
+    for (refusal, line) in [
+        (
+            Refusal::GraphFault(GraphFault::NotToml),
+            "refused 1 GraphFault 1 NotToml\n",
+        ),
+        (
+            Refusal::GraphFault(GraphFault::UnknownKey(Place::Top)),
+            "refused 1 GraphFault 2 UnknownKey top\n",
+        ),
+        (
+            Refusal::GraphFault(GraphFault::BadValue(Place::Task(12))),
+            "refused 1 GraphFault 6 BadValue task 12\n",
+        ),
+        (
+            Refusal::GraphFault(GraphFault::Cron(CronFault::NeverFires)),
+            "refused 1 GraphFault 7 Cron 6 NeverFires\n",
+        ),
+        (
+            Refusal::GraphFault(GraphFault::NoTask),
+            "refused 1 GraphFault 8 NoTask\n",
+        ),
+        (Refusal::TooManyGraphs, "refused 4 TooManyGraphs\n"),
+        (Refusal::GraphDiffers, "refused 5 GraphDiffers\n"),
+        (
+            Refusal::ClockBack(moment("2024-01-02")?),
+            "refused 8 ClockBack 2024-01-02T00:00:00+00:00\n",
+        ),
+        (Refusal::RecordFull, "refused 17 RecordFull\n"),
+        (Refusal::Memory, "memory\n"),
+    ] {
+        let mut lines = Vec::new(alloc);
+        put_refusal(&mut lines, refusal)?;
+        assert_eq!(rt; lines.as_slice(), line.as_bytes());
+    }
+    for (fault, line) in [
+        (CommandFault::Usage(UsageFault::Words), "usage 1 Words\n"),
+        (
+            CommandFault::Usage(UsageFault::BadMoment(MomentFault::NoSuchDate)),
+            "usage 3 BadMoment 2 NoSuchDate\n",
+        ),
+        (
+            CommandFault::Usage(UsageFault::BadLine),
+            "usage 5 BadLine\n",
+        ),
+        (CommandFault::Source(SourceFault::NoEnd), "source 5 NoEnd\n"),
+        (CommandFault::Memory, "memory\n"),
+    ] {
+        let mut lines = Vec::new(alloc);
+        put_fault(&mut lines, fault)?;
+        assert_eq!(rt; lines.as_slice(), line.as_bytes());
+    }
+    Ok(())
+}
+
+// A writer with room for so many bytes.
+#[derive(Drop)]
+struct Full {
+    room: usize,
+}
+
+impl Write for Full {
+    fn write(&mut self, bytes: &[u8]) -> io::Result<usize> {
+        if self.room == 0 {
+            return Err(io::Error::from(ErrorKind::BrokenPipe));
+        }
+        let written = bytes.len().min(self.room);
+        self.room -= written;
+        Ok(written)
+    }
+
+    fn flush(&mut self) -> io::Result<()> {
+        Ok(())
+    }
+}
+
+#[test]
+fn a_write_that_fails_is_an_error(rt: HostRuntime) -> Result<(), Fail> {
+    let refusal = Refusal::GraphFault(GraphFault::Cron(CronFault::NeverFires));
+    for room in 0..41 {
+        let ended = put_refusal(&mut Full { room }, refusal);
+        let kind = ended.err().ok_or("written")?.kind();
+        assert_eq!(rt; kind, ErrorKind::BrokenPipe, "at {room}");
+    }
+    put_refusal(&mut Full { room: 41 }, refusal)?;
+    Ok(())
+}

@@ -1,0 +1,3 @@
+pub mod AskLemmas
+pub mod TextLemmas
+pub mod RequestLemmas

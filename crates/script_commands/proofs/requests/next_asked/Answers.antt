@@ -1,0 +1,17 @@
+use Rattle.std.proofs.Common.{◌∙◌, ap}
+use Rattle.script_commands.specs.Commands.{asked_of}
+use Rattle.script_commands.proofs.requests.next_asked.Goals as goal
+
+pub returns-in-Line : goal.returns-in-Line
+returns-in-Line g c = λ bytes known.
+    let next = rw c.in-Line.is at (c.in_ok-read.ensures.next bytes known) in
+    (c.read.new.self, next.0, c.asked_of.ensures ∙ ap asked_of c.line.ensures.value)
+
+pub returns-in-LongLine : goal.returns-in-LongLine
+returns-in-LongLine g c = λ bytes known.
+    let next = rw c.in-LongLine.is at (c.in_ok-read.ensures.next bytes known) in
+    (next.0, next.1, c.asked_of_long.ensures next.0 next.2 (c.line-in-LongLine.ensures.value ∙ next.3) next.4)
+
+pub returns-in-End : goal.returns-in-End
+returns-in-End g c = λ bytes known.
+    let next = rw c.in-End.is at (c.in_ok-read.ensures.next bytes known) in (next.0, next.1)

@@ -1,0 +1,99 @@
+-- The commands of a script.
+use Rattle.std.specs.Prelude.{◌≡◌, ◌⊎◌, ℕ, Bool, not, ◌==◌, ◌&&◌, ◌||◌, nat_lt, if◌then◌else◌, List, [], ◌∷◌, ◌++◌, length, slice_index, codes, Option, Some, None, MatchOption, option_map, Result, Ok, Err}
+use Rattle.std.specs.Str.{bytes_eq, is_utf8}
+use Rattle.text_words.specs.Words.{words}
+use Rattle.script_lines.specs.Lines.{lines_of, line_limit, newline, IsFirstLine}
+use Rattle.sched_core.specs.declared.events.Event.TheVariants.{Load}
+use Rattle.script_commands.specs.Asked.{asked_by}
+use Rattle.script_commands.specs.declared.asked.Asked.{Asked}
+use Rattle.script_commands.specs.declared.asked.Asked.TheVariants as asks
+use Rattle.script_commands.specs.declared.commands.Command.{Command}
+use Rattle.script_commands.specs.declared.commands.Command.TheVariants.{Step}
+use Rattle.script_commands.specs.declared.commands.UsageFault.TheVariants.{BadLine}
+use Rattle.script_commands.specs.declared.commands.SourceFault.TheVariants.{NoEnd}
+use Rattle.script_commands.specs.declared.commands.CommandFault.{CommandFault}
+use Rattle.script_commands.specs.declared.commands.CommandFault.TheVariants.{Usage, Source, Memory}
+
+-- what a script has in a command's place
+abbrev pub Request : Type 0
+Request = Result Command CommandFault
+
+-- a bad line: longer than the limit, or no UTF-8
+abbrev pub is_bad : List ℕ → Bool
+is_bad line = nat_lt line_limit (length line) || not (is_utf8 line)
+
+-- a comment begins with `#`
+abbrev pub is_comment : List ℕ → Bool
+is_comment line = nat_lt 0 (length line) && (slice_index line 0 == 35)
+
+-- a line that is passed over: a comment, or one without a word
+abbrev pub is_skipped : List ℕ → Bool
+is_skipped line = is_comment line || (length (words line) == 0)
+
+-- what a line outside of a graph's text asks for; one that is passed over asks for nothing, be it bad or not
+abbrev pub asked_of : List ℕ → Asked
+asked_of line =
+    if is_skipped line then asks.Nothing
+    else (if is_bad line then asks.Fault BadLine else asked_by (words line))
+
+-- where a script stands: outside of a graph's text, or inside of one, with what it has so far, or none after a bad line
+pub data Place : Type 0 where
+  Outside : Place
+  Inside : Option (List ℕ) → Place
+
+-- one more line of a graph's text, with its newline
+abbrev pub with_newline : Option (List ℕ) → List ℕ → Option (List ℕ)
+with_newline text line = option_map (λ t. t ++ (line ++ newline ∷ [])) text
+
+-- a bad line leaves no text
+abbrev pub with_line : Option (List ℕ) → List ℕ → Option (List ℕ)
+with_line text line = if is_bad line then None else with_newline text line
+
+-- what a graph's text asks for
+abbrev pub load_of : Option (List ℕ) → Request
+load_of (Some text) = Ok (Step (Load text))
+load_of None = Err (Usage BadLine)
+
+-- what an asking line gives, before what the lines after it give from a place on
+abbrev pub given_by : Asked → (Place → List Request) → List Request
+given_by asks.Nothing after = after Outside
+given_by asks.Text after = after (Inside (Some []))
+given_by (asks.This command) after = Ok command ∷ after Outside
+given_by (asks.Fault fault) after = Err (Usage fault) ∷ after Outside
+
+-- the line that ends a graph's text
+abbrev pub ends_text : List ℕ → Bool
+ends_text line = bytes_eq line (codes ".")
+
+-- the commands of lines from a place on
+abbrev pub commands_from : Place → List (List ℕ) → List Request
+commands_from Outside [] = []
+commands_from (Inside text) [] = Err (Source NoEnd) ∷ []
+commands_from Outside (l ∷ ls) = given_by (asked_of l) (λ place. commands_from place ls)
+commands_from (Inside text) (l ∷ ls) =
+    if ends_text l then load_of text ∷ commands_from Outside ls else commands_from (Inside (with_line text l)) ls
+
+-- the commands of a script's bytes, in order
+unfoldable pub commands_in : List ℕ → List Request
+commands_in bytes = commands_from Outside (lines_of bytes)
+
+-- what the next line of bytes asks for, or their end
+abbrev pub IsAsked : List ℕ → Option Asked → Option (List ℕ) → Type 0
+IsAsked bytes next rest = MatchOption next ((bytes ≡ []) × (rest ≡ Some []))
+    (λ asked. (line : List ℕ) × IsFirstLine bytes line rest × (asked ≡ asked_of line))
+
+-- want of memory can come in the place of a graph's text, and of nothing else
+abbrev pub IsGiven : Request → Request → Type 0
+IsGiven wanted given = (given ≡ wanted) ⊎ ((given ≡ Err Memory) × ((text : List ℕ) × (wanted ≡ Ok (Step (Load text)))))
+
+-- of these commands the first is given; the others are those of the bytes that are left
+pub record IsFirst (commands : List Request) (given : Request) (rest : Option (List ℕ)) : Type 0 where
+  pub wanted : Request
+  pub left : List ℕ
+  pub known : rest ≡ Some left
+  pub first : commands ≡ wanted ∷ commands_in left
+  pub same : IsGiven wanted given
+
+-- the next command of bytes, or their end
+abbrev pub IsNext : List ℕ → Option Request → Option (List ℕ) → Type 0
+IsNext bytes next rest = MatchOption next ((commands_in bytes ≡ []) × (rest ≡ Some [])) (λ given. IsFirst (commands_in bytes) given rest)

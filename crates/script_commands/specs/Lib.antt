@@ -1,0 +1,4 @@
+pub mod Values
+pub mod Asked
+pub mod Commands
+pub mod Gathered

@@ -1,0 +1,71 @@
+//! What one line asks for.
+ghost use Rattle.std.specs.Prelude.{◌≡◌};
+ghost use Rattle.text_words.specs.Words.{words};
+ghost use Rattle.script_commands.specs.Asked as spec;
+ghost use Rattle.script_commands.specs.Asked.{asked_by};
+
+use crate::commands::{Command, UsageFault};
+use crate::words::only_value;
+use moment_core::Moment;
+use sched_core::Event;
+use text_words::next_word;
+
+/// What a line outside of a graph's text asks for.
+#[derive(Debug, Drop)]
+pub enum Asked {
+    /// Nothing: it has no word.
+    Nothing,
+    /// `load inline`: the lines that follow are a graph's text.
+    Text,
+    /// A command of one line.
+    This(Command),
+    /// It is no command.
+    Fault(UsageFault),
+}
+
+impl Asked {
+    /// What the words of a line ask for.
+    ///
+    /// Words stand between blanks; there are no quotes. As with other command lines a word `--` ends the options, so that what
+    /// follows it is a value even where it begins with `-`; no command has an option yet.
+    pub fn by(line: &[u8]) -> Asked
+        ensures { result ≡ asked_by (words line.now) }
+    {
+        let Some((name, rest)) = next_word(line) else {
+            return Asked::Nothing;
+        };
+        match only_value(rest) {
+            Some(value) => with_value(name, value),
+            None => Asked::Fault(UsageFault::Words),
+        }
+    }
+}
+
+// What a command's name and its one value ask for.
+fn with_value(name: &[u8], value: &[u8]) -> Asked
+    ensures { result ≡ spec.with_value name.now value.now }
+{
+    if name == b"tick".as_slice() {
+        return at_moment(value);
+    }
+    if name == b"load".as_slice() && value == b"inline".as_slice() {
+        return Asked::Text;
+    }
+    if name == b"list".as_slice() && value == b"runs".as_slice() {
+        return Asked::This(Command::ListRuns);
+    }
+    Asked::Fault(UsageFault::Words)
+}
+
+// What `tick` asks for.
+fn at_moment(value: &[u8]) -> Asked
+    ensures { result ≡ spec.at_moment value.now }
+{
+    if value == b"now".as_slice() {
+        return Asked::Fault(UsageFault::Words);
+    }
+    match Moment::read_bytes(value) {
+        Ok(moment) => Asked::This(Command::Step(Event::Tick(moment))),
+        Err(fault) => Asked::Fault(UsageFault::BadMoment(fault)),
+    }
+}

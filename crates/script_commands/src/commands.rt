@@ -1,0 +1,39 @@
+//! What a script asks for, and why a line is no command.
+use moment_core::MomentFault;
+use sched_core::Event;
+
+/// What a script asks for.
+#[derive(Debug, Drop)]
+pub enum Command {
+    /// `load inline` with its text, or `tick MOMENT`: an event for the schedule.
+    Step(Event),
+    /// `list runs`: the runs are shown, by graph id and logical date.
+    ListRuns,
+}
+
+/// Why a line is no command.
+#[derive(Clone, Copy, Debug, PartialEq, Eq)]
+pub enum UsageFault {
+    /// There is no such command, or it has too few words, too many or others.
+    Words,
+    /// A word that should be a moment is none.
+    BadMoment(MomentFault),
+    /// The line, or a line of the graph's text, is longer than 65,536 bytes or is not UTF-8.
+    BadLine,
+}
+
+/// Why there is no text of a graph.
+#[derive(Clone, Copy, Debug, PartialEq, Eq)]
+pub enum SourceFault {
+    /// The script ends before the `.` that ends the text.
+    NoEnd,
+}
+
+/// Why there is no command where a script has one.
+#[derive(Clone, Copy, Debug, PartialEq, Eq)]
+pub enum CommandFault {
+    Usage(UsageFault),
+    Source(SourceFault),
+    /// Memory ran out while a graph's text was read.
+    Memory,
+}

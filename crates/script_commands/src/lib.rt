@@ -1,0 +1,28 @@
+//! The commands of a script: what its lines ask for, in order.
+//!
+//! A script is read line by line. [`Asked::by`] says what one line asks for, and [`next_command`] reads the next command of an
+//! input: a line of its own, or a graph's text that stands between `load inline` and a line that is `.` alone. A line that is no command is
+//! answered by its fault, and reading goes on after it. Lines are read in bounded memory; only the text of a graph wants more.
+//!
+//! ```text
+//! # the nightly load
+//! load inline
+//! dag_id = "nightly"
+//! ..
+//! .
+//! tick 2024-01-02
+//! list runs
+//! ```
+#![tactic(auto)]
+
+mod asked;
+mod commands;
+mod graph_texts;
+mod requests;
+#[cfg(test)]
+mod tests;
+mod words;
+
+pub use asked::Asked;
+pub use commands::{Command, CommandFault, SourceFault, UsageFault};
+pub use requests::next_command;

@@ -1,0 +1,121 @@
+//! The commands of a script, one after another.
+//!
+//! Easy to get wrong: a comment and a line of blanks ask for nothing even where they are too long or no UTF-8.
+ghost use Rattle.std.specs.Prelude.{◌≡◌, ℕ, ◌<◌, ◌≤◌, true, false, nat_lt, List, length, take, Some, MatchOption, IfOk};
+ghost use Rattle.std.specs.List.{list_all};
+ghost use Rattle.text_words.specs.Words.{is_blank as is_blank_byte, words};
+ghost use Rattle.script_lines.specs.Lines.{line_limit};
+ghost use Rattle.script_commands.specs.Commands as spec;
+ghost use Rattle.script_commands.specs.Commands.{IsNext, IsAsked, is_bad};
+
+use crate::asked::Asked;
+use crate::commands::{Command, CommandFault, UsageFault};
+use crate::graph_texts::read_text;
+use script_lines::{Found, LineReader};
+use std::alloc::Global;
+use std::io::{self, ErrorKind, Read};
+use std::str;
+use text_words::next_word;
+
+// How many lines are read before reading ends in an error.
+pub(crate) const MOST_LINES: u64 = 1 << 40;
+
+/// Reads the next command of a script: the command, or why there is none in its place; `None` at the end of the input.
+///
+/// Lines that begin with `#` and lines of blanks alone are passed over. After `load inline` the lines up to one that is `.` alone are
+/// the graph's text, each with a newline; no line of it is passed over, and where one is too long or not UTF-8 the answer is
+/// `BadLine`, at the end of the text. Where memory runs out for a text that is good, the answer is `Memory`, at its end. `lines` holds
+/// the line that was read last. An error is the reader's; then a part of the script may be lost.
+pub fn next_command<R: Read>(
+    alloc: Global,
+    lines: &mut LineReader,
+    input: &mut R,
+) -> io::Result<Option<Result<Command, CommandFault>>>
+    ensures { IfOk result (λ next. (bytes : List ℕ) → R.remaining input.old ≡ Some bytes
+        → IsNext bytes next (R.remaining input.new)) }
+{
+    for _line in 0..MOST_LINES {
+        match next_asked(lines, input)? {
+            None => return Ok(None),
+            Some(Asked::Nothing) => {}
+            Some(Asked::Text) => return Ok(Some(read_text(alloc, lines, input)?)),
+            Some(Asked::This(command)) => return Ok(Some(Ok(command))),
+            Some(Asked::Fault(fault)) => return Ok(Some(Err(CommandFault::Usage(fault)))),
+        }
+    }
+    Err(io::Error::from(ErrorKind::Other))
+}
+
+// Reads the next line, and what it asks for.
+fn next_asked<R: Read>(lines: &mut LineReader, input: &mut R) -> io::Result<Option<Asked>>
+    ensures { IfOk result (λ asked. (bytes : List ℕ) → R.remaining input.old ≡ Some bytes
+        → IsAsked bytes asked (R.remaining input.new)) }
+{
+    match lines.read(input)? {
+        Found::Line => Ok(Some(asked_of(lines.line()))),
+        Found::LongLine { is_blank } => Ok(Some(asked_of_long(lines.line(), is_blank))),
+        Found::End => Ok(None),
+    }
+}
+
+// What a line asks for that is not too long.
+fn asked_of(line: &[u8]) -> Asked
+    requires { length line.now ≤ line_limit }
+    ensures { result ≡ spec.asked_of line.now }
+{
+    if is_skipped(line) {
+        return Asked::Nothing;
+    }
+    match text_of(line) {
+        Some(_) => Asked::by(line),
+        None => Asked::Fault(UsageFault::BadLine),
+    }
+}
+
+// What a line asks for that is too long, of which this is the beginning.
+fn asked_of_long(start: &[u8], is_blank: bool) -> Asked
+    ensures { (line : List ℕ) → line_limit < length line → start.now ≡ take line_limit line → is_blank ≡ list_all is_blank_byte line
+        → result ≡ spec.asked_of line }
+{
+    if is_comment(start) {
+        return Asked::Nothing;
+    }
+    if is_blank {
+        return Asked::Nothing;
+    }
+    Asked::Fault(UsageFault::BadLine)
+}
+
+// Whether the line is passed over.
+fn is_skipped(line: &[u8]) -> bool
+    ensures { result ≡ spec.is_skipped line.now }
+{
+    is_comment(line) || !has_word(line)
+}
+
+fn has_word(line: &[u8]) -> bool
+    ensures { result ≡ nat_lt 0 (length (words line.now)) }
+{
+    match next_word(line) {
+        Some(_) => true,
+        None => false,
+    }
+}
+
+// Whether the line is a comment.
+fn is_comment(line: &[u8]) -> bool
+    ensures { result ≡ spec.is_comment line.now }
+{
+    !line.is_empty() && line[0] == b'#'
+}
+
+// The text of a line that is not too long, where it is no bad line.
+pub(crate) fn text_of(line: &[u8]) -> Option<&str>
+    requires { length line.now ≤ line_limit }
+    ensures { MatchOption result (is_bad line.now ≡ true) (λ text. (is_bad line.now ≡ false) × (text.now ≡ line.now)) }
+{
+    match str::from_utf8(line) {
+        Ok(text) => Some(text),
+        Err(_) => None,
+    }
+}

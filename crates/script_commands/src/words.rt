@@ -1,0 +1,49 @@
+//! The values among a command's words.
+ghost use Rattle.std.specs.Prelude.{◌≡◌, MatchOption, Some, None};
+ghost use Rattle.text_words.specs.Words.{words};
+ghost use Rattle.script_commands.specs.Values as spec;
+ghost use Rattle.script_commands.specs.Values.{values, only};
+
+use text_words::next_word;
+
+// The value of a text whose words give one value and no more.
+pub(crate) fn only_value(text: &[u8]) -> Option<&[u8]>
+    ensures { MatchOption result (only (values (words text.now)) ≡ None) (λ v. only (values (words text.now)) ≡ Some v.now) }
+{
+    let (first, rest) = next_word(text)?;
+    if first == b"--".as_slice() {
+        return only_word(rest);
+    }
+    if is_option(first) || has_value(rest) {
+        return None;
+    }
+    Some(first)
+}
+
+// The word of a text that has one word and no more.
+fn only_word(text: &[u8]) -> Option<&[u8]>
+    ensures { MatchOption result (only (Some (words text.now)) ≡ None) (λ v. only (Some (words text.now)) ≡ Some v.now) }
+{
+    let (first, rest) = next_word(text)?;
+    match next_word(rest) {
+        None => Some(first),
+        Some(_) => None,
+    }
+}
+
+// Whether a text has a word other than a last `--`.
+fn has_value(text: &[u8]) -> bool
+    ensures { result ≡ spec.has_value (words text.now) }
+{
+    match next_word(text) {
+        None => false,
+        Some((word, rest)) => word != b"--".as_slice() || next_word(rest).is_some(),
+    }
+}
+
+// Whether the word is an option.
+fn is_option(word: &[u8]) -> bool
+    ensures { result ≡ spec.is_option word.now }
+{
+    word.len() > 1 && word[0] == b'-'
+}

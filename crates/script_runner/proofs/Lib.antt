@@ -1,0 +1,4 @@
+pub mod OutcomeLemmas
+pub mod RunLemmas
+pub mod LoopLemmas
+pub mod SerialLemmas

@@ -1,0 +1,84 @@
+-- What scripts do.
+use Rattle.std.proofs.Common.{◌≡◌, ◌∙◌, max, List, [], ◌∷◌, ◌++◌, Option, Some, None, Ok, Err, refl, sym, ap, arith, inl, inr}
+use Rattle.sched_state.specs.Schedule.{Schedule}
+use Rattle.sched_core.specs.Events.{refused}
+use Rattle.sched_core.specs.Steps.{step, steps}
+use Rattle.sched_core.specs.declared.events.Event.{Event}
+use Rattle.sched_core.specs.declared.events.Refusal.{Refusal}
+use Rattle.sched_core.specs.declared.events.Refusal.TheVariants.{Memory}
+use Rattle.script_commands.specs.Commands.{Request}
+use Rattle.script_commands.specs.declared.commands.Command.TheVariants.{Step, ListRuns}
+use Rattle.script_commands.specs.declared.commands.CommandFault.{CommandFault}
+use Rattle.script_runner.specs.Outcomes.{Outcome, IsOutcome, event_outcome, refused_for, refusal_status}
+use Rattle.script_runner.specs.Runs.{IsRun, IsPart, StepsEvents, event_of, events_of, then_outcome}
+use Rattle.script_runner.specs.Runs.IsPart.{none, kept, left}
+
+-- one command's event is stepped, or none is
+pub record StepsOne (r : Request) (a : Schedule) (o : Outcome) : Type 0 where
+  pub events : List Event
+  pub part : (rest more : List Event) → IsPart rest more → IsPart (events ++ rest) (event_of r ++ more)
+  pub schedule : o.schedule ≡ steps events a
+  pub all : o.status ≡ 0 → events ≡ event_of r
+
+one-refused : (e : Event) (a : Schedule) (r : Refusal) (o : Outcome) → o ≡ refused_for r a → (o.status ≡ 0 → ⊥) → StepsOne (Ok (Step e)) a o
+one-refused e a r o h status = record {
+  events = [];
+  part = λ rest more p. left e rest more p;
+  schedule = ap (λ (x : Outcome). x.schedule) h;
+  all = λ z. absurd (status z);
+}
+
+some-status : (r : Refusal) → refusal_status r ≡ 0 → ⊥
+some-status Memory h = cc
+some-status _ h = cc
+
+not_zero : (r : Refusal) (a : Schedule) (o : Outcome) → o ≡ refused_for r a → o.status ≡ 0 → ⊥
+not_zero r a o h z = some-status r (sym (ap (λ (x : Outcome). x.status) h) ∙ z)
+
+one-event : (e : Event) (a : Schedule) (c : Option Refusal) (o : Outcome) → o ≡ event_outcome c e a → StepsOne (Ok (Step e)) a o
+one-event e a None o h = record {
+  events = e ∷ [];
+  part = λ rest more p. kept e rest more p;
+  schedule = ap (λ (x : Outcome). x.schedule) h;
+  all = λ z. refl;
+}
+one-event e a (Some r) o h = one-refused e a r o h (not_zero r a o h)
+
+one-step : (e : Event) (a : Schedule) (o : Outcome) → IsOutcome (Ok (Step e)) a o → StepsOne (Ok (Step e)) a o
+one-step e a o h = elim h [
+  | inl same ↦ one-event e a (refused a e) o same
+  | inr wanting ↦ one-refused e a Memory o wanting.1 (not_zero Memory a o wanting.1)
+]
+
+one-list : (a : Schedule) (o : Outcome) → IsOutcome (Ok ListRuns) a o → StepsOne (Ok ListRuns) a o
+one-list a o (inl same) = record { events = []; part = λ rest more p. p; schedule = ap (λ (x : Outcome). x.schedule) same; all = λ z. refl }
+one-list a o (inr ((e, step), wanting)) = cc
+
+one-fault : (fault : CommandFault) (a : Schedule) (o : Outcome) → IsOutcome (Err fault) a o → StepsOne (Err fault) a o
+one-fault fault a o (inl same) = record { events = []; part = λ rest more p. p; schedule = ap (λ (x : Outcome). x.schedule) same; all = λ z. refl }
+one-fault fault a o (inr ((e, step), wanting)) = cc
+
+one : (r : Request) (a : Schedule) (o : Outcome) → IsOutcome r a o → StepsOne r a o
+one (Ok (Step e)) a o h = one-step e a o h
+one (Ok ListRuns) a o h = one-list a o h
+one (Err fault) a o h = one-fault fault a o h
+
+steps-append : (es fs : List Event) (a : Schedule) → steps (es ++ fs) a ≡ steps fs (steps es a)
+steps-append [] fs a = refl
+steps-append (e ∷ es) fs a = steps-append es fs (step e a)
+
+joined : (r : Request) (rs : List Request) (a : Schedule) (first rest o : Outcome) → StepsOne r a first → StepsEvents rs first.schedule rest → o ≡ then_outcome first rest → StepsEvents (r ∷ rs) a o
+joined r rs a first rest o f s e = record {
+  events = f.events ++ s.events;
+  part = f.part s.events (events_of rs) s.part;
+  schedule = ap (λ (x : Outcome). x.schedule) e ∙ (s.schedule ∙ (ap (steps s.events) f.schedule ∙ sym (steps-append f.events s.events a)));
+  all = λ z.
+      let greatest : o.status ≡ max first.status rest.status = ap (λ (x : Outcome). x.status) e in
+      let here : first.status ≡ 0 = omega arith in
+      let later : rest.status ≡ 0 = omega arith in
+      ap (λ (es : List Event). es ++ s.events) (f.all here) ∙ ap (λ (es : List Event). event_of r ++ es) (s.all later);
+}
+
+pub script_steps : (rs : List Request) (a : Schedule) (o : Outcome) → IsRun rs a o → StepsEvents rs a o
+script_steps [] a o h = record { events = []; part = none; schedule = ap (λ (x : Outcome). x.schedule) h; all = λ z. refl }
+script_steps (r ∷ rs) a o (first, rest, is, run, e) = joined r rs a first rest o (one r a first is) (script_steps rs first.schedule rest run) e

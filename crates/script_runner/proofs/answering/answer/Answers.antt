@@ -1,0 +1,21 @@
+use Rattle.std.proofs.Common.{◌∙◌, Ok, refl, ap}
+use Rattle.script_runner.proofs.OutcomeLemmas.{at_err, answered, comes-listed, comes-fault}
+use Rattle.script_runner.proofs.answering.answer.Goals as goal
+
+pub returns-in_err-put_runs-in-Ok-ListRuns : goal.returns-in_err-put_runs-in-Ok-ListRuns
+returns-in_err-put_runs-in-Ok-ListRuns g c =
+    answered _ _ _ _ _ _ _ c.from_residual.result (comes-listed _ _ c.runs.result.now (c.in-Ok-ListRuns.is ∙ ap Ok c.in-Ok-ListRuns.field-0-is) c.runs.ensures.runs)
+    (at_err c.from_residual.result _ _ c.from_residual.ensures.1)
+
+pub returns-in_ok-put_runs-in-Ok-ListRuns : goal.returns-in_ok-put_runs-in-Ok-ListRuns
+returns-in_ok-put_runs-in-Ok-ListRuns g c =
+    answered _ _ _ _ _ _ _ _ (comes-listed _ _ c.runs.result.now (c.in-Ok-ListRuns.is ∙ ap Ok c.in-Ok-ListRuns.field-0-is) c.runs.ensures.runs) (refl, c.in_ok-put_runs-in-Ok-ListRuns.ensures)
+
+pub returns-in_err-put_fault-in-Err : goal.returns-in_err-put_fault-in-Err
+returns-in_err-put_fault-in-Err g c =
+    answered _ _ _ _ _ _ _ c.from_residual-in_err-put_fault-in-Err.result (comes-fault _ _ c.in-Err.fault _ c.in-Err.is c.fault_status-status.ensures)
+    (at_err c.from_residual-in_err-put_fault-in-Err.result _ _ c.from_residual-in_err-put_fault-in-Err.ensures.1)
+
+pub returns-in_ok-put_fault-in-Err : goal.returns-in_ok-put_fault-in-Err
+returns-in_ok-put_fault-in-Err g c =
+    answered _ _ _ _ _ _ _ _ (comes-fault _ _ c.in-Err.fault _ c.in-Err.is c.fault_status-status.ensures) (refl, c.in_ok-put_fault-in-Err.ensures)

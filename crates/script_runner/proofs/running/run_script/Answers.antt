@@ -1,0 +1,18 @@
+use Rattle.std.proofs.Common.{refl}
+use Rattle.script_runner.proofs.LoopLemmas.{going-more, run-failed, run-ended}
+use Rattle.script_runner.proofs.running.run_script.Goals as goal
+
+pub returns-in-None : goal.returns-in-None
+returns-in-None g c =
+    run-ended _ _ (g.R.Read.remaining c.next_command.new.input) _ _ _ _ _ _ c.loop-command.invariant
+    (λ known e. let next = rw c.in-None.is at (c.in_ok-next_command.ensures known e) in next) refl
+
+pub returns-in_err-answer-in-Some : goal.returns-in_err-answer-in-Some
+returns-in_err-answer-in-Some g c =
+    run-failed _ _ (g.R.Read.remaining c.next_command.new.input) _ _ _ _ _ _ _ c.in-Some.request c.answer.result c.from_residual-in_err-answer-in-Some.result _ c.loop-command.invariant
+    (λ known e. let next = rw c.in-Some.is at (c.in_ok-next_command.ensures known e) in next) c.answer.ensures c.from_residual-in_err-answer-in-Some.ensures.1
+
+pub loop-command-preserved : goal.loop-command-preserved
+loop-command-preserved g c =
+    going-more _ _ _ _ _ _ _ _ _ _ c.in_ok-answer-in-Some.field-0 _ c.in-Some.request c.answer.result c.loop-command.invariant
+    (λ known e. let next = rw c.in-Some.is at (c.in_ok-next_command.ensures known e) in next) c.answer.ensures c.in_ok-answer-in-Some.was c.max-status.ensures

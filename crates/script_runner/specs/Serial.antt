@@ -1,0 +1,25 @@
+-- A script from the empty schedule on.
+use Rattle.std.specs.Prelude.{◌≡◌, ℕ, List, Option, Some, Result, Ok, Err}
+use Rattle.sched_state.specs.Limits.{ceilings}
+use Rattle.sched_state.specs.Schedule.{Schedule, empty_schedule}
+use Rattle.sched_core.specs.Steps.{steps}
+use Rattle.sched_core.specs.declared.events.Event.{Event}
+use Rattle.script_commands.specs.Commands.{commands_in}
+use Rattle.script_runner.specs.Runs.{IsPart, events_of}
+
+-- the events are some of those that the lines of the bytes name, in their order, and all of them where the status is 0
+pub record AreNamed (events : List Event) (bytes : List ℕ) (status : ℕ) : Type 0 where
+  pub part : IsPart events (events_of (commands_in bytes))
+  pub all : status ≡ 0 → events ≡ events_of (commands_in bytes)
+
+-- the schedule is that after events, from the empty one on; where the bytes are known their lines name the events
+pub record IsSerialRun (bytes : Option (List ℕ)) (b : Schedule) (status : ℕ) : Type 0 where
+  pub events : List Event
+  pub schedule : b ≡ steps events (empty_schedule ceilings)
+  pub named : (known : List ℕ) → bytes ≡ Some known → AreNamed events known status
+
+-- the status of a script that ended so, and whose output was flushed so: its own, or 4 where one of them failed
+abbrev pub status_of : {E F T : Type 0} → Result ℕ E → Result T F → ℕ
+status_of (Ok status) (Ok flushed) = status
+status_of (Ok status) (Err e) = 4
+status_of (Err e) flushed = 4

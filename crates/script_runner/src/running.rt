@@ -1,0 +1,36 @@
+//! Running a script.
+ghost use Rattle.std.specs.Prelude.{◌≡◌, IfOk};
+ghost use Rattle.script_runner.specs.Runs.{IsScriptRun};
+
+use crate::answering::answer;
+use sched_core::Schedule;
+use script_commands::next_command;
+use script_lines::LineReader;
+use std::alloc::Global;
+use std::io::{self, ErrorKind, Read, Write};
+
+// How many commands are read before reading ends in an error.
+const MOST_COMMANDS: u64 = 1 << 40;
+
+/// Does the commands of a script and writes the answer of each, in order; the status is the greatest of theirs.
+///
+/// An error is the reader's or the writer's. Then the commands before it are done, and nothing after them; what was written of
+/// their answers is not known. `lines` is what the script is read with.
+pub fn run_script<R: Read, W: Write>(
+    alloc: Global,
+    schedule: &mut Schedule,
+    lines: &mut LineReader,
+    input: &mut R,
+    output: &mut W,
+) -> io::Result<u8>
+    ensures { IsScriptRun (R.remaining input.old) schedule.old.content schedule.new.content (W.contents output.old) (W.contents output.new) result }
+{
+    let mut status = 0;
+    for _command in 0..MOST_COMMANDS {
+        match next_command(alloc, lines, input)? {
+            None => return Ok(status),
+            Some(request) => status = status.max(answer(alloc, schedule, request, output)?),
+        }
+    }
+    Err(io::Error::from(ErrorKind::Other))
+}
