@@ -3,3 +3,4 @@ pub mod TableLemmas
 pub mod KeyLemmas
 pub mod ScheduleLemmas
 pub mod FaultLemmas
+pub mod StatusLemmas

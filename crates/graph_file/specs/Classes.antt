@@ -1,18 +1,22 @@
 -- The classes of faults that have a place: what each says of a table that may have the given keys.
-use Rattle.std.specs.Prelude.{ℕ, ◌&&◌, ◌||◌, not, Bool, true, false, List, [], ◌∷◌, is_none, is_some, is_err, bytes_eq, int_lt}
+use Rattle.std.specs.Prelude.{ℕ, ◌&&◌, ◌||◌, not, Bool, true, false, List, [], ◌∷◌, Option, option_and_then, is_none, is_some, is_err, bytes_eq, int_lt}
 use Rattle.std.specs.List.{list_all, list_any}
 use Rattle.toml.specs.Data.{Data, Members, as_str, as_bool, as_integer, as_array, as_table}
 use Rattle.moment_core.specs.Reading.{read_of}
 use Rattle.graph_file.specs.Lists.{holds_at}
 use Rattle.graph_file.specs.Names.{is_name}
-use Rattle.graph_file.specs.Operators.{operator_of}
+use Rattle.graph_file.specs.Operators.{operator_of, takes}
+use Rattle.graph_file.specs.Rules.{rule_of, weight_rule_of}
 use Rattle.graph_file.specs.Keys.{row_of, task_keys}
 use Rattle.graph_file.specs.Tables.{each_item, some_item, keys_in, member_at}
+use Rattle.graph_file.specs.Values.{texts_of}
+use Rattle.graph_file.specs.declared.operators.Operator.{Operator}
 use Rattle.graph_file.specs.declared.keys.Key.{Key}
+use Rattle.graph_file.specs.declared.keys.Key.TheVariants as key
 use Rattle.graph_file.specs.declared.keys.Kind.{Kind}
 use Rattle.graph_file.specs.declared.keys.Kind.TheVariants.{Text, Flag, Whole, Texts, Tables}
 use Rattle.graph_file.specs.declared.keys.Role.{Role}
-use Rattle.graph_file.specs.declared.keys.Role.TheVariants.{Name, Names, Moment, Range, Operator}
+use Rattle.graph_file.specs.declared.keys.Role.TheVariants as role
 use Rattle.graph_file.specs.declared.keys.Absent.{Absent}
 use Rattle.graph_file.specs.declared.keys.Absent.TheVariants.{Refused}
 use Rattle.graph_file.specs.declared.classes.Class.{Class}
@@ -58,8 +62,8 @@ is_no_name d = holds_at (λ s. not (is_name s)) (as_str d)
 
 -- a name is wanted, and the text, or one of the texts, is none
 abbrev pub names_none : Role → Data → Bool
-names_none Name d = is_no_name d
-names_none Names d = holds_at (some_item is_no_name) (as_array d)
+names_none role.Name d = is_no_name d
+names_none role.Names d = holds_at (some_item is_no_name) (as_array d)
 names_none _ d = false
 
 abbrev pub is_misnamed : Key → Members → Bool
@@ -67,13 +71,24 @@ is_misnamed k t = holds_at (names_none (row_of k).role) (member_at k t)
 
 -- the value is none of those that the role has
 abbrev pub is_outside : Role → Data → Bool
-is_outside Moment d = holds_at (λ s. is_err (read_of s)) (as_str d)
-is_outside (Range low high) d = holds_at (λ z. int_lt z low || int_lt high z) (as_integer d)
-is_outside Operator d = holds_at (λ s. is_none (operator_of s)) (as_str d)
+is_outside role.Moment d = holds_at (λ s. is_err (read_of s)) (as_str d)
+is_outside (role.Range low high) d = holds_at (λ z. int_lt z low || int_lt high z) (as_integer d)
+is_outside role.Operator d = holds_at (λ s. is_none (operator_of s)) (as_str d)
+is_outside role.Rule d = holds_at (λ s. is_none (rule_of s)) (as_str d)
+is_outside role.WeightRule d = holds_at (λ s. is_none (weight_rule_of s)) (as_str d)
 is_outside _ d = false
 
+-- the operator of a task, if its word is one
+abbrev pub operator_at : Members → Option Operator
+operator_at t = option_and_then (λ d. option_and_then operator_of (as_str d)) (member_at key.Operator t)
+
+-- arguments are wanted, and those of the table, which may be none, the operator beside them does not take
+abbrev pub is_unfit : Role → Members → Bool
+is_unfit role.Arguments t = holds_at (λ o. not (takes o (texts_of key.Argv t))) (operator_at t)
+is_unfit _ t = false
+
 abbrev pub is_bad : Key → Members → Bool
-is_bad k t = holds_at (is_outside (row_of k).role) (member_at k t)
+is_bad k t = holds_at (is_outside (row_of k).role) (member_at k t) || is_unfit (row_of k).role t
 
 -- the table has a fault of the class
 abbrev pub has_fault : Class → List Key → Members → Bool

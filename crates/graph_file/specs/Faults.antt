@@ -1,11 +1,13 @@
 -- The fault of a table: the first class that stands in it, at its first place.
-use Rattle.std.specs.Prelude.{ℕ, ◌==◌, nat_lt, [], ◌∷◌, map, length, position, Option, option_map}
-use Rattle.toml.specs.Data.{Members}
+use Rattle.std.specs.Prelude.{ℕ, ◌==◌, ◌||◌, nat_lt, [], ◌∷◌, map, length, sum_by, position, Option, option_map}
+use Rattle.toml.specs.Data.{Data, Members}
 use Rattle.graph_file.specs.Lists.{when, first_some}
 use Rattle.graph_file.specs.Keys.{top_keys}
-use Rattle.graph_file.specs.Tables.{tasks_of}
+use Rattle.graph_file.specs.Tables.{items_of, tasks_of, table_of}
+use Rattle.graph_file.specs.TaskLists.{task_limit, upstream_limit}
 use Rattle.graph_file.specs.Classes.{classes, has_fault, task_has_fault}
 use Rattle.graph_file.specs.Schedules.{cron_fault}
+use Rattle.graph_file.specs.declared.keys.Key.TheVariants as key
 use Rattle.graph_file.specs.declared.classes.Class.{Class}
 use Rattle.graph_file.specs.declared.classes.Class.TheVariants as class
 use Rattle.graph_file.specs.declared.faults.Place.{Place}
@@ -13,9 +15,9 @@ use Rattle.graph_file.specs.declared.faults.Place.TheVariants.{Top, Task}
 use Rattle.graph_file.specs.declared.faults.GraphFault.{GraphFault}
 use Rattle.graph_file.specs.declared.faults.GraphFault.TheVariants.{UnknownKey, WrongType, MissingKey, BadName, BadValue, Cron, NoTask, TooMany}
 
--- the tasks that a graph may have
-abbrev pub task_limit : ℕ
-task_limit = 1
+-- how many upstream names a task has
+abbrev pub upstream_count : Data → ℕ
+upstream_count d = length (items_of key.Upstream (table_of d))
 
 -- the tasks whose places a fault can tell. No text that is short enough to be read has more
 abbrev pub place_limit : ℕ
@@ -46,5 +48,5 @@ fault_of t = first_some (
     ∷ first_some (map (fault_in t) classes)
     ∷ option_map Cron (cron_fault top_keys t)
     ∷ when (length (tasks_of t) == 0) NoTask
-    ∷ when (nat_lt task_limit (length (tasks_of t))) TooMany
+    ∷ when (nat_lt task_limit (length (tasks_of t)) || nat_lt upstream_limit (sum_by upstream_count (tasks_of t))) TooMany
     ∷ [])

@@ -1,16 +1,19 @@
 -- The graph that a text describes, or its first fault.
 use Rattle.std.specs.Prelude.{ℕ, nat_lt, if◌then◌else◌, List, map, length, Option, Some, None, unwrap_or, Result, Ok, Err}
 use Rattle.std.specs.Result.{result_unwrap_or}
-use Rattle.toml.specs.Data.{Data, Members, no_members, as_table}
+use Rattle.toml.specs.Data.{Data, Members}
 use Rattle.toml.specs.Parse.{parse_document}
 use Rattle.cron_timetable.specs.declared.timetables.Timetable.TheVariants.{Never}
-use Rattle.graph_file.specs.Operators.{operator_of}
-use Rattle.graph_file.specs.Tables.{tasks_of}
-use Rattle.graph_file.specs.Values.{value_of, text_in, flag_in, number_in, moment_in}
+use Rattle.graph_file.specs.Operators.{operator_of, Call}
+use Rattle.graph_file.specs.Rules.{rule_of, weight_rule_of}
+use Rattle.graph_file.specs.Tables.{tasks_of, table_of}
+use Rattle.graph_file.specs.Values.{value_of, text_in, flag_in, number_in, moment_in, texts_of}
 use Rattle.graph_file.specs.Schedules.{timetable_of}
 use Rattle.graph_file.specs.Faults.{fault_of}
 use Rattle.graph_file.specs.declared.keys.Key.TheVariants as key
 use Rattle.graph_file.specs.declared.operators.Operator.TheVariants.{Noop}
+use Rattle.graph_file.specs.declared.rules.Rule.TheVariants.{AllSuccess}
+use Rattle.graph_file.specs.declared.rules.WeightRule.TheVariants.{Downstream}
 use Rattle.graph_file.specs.declared.faults.GraphFault.{GraphFault}
 use Rattle.graph_file.specs.declared.faults.GraphFault.TheVariants.{NotToml, TooMany}
 use Rattle.graph_file.specs.declared.task_specs.TaskSpec.{TaskSpec}
@@ -20,15 +23,31 @@ use Rattle.graph_file.specs.declared.graph_specs.GraphSpec.{GraphSpec}
 abbrev pub text_limit : ℕ
 text_limit = 1048576
 
+-- the operator of a table, and its arguments
+abbrev pub action_in : Members → Call
+action_in t = record {
+  operator = unwrap_or (operator_of (text_in (value_of key.Operator t))) Noop;
+  argv = texts_of key.Argv t;
+}
+
 -- the task of a table
 abbrev pub task_in : Members → TaskSpec
 task_in t = record {
   task_id = text_in (value_of key.TaskId t);
-  operator = unwrap_or (operator_of (text_in (value_of key.Operator t))) Noop;
+  action = action_in t;
+  upstream = texts_of key.Upstream t;
+  trigger_rule = unwrap_or (rule_of (text_in (value_of key.TriggerRule t))) AllSuccess;
+  retries = number_in (value_of key.Retries t);
+  retry_delay = number_in (value_of key.RetryDelay t);
+  pool = text_in (value_of key.Pool t);
+  pool_slots = number_in (value_of key.PoolSlots t);
+  priority_weight = number_in (value_of key.PriorityWeight t);
+  weight_rule = unwrap_or (weight_rule_of (text_in (value_of key.WeightRule t))) Downstream;
+  depends_on_past = flag_in (value_of key.DependsOnPast t);
 }
 
 abbrev pub task_of : Data → TaskSpec
-task_of d = task_in (unwrap_or (as_table d) no_members)
+task_of d = task_in (table_of d)
 
 -- the graph of a table
 abbrev pub graph_in : Members → GraphSpec

@@ -1,10 +1,12 @@
 pub mod Names
 pub mod Lists
 pub mod Operators
+pub mod Rules
 pub mod Keys
 pub mod Tables
 pub mod Values
 pub mod Schedules
 pub mod Classes
+pub mod TaskLists
 pub mod Faults
 pub mod Graphs

@@ -1,9 +1,49 @@
--- The operators, and how each is spelled.
-use Rattle.std.specs.Prelude.{ℕ, List, [], ◌∷◌, Option, bytes_eq, codes}
+-- The operators: how each is spelled, and the arguments that it takes.
+use Rattle.std.specs.Prelude.{ℕ, ◌==◌, ◌&&◌, not, nat_le, nat_lt, Bool, false, List, [], ◌∷◌, length, sum_by, Option, is_some, bytes_eq, codes}
+use Rattle.std.specs.List.{list_all}
+use Rattle.std.specs.Str.{all_ascii_digits}
+use Rattle.std.specs.Str.Parse.{digits_value}
 use Rattle.graph_file.specs.Lists.{when, first_some}
 use Rattle.graph_file.specs.declared.operators.Operator.{Operator}
-use Rattle.graph_file.specs.declared.operators.Operator.TheVariants.{Noop}
+use Rattle.graph_file.specs.declared.operators.Operator.TheVariants.{Noop, Command, Exit}
 
 -- the operator of a word
 abbrev pub operator_of : List ℕ → Option Operator
-operator_of s = first_some (when (bytes_eq s (codes "noop")) Noop ∷ [])
+operator_of s = first_some (
+    when (bytes_eq s (codes "noop")) Noop
+    ∷ when (bytes_eq s (codes "command")) Command
+    ∷ when (bytes_eq s (codes "exit")) Exit
+    ∷ [])
+
+-- the status that one to three digits write, from 0 to 255
+abbrev pub status_of : List ℕ → Option ℕ
+status_of s =
+    when ((nat_le 1 (length s) && nat_le (length s) 3) && (all_ascii_digits s && nat_le (digits_value 10 s) 255)) (digits_value 10 s)
+
+-- there is a first text, and it is not empty
+abbrev pub names_program : List (List ℕ) → Bool
+names_program [] = false
+names_program (s ∷ ss) = nat_lt 0 (length s)
+
+abbrev pub has_no_nul : List ℕ → Bool
+has_no_nul s = list_all (λ b. not (b == 0)) s
+
+-- a program and its arguments: 1 to 64 texts of at most 65,536 bytes in all, none with a NUL byte, the first not empty
+abbrev pub is_command : List (List ℕ) → Bool
+is_command argv =
+    (names_program argv && nat_le (length argv) 64) && (nat_le (sum_by length argv) 65536 && list_all has_no_nul argv)
+
+-- 1 to 16 statuses
+abbrev pub are_statuses : List (List ℕ) → Bool
+are_statuses argv = (nat_le 1 (length argv) && nat_le (length argv) 16) && list_all (λ s. is_some (status_of s)) argv
+
+-- the operator takes these arguments
+abbrev pub takes : Operator → List (List ℕ) → Bool
+takes Noop argv = length argv == 0
+takes Command argv = is_command argv
+takes Exit argv = are_statuses argv
+
+-- an operator and its arguments
+pub record Call : Type 0 where
+  pub operator : Operator
+  pub argv : List (List ℕ)

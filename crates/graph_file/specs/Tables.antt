@@ -1,7 +1,7 @@
 -- A table of TOML as lists, and the values at its keys.
 use Rattle.std.specs.Prelude.{ℕ, Bool, List, [], ◌∷◌, Option, option_and_then, unwrap_or}
 use Rattle.std.specs.List.{list_all, list_any}
-use Rattle.toml.specs.Data.{Data, Items, no_items, item, Members, no_members, member, get_member, as_array}
+use Rattle.toml.specs.Data.{Data, Items, no_items, item, Members, no_members, member, get_member, as_array, as_table}
 use Rattle.graph_file.specs.Keys.{row_of}
 use Rattle.graph_file.specs.declared.keys.Key.{Key}
 use Rattle.graph_file.specs.declared.keys.Key.TheVariants as key
@@ -27,6 +27,14 @@ keys_in (member k d ms) = k ∷ keys_in ms
 abbrev pub member_at : Key → Members → Option Data
 member_at k t = get_member (row_of k).name t
 
--- the tasks, in the order of the file; where `task` is no array there are none
+-- the items of the array at the key; where there is no array there are none
+abbrev pub items_of : Key → Members → List Data
+items_of k t = list_of (unwrap_or (option_and_then as_array (member_at k t)) no_items)
+
+-- the tasks, in the order of the file
 abbrev pub tasks_of : Members → List Data
-tasks_of t = list_of (unwrap_or (option_and_then as_array (member_at key.Task t)) no_items)
+tasks_of t = items_of key.Task t
+
+-- the table of a task
+abbrev pub table_of : Data → Members
+table_of d = unwrap_or (as_table d) no_members

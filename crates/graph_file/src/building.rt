@@ -8,15 +8,20 @@ ghost use Rattle.graph_file.specs.Names.{is_name};
 ghost use Rattle.graph_file.specs.Keys.{top_keys, task_keys};
 ghost use Rattle.graph_file.specs.Tables.{tasks_of};
 ghost use Rattle.graph_file.specs.Classes.{is_faultless, is_faultless_task};
+ghost use Rattle.graph_file.specs.TaskLists.{IsTaskList};
 ghost use Rattle.graph_file.specs.Schedules.{cron_fault};
 ghost use Rattle.graph_file.specs.Values.{value_of, text_in, flag_in, number_in, moment_in};
 ghost use Rattle.graph_file.specs.Operators.{operator_of};
+ghost use Rattle.graph_file.specs.Values as texts;
 ghost use Rattle.graph_file.specs.Graphs as spec;
 
 use crate::keys::{Absent, Key};
 use crate::schedules::read_timetable;
-use crate::tables::{tasks, value_at};
-use crate::{Bounded, GraphSpec, Name, Operator, Sequence, TaskSpec};
+use crate::tables::{items_at, tasks, text_of, value_at};
+use crate::{
+    Action, Argument, Bounded, GraphSpec, Name, Operator, Rule, Sequence, TaskSpec, Tasks,
+    WeightRule,
+};
 use moment_core::Moment;
 use std::alloc::{AllocError, Global};
 use toml::{Table, Value};
@@ -26,6 +31,7 @@ pub fn graph_in(alloc: Global, table: &Table) -> Result<GraphSpec, AllocError>
     requires top { is_faultless top_keys (table_view table.now) ≡ true }
     requires schedule { cron_fault top_keys (table_view table.now) ≡ None }
     requires tasks { list_all is_faultless_task (tasks_of (table_view table.now)) ≡ true }
+    requires count { IsTaskList (map spec.task_of (tasks_of (table_view table.now))) }
     ensures { IfOk result (λ g. g ≡ spec.graph_in (table_view table.now)) }
 {
     let dag_id = name_at(alloc, table, Key::DagId)?;
@@ -37,7 +43,7 @@ pub fn graph_in(alloc: Global, table: &Table) -> Result<GraphSpec, AllocError>
         end_date: moment_at(table, Key::EndDate),
         catchup: flag_at(table, Key::Catchup),
         max_active_runs: bounded_at(table, Key::MaxActiveRuns),
-        tasks: Sequence::new(tasks),
+        tasks: Tasks::new(tasks),
     })
 }
 
@@ -65,8 +71,55 @@ fn task_in(alloc: Global, table: &Table) -> Result<TaskSpec, AllocError>
     ensures { IfOk result (λ t. t ≡ spec.task_in (table_view table.now)) }
 {
     let task_id = name_at(alloc, table, Key::TaskId)?;
+    let action = action_in(alloc, table)?;
+    let upstream = names_of(alloc, items_at(table, Key::Upstream))?;
+    let pool = name_at(alloc, table, Key::Pool)?;
+    Ok(TaskSpec {
+        task_id,
+        action,
+        upstream: Sequence::new(upstream),
+        trigger_rule: Rule::read(text_at(table, Key::TriggerRule)).unwrap(),
+        retries: bounded_at(table, Key::Retries),
+        retry_delay: bounded_at(table, Key::RetryDelay),
+        pool,
+        pool_slots: bounded_at(table, Key::PoolSlots),
+        priority_weight: bounded_at(table, Key::PriorityWeight),
+        weight_rule: WeightRule::read(text_at(table, Key::WeightRule)).unwrap(),
+        depends_on_past: flag_at(table, Key::DependsOnPast),
+    })
+}
+
+// The operator of a task, with its arguments.
+fn action_in(alloc: Global, table: &Table) -> Result<Action, AllocError>
+    requires { is_faultless task_keys (table_view table.now) ≡ true }
+    ensures { IfOk result (λ a. a ≡ spec.action_in (table_view table.now)) }
+{
     let operator = Operator::read(text_at(table, Key::Operator)).unwrap();
-    Ok(TaskSpec { task_id, operator })
+    let argv = arguments_of(alloc, items_at(table, Key::Argv))?;
+    Ok(Action::new(operator, Sequence::new(argv)))
+}
+
+// The texts of values.
+fn arguments_of(alloc: Global, values: &[Value]) -> Result<Vec<Argument>, AllocError>
+    ensures { IfOk result (λ arguments. arguments.items ≡ map texts.text_of (map view values.now)) }
+{
+    let mut found = Vec::new(alloc);
+    for value in values {
+        found.push(Argument::new(alloc, text_of(value))?)?;
+    }
+    Ok(found)
+}
+
+// The names of values.
+fn names_of(alloc: Global, values: &[Value]) -> Result<Vec<Name>, AllocError>
+    requires { list_all is_name (map texts.text_of (map view values.now)) ≡ true }
+    ensures { IfOk result (λ names. names.items ≡ map texts.text_of (map view values.now)) }
+{
+    let mut found = Vec::new(alloc);
+    for value in values {
+        found.push(Name::of(alloc, text_of(value))?)?;
+    }
+    Ok(found)
 }
 
 // The name at a key.
@@ -86,7 +139,7 @@ fn text_at(table: &Table, key: Key) -> &str
             Some(text) => text,
             None => "",
         },
-        None => "",
+        None => key.absent().text(),
     }
 }
 

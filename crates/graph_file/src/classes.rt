@@ -6,12 +6,16 @@ ghost use Rattle.std.specs.Prelude.{◌≡◌, not, string_bytes};
 ghost use Rattle.std.specs.List.{list_all, list_any};
 ghost use Rattle.std.specs.BTreeMap.{keys as entry_keys};
 ghost use Rattle.toml.specs.View.{table_view, view};
+ghost use Rattle.graph_file.specs.Lists.{holds_at};
+ghost use Rattle.graph_file.specs.Keys.{row_of};
+ghost use Rattle.graph_file.specs.Tables.{member_at};
 ghost use Rattle.graph_file.specs.Classes as spec;
 
+use crate::arguments::takes;
 use crate::keys::{Absent, Key, Kind, Role, TASK_KEYS};
 use crate::names::is_name;
-use crate::operators::Operator;
-use crate::tables::value_at;
+use crate::tables::{items_at, value_at};
+use crate::{Operator, Rule, WeightRule};
 use moment_core::Moment;
 use toml::{Table, Value};
 
@@ -186,6 +190,13 @@ fn has_bad_value(keys: &[Key], table: &Table) -> bool
 fn is_bad(key: Key, table: &Table) -> bool
     ensures { result ≡ spec.is_bad key (table_view table.now) }
 {
+    is_value_outside(key, table) || is_unfit(key.role(), table)
+}
+
+// Whether the value at the key is none of those that its role has.
+fn is_value_outside(key: Key, table: &Table) -> bool
+    ensures { result ≡ holds_at (spec.is_outside (row_of key).role) (member_at key (table_view table.now)) }
+{
     match value_at(table, key) {
         Some(value) => is_outside(key.role(), value),
         None => false,
@@ -209,6 +220,40 @@ fn is_outside(role: Role, value: &Value) -> bool
             Some(text) => Operator::read(text).is_none(),
             None => false,
         },
+        Role::Rule => match value.as_str() {
+            Some(text) => Rule::read(text).is_none(),
+            None => false,
+        },
+        Role::WeightRule => match value.as_str() {
+            Some(text) => WeightRule::read(text).is_none(),
+            None => false,
+        },
         _ => false,
+    }
+}
+
+// Whether arguments are wanted, and the operator beside them does not take those of the table.
+fn is_unfit(role: Role, table: &Table) -> bool
+    ensures { result ≡ spec.is_unfit role (table_view table.now) }
+{
+    match role {
+        Role::Arguments => match operator_at(table) {
+            Some(operator) => !takes(operator, items_at(table, Key::Argv)),
+            None => false,
+        },
+        _ => false,
+    }
+}
+
+// The operator of a task, if its word is one.
+fn operator_at(table: &Table) -> Option<Operator>
+    ensures { result ≡ spec.operator_at (table_view table.now) }
+{
+    match value_at(table, Key::Operator) {
+        Some(value) => match value.as_str() {
+            Some(text) => Operator::read(text),
+            None => None,
+        },
+        None => None,
     }
 }

@@ -39,7 +39,7 @@ pub enum GraphFault {
     /// The graph has no task.
     #[error("the graph has no task")]
     NoTask,
-    /// The text is too long, or has too many tasks.
+    /// The text is too long, or has too many tasks, or these have too many upstream names in all.
     #[error("the file is too large")]
     TooMany,
     /// Memory ran out.

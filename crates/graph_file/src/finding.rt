@@ -1,5 +1,5 @@
 //! Finding the fault of a table: the first class that stands in it, at its first place.
-ghost use Rattle.std.specs.Prelude.{◌≡◌, ◌≤◌, length, map, position};
+ghost use Rattle.std.specs.Prelude.{◌≡◌, ◌≤◌, length, map, sum_by, nat_lt, position};
 ghost use Rattle.toml.specs.View.{table_view, view};
 ghost use Rattle.graph_file.specs.Lists.{first_some};
 ghost use Rattle.graph_file.specs.Tables.{tasks_of};
@@ -8,14 +8,17 @@ ghost use Rattle.graph_file.specs.Faults as spec;
 ghost use Rattle.graph_file.specs.Faults.{place_limit};
 
 use crate::classes::{CLASSES, Class, has_fault, task_has_fault};
-use crate::keys::TOP_KEYS;
+use crate::keys::{Key, TOP_KEYS};
 use crate::schedules::cron_fault;
-use crate::tables::tasks;
+use crate::tables::{items_at, tasks};
 use crate::{GraphFault, Place};
 use toml::{Table, Value};
 
 /// The most tasks that a graph may have.
-const TASK_LIMIT: usize = 1;
+const TASK_LIMIT: usize = 256;
+
+/// The most upstream names that the tasks of a graph may have in all.
+const UPSTREAM_LIMIT: usize = 4_096;
 
 /// The most tasks whose places a fault can tell.
 const PLACE_LIMIT: usize = 4_294_967_295;
@@ -36,10 +39,35 @@ pub fn fault_of(table: &Table) -> Option<GraphFault>
     }
     if count == 0 {
         Some(GraphFault::NoTask)
-    } else if count > TASK_LIMIT {
+    } else if count > TASK_LIMIT || have_more_upstreams(tasks(table), UPSTREAM_LIMIT) {
         Some(GraphFault::TooMany)
     } else {
         None
+    }
+}
+
+// Whether the tasks have more upstream names than this in all.
+fn have_more_upstreams(tasks: &[Value], most: usize) -> bool
+    ensures { result ≡ nat_lt most (sum_by (λ v. spec.upstream_count (view v)) tasks.now) }
+{
+    let mut left = most;
+    for task in tasks {
+        let count = upstream_count(task);
+        if count > left {
+            return true;
+        }
+        left -= count;
+    }
+    false
+}
+
+// How many upstream names the task has.
+fn upstream_count(task: &Value) -> usize
+    ensures { result ≡ spec.upstream_count (view task.now) }
+{
+    match task.as_table() {
+        Some(table) => items_at(table, Key::Upstream).len(),
+        None => 0,
     }
 }
 

@@ -1,5 +1,5 @@
 //! A graph as its file has it.
-use crate::{Bounded, Name, Sequence, TaskSpec};
+use crate::{Bounded, Name, Tasks};
 use cron_timetable::Timetable;
 use moment_core::Moment;
 
@@ -19,5 +19,5 @@ pub struct GraphSpec {
     /// How many of its runs may be running at once.
     pub max_active_runs: Bounded<1, 1_000_000>,
     /// Its tasks, in the order of the file.
-    pub tasks: Sequence<TaskSpec>,
+    pub tasks: Tasks,
 }

@@ -4,6 +4,7 @@
 //! same row and place in `specs/Keys.antt`: the tests of every class of fault go over these rows.
 ghost use Rattle.std.specs.Prelude.{◌≡◌};
 ghost use Rattle.graph_file.specs.Keys.{row_of};
+ghost use Rattle.graph_file.specs.Values.{default_of, text_in};
 
 /// What a value is in TOML.
 #[derive(Clone, Copy)]
@@ -37,6 +38,12 @@ pub enum Role {
     Schedule,
     /// The word of an operator.
     Operator,
+    /// Arguments that the operator of the same task takes.
+    Arguments,
+    /// The word of a trigger rule.
+    Rule,
+    /// The word of a weight rule.
+    WeightRule,
 }
 
 /// What stands where a key is absent.
@@ -50,6 +57,12 @@ pub enum Absent {
     Flag(bool),
     /// This number.
     Whole(u32),
+    /// The text `all_success`.
+    AllSuccess,
+    /// The text `default_pool`.
+    DefaultPool,
+    /// The text `downstream`.
+    Downstream,
 }
 
 /// A key of a table.
@@ -64,6 +77,16 @@ pub enum Key {
     Task,
     TaskId,
     Operator,
+    Argv,
+    Upstream,
+    TriggerRule,
+    Retries,
+    RetryDelay,
+    Pool,
+    PoolSlots,
+    PriorityWeight,
+    WeightRule,
+    DependsOnPast,
 }
 
 /// The row of a key.
@@ -87,7 +110,20 @@ pub const TOP_KEYS: [Key; 7] = [
 ];
 
 /// The keys of a task.
-pub const TASK_KEYS: [Key; 2] = [Key::TaskId, Key::Operator];
+pub const TASK_KEYS: [Key; 12] = [
+    Key::TaskId,
+    Key::Operator,
+    Key::Argv,
+    Key::Upstream,
+    Key::TriggerRule,
+    Key::Retries,
+    Key::RetryDelay,
+    Key::Pool,
+    Key::PoolSlots,
+    Key::PriorityWeight,
+    Key::WeightRule,
+    Key::DependsOnPast,
+];
 
 impl Key {
     /// The row of the key.
@@ -103,15 +139,36 @@ impl Key {
             Key::StartDate => Row::new("start_date", Kind::Text, Role::Moment, Absent::Refused),
             Key::EndDate => Row::new("end_date", Kind::Text, Role::Moment, Absent::Empty),
             Key::Catchup => Row::new("catchup", Kind::Flag, Role::Free, Absent::Flag(true)),
-            Key::MaxActiveRuns => Row::new(
-                "max_active_runs",
-                Kind::Whole,
-                Role::Range(1, 1_000_000),
-                Absent::Whole(16),
-            ),
+            Key::MaxActiveRuns => Row::whole("max_active_runs", 1, 1_000_000, 16),
             Key::Task => Row::new("task", Kind::Tables, Role::Free, Absent::Empty),
             Key::TaskId => Row::new("task_id", Kind::Text, Role::Name, Absent::Refused),
             Key::Operator => Row::new("operator", Kind::Text, Role::Operator, Absent::Refused),
+            Key::Argv => Row::new("argv", Kind::Texts, Role::Arguments, Absent::Empty),
+            Key::Upstream => Row::new("upstream", Kind::Texts, Role::Names, Absent::Empty),
+            Key::TriggerRule => {
+                Row::new("trigger_rule", Kind::Text, Role::Rule, Absent::AllSuccess)
+            }
+            Key::Retries => Row::whole("retries", 0, 1_000, 0),
+            Key::RetryDelay => Row::whole("retry_delay", 0, 31_536_000, 300),
+            Key::Pool => Row::new("pool", Kind::Text, Role::Name, Absent::DefaultPool),
+            Key::PoolSlots => Row::whole("pool_slots", 1, 1_000, 1),
+            Key::PriorityWeight => Row::whole("priority_weight", 0, 1_000_000, 1),
+            Key::WeightRule => {
+                Row::new(
+                    "weight_rule",
+                    Kind::Text,
+                    Role::WeightRule,
+                    Absent::Downstream,
+                )
+            }
+            Key::DependsOnPast => {
+                Row::new(
+                    "depends_on_past",
+                    Kind::Flag,
+                    Role::Free,
+                    Absent::Flag(false),
+                )
+            }
         }
     }
 
@@ -156,6 +213,35 @@ impl Row {
             kind,
             role,
             absent,
+        }
+    }
+
+    // The row of a whole number from `low` to `high`, which is `absent` where the key is.
+    fn whole(name: &'static str, low: i64, high: i64, absent: u32) -> Row
+        ensures name { result.name.now ≡ name.now }
+        ensures kind { result.kind ≡ Kind.Whole }
+        ensures role { result.role ≡ Role.Range low high }
+        ensures absent { result.absent ≡ Absent.Whole absent }
+    {
+        Row::new(
+            name,
+            Kind::Whole,
+            Role::Range(low, high),
+            Absent::Whole(absent),
+        )
+    }
+}
+
+impl Absent {
+    /// The text that stands there, or an empty one.
+    pub fn text(self) -> &'static str
+        ensures { result.now ≡ text_in (default_of self) }
+    {
+        match self {
+            Absent::AllSuccess => "all_success",
+            Absent::DefaultPool => "default_pool",
+            Absent::Downstream => "downstream",
+            _ => "",
         }
     }
 }

@@ -14,9 +14,13 @@
 //! ```
 #![tactic(auto)]
 
+mod actions;
+mod arguments;
 mod bounded;
 mod building;
 mod classes;
+#[cfg(test)]
+mod fault_tests;
 mod faults;
 mod finding;
 mod graph_specs;
@@ -24,18 +28,25 @@ mod keys;
 mod names;
 mod operators;
 mod reading;
+mod rules;
 mod schedules;
 mod sequences;
 mod tables;
+mod task_lists;
 mod task_specs;
+#[cfg(test)]
+mod task_tests;
 #[cfg(test)]
 mod tests;
 
+pub use actions::{Action, Argument};
 pub use bounded::Bounded;
 pub use faults::{GraphFault, Place};
 pub use graph_specs::GraphSpec;
 pub use names::{Name, NameFault};
-pub use operators::Operator;
+pub use operators::{Operator, read_status};
 pub use reading::read_graph;
+pub use rules::{Rule, WeightRule};
 pub use sequences::Sequence;
+pub use task_lists::Tasks;
 pub use task_specs::TaskSpec;

@@ -1,8 +1,9 @@
-//! A table of TOML: what stands at a key, and the tasks.
+//! A table of TOML: what stands at a key, the items of an array, and the tasks.
 ghost use Rattle.std.specs.Prelude.{◌≡◌, map, option_map, option_and_then};
 ghost use Rattle.toml.specs.Data.{as_array};
 ghost use Rattle.toml.specs.View.{table_view, array_view, view};
-ghost use Rattle.graph_file.specs.Tables.{member_at, tasks_of};
+ghost use Rattle.graph_file.specs.Tables.{member_at, items_of, tasks_of};
+ghost use Rattle.graph_file.specs.Values as spec;
 
 use crate::keys::Key;
 use toml::value::Array;
@@ -26,12 +27,29 @@ fn array_at<'a>(table: &'a Table, key: Key) -> Option<&'a Array>
     }
 }
 
+// The items of the array at the key.
+pub fn items_at(table: &Table, key: Key) -> &[Value]
+    ensures { map view result.now ≡ items_of key (table_view table.now) }
+{
+    match array_at(table, key) {
+        Some(items) => items.as_slice(),
+        None => &[],
+    }
+}
+
 // The tasks, in the order of the file.
 pub fn tasks(table: &Table) -> &[Value]
     ensures { map view result.now ≡ tasks_of (table_view table.now) }
 {
-    match array_at(table, Key::Task) {
-        Some(items) => items.as_slice(),
-        None => &[],
+    items_at(table, Key::Task)
+}
+
+// The text of a value.
+pub fn text_of(value: &Value) -> &str
+    ensures { result.now ≡ spec.text_of (view value.now) }
+{
+    match value.as_str() {
+        Some(text) => text,
+        None => "",
     }
 }

@@ -11,34 +11,31 @@ use std::collections::HashMap;
 use std::process::Abort;
 use std::test::Fail;
 
-const ID: &str = r#"dag_id = "one""#;
+pub(crate) const ID: &str = r#"dag_id = "one""#;
 
-const REST: &str = "schedule = \"@daily\"\nstart_date = \"2024-01-01\"";
+pub(crate) const REST: &str = "schedule = \"@daily\"\nstart_date = \"2024-01-01\"";
 
-const NOT_CRON: &str = "schedule = \"* * * *\"\nstart_date = \"2024-01-01\"";
+pub(crate) const NOT_CRON: &str = "schedule = \"* * * *\"\nstart_date = \"2024-01-01\"";
 
 const TASK: &str = "[[task]]\ntask_id = \"t\"\noperator = \"noop\"";
 
-const TWO_TASKS: &str =
-    r#"task = [{task_id = "t", operator = "noop"}, {task_id = "u", operator = "noop"}]"#;
-
 // The file of three parts. Where memory runs out it is asked once more, so that the tests also pass with one allocation
 // refused; so is `answer`.
-fn file(alloc: Global, id: &str, rest: &str, tasks: &str) -> Result<String, AllocError> {
+pub(crate) fn file(alloc: Global, id: &str, rest: &str, tasks: &str) -> Result<String, AllocError> {
     match format!(in alloc; "{id}\n{rest}\n{tasks}\n") {
         Ok(text) => Ok(text),
         Err(_) => format!(in alloc; "{id}\n{rest}\n{tasks}\n"),
     }
 }
 
-fn answer(alloc: Global, text: &str) -> Result<GraphSpec, GraphFault> {
+pub(crate) fn answer(alloc: Global, text: &str) -> Result<GraphSpec, GraphFault> {
     match read_graph(alloc, text) {
         Err(GraphFault::Memory) => read_graph(alloc, text),
         answer => answer,
     }
 }
 
-fn refuses(
+pub(crate) fn refuses(
     rt: &impl Abort,
     alloc: Global,
     id: &str,
@@ -66,7 +63,7 @@ fn reads_what_a_file_has(rt: HostRuntime) -> Result<(), Fail> {
     let tasks = graph.tasks.into_vec();
     assert_eq!(rt; tasks.len(), 1);
     assert_eq!(rt; tasks[0].task_id.as_str(), "t");
-    assert_eq!(rt; tasks[0].operator, Operator::Noop);
+    assert_eq!(rt; tasks[0].action.operator(), Operator::Noop);
     Ok(())
 }
 
@@ -129,6 +126,7 @@ fn refuses_each_class_at_the_top(rt: HostRuntime) -> Result<(), Fail> {
         ("colour = 1", REST, UnknownKey(Top)),
         (ID, "Schedule = \"@daily\"", UnknownKey(Top)),
         ("dag_id = 1", REST, WrongType(Top)),
+        (ID, "schedule = 5", WrongType(Top)),
         (ID, "start_date = 2024-01-01", WrongType(Top)),
         (ID, "end_date = 2024-01-01T00:00:00Z", WrongType(Top)),
         (ID, "catchup = \"true\"", WrongType(Top)),
@@ -191,6 +189,10 @@ fn refuses_each_class_in_the_tasks(rt: HostRuntime) -> Result<(), Fail> {
             "[[task]]\ntask_id = \"t\"\noperator = [\"noop\"]",
             WrongType(Task(0)),
         ),
+        (
+            "[[task]]\ntask_id = 1\noperator = \"noop\"",
+            WrongType(Task(0)),
+        ),
         ("[[task]]\ntask_id = \"t\"", MissingKey(Task(0))),
         ("[[task]]\noperator = \"noop\"", MissingKey(Task(0))),
         ("[[task]]", MissingKey(Task(0))),
@@ -202,7 +204,6 @@ fn refuses_each_class_in_the_tasks(rt: HostRuntime) -> Result<(), Fail> {
             "[[task]]\ntask_id = \"t\"\noperator = \"Noop\"",
             BadValue(Task(0)),
         ),
-        (TWO_TASKS, TooMany),
         (
             "task = [{task_id = \"t\", operator = \"noop\"}, {task_id = \"u\"}]",
             MissingKey(Task(1)),
@@ -214,57 +215,12 @@ fn refuses_each_class_in_the_tasks(rt: HostRuntime) -> Result<(), Fail> {
     Ok(())
 }
 
-// Of two faults the one of the first class is answered, wherever it stands; within a class the top comes first.
+// After all classes that have a place: a schedule that is refused, then a file without tasks.
 #[test]
-fn answers_the_first_class_at_its_first_place(rt: HostRuntime) -> Result<(), Fail> {
+fn answers_classes_without_a_place_last(rt: HostRuntime) -> Result<(), Fail> {
+    let cron = GraphFault::Cron(CronFault::FieldCount);
+    let bad = "[[task]]\ntask_id = \"t\"\noperator = \"none\"";
     let rows = [
-        (
-            "dag_id = 1",
-            REST,
-            "[[task]]\ncolour = 1",
-            UnknownKey(Task(0)),
-        ),
-        ("colour = 1", REST, "[[task]]\ntask_id = 1", UnknownKey(Top)),
-        ("colour = 1", REST, "[[task]]\ncolour = 1", UnknownKey(Top)),
-        ("", REST, "[[task]]\ntask_id = 1", WrongType(Task(0))),
-        ("dag_id = 1", REST, "[[task]]", WrongType(Top)),
-        ("dag_id = \"a b\"", REST, "[[task]]", MissingKey(Task(0))),
-        (
-            "",
-            REST,
-            "[[task]]\ntask_id = \"a b\"\noperator = \"noop\"",
-            MissingKey(Top),
-        ),
-        (
-            "dag_id = \"one\"\nmax_active_runs = 0",
-            REST,
-            "[[task]]\ntask_id = \"a b\"\noperator = \"noop\"",
-            BadName(Task(0)),
-        ),
-        (
-            "dag_id = \"a b\"",
-            REST,
-            "[[task]]\ntask_id = \"t\"\noperator = \"none\"",
-            BadName(Top),
-        ),
-        (
-            ID,
-            REST,
-            "task = [{task_id = \"a b\", operator = \"noop\"}, {task_id = \"t\"}]",
-            MissingKey(Task(1)),
-        ),
-        (
-            ID,
-            REST,
-            "task = [{task_id = \"t\"}, {task_id = \"a b\", operator = \"noop\"}]",
-            MissingKey(Task(0)),
-        ),
-        (
-            ID,
-            REST,
-            "task = [{operator = \"noop\"}, {task_id = \"t\"}]",
-            MissingKey(Task(0)),
-        ),
         ("dag_id = \"a b\"", REST, "", BadName(Top)),
         (
             "dag_id = \"one\"\nmax_active_runs = 0",
@@ -272,24 +228,9 @@ fn answers_the_first_class_at_its_first_place(rt: HostRuntime) -> Result<(), Fai
             "",
             BadValue(Top),
         ),
-        (
-            ID,
-            NOT_CRON,
-            "[[task]]\ntask_id = \"t\"\noperator = \"none\"",
-            BadValue(Task(0)),
-        ),
-        (
-            ID,
-            NOT_CRON,
-            "task = []",
-            GraphFault::Cron(CronFault::FieldCount),
-        ),
-        (
-            ID,
-            NOT_CRON,
-            TWO_TASKS,
-            GraphFault::Cron(CronFault::FieldCount),
-        ),
+        (ID, NOT_CRON, bad, BadValue(Task(0))),
+        (ID, NOT_CRON, "task = []", cron),
+        (ID, NOT_CRON, "", cron),
     ];
     for (id, rest, tasks, fault) in rows {
         refuses(&rt, rt.alloc(), id, rest, tasks, fault)?;

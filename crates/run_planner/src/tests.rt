@@ -1,6 +1,6 @@
 use super::*;
 use cron_timetable::{Cron, Interval, Timetable};
-use graph_file::{Bounded, GraphSpec, Name, Sequence};
+use graph_file::{GraphSpec, read_graph};
 use moment_core::Moment;
 use std::alloc::Global;
 use std::process::Abort;
@@ -20,7 +20,15 @@ fn timetable(text: &str) -> Result<Timetable, Fail> {
     }
 }
 
-// A graph with no tasks.
+// A graph with one task.
+const GRAPH: &str = "dag_id = \"graph\"
+schedule = \"None\"
+start_date = \"2024-01-01\"
+[[task]]
+task_id = \"t\"
+operator = \"noop\"";
+
+// That graph with another timetable.
 fn graph(
     alloc: Global,
     schedule: &str,
@@ -28,15 +36,12 @@ fn graph(
     catchup: bool,
 ) -> Result<GraphSpec, Fail> {
     let (start_date, end_date) = dates;
-    Ok(GraphSpec {
-        dag_id: Name::read(alloc, "graph")?,
-        schedule: timetable(schedule)?,
-        start_date: moment(start_date).ok_or("no moment")?,
-        end_date: moment(end_date),
-        catchup,
-        max_active_runs: Bounded::new(16),
-        tasks: Sequence::new(Vec::new(alloc)),
-    })
+    let mut graph = read_graph(alloc, GRAPH)?;
+    graph.schedule = timetable(schedule)?;
+    graph.start_date = moment(start_date).ok_or("no moment")?;
+    graph.end_date = moment(end_date);
+    graph.catchup = catchup;
+    Ok(graph)
 }
 
 // Adds the dates of a text with blanks between them.

@@ -2,7 +2,7 @@ use Rattle.std.proofs.Common.{◌∙◌, ap, unwrap_or}
 use Rattle.toml.specs.Data.{no_items}
 use Rattle.graph_file.specs.Tables.{list_of}
 use Rattle.graph_file.proofs.TableLemmas.{list_of-view}
-use Rattle.graph_file.proofs.tables.tasks.Goals as goal
+use Rattle.graph_file.proofs.tables.items_at.Goals as goal
 
 pub returns-in-Some : goal.returns-in-Some
 returns-in-Some c =

@@ -1,0 +1,84 @@
+//! An operator with its arguments.
+ghost use Rattle.std.specs.Prelude.{◌≡◌, true, IfOk};
+ghost use Rattle.graph_file.specs.Operators.{takes};
+
+use crate::{Operator, Sequence};
+use std::alloc::{AllocError, Global};
+use std::marker::Model;
+
+/// An argument of an operator: a text. Contracts see its bytes.
+#[derive(Debug, Drop)]
+pub struct Argument {
+    text: String,
+}
+
+impl Model for Argument {
+    ghost use Rattle.std.specs.Prelude.{ℕ, List, string_bytes};
+
+    ghost Value = { List ℕ };
+
+    ghost view = { λ a. string_bytes a.text };
+}
+
+impl Argument {
+    /// A copy of this text.
+    pub fn new(alloc: Global, text: &str) -> Result<Argument, AllocError>
+        ensures { IfOk result (λ argument. argument ≡ text.now) }
+    {
+        let text = String::from_str(alloc, text)?;
+        Ok(Argument { text })
+    }
+
+    /// The text.
+    pub fn as_str(&self) -> &str
+        ensures { result.now ≡ self.now }
+    {
+        self.text.as_str()
+    }
+}
+
+/// An operator with arguments that it takes. Contracts see the two.
+///
+/// `noop` takes none. `command` takes 1 to 64 of at most 65,536 bytes in all, none with a NUL byte, and the first, the
+/// program, is not empty. `exit` takes 1 to 16, each a status from 0 to 255 in one to three digits.
+#[derive(Debug, Drop)]
+pub struct Action {
+    operator: Operator,
+    argv: Sequence<Argument>,
+}
+
+impl Model for Action {
+    ghost use Rattle.std.specs.Prelude.{◌≡◌, true};
+    ghost use Rattle.graph_file.specs.Operators.{Call, takes};
+
+    ghost Value = { Call };
+
+    ghost view = { λ a. record { operator = a.operator; argv = a.argv } };
+
+    ghost invariant = { λ a. takes a.operator a.argv ≡ true };
+}
+
+impl Action {
+    /// The operator with arguments that the caller knows it to take.
+    pub fn new(operator: Operator, argv: Sequence<Argument>) -> Action
+        requires { takes operator argv ≡ true }
+        ensures { result ≡ record { operator = operator; argv = argv } }
+    {
+        Action { operator, argv }
+    }
+
+    /// The operator.
+    pub fn operator(&self) -> Operator
+        ensures { result ≡ self.now.operator }
+    {
+        self.operator
+    }
+
+    /// Its arguments.
+    pub fn argv(&self) -> &[Argument]
+        ensures argv { result.now ≡ self.now.argv }
+        ensures taken { takes self.now.operator result.now ≡ true }
+    {
+        self.argv.as_slice()
+    }
+}
