@@ -19,8 +19,8 @@ pub(crate) const NOT_CRON: &str = "schedule = \"* * * *\"\nstart_date = \"2024-0
 
 const TASK: &str = "[[task]]\ntask_id = \"t\"\noperator = \"noop\"";
 
-// The file of three parts. Where memory runs out it is asked once more, so that the tests also pass with one allocation
-// refused; so is `answer`.
+// The file of three parts. Where memory runs out it is asked once more, so that tests which allocate by these alone also
+// pass with one allocation refused; so is `answer`.
 pub(crate) fn file(alloc: Global, id: &str, rest: &str, tasks: &str) -> Result<String, AllocError> {
     match format!(in alloc; "{id}\n{rest}\n{tasks}\n") {
         Ok(text) => Ok(text),

@@ -1,0 +1,25 @@
+-- A task instance as contracts see it.
+use Rattle.std.specs.Prelude.{ℕ, ◌-◌, List, [], length, drop, slice_get, slice_set, Option, None}
+use Rattle.trigger_rules.specs.declared.verdicts.Verdict.{Verdict}
+use Rattle.instance_machine.specs.declared.tries.Try.{Try}
+
+pub record Held : Type 0 where
+  pub verdict : Option Verdict
+  -- how many tries were before the last clearing
+  pub since : ℕ
+  pub tries : List Try
+
+abbrev pub new_instance : Held
+new_instance = record { verdict = None; since = 0; tries = [] }
+
+-- the tries since the last clearing
+abbrev pub recent : Held → List Try
+recent i = drop i.since i.tries
+
+-- the last element, if there is one
+abbrev pub last_of : {X : Type 0} → List X → Option X
+last_of xs = slice_get xs (length xs - 1)
+
+-- the list with its last element changed
+abbrev pub with_last : {X : Type 0} → X → List X → List X
+with_last x xs = slice_set xs (length xs - 1) x

@@ -1,0 +1,49 @@
+//! Reports of workers.
+ghost use Rattle.std.specs.Prelude.{◌≡◌};
+ghost use Rattle.instance_machine.specs.Reports.{reported, report_try};
+
+use crate::instances::Instance;
+use crate::tries::{End, Outcome, Stage, Try};
+use moment_core::Moment;
+
+/// Why a report is refused.
+#[derive(Clone, Copy, Debug, PartialEq, Eq)]
+pub enum ReportFault {
+    /// No try is open, or it has begun already, or not yet, or it is reported lost.
+    OutOfTurn,
+}
+
+impl Instance {
+    /// Takes in what a worker reports of its open try. A refused report changes nothing.
+    pub fn apply_report(&mut self, stage: Stage, now: Moment) -> Result<(), ReportFault>
+        ensures { reported stage now self.old self.new result }
+    {
+        let last = self.tries().last().copied().ok_or(ReportFault::OutOfTurn)?;
+        let last = after_report(last, stage, now).ok_or(ReportFault::OutOfTurn)?;
+        self.set_last(last);
+        Ok(())
+    }
+}
+
+// The try after a report, if it takes it.
+fn after_report(last: Try, stage: Stage, now: Moment) -> Option<Try>
+    ensures { result ≡ report_try stage now last }
+{
+    if last.ended.is_some() {
+        return None;
+    }
+    match stage {
+        Stage::Started if last.started.is_none() => Some(Try {
+            started: Some(now),
+            ..last
+        }),
+        Stage::Ended(outcome) if last.started.is_some() && outcome != Outcome::Lost => Some(Try {
+            ended: Some(End {
+                moment: now,
+                outcome,
+            }),
+            ..last
+        }),
+        _ => None,
+    }
+}

@@ -1,0 +1,24 @@
+-- How many of some states are which.
+use Rattle.std.specs.Prelude.{ℕ, ◌+◌, not, List, count_by}
+use Rattle.trigger_rules.specs.States.{is_success, is_failed, is_upstream_failed, is_skipped, is_finished}
+use Rattle.trigger_rules.specs.declared.states.State.{State}
+
+pub record Tally : Type 0 where
+  pub success : ℕ
+  pub failed : ℕ
+  pub upstream_failed : ℕ
+  pub skipped : ℕ
+  pub unfinished : ℕ
+
+abbrev pub counts_of : List State → Tally
+counts_of s = record {
+  success = count_by is_success s;
+  failed = count_by is_failed s;
+  upstream_failed = count_by is_upstream_failed s;
+  skipped = count_by is_skipped s;
+  unfinished = count_by (λ x. not (is_finished x)) s;
+}
+
+-- how many there are
+abbrev pub total : Tally → ℕ
+total t = t.success + (t.failed + (t.upstream_failed + (t.skipped + t.unfinished)))

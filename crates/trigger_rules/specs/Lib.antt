@@ -1,0 +1,5 @@
+pub mod States
+pub mod Counts
+pub mod Rules
+pub mod Inside
+pub mod Progress
