@@ -1,0 +1,10 @@
+pub mod OrderLemmas
+pub mod WalkLemmas
+pub mod LawLemmas
+pub mod NameLemmas
+pub mod PlainLemmas
+pub mod RowLemmas
+pub mod ReachLemmas
+pub mod GraphLemmas
+pub mod FaultLemmas
+pub mod WayLemmas

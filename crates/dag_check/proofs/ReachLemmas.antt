@@ -1,0 +1,160 @@
+-- Marks of what a place reaches, one pass down or up.
+use Rattle.std.proofs.Common.{get_or, set, take}
+use Rattle.std.proofs.lemmas.List.Folds.{list_any_more, list_any_at}
+use Rattle.std.proofs.Common.{◌≡◌, ℕ, ◌+◌, ◌<◌, ◌≤◌, Bool, true, false, ◌==◌, ◌||◌, ◌⊎◌, List, length, refl, ap, sym, ◌∙◌, arith, inl, inr, subst}
+use Rattle.std.proofs.lemmas.Bool.{cases_lt, eq-eqb, eqb-true, false≢true}
+use Rattle.dag_check.specs.Reach.{IsClosed, IsReach, LeadsDown, LeadsUp}
+use Rattle.dag_check.specs.Orders.{is_in}
+use Rattle.dag_check.specs.Searches.{marked}
+use Rattle.dag_check.proofs.OrderLemmas.{marked-set}
+
+or-true : (a b : Bool) → (a || b) ≡ true → (a ≡ true) ⊎ (b ≡ true)
+or-true true b h = inl refl
+or-true false b h = inr h
+
+or-left : (a b : Bool) → a ≡ true → (a || b) ≡ true
+or-left a b h = ap (λ v. v || b) h
+
+pub or-right : (a b : Bool) → b ≡ true → (a || b) ≡ true
+or-right true b h = refl
+or-right false b h = h
+
+-- the places from i on are done: what they lead to is marked
+pub record IsMarking (next : ℕ → List ℕ) (x i : ℕ) (m : ℕ → Bool) : Type 0 where
+  pub low : (j : ℕ) → m j ≡ true → j < x
+  pub done : (j y : ℕ) → i ≤ j → (j == x) || m j ≡ true → is_in (next j) y ≡ true → m y ≡ true
+  pub sound : (p : ℕ → Bool) → IsClosed next x p → (j : ℕ) → m j ≡ true → p j ≡ true
+
+pub marking-off : (next : ℕ → List ℕ) (x i : ℕ) (m : ℕ → Bool) → IsMarking next x (i + 1) m → (i == x) || m i ≡ false → IsMarking next x i m
+marking-off next x i m h off = record {
+  low = h.low;
+  done = λ j y from on edge.
+      elim (cases_lt i j) [
+        | inl above ↦ h.done j y (omega arith) on edge
+        | inr same ↦ let e : j ≡ i = omega arith in absurd (false≢true (sym off ∙ subst (λ (k : ℕ). ((k == x) || m k) ≡ true) e on))
+      ];
+  sound = h.sound;
+}
+
+pub marking-on : (next : ℕ → List ℕ) (x i : ℕ) (m m' : ℕ → Bool) → LeadsDown next → i ≤ x → IsMarking next x (i + 1) m → (i == x) || m i ≡ true → ((y : ℕ) → m' y ≡ (m y || is_in (next i) y)) → IsMarking next x i m'
+marking-on next x i m m' down within h on new = record {
+  low = λ j marked.
+      elim (or-true (m j) (is_in (next i) j) (sym (new j) ∙ marked)) [ inl old ↦ h.low j old | inr edge ↦ let d = down i j edge in omega arith ];
+  done = λ j y from on' edge.
+      elim (cases_lt i j) [
+        | inl above ↦
+            let was : (j == x) || m j ≡ true =
+            elim (or-true (j == x) (m' j) on') [
+              | inl start ↦ or-left (j == x) (m j) start
+              | inr marked ↦ elim (or-true (m j) (is_in (next i) j) (sym (new j) ∙ marked)) [ inl old ↦ or-right (j == x) (m j) old | inr lower ↦ let d = down i j lower in absurd (omega arith) ]
+            ] in
+            new y ∙ or-left (m y) _ (h.done j y (omega arith) was edge)
+        | inr same ↦
+            let e : j ≡ i = omega arith in
+            new y ∙ or-right (m y) (is_in (next i) y) (subst (λ (k : ℕ). is_in (next k) y ≡ true) e edge)
+      ];
+  sound = λ p closed j marked.
+      elim (or-true (m j) (is_in (next i) j) (sym (new j) ∙ marked)) [
+        | inl old ↦ h.sound p closed j old
+        | inr edge ↦
+            elim (or-true (i == x) (m i) on) [
+              | inl start ↦ closed.neighbours j (subst (λ (k : ℕ). is_in (next k) j ≡ true) (eqb-true i x start) edge)
+              | inr marked' ↦ closed.edges i j (h.sound p closed i marked') edge
+            ]
+      ];
+}
+
+-- nothing is marked yet
+pub marking-start : (next : ℕ → List ℕ) (x : ℕ) (m : ℕ → Bool) → ((y : ℕ) → m y ≡ false) → IsMarking next x (x + 1) m
+marking-start next x m none = record {
+  low = λ j marked. absurd (false≢true (sym (none j) ∙ marked));
+  done = λ j y from on edge.
+      elim (or-true (j == x) (m j) on) [ inl start ↦ let e = eqb-true j x start in absurd (omega arith) | inr marked ↦ absurd (false≢true (sym (none j) ∙ marked)) ];
+  sound = λ p closed j marked. absurd (false≢true (sym (none j) ∙ marked));
+}
+
+pub marking-end : (next : ℕ → List ℕ) (x : ℕ) (m : ℕ → Bool) → IsMarking next x 0 m → IsReach next x m
+marking-end next x m h = record {
+  closed = record {
+    neighbours = λ y edge. h.done x y (omega arith) (or-left (x == x) (m x) (eq-eqb x x refl)) edge;
+    edges = λ j y marked edge. h.done j y (omega arith) (or-right (j == x) (m j) marked) edge;
+  };
+  smallest = h.sound;
+}
+
+or-assoc : (a b c : Bool) → ((a || b) || c) ≡ (a || (b || c))
+or-assoc true b c = refl
+or-assoc false b c = refl
+
+pub marks-more : (m m₀ : List Bool) (places : List ℕ) (i : ℕ) → i < length places → get_or places i 0 < length m → ((y : ℕ) → get_or m y false ≡ (get_or m₀ y false || is_in (take i places) y)) → (y : ℕ) → get_or (set m (get_or places i 0) true) y false ≡ (get_or m₀ y false || is_in (take (i + 1) places) y)
+marks-more m m₀ places i below inside so_far y =
+    marked-set m (get_or places i 0) y inside
+    ∙ (ap (λ v. v || (get_or places i 0 == y)) (so_far y)
+    ∙ (or-assoc (get_or m₀ y false) (is_in (take i places) y) (get_or places i 0 == y)
+    ∙ ap (λ v. get_or m₀ y false || v) (sym (list_any_more (λ z. z == y) places i 0 below))))
+
+in-at-own : (places : List ℕ) (i : ℕ) → i < length places → is_in places (get_or places i 0) ≡ true
+in-at-own places i below = list_any_at (λ z. z == get_or places i 0) places i 0 below (eq-eqb _ _ refl)
+
+-- the same where each edge leads up: the places below i are done
+pub record IsMarkingUp (next : ℕ → List ℕ) (x i : ℕ) (m : ℕ → Bool) : Type 0 where
+  pub high : (j : ℕ) → m j ≡ true → x < j
+  pub done : (j y : ℕ) → j < i → (j == x) || m j ≡ true → is_in (next j) y ≡ true → m y ≡ true
+  pub sound : (p : ℕ → Bool) → IsClosed next x p → (j : ℕ) → m j ≡ true → p j ≡ true
+
+pub up-off : (next : ℕ → List ℕ) (x i : ℕ) (m : ℕ → Bool) → IsMarkingUp next x i m → (i == x) || m i ≡ false → IsMarkingUp next x (i + 1) m
+up-off next x i m h off = record {
+  high = h.high;
+  done = λ j y from on edge.
+      elim (cases_lt j i) [
+        | inl below ↦ h.done j y below on edge
+        | inr same ↦ let e : j ≡ i = omega arith in absurd (false≢true (sym off ∙ subst (λ (k : ℕ). ((k == x) || m k) ≡ true) e on))
+      ];
+  sound = h.sound;
+}
+
+pub up-on : (next : ℕ → List ℕ) (x i n : ℕ) (m m' : ℕ → Bool) → LeadsUp next n → x ≤ i → IsMarkingUp next x i m → (i == x) || m i ≡ true → ((y : ℕ) → m' y ≡ (m y || is_in (next i) y)) → IsMarkingUp next x (i + 1) m'
+up-on next x i n m m' up within h on new = record {
+  high = λ j marked.
+      elim (or-true (m j) (is_in (next i) j) (sym (new j) ∙ marked)) [ inl old ↦ h.high j old | inr edge ↦ let d = (up i j edge).0 in omega arith ];
+  done = λ j y from on' edge.
+      elim (cases_lt j i) [
+        | inl below ↦
+            let was : (j == x) || m j ≡ true =
+            elim (or-true (j == x) (m' j) on') [
+              | inl start ↦ or-left (j == x) (m j) start
+              | inr marked ↦ elim (or-true (m j) (is_in (next i) j) (sym (new j) ∙ marked)) [ inl old ↦ or-right (j == x) (m j) old | inr upper ↦ let d = (up i j upper).0 in absurd (omega arith) ]
+            ] in
+            new y ∙ or-left (m y) _ (h.done j y below was edge)
+        | inr same ↦
+            let e : j ≡ i = omega arith in
+            new y ∙ or-right (m y) (is_in (next i) y) (subst (λ (k : ℕ). is_in (next k) y ≡ true) e edge)
+      ];
+  sound = λ p closed j marked.
+      elim (or-true (m j) (is_in (next i) j) (sym (new j) ∙ marked)) [
+        | inl old ↦ h.sound p closed j old
+        | inr edge ↦
+            elim (or-true (i == x) (m i) on) [
+              | inl start ↦ closed.neighbours j (subst (λ (k : ℕ). is_in (next k) j ≡ true) (eqb-true i x start) edge)
+              | inr marked' ↦ closed.edges i j (h.sound p closed i marked') edge
+            ]
+      ];
+}
+
+pub up-start : (next : ℕ → List ℕ) (x : ℕ) (m : ℕ → Bool) → ((y : ℕ) → m y ≡ false) → IsMarkingUp next x x m
+up-start next x m none = record {
+  high = λ j marked. absurd (false≢true (sym (none j) ∙ marked));
+  done = λ j y from on edge.
+      elim (or-true (j == x) (m j) on) [ inl start ↦ let e = eqb-true j x start in absurd (omega arith) | inr marked ↦ absurd (false≢true (sym (none j) ∙ marked)) ];
+  sound = λ p closed j marked. absurd (false≢true (sym (none j) ∙ marked));
+}
+
+-- nothing from n on has neighbours
+pub up-end : (next : ℕ → List ℕ) (x n : ℕ) (m : ℕ → Bool) → LeadsUp next n → x < n → IsMarkingUp next x n m → IsReach next x m
+up-end next x n m up inside h = record {
+  closed = record {
+    neighbours = λ y edge. h.done x y inside (or-left (x == x) (m x) (eq-eqb x x refl)) edge;
+    edges = λ j y marked edge. let u = up j y edge in h.done j y (omega arith) (or-right (j == x) (m j) marked) edge;
+  };
+  smallest = h.sound;
+}
