@@ -7,4 +7,6 @@ pub mod RowLemmas
 pub mod ReachLemmas
 pub mod GraphLemmas
 pub mod FaultLemmas
+pub mod FirstLemmas
+pub mod PlacedLemmas
 pub mod WayLemmas

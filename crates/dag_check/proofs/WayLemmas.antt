@@ -9,7 +9,7 @@ use Rattle.dag_check.specs.Graphs.{Dag, IsDag, ups, downs}
 use Rattle.dag_check.specs.Reach.{IsClosed, IsReach, IsReached, towards, has_way, reach_of, LeadsDown, LeadsUp}
 use Rattle.dag_check.proofs.GraphLemmas.{in-passing, reached-one}
 
-any-in : (q : ℕ → Bool) (xs : List ℕ) → list_any q xs ≡ true → (z : ℕ) × (is_in xs z ≡ true) × (q z ≡ true)
+pub any-in : (q : ℕ → Bool) (xs : List ℕ) → list_any q xs ≡ true → (z : ℕ) × (is_in xs z ≡ true) × (q z ≡ true)
 any-in q [] h = absurd (false≢true h)
 any-in q (x ∷ xs) h =
     elim (or_cases (q x) (list_any q xs) h) [
@@ -25,14 +25,14 @@ any-of q (x ∷ xs) z there on =
       | inr rest ↦ or_right (q x) (list_any q xs) (any-of q xs z rest on)
     ]
 
-first-step : (next : ℕ → List ℕ) (n x y : ℕ) → is_in (next x) y ≡ true → has_way next (suc n) x y ≡ true
+pub first-step : (next : ℕ → List ℕ) (n x y : ℕ) → is_in (next x) y ≡ true → has_way next (suc n) x y ≡ true
 first-step next n x y edge = any-of (λ z. z == y || has_way next n z y) (next x) y edge (or_left (y == y) (has_way next n y y) (eq-eqb y y refl))
 
-way-after : (next : ℕ → List ℕ) (n x y z : ℕ) → is_in (next x) z ≡ true → has_way next n z y ≡ true → has_way next (suc n) x y ≡ true
+pub way-after : (next : ℕ → List ℕ) (n x y z : ℕ) → is_in (next x) z ≡ true → has_way next n z y ≡ true → has_way next (suc n) x y ≡ true
 way-after next n x y z edge way = any-of (λ z. z == y || has_way next n z y) (next x) z edge (or_right (z == y) (has_way next n z y) way)
 
 -- one step more may be taken, and none needs be
-way-then : (next : ℕ → List ℕ) (n x j y : ℕ) → has_way next n x j ≡ true → is_in (next j) y ≡ true → has_way next (suc n) x y ≡ true
+pub way-then : (next : ℕ → List ℕ) (n x j y : ℕ) → has_way next n x j ≡ true → is_in (next j) y ≡ true → has_way next (suc n) x y ≡ true
 way-then next zero x j y way edge = absurd (false≢true way)
 way-then next (suc n) x j y way edge =
     let r = any-in (λ z. z == j || has_way next n z j) (next x) way in
@@ -50,7 +50,7 @@ way-more next (suc n) x y way =
       | inr rest ↦ way-after next (suc n) x y r.0 r.1 (way-more next n r.0 y rest)
     ]
 
-way-within : (next : ℕ → List ℕ) (m n x y : ℕ) → m ≤ n → has_way next m x y ≡ true → has_way next n x y ≡ true
+pub way-within : (next : ℕ → List ℕ) (m n x y : ℕ) → m ≤ n → has_way next m x y ≡ true → has_way next n x y ≡ true
 way-within next m zero x y low way = let e : m ≡ 0 = omega arith in subst (λ (k : ℕ). has_way next k x y ≡ true) e way
 way-within next m (suc n) x y low way =
     elim (cases_lt n m) [

@@ -1,5 +1,5 @@
 //! Why a file has no graph.
-use graph_file::Name;
+use graph_file::{Name, Sequence};
 
 /// Why a file has no graph. Where several hold, the first in this order is answered, at the first task at which it shows.
 /// Positions count from 0, in the order of the file.
@@ -13,7 +13,7 @@ pub enum DagFault {
     DoubleEdge(u32),
     /// These tasks are a cycle: each is an upstream of the next, and the last of the first. They are distinct, and the first
     /// of them in the file comes first. A task that is its own upstream is a cycle of one.
-    Cycle(Vec<Name>),
+    Cycle(Sequence<Name>),
     /// Memory ran out.
     Memory,
 }

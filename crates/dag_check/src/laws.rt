@@ -1,9 +1,9 @@
 //! Laws of the definitions: each is the contract of an empty function, so that the gate proves it.
-ghost use Rattle.std.specs.Prelude.{◌≡◌, ℕ, ◌<◌, List, length};
+ghost use Rattle.std.specs.Prelude.{◌≡◌, ◌⊎◌, ℕ, ◌<◌, List, length, Some, None};
 ghost use Rattle.dag_check.specs.Orders.{IsPlacement, IsCycle, IsAcyclic, places_of};
-ghost use Rattle.dag_check.specs.Graphs.{Dag, IsDag, IsGraphOf, ups};
+ghost use Rattle.dag_check.specs.Graphs.{Dag, IsDag, IsGraphOf, dag_of, ups};
 ghost use Rattle.dag_check.specs.Reach.{IsReached, reach_of};
-ghost use Rattle.dag_check.specs.Faults.{Stands, Agree};
+ghost use Rattle.dag_check.specs.Faults.{Stands, Agree, first_fault, without_names};
 ghost use Rattle.dag_check.specs.declared.faults.DagFault.{DagFault};
 ghost use Rattle.dag_check.specs.declared.faults.DagFault.TheVariants.{Memory};
 ghost use Rattle.graph_file.specs.declared.task_specs.TaskSpec.{TaskSpec};
@@ -37,10 +37,13 @@ pub fn a_place_reaches_one_set()
     ensures by_ways { (g : Dag) (d : Direction) (k : ℕ) → IsDag g → k < length g.tasks → IsReached g d k (reach_of g d k) }
 {}
 
-/// A file is the file of one graph, or has one fault, but that which of several cycles is answered is open. Memory may run out at
-/// any file.
+/// A file is the file of one graph, or has one fault, but that which of several cycles is answered is open; and each file is one of
+/// the two, by its first fault. Memory may run out at any file.
 pub fn a_file_has_one_answer()
     ensures graph { (spec : GraphSpec) (g h : Dag) → IsGraphOf spec g → IsGraphOf spec h → g ≡ h }
     ensures fault { (file : List TaskSpec) (e f : DagFault) → Stands file e → Stands file f → Agree e f }
     ensures never_both { (spec : GraphSpec) (g : Dag) (f : DagFault) → IsGraphOf spec g → Stands spec.tasks f → f ≡ Memory }
+    ensures graph_is_there { (spec : GraphSpec) → first_fault spec.tasks ≡ None → IsGraphOf spec (dag_of spec) }
+    ensures faultless { (spec : GraphSpec) (g : Dag) → IsGraphOf spec g → first_fault spec.tasks ≡ None }
+    ensures first { (file : List TaskSpec) (f : DagFault) → Stands file f → (f ≡ Memory) ⊎ (first_fault file ≡ Some (without_names f)) }
 {}

@@ -9,7 +9,7 @@ ghost use Rattle.dag_check.specs.Faults.{Stands};
 use crate::faults::DagFault;
 use crate::orders::{Stuck, order};
 use crate::positions::{Unplaced, first_repeated, ids, rows};
-use graph_file::{Name, TaskSpec};
+use graph_file::{Name, Sequence, TaskSpec};
 use std::alloc::{AllocError, Global};
 
 // The order of places, and the edges by place.
@@ -21,16 +21,16 @@ pub(crate) struct Layout {
 }
 
 // The names of the tasks at these positions.
-fn names_at(alloc: Global, tasks: &[TaskSpec], walk: &[usize]) -> Result<Vec<Name>, AllocError>
+fn names_at(alloc: Global, tasks: &[TaskSpec], walk: &[usize]) -> Result<Sequence<Name>, AllocError>
     requires { (k : ℕ) → k < length walk.now → slice_index walk.now k < length tasks.now }
-    ensures { IfOk result (λ v. v.items ≡ map (id_at tasks.now) walk.now) }
+    ensures { IfOk result (λ names. names ≡ map (id_at tasks.now) walk.now) }
 {
     let mut names = Vec::with_capacity(alloc, walk.len())?;
     for position in walk {
         let id = tasks[*position].task_id.copy(alloc)?;
         names.push(id)?;
     }
-    Ok(names)
+    Ok(Sequence::new(names))
 }
 
 // The place of each position.

@@ -57,7 +57,7 @@ fn words(alloc: Global, fault: &DagFault) -> Result<String, AllocError> {
         DagFault::DoubleEdge(i) => format!(in alloc; "DoubleEdge {i}"),
         DagFault::Cycle(names) => {
             let mut text = String::from_str(alloc, "Cycle")?;
-            add_names(&mut text, names)?;
+            add_names(&mut text, names.as_slice())?;
             Ok(text)
         }
         DagFault::Memory => String::from_str(alloc, "Memory"),
