@@ -1,4 +1,5 @@
 pub mod Runs
 pub mod Answers
 pub mod Faults
+pub mod DagFaults
 pub mod Refusals

@@ -2,12 +2,15 @@
 use Rattle.std.specs.Prelude.{ℕ, List, ◌++◌, codes}
 use Rattle.moment_core.specs.Printing.{text_of}
 use Rattle.sched_core.specs.declared.events.Refusal.{Refusal}
-use Rattle.sched_core.specs.declared.events.Refusal.TheVariants.{GraphFault, TooManyGraphs, GraphDiffers, ClockBack, RecordFull, Memory}
+use Rattle.sched_core.specs.declared.events.Refusal.TheVariants.{GraphFault, DagFault, UnknownPool, TooManyGraphs, GraphDiffers, ClockBack, RecordFull, Memory}
 use Rattle.answer_lines.specs.Faults.{graph_fault_text}
+use Rattle.answer_lines.specs.DagFaults.{dag_fault_text}
 
 -- `refused`, the refusal's number and name, and what it carries; want of memory is `memory`
 abbrev pub refusal_text : Refusal → List ℕ
 refusal_text (GraphFault fault) = codes "refused 1 GraphFault " ++ graph_fault_text fault ++ codes "\n"
+refusal_text (DagFault fault) = codes "refused 2 DagFault " ++ dag_fault_text fault ++ codes "\n"
+refusal_text (UnknownPool pool) = codes "refused 3 UnknownPool " ++ pool ++ codes "\n"
 refusal_text TooManyGraphs = codes "refused 4 TooManyGraphs\n"
 refusal_text GraphDiffers = codes "refused 5 GraphDiffers\n"
 refusal_text (ClockBack moment) = codes "refused 8 ClockBack " ++ text_of moment ++ codes "\n"

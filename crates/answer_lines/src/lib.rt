@@ -12,6 +12,7 @@
 #![tactic(auto)]
 
 mod answers;
+mod dag_faults;
 mod faults;
 mod refusals;
 mod runs;

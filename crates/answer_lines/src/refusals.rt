@@ -3,19 +3,29 @@ ghost use Rattle.std.specs.Prelude.{OnOk};
 ghost use Rattle.std.specs.Io.KnownBytes.{Appends};
 ghost use Rattle.answer_lines.specs.Refusals as spec;
 
+use crate::dag_faults::put_dag_fault;
 use crate::faults::put_graph_fault;
 use sched_core::Refusal;
 use std::io::{self, Write};
 
 /// Writes `refused N Name` with what the refusal carries, and `memory` for want of memory.
-pub fn put_refusal<W: Write>(output: &mut W, refusal: Refusal) -> io::Result<()>
-    ensures { OnOk result (Appends (W.contents output.old) (W.contents output.new) (spec.refusal_text refusal)) }
+pub fn put_refusal<W: Write>(output: &mut W, refusal: &Refusal) -> io::Result<()>
+    ensures { OnOk result (Appends (W.contents output.old) (W.contents output.new) (spec.refusal_text refusal.now)) }
 {
     match refusal {
         Refusal::GraphFault(fault) => {
             output.write_all(b"refused 1 GraphFault ")?;
-            put_graph_fault(output, fault)?;
+            put_graph_fault(output, *fault)?;
             output.write_all(b"\n")
+        }
+        Refusal::DagFault(fault) => {
+            output.write_all(b"refused 2 DagFault ")?;
+            put_dag_fault(output, fault)?;
+            output.write_all(b"\n")
+        }
+        Refusal::UnknownPool(pool) => {
+            let pool = pool.as_str();
+            writeln!(output, "refused 3 UnknownPool {pool}")
         }
         Refusal::TooManyGraphs => output.write_all(b"refused 4 TooManyGraphs\n"),
         Refusal::GraphDiffers => output.write_all(b"refused 5 GraphDiffers\n"),

@@ -1,5 +1,6 @@
 use super::*;
 use cron_timetable::{CronFault, Interval};
+use dag_check::DagFault;
 use graph_file::{GraphFault, Name, Place, Sequence};
 use moment_core::{Moment, MomentFault};
 use sched_core::{Answer, Refusal, RunId};
@@ -86,6 +87,11 @@ fn runs_have_a_row_each(rt: HostRuntime) -> Result<(), Fail> {
 #[test]
 fn faults_have_a_line_each(rt: HostRuntime) -> Result<(), Fail> {
     let alloc = rt.alloc();
+    let mut names = Vec::new(alloc);
+    for task in ["a", "b"] {
+        names.push(name(alloc, task)?)?;
+    }
+    let cycle = Sequence::new(names);
     for (refusal, line) in [
         (
             Refusal::GraphFault(GraphFault::NotToml),
@@ -107,6 +113,26 @@ fn faults_have_a_line_each(rt: HostRuntime) -> Result<(), Fail> {
             Refusal::GraphFault(GraphFault::NoTask),
             "refused 1 GraphFault 8 NoTask\n",
         ),
+        (
+            Refusal::DagFault(DagFault::DoubleTask(1)),
+            "refused 2 DagFault 1 DoubleTask 1\n",
+        ),
+        (
+            Refusal::DagFault(DagFault::UnknownUpstream(20)),
+            "refused 2 DagFault 2 UnknownUpstream 20\n",
+        ),
+        (
+            Refusal::DagFault(DagFault::DoubleEdge(1)),
+            "refused 2 DagFault 3 DoubleEdge 1\n",
+        ),
+        (
+            Refusal::DagFault(DagFault::Cycle(cycle)),
+            "refused 2 DagFault 4 Cycle a b\n",
+        ),
+        (
+            Refusal::UnknownPool(name(alloc, "x")?),
+            "refused 3 UnknownPool x\n",
+        ),
         (Refusal::TooManyGraphs, "refused 4 TooManyGraphs\n"),
         (Refusal::GraphDiffers, "refused 5 GraphDiffers\n"),
         (
@@ -117,7 +143,7 @@ fn faults_have_a_line_each(rt: HostRuntime) -> Result<(), Fail> {
         (Refusal::Memory, "memory\n"),
     ] {
         let mut lines = Vec::new(alloc);
-        put_refusal(&mut lines, refusal)?;
+        put_refusal(&mut lines, &refusal)?;
         assert_eq!(rt; lines.as_slice(), line.as_bytes());
     }
     for (fault, line) in [
@@ -165,10 +191,10 @@ impl Write for Full {
 fn a_write_that_fails_is_an_error(rt: HostRuntime) -> Result<(), Fail> {
     let refusal = Refusal::GraphFault(GraphFault::Cron(CronFault::NeverFires));
     for room in 0..41 {
-        let ended = put_refusal(&mut Full { room }, refusal);
+        let ended = put_refusal(&mut Full { room }, &refusal);
         let kind = ended.err().ok_or("written")?.kind();
         assert_eq!(rt; kind, ErrorKind::BrokenPipe, "at {room}");
     }
-    put_refusal(&mut Full { room: 41 }, refusal)?;
+    put_refusal(&mut Full { room: 41 }, &refusal)?;
     Ok(())
 }

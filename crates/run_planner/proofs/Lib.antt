@@ -3,3 +3,5 @@ pub mod RiseLemmas
 pub mod PlanLemmas
 pub mod MemberLemmas
 pub mod LatestLemmas
+pub mod ByHandLemmas
+pub mod SpanLemmas

@@ -1,3 +1,5 @@
 pub mod Index
 pub mod Due
 pub mod Latest
+pub mod ByHand
+pub mod Spans

@@ -48,7 +48,12 @@ pub(crate) fn all_due(
 }
 
 // The first due interval of a cron expression that starts from `from` on.
-fn first_due(cron: &Cron, from: Moment, last: &Option<Moment>, now: Moment) -> Option<Interval>
+pub(crate) fn first_due(
+    cron: &Cron,
+    from: Moment,
+    last: &Option<Moment>,
+    now: Moment,
+) -> Option<Interval>
     ensures first { let all = due_intervals (Timetable.Cron cron.now) from last.now now in
         MatchOption result (all ≡ []) (λ i. all ≡ i ∷ due_intervals (Timetable.Cron cron.now) i.end last.now now) }
     ensures due { IfSome result (IsDue cron.now from last.now now) }

@@ -1,7 +1,9 @@
-//! Which runs a timetable names for one graph: those that are due and have no run yet.
+//! Which runs a timetable or a user names for one graph: those that are due and have no run yet, one by hand, those of a span of past
+//! days.
 //!
 //! [`due`] plans: it lists the intervals of a graph that have ended and have no run, the oldest first and no more than a limit.
-//! A [`RunIndex`] is the set of the logical dates of a graph's runs.
+//! [`manual`] gives the interval of a run by hand, [`backfill`] the intervals of a span, with and without a run. A [`RunIndex`] is the
+//! set of the logical dates of a graph's runs.
 //!
 //! ```text
 //! let mut index = RunIndex::new(rt.alloc());
@@ -11,14 +13,25 @@
 //! ```
 #![tactic(auto)]
 
+mod backfills;
+mod by_hand;
 mod catchup;
 mod latest;
 mod laws;
 mod planning;
 mod run_index;
 #[cfg(test)]
+mod span_tests;
+mod spans;
+#[cfg(test)]
 mod tests;
 
-pub use laws::{due_intervals_are_intervals, due_intervals_rise};
+pub use backfills::backfill;
+pub use by_hand::{PlanFault, manual};
+pub use laws::{
+    a_run_by_hand_has_the_last_interval, a_span_holds_its_intervals, due_intervals_are_intervals,
+    due_intervals_rise,
+};
 pub use planning::{Planned, due};
 pub use run_index::RunIndex;
+pub use spans::Backfill;

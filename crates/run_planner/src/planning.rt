@@ -8,6 +8,7 @@ use crate::RunIndex;
 use crate::catchup::{all_due, is_up_to};
 use crate::latest::latest_due;
 use cron_timetable::{Interval, Timetable};
+use dag_check::Graph;
 use graph_file::GraphSpec;
 use moment_core::Moment;
 use std::alloc::{AllocError, Global};
@@ -29,6 +30,19 @@ pub struct Planned {
 ///
 /// The rules are those of Airflow 2's page 'DAG Runs'.
 pub fn due(
+    alloc: Global,
+    graph: &Graph,
+    now: Moment,
+    index: &RunIndex,
+    limit: usize,
+) -> Result<Planned, AllocError>
+    ensures { IfOk result (λ p. IsFirst (wanted_intervals graph.now.spec now index.now.dates) limit p.intervals.items p.more) }
+{
+    due_of(alloc, graph.spec(), now, index, limit)
+}
+
+// The same by what the graph's file says.
+fn due_of(
     alloc: Global,
     graph: &GraphSpec,
     now: Moment,

@@ -40,7 +40,14 @@ impl RunIndex {
     pub fn has(&self, date: Moment) -> bool
         ensures { result ≡ has_date self.now.dates date }
     {
-        self.dates.binary_search(&date.secs()).is_ok()
+        self.has_at(date.secs())
+    }
+
+    // Whether a run has its logical date so many seconds after 1970.
+    pub(crate) fn has_at(&self, secs: u64) -> bool
+        ensures { result ≡ has_date self.now.dates secs }
+    {
+        self.dates.binary_search(&secs).is_ok()
     }
 
     /// Makes room for `n` dates more.

@@ -1,13 +1,14 @@
 use super::*;
 use cron_timetable::{Cron, Interval, Timetable};
-use graph_file::{GraphSpec, read_graph};
+use dag_check::{Graph, check};
+use graph_file::read_graph;
 use moment_core::Moment;
 use std::alloc::Global;
 use std::process::Abort;
 use std::test::Fail;
 
 // A moment, or none at an empty text.
-fn moment(text: &str) -> Option<Moment> {
+pub fn moment(text: &str) -> Option<Moment> {
     Moment::read(text).ok()
 }
 
@@ -29,23 +30,26 @@ task_id = \"t\"
 operator = \"noop\"";
 
 // That graph with another timetable.
-fn graph(
+pub fn graph(
     alloc: Global,
     schedule: &str,
     dates: (&str, &str),
     catchup: bool,
-) -> Result<GraphSpec, Fail> {
+) -> Result<Graph, Fail> {
     let (start_date, end_date) = dates;
     let mut graph = read_graph(alloc, GRAPH)?;
     graph.schedule = timetable(schedule)?;
     graph.start_date = moment(start_date).ok_or("no moment")?;
     graph.end_date = moment(end_date);
     graph.catchup = catchup;
-    Ok(graph)
+    match check(alloc, graph) {
+        Ok(graph) => Ok(graph),
+        Err(_) => Err(Fail::from("no graph")),
+    }
 }
 
 // Adds the dates of a text with blanks between them.
-fn add(index: &mut RunIndex, dates: &str) -> Result<(), Fail> {
+pub fn add(index: &mut RunIndex, dates: &str) -> Result<(), Fail> {
     for text in dates.split_whitespace() {
         index.reserve(1)?;
         index.add(moment(text).ok_or("no moment")?);
@@ -54,13 +58,13 @@ fn add(index: &mut RunIndex, dates: &str) -> Result<(), Fail> {
 }
 
 // Asserts that these are the intervals, each written as `start/end`.
-fn assert_intervals(
+pub fn assert_intervals(
     rt: &impl Abort,
-    planned: &Planned,
+    intervals: &[Interval],
     texts: &str,
     row: &str,
 ) -> Result<(), Fail> {
-    let mut intervals = planned.intervals.iter();
+    let mut intervals = intervals.iter();
     for text in texts.split_whitespace() {
         let (start, end) = text.split_once("/").ok_or("no interval")?;
         let start = moment(start).ok_or("no moment")?;
@@ -145,6 +149,23 @@ fn plans_what_is_due(rt: HostRuntime) -> Result<(), Fail> {
             "",
             "",
         ),
+        // a run by hand at a tick stands in the place of the one that is due later
+        (
+            "@daily",
+            ("2024-01-25", ""),
+            true,
+            "2024-01-26",
+            "2024-01-25",
+            "",
+        ),
+        (
+            "@daily",
+            ("2024-01-25", "2024-01-24"),
+            true,
+            "2024-01-26",
+            "",
+            "",
+        ),
         (
             "@once",
             ("2024-01-01", ""),
@@ -186,7 +207,7 @@ fn plans_what_is_due(rt: HostRuntime) -> Result<(), Fail> {
         add(&mut index, runs)?;
         let now_moment = moment(now).ok_or("no moment")?;
         let planned = due(rt.alloc(), &graph, now_moment, &index, 10)?;
-        assert_intervals(&rt, &planned, intervals, now)?;
+        assert_intervals(&rt, &planned.intervals, intervals, now)?;
         assert!(rt; !planned.more, "{schedule} at {now}");
     }
     Ok(())

@@ -1,5 +1,5 @@
 -- What a step keeps and what it adds.
-use Rattle.std.proofs.Common.{◌≡◌, refl, sym, ap, ◌∙◌, ℕ, suc, ◌+◌, ◌≤◌, List, [], ◌∷◌, Bool, true, false, ◌||◌, length, nat_lt, Option, Some, None, Result, Ok, Err, arith}
+use Rattle.std.proofs.Common.{◌≡◌, refl, sym, ap, subst, cond, find, ◌∙◌, ℕ, suc, ◌+◌, ◌≤◌, List, [], ◌∷◌, ◌++◌, Bool, true, false, ◌||◌, length, nat_lt, Option, Some, None, Result, Ok, Err, arith}
 use Rattle.std.specs.List.{list_any}
 use Rattle.std.proofs.lemmas.Bool.{ltb-false}
 use Rattle.std.proofs.lemmas.List.{length-map}
@@ -8,16 +8,19 @@ use Rattle.graph_file.specs.Graphs.{graph_of}
 use Rattle.graph_file.specs.Lists.{when, first_some}
 use Rattle.graph_file.specs.declared.faults.GraphFault.{GraphFault}
 use Rattle.graph_file.specs.declared.graph_specs.GraphSpec.{GraphSpec}
+use Rattle.dag_check.specs.Graphs.{dag_of}
+use Rattle.dag_check.specs.Faults.{first_fault}
+use Rattle.dag_check.proofs.PlacedLemmas.{graph-of-faultless}
 use Rattle.sched_state.specs.Lists.{same, insert_by}
 use Rattle.sched_state.specs.Schedule.{Schedule, graph_named, run_before}
 use Rattle.sched_state.specs.Settle.{move, settle}
-use Rattle.sched_state.specs.Changes.{set_now, add_runs, insert_runs}
+use Rattle.sched_state.specs.Changes.{load_graph, set_now, add_runs, insert_runs}
 use Rattle.sched_state.specs.NamedRuns.{named_runs}
-use Rattle.sched_state.specs.Sound.{IsSound, is_at, has_run_at}
+use Rattle.sched_state.specs.Sound.{IsSound, Says, AllSay, is_at, has_run_at}
 use Rattle.sched_state.specs.declared.graphs.Graph.{Graph}
 use Rattle.sched_state.specs.declared.runs.Run.{Run}
 use Rattle.sched_state.proofs.SettleLemmas.{settle_ends, settle_still}
-use Rattle.sched_state.proofs.SoundLemmas.{key, load_sound, add_sound, add_keys, settle_sound, settle_keys, settle_dates}
+use Rattle.sched_state.proofs.SoundLemmas.{key, same_is, load_sound, add_sound, add_keys, settle_sound, settle_keys, settle_dates}
 use Rattle.sched_state.proofs.LoadLemmas.{load_again}
 use Rattle.sched_state.proofs.NamedLemmas.{named_new}
 use Rattle.sched_core.specs.Changes.{IsKept}
@@ -27,13 +30,17 @@ use Rattle.sched_core.specs.declared.events.Event.{Event}
 use Rattle.sched_core.specs.declared.events.Event.TheVariants.{Load, Tick}
 use Rattle.sched_core.specs.declared.events.Refusal.{Refusal}
 use Rattle.sched_core.specs.declared.events.Refusal.TheVariants as refusal
-use Rattle.sched_core.proofs.PlanLemmas.{still_new}
+use Rattle.sched_core.proofs.PlanLemmas.{still_new, load_step}
 
 pub step_settled : (e : Event) (a : Schedule) → move (step e a) ≡ None
 step_settled e a = settle_ends (add_runs (named_by e a) (change_by e a))
 
 loaded_sound : (text : List ℕ) (r : Result GraphSpec GraphFault) (a : Schedule) → graph_of text ≡ r → IsSound a → IsSound (load_result text r a)
-loaded_sound text (Ok spec) a e s = load_sound text spec a e s
+loaded_sound text (Ok spec) a e s =
+    elim (first_fault spec.tasks) as (λ o. first_fault spec.tasks ≡ o → IsSound (elim o as (λ p. Schedule) [ None ↦ load_graph text (dag_of spec) a | Some fault ↦ a ])) [
+      | None ↦ λ none. load_sound text (dag_of spec) a (record { read = e; checked = graph-of-faultless spec none }) s
+      | Some fault ↦ λ some. s
+    ] refl
 loaded_sound text (Err fault) a e s = s
 
 pub step_sound : (e : Event) (a : Schedule) → IsSound a → IsSound (step e a)
@@ -43,7 +50,10 @@ step_sound (Tick t) a s =
     settle_sound (add_runs (named_runs a t) (set_now t a)) (add_sound (named_runs a t) (set_now t a) (still_new a t (named_runs a t) ∙ named_new a t s) clock)
 
 loaded_runs : (text : List ℕ) (r : Result GraphSpec GraphFault) (a : Schedule) → (load_result text r a).runs ≡ a.runs
-loaded_runs text (Ok spec) a = refl
+loaded_runs text (Ok spec) a = elim (first_fault spec.tasks) as (λ o. (let b : Schedule = elim o as (λ p. Schedule) [ None ↦ load_graph text (dag_of spec) a | Some fault ↦ a ] in b.runs ≡ a.runs)) [
+  | None ↦ refl
+  | Some fault ↦ refl
+]
 loaded_runs text (Err fault) a = refl
 
 pub step_dates : (e : Event) (a : Schedule) (id : List ℕ) (date : ℕ) → has_run_at (step e a) id date ≡ (list_any (is_at id date) (named_by e a) || has_run_at a id date)
@@ -51,14 +61,33 @@ step_dates (Load text) a id date =
     settle_dates (load_result text (graph_of text) a) id date ∙ ap (list_any (is_at id date)) (loaded_runs text (graph_of text) a)
 step_dates (Tick t) a id date = settle_dates (add_runs (named_runs a t) (set_now t a)) id date ∙ add_keys (named_runs a t) (set_now t a) id date
 
+-- a graph that is found is what its text says
+found_says : (id : List ℕ) (gs : List Graph) (g : Graph) → AllSay gs → find (λ (h : Graph). same h.dag.spec.dag_id id) gs ≡ Some g → Says g.text g.dag
+found_says id [] g said found = absurd (let c : ◌≡◌ {A = Option Graph} None (Some g) = found in cc)
+found_says id (h ∷ hs) g said found =
+    elim (same h.dag.spec.dag_id id) as (λ b. cond b (Some h) (find (λ (k : Graph). same k.dag.spec.dag_id id) hs) ≡ Some g → Says g.text g.dag) [
+      | true ↦ λ e. let is : h ≡ g = cc in subst (λ (k : Graph). Says k.text k.dag) is said.0
+      | false ↦ λ e. found_says id hs g said.1 e
+    ] found
+
 pub same_text : (a : Schedule) (text : List ℕ) (spec : GraphSpec) (g : Graph) → IsKept a → graph_of text ≡ Ok spec → graph_named a spec.dag_id ≡ Some g → same g.text text ≡ true → step (Load text) a ≡ a
 same_text a text spec g kept said found text_is =
-    ap (λ r. settle (load_result text r a)) said ∙ (ap settle (load_again text spec a g said kept.sound found text_is) ∙ settle_still a kept.settled)
+    let says : Says g.text g.dag = found_says spec.dag_id a.graphs g kept.sound.said found in
+    let is : g.text ≡ text = same_is g.text text text_is in
+    let c : ◌≡◌ {A = Result GraphSpec GraphFault} (Ok spec) (Ok g.dag.spec) = sym said ∙ (ap graph_of (sym is) ∙ says.read) in
+    let spec_is : spec ≡ g.dag.spec = cc in
+    let mine : Says text g.dag = subst (λ (t : List ℕ). Says t g.dag) is says in
+    let named : graph_named a g.dag.spec.dag_id ≡ Some g = subst (λ (k : GraphSpec). graph_named a k.dag_id ≡ Some g) spec_is found in
+    load_step a text g.dag mine ∙ (ap settle (load_again text g.dag a g mine kept.sound named text_is) ∙ settle_still a kept.settled)
 
 -- ---- lists of events
 pub steps_kept : (es : List Event) (a : Schedule) → IsKept a → IsKept (steps es a)
 steps_kept [] a kept = kept
 steps_kept (e ∷ es) a kept = steps_kept es (step e a) (record { sound = step_sound e a kept.sound; settled = step_settled e a })
+
+pub steps_parts : (es fs : List Event) (a : Schedule) → steps (es ++ fs) a ≡ steps fs (steps es a)
+steps_parts [] fs a = refl
+steps_parts (e ∷ es) fs a = steps_parts es fs (step e a)
 
 -- the later test comes first in the sum
 or-regroup : (later here before : Bool) → (later || (here || before)) ≡ ((here || later) || before)

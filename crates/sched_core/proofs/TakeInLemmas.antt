@@ -4,7 +4,7 @@ use Rattle.std.specs.List.{list_any}
 use Rattle.std.proofs.lemmas.List.{length-map}
 use Rattle.std.proofs.lemmas.List.Folds.{list_any_at}
 use Rattle.std.proofs.lemmas.Option.{slice_get-get_or}
-use Rattle.graph_file.specs.declared.graph_specs.GraphSpec.{GraphSpec}
+use Rattle.dag_check.specs.Graphs.{Dag}
 use Rattle.sched_state.specs.Lists.{same, insert_by}
 use Rattle.sched_state.specs.Schedule.{graph_before}
 use Rattle.sched_state.specs.declared.graphs.Graph.{Graph}
@@ -14,20 +14,20 @@ use Rattle.sched_state.proofs.LoadLemmas.{replaced_at, with_known, with_unknown}
 use Rattle.sched_core.specs.Inside.{StandsAt, IsPlaceFor}
 use Rattle.sched_core.proofs.InsertLemmas.{insert-place}
 
-pub taken_known : (text : List ℕ) (spec : GraphSpec) (gs : List Graph) (i : ℕ) (g : Graph) → StandsAt spec.dag_id gs i → g ≡ get_or gs i g → rises graph_before gs ≡ true
-    → slice_set gs i (record { text = text; spec = spec; paused = g.paused }) ≡ with_graph text spec gs
-taken_known text spec gs i g stands read order =
+pub taken_known : (text : List ℕ) (dag : Dag) (gs : List Graph) (i : ℕ) (g : Graph) → StandsAt dag.spec.dag_id gs i → g ≡ get_or gs i g → rises graph_before gs ≡ true
+    → slice_set gs i (record { text = text; dag = dag; paused = g.paused }) ≡ with_graph text dag gs
+taken_known text dag gs i g stands read order =
     let at : slice_get gs i ≡ Some g = slice_get-get_or gs i g stands.below ∙ ap (λ x. Some x) (sym read) in
     let c : ◌≡◌ {A = Option Graph} (Some stands.graph) (Some g) = sym stands.there ∙ at in
     let is : stands.graph ≡ g = cc in
-    let named : same g.spec.dag_id spec.dag_id ≡ true = ap (λ (k : Graph). same k.spec.dag_id spec.dag_id) (sym is) ∙ stands.named in
-    let known : list_any (λ (k : Graph). same k.spec.dag_id spec.dag_id) gs ≡ true =
-    list_any_at (λ (k : Graph). same k.spec.dag_id spec.dag_id) gs i g stands.below (ap (λ (k : Graph). same k.spec.dag_id spec.dag_id) (sym read) ∙ named) in
-    sym (with_known text spec gs known ∙ replaced_at text spec gs i g at named order)
+    let named : same g.dag.spec.dag_id dag.spec.dag_id ≡ true = ap (λ (k : Graph). same k.dag.spec.dag_id dag.spec.dag_id) (sym is) ∙ stands.named in
+    let known : list_any (λ (k : Graph). same k.dag.spec.dag_id dag.spec.dag_id) gs ≡ true =
+    list_any_at (λ (k : Graph). same k.dag.spec.dag_id dag.spec.dag_id) gs i g stands.below (ap (λ (k : Graph). same k.dag.spec.dag_id dag.spec.dag_id) (sym read) ∙ named) in
+    sym (with_known text dag gs known ∙ replaced_at text dag gs i g at named order)
 
-pub taken_new : (text : List ℕ) (spec : GraphSpec) (gs : List Graph) (i : ℕ) → list_any (λ (k : Graph). same k.spec.dag_id spec.dag_id) gs ≡ false
-    → IsPlaceFor graph_before (new_graph text spec) gs i → insert gs i (new_graph text spec) ≡ with_graph text spec gs
-taken_new text spec gs i unknown place = insert-place graph_before (new_graph text spec) gs i place ∙ sym (with_unknown text spec gs unknown)
+pub taken_new : (text : List ℕ) (dag : Dag) (gs : List Graph) (i : ℕ) → list_any (λ (k : Graph). same k.dag.spec.dag_id dag.spec.dag_id) gs ≡ false
+    → IsPlaceFor graph_before (new_graph text dag) gs i → insert gs i (new_graph text dag) ≡ with_graph text dag gs
+taken_new text dag gs i unknown place = insert-place graph_before (new_graph text dag) gs i place ∙ sym (with_unknown text dag gs unknown)
 
 length-insert_by : {X : Type 0} (before : X → X → Bool) (x : X) (xs : List X) → length (insert_by before x xs) ≡ suc (length xs)
 length-insert_by before x [] = refl
@@ -36,16 +36,16 @@ length-insert_by {X} before x (y ∷ ys) = elim (before x y) as (λ b. length (e
   | false ↦ ap suc (length-insert_by before x ys)
 ]
 
-pub length-new : (text : List ℕ) (spec : GraphSpec) (gs : List Graph) → list_any (λ (k : Graph). same k.spec.dag_id spec.dag_id) gs ≡ false → length (with_graph text spec gs) ≡ length gs + 1
-length-new text spec gs unknown = ap length (with_unknown text spec gs unknown) ∙ (length-insert_by graph_before (new_graph text spec) gs ∙ omega arith)
+pub length-new : (text : List ℕ) (dag : Dag) (gs : List Graph) → list_any (λ (k : Graph). same k.dag.spec.dag_id dag.spec.dag_id) gs ≡ false → length (with_graph text dag gs) ≡ length gs + 1
+length-new text dag gs unknown = ap length (with_unknown text dag gs unknown) ∙ (length-insert_by graph_before (new_graph text dag) gs ∙ omega arith)
 
 -- at most one graph is added
-pub length-with_graph : (text : List ℕ) (spec : GraphSpec) (gs : List Graph) → length (with_graph text spec gs) ≤ length gs + 1
-length-with_graph text spec gs =
-    elim (find (λ (g : Graph). same g.spec.dag_id spec.dag_id) gs) as (λ o. length (elim o as (λ p. List Graph) [
-      | Some g ↦ map (reloaded text spec) gs
-      | None ↦ insert_by graph_before (new_graph text spec) gs
+pub length-with_graph : (text : List ℕ) (dag : Dag) (gs : List Graph) → length (with_graph text dag gs) ≤ length gs + 1
+length-with_graph text dag gs =
+    elim (find (λ (g : Graph). same g.dag.spec.dag_id dag.spec.dag_id) gs) as (λ o. length (elim o as (λ p. List Graph) [
+      | Some g ↦ map (reloaded text dag) gs
+      | None ↦ insert_by graph_before (new_graph text dag) gs
     ]) ≤ length gs + 1) [
-      | Some g ↦ omega (arith, length-map gs (reloaded text spec))
-      | None ↦ omega (arith, length-insert_by graph_before (new_graph text spec) gs)
+      | Some g ↦ omega (arith, length-map gs (reloaded text dag))
+      | None ↦ omega (arith, length-insert_by graph_before (new_graph text dag) gs)
     ]

@@ -6,5 +6,5 @@ use Rattle.sched_core.specs.declared.changes.Effect.TheVariants as effect
 
 abbrev pub applied : Effect → Schedule → Schedule
 applied effect.Nothing a = a
-applied (effect.Load text spec) a = load_graph text spec a
+applied (effect.Load text dag) a = load_graph text dag a
 applied (effect.Runs now runs) a = record a { now = now; runs = runs.items }

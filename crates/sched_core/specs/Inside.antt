@@ -1,8 +1,14 @@
 -- What the core's own functions say of each other.
-use Rattle.std.specs.Prelude.{◌≡◌, ℕ, ◌<◌, ◌≤◌, Bool, true, false, List, length, take, Option, MatchOption, Some, slice_get, Ok, Err, ◌⊎◌}
+use Rattle.std.specs.Prelude.{◌≡◌, ℕ, ◌<◌, ◌≤◌, Bool, true, false, List, length, take, Option, MatchOption, Some, None, slice_get, Ok, Err, ◌⊎◌}
 use Rattle.graph_file.specs.Graphs.{graph_of}
 use Rattle.graph_file.specs.declared.faults.GraphFault.{GraphFault}
 use Rattle.graph_file.specs.declared.graph_specs.GraphSpec.{GraphSpec}
+use Rattle.dag_check.specs.Graphs.{Dag, IsGraphOf}
+use Rattle.dag_check.specs.Faults.{Stands, first_fault, without_names}
+use Rattle.dag_check.specs.declared.faults.DagFault.{DagFault}
+use Rattle.dag_check.specs.declared.faults.DagFault.TheVariants.{DoubleTask, UnknownUpstream, DoubleEdge, Cycle, Memory}
+use Rattle.sched_state.specs.Sound.{Says}
+use Rattle.sched_core.specs.Events.{exceeds, unknown_pool}
 use Rattle.std.specs.List.{list_any}
 use Rattle.sched_state.specs.Limits.{Bounds}
 use Rattle.sched_state.specs.Lists.{same}
@@ -17,11 +23,11 @@ pub record StandsAt (id : List ℕ) (graphs : List Graph) (place : ℕ) : Type 0
   pub below : place < length graphs
   pub graph : Graph
   pub there : slice_get graphs place ≡ Some graph
-  pub named : same graph.spec.dag_id id ≡ true
+  pub named : same graph.dag.spec.dag_id id ≡ true
 
 -- the place of a graph of this id, or none where there is none
 abbrev pub IsPlaceOf : List ℕ → List Graph → Option ℕ → Type 0
-IsPlaceOf id graphs place = MatchOption place (list_any (λ (g : Graph). same g.spec.dag_id id) graphs ≡ false) (StandsAt id graphs)
+IsPlaceOf id graphs place = MatchOption place (list_any (λ (g : Graph). same g.dag.spec.dag_id id) graphs ≡ false) (StandsAt id graphs)
 
 -- a schedule with these parts
 abbrev pub holding : Bounds → List Graph → ℕ → List Run → Schedule
@@ -33,9 +39,36 @@ pub record IsPlaceFor {X : Type 0} (before : X → X → Bool) (x : X) (xs : Lis
   pub passed : list_any (before x) (take place xs) ≡ false
   pub reached : (y : X) → slice_get xs place ≡ Some y → before x y ≡ true
 
--- the text says this graph
+-- the text says this file
 abbrev pub IsRead : List ℕ → GraphSpec → Type 0
 IsRead text spec = graph_of text ≡ Ok spec
+
+-- the text says this graph, and no cause against it lies in the text, the bounds and the pools
+pub record IsTaken (a : Schedule) (text : List ℕ) (dag : Dag) : Type 0 where
+  pub says : Says text dag
+  pub fits : exceeds a.limits dag.spec ≡ false
+  pub pools : unknown_pool a dag.spec ≡ None
+
+-- the graph of the file
+pub record IsChecked (spec : GraphSpec) (dag : Dag) : Type 0 where
+  pub spec_is : dag.spec ≡ spec
+  pub graph : IsGraphOf spec dag
+
+-- memory ran out, or the file has this fault, and it is the first
+pub record IsFirstFault (spec : GraphSpec) (fault : DagFault) : Type 0 where
+  pub stands : Stands spec.tasks fault
+  pub first : first_fault spec.tasks ≡ Some (without_names fault)
+
+-- the refusal for a fault
+abbrev pub refusal_of : DagFault → Refusal
+refusal_of (DoubleTask i) = refusal.DagFault (DoubleTask i)
+refusal_of (UnknownUpstream i) = refusal.DagFault (UnknownUpstream i)
+refusal_of (DoubleEdge i) = refusal.DagFault (DoubleEdge i)
+refusal_of (Cycle names) = refusal.DagFault (Cycle names)
+refusal_of Memory = refusal.Memory
+
+abbrev pub IsCheckFault : GraphSpec → Refusal → Type 0
+IsCheckFault spec r = (r ≡ refusal.Memory) ⊎ ((fault : DagFault) × (r ≡ refusal.DagFault fault) × IsFirstFault spec fault)
 
 -- memory ran out, or the text has this fault
 abbrev pub IsReadFault : List ℕ → Refusal → Type 0

@@ -1,9 +1,8 @@
 //! A planned change.
-ghost use Rattle.std.specs.Prelude.{◌≡◌};
 
 use crate::answers::Answer;
 use crate::schedules::Schedule;
-use graph_file::GraphSpec;
+use dag_check::Graph as Dag;
 use moment_core::Moment;
 use sched_state::{Run, Text};
 use std::marker::Model;
@@ -14,8 +13,8 @@ use std::snapshot::Snapshot;
 pub enum Effect {
     // Nothing.
     Nothing,
-    // A text is taken in, which says this.
-    Load(Text, GraphSpec),
+    // A text is taken in, which says this graph.
+    Load(Text, Dag),
     // The clock is set, and these are the runs.
     Runs(Moment, Vec<Run>),
 }

@@ -1,7 +1,8 @@
 //! What comes to a schedule, and why it is refused.
 ghost use Rattle.std.specs.Prelude.{◌≡◌, IfOk};
 
-use graph_file::GraphFault;
+use dag_check::DagFault;
+use graph_file::{GraphFault, Name};
 use moment_core::Moment;
 use sched_state::Text;
 use std::alloc::{AllocError, Global};
@@ -28,10 +29,14 @@ impl Event {
 }
 
 /// Why an event is refused. Where several causes stand, the first in this order is answered, and nothing changes.
-#[derive(Clone, Copy, Debug, PartialEq, Eq)]
+#[derive(Debug, Drop)]
 pub enum Refusal {
-    /// The text is no graph file, or has more tasks than the schedule's limit (`TooMany`).
+    /// The text is no graph file, or has more tasks or upstream names than the schedule's limits (`TooMany`).
     GraphFault(GraphFault),
+    /// The file is no graph without cycles (Airflow 2, "DAGs").
+    DagFault(DagFault),
+    /// There is no pool of this name; it is that of the first such task in the file.
+    UnknownPool(Name),
     /// The graph is new, and there are as many graphs as the limit.
     TooManyGraphs,
     /// The graph has another text, and has runs.
@@ -52,5 +57,19 @@ impl From<AllocError> for Refusal {
 
     fn from(_error: AllocError) -> Refusal {
         Refusal::Memory
+    }
+}
+
+impl From<DagFault> for Refusal {
+    ghost use Rattle.std.specs.Prelude.{◌≡◌};
+    ghost use Rattle.sched_core.specs.Inside.{refusal_of};
+
+    ghost from_gives = { λ fault refusal. refusal ≡ refusal_of fault };
+
+    fn from(fault: DagFault) -> Refusal {
+        match fault {
+            DagFault::Memory => Refusal::Memory,
+            fault => Refusal::DagFault(fault),
+        }
     }
 }

@@ -1,5 +1,5 @@
 //! Laws of the steps.
-ghost use Rattle.std.specs.Prelude.{◌≡◌, ℕ, ◌≤◌, ◌||◌, List, length, None, Some, Ok, IsTrue};
+ghost use Rattle.std.specs.Prelude.{◌≡◌, ℕ, ◌≤◌, ◌||◌, ◌++◌, List, length, None, Some, Ok, IsTrue};
 ghost use Rattle.std.specs.List.{list_any};
 ghost use Rattle.graph_file.specs.Graphs.{graph_of};
 ghost use Rattle.graph_file.specs.declared.graph_specs.GraphSpec.{GraphSpec};
@@ -48,4 +48,9 @@ pub fn lists_of_steps_keep_the_schedule()
 pub fn lists_of_steps_add_their_runs()
     ensures { (es : List Event) (a : ScheduleRecord) (id : List ℕ) (date : ℕ) →
         has_run_at (steps es a) id date ≡ (list_any (is_at id date) (named_along es a) || has_run_at a id date) }
+{}
+
+/// A list of events in two parts is the one and then the other.
+pub fn lists_of_steps_go_in_parts()
+    ensures { (es fs : List Event) (a : ScheduleRecord) → steps (es ++ fs) a ≡ steps fs (steps es a) }
 {}

@@ -1,5 +1,5 @@
 //! Looking up graphs and runs.
-ghost use Rattle.std.specs.Prelude.{◌≡◌, ◌&&◌, ℕ, ◌<◌, ◌≤◌, true, false, length, find, count_by, MatchOption, slice_get, Some};
+ghost use Rattle.std.specs.Prelude.{◌≡◌, ◌&&◌, ◌<◌, find, count_by, Some};
 ghost use Rattle.std.specs.List.{list_any};
 ghost use Rattle.std.specs.Option.{option_copied};
 ghost use Rattle.sched_state.specs.Lists.{same};
@@ -11,9 +11,9 @@ use sched_state::{Graph, Phase, Run};
 
 // The graph with this id.
 pub fn graph_named<'a>(graphs: &'a [Graph], id: &Name) -> Option<&'a Graph>
-    ensures { option_copied result ≡ find (λ g. same g.spec.dag_id id.now) graphs.now }
+    ensures { option_copied result ≡ find (λ g. same g.dag.spec.dag_id id.now) graphs.now }
 {
-    graphs.iter().find(|graph| graph.spec.dag_id == *id)
+    graphs.iter().find(|graph| graph.dag.spec().dag_id == *id)
 }
 
 // The place of the graph with this id.
@@ -21,7 +21,7 @@ pub fn place_of(graphs: &[Graph], id: &Name) -> Option<usize>
     ensures { IsPlaceOf id.now graphs.now result }
 {
     for (place, graph) in graphs.iter().enumerate() {
-        if graph.spec.dag_id == *id {
+        if graph.dag.spec().dag_id == *id {
             return Some(place);
         }
     }

@@ -1,5 +1,5 @@
 //! The runs that a tick names.
-ghost use Rattle.std.specs.Prelude.{◌≡◌, ◌++◌, ℕ, IfOk, map, vec_len};
+ghost use Rattle.std.specs.Prelude.{◌≡◌, ℕ, IfOk, map};
 ghost use Rattle.std.specs.List.{flat_map, list_any};
 ghost use Rattle.run_planner.specs.Index.{has_date};
 ghost use Rattle.sched_state.specs.Schedule.{dates_of};
@@ -63,9 +63,10 @@ fn named_of(alloc: Global, graph: &Graph, runs: &[Run], moment: Moment) -> Resul
             more: false,
         });
     }
-    let index = dates_of(alloc, runs, &graph.spec.dag_id)?;
-    let planned = due(alloc, &graph.spec, moment, &index, RUNS_PER_TICK)?;
-    let runs = runs_for(alloc, &graph.spec.dag_id, &planned.intervals)?;
+    let id = &graph.dag.spec().dag_id;
+    let index = dates_of(alloc, runs, id)?;
+    let planned = due(alloc, &graph.dag, moment, &index, RUNS_PER_TICK)?;
+    let runs = runs_for(alloc, id, &planned.intervals)?;
     Ok(Named {
         runs,
         more: planned.more,

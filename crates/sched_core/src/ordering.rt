@@ -1,5 +1,5 @@
 //! The order of graphs and of runs, and insertion at the right place.
-ghost use Rattle.std.specs.Prelude.{◌≡◌, OnOk, ◌<◌, length, vec_len, vec_capacity, IsOk};
+ghost use Rattle.std.specs.Prelude.{◌≡◌, OnOk, ◌<◌};
 ghost use Rattle.sched_state.specs.Lists.{insert_by};
 ghost use Rattle.sched_state.specs.Schedule.{graph_before, run_before};
 ghost use Rattle.sched_core.specs.Inside.{IsPlaceFor};
@@ -23,7 +23,7 @@ fn run_before(run: &Run, other: &Run) -> bool
 fn graph_before(graph: &Graph, other: &Graph) -> bool
     ensures { result ≡ graph_before graph.now other.now }
 {
-    graph.spec.dag_id < other.spec.dag_id
+    graph.dag.spec().dag_id < other.dag.spec().dag_id
 }
 
 // The place of the first run that this one stands before.

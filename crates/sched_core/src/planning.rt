@@ -1,6 +1,5 @@
 //! Planning an event: refused for its first cause, or a change that does exactly its step.
-ghost use Rattle.std.specs.Prelude.{◌≡◌, IfOk, IfErr, OnOk, map, length, nat_lt, MatchResult, None, false};
-ghost use Rattle.graph_file.specs.Graphs.{graph_of};
+ghost use Rattle.std.specs.Prelude.{◌≡◌, IfOk, IfErr, OnOk, map, false};
 ghost use Rattle.sched_state.specs.Changes.{insert_runs, has_runs};
 ghost use Rattle.sched_core.specs.Events.{refused};
 ghost use Rattle.sched_core.specs.Steps.{id_of, no_runs};
@@ -8,7 +7,6 @@ ghost use Rattle.sched_core.specs.Plans.{IsPlanned, IsRefusal};
 ghost use Rattle.sched_core.specs.Changes.{IsKept};
 ghost use Rattle.sched_core.specs.Effects.{applied};
 ghost use Rattle.sched_core.specs.declared.events.Event.TheVariants.{Load, Tick};
-ghost use Rattle.sched_core.specs.Inside.{IsRead, IsReadFault};
 
 use crate::answers::{Answer, RunId};
 use crate::changes::{Change, Effect};
@@ -39,48 +37,8 @@ impl Schedule {
         }
     }
 
-    fn plan_load(&self, alloc: Global, text: &Text) -> Result<Change, Refusal>
-        ensures accepted { IfOk result (IsPlanned self.now.content (Load text.now)) }
-        ensures refused { IfErr result (IsRefusal self.now.content (Load text.now)) }
-    {
-        let spec = read(alloc, text)?;
-        if exceeds(&spec, self.limits.tasks()) {
-            return Err(Refusal::GraphFault(GraphFault::TooMany));
-        }
-        match place_of(&self.graphs, &spec.dag_id) {
-            None => {
-                if self.limits.graphs() as usize <= self.graphs.len() {
-                    return Err(Refusal::TooManyGraphs);
-                }
-                self.taken_in(alloc, text, spec)
-            }
-            Some(place) => {
-                if self.graphs[place].text.is_same(text) {
-                    return Ok(self.quiet_change(alloc, Effect::Nothing));
-                }
-                if has_runs(&self.runs, &spec.dag_id) {
-                    return Err(Refusal::GraphDiffers);
-                }
-                self.taken_in(alloc, text, spec)
-            }
-        }
-    }
-
-    // The text is taken in, against which there is no cause.
-    fn taken_in(&self, alloc: Global, text: &Text, spec: GraphSpec) -> Result<Change, Refusal>
-        requires kept { IsKept self.now.content }
-        requires said { graph_of text.now ≡ Ok spec }
-        requires quiet { has_runs self.now.content spec.dag_id ≡ false }
-        requires accepted { refused self.now.content (Load text.now) ≡ None }
-        ensures accepted { IfOk result (IsPlanned self.now.content (Load text.now)) }
-        ensures refused { IfErr result (IsRefusal self.now.content (Load text.now)) }
-    {
-        let text = text.copy(alloc)?;
-        Ok(self.quiet_change(alloc, Effect::Load(text, spec)))
-    }
-
     // A change that makes no run.
-    fn quiet_change(&self, alloc: Global, effect: Effect) -> Change
+    pub(crate) fn quiet_change(&self, alloc: Global, effect: Effect) -> Change
         requires { IsKept (applied effect self.now.content) }
         ensures { result ≡ record { before = self.now.content; after = applied effect self.now.content; answer = no_runs } }
     {
@@ -118,24 +76,6 @@ impl Schedule {
             },
         })
     }
-}
-
-// The graph of a text, or why there is none.
-fn read(alloc: Global, text: &Text) -> Result<GraphSpec, Refusal>
-    ensures { MatchResult result (IsRead text.now) (IsReadFault text.now) }
-{
-    match read_graph(alloc, text.as_str()) {
-        Ok(spec) => Ok(spec),
-        Err(GraphFault::Memory) => Err(Refusal::Memory),
-        Err(fault) => Err(Refusal::GraphFault(fault)),
-    }
-}
-
-// Whether the graph has more tasks than this.
-fn exceeds(spec: &GraphSpec, tasks: u32) -> bool
-    ensures { result ≡ nat_lt tasks (length spec.now.tasks) }
-{
-    (tasks as usize) < spec.tasks.as_slice().len()
 }
 
 // Which runs these are.

@@ -2,9 +2,9 @@
 //!
 //! A change is planned against the schedule as it is, room is reserved for it, and it is committed: only the first two can fail,
 //! and neither changes what the schedule holds.
-ghost use Rattle.std.specs.Prelude.{◌≡◌, ◌≤◌, [], length, IfOk, IfErr, OnOk, true, vec_capacity};
-ghost use Rattle.sched_state.specs.Limits.{Bounds};
-ghost use Rattle.sched_state.specs.Schedule.{empty_schedule, graph_before};
+ghost use Rattle.std.specs.Prelude.{◌≡◌, ◌≤◌, length, IfOk, IfErr, OnOk, true, vec_capacity};
+ghost use Rattle.std.specs.Option.{option_copied};
+ghost use Rattle.sched_state.specs.Schedule.{empty_schedule, graph_before, graph_named};
 ghost use Rattle.sched_state.specs.Changes.{with_graph};
 ghost use Rattle.sched_state.specs.Sound.{rises};
 ghost use Rattle.sched_core.specs.Changes.{HasRoom, IsKept};
@@ -13,9 +13,10 @@ ghost use Rattle.sched_core.specs.Plans.{IsStepped, IsRefusal};
 use crate::answers::Answer;
 use crate::changes::{Change, Effect};
 use crate::events::{Event, Refusal};
-use crate::lookups::place_of;
+use crate::lookups::{graph_named, place_of};
 use crate::ordering::place_for_graph;
-use graph_file::GraphSpec;
+use dag_check::Graph as Dag;
+use graph_file::Name;
 use moment_core::Moment;
 use sched_state::{Graph, Limits, Run, Text};
 use std::alloc::{AllocError, Global};
@@ -74,6 +75,13 @@ impl Schedule {
         self.runs.as_slice()
     }
 
+    /// The graph with this id, with its text and its pause.
+    pub fn graph_of(&self, id: &Name) -> Option<&Graph>
+        ensures { option_copied result ≡ graph_named self.now.content id.now }
+    {
+        graph_named(self.graphs.as_slice(), id)
+    }
+
     /// Makes room for a change, so that it can be committed. What the schedule holds stays.
     pub fn reserve(&mut self, change: &Change) -> Result<(), AllocError>
         ensures content { self.new.content ≡ self.old.content }
@@ -99,7 +107,7 @@ impl Schedule {
         } = change;
         match effect {
             Effect::Nothing => {}
-            Effect::Load(text, spec) => take_in(&mut self.graphs, text, spec),
+            Effect::Load(text, dag) => take_in(&mut self.graphs, text, dag),
             Effect::Runs(moment, runs) => {
                 self.clock = moment;
                 self.runs = runs;
@@ -120,21 +128,21 @@ impl Schedule {
 }
 
 // Takes a text in that says this: a known graph gets it in the place of its own, a new one is put at its place.
-fn take_in(graphs: &mut Vec<Graph>, text: Text, spec: GraphSpec)
+fn take_in(graphs: &mut Vec<Graph>, text: Text, dag: Dag)
     requires order { rises graph_before graphs.old.items ≡ true }
-    requires room { length (with_graph text spec graphs.old.items) ≤ vec_capacity graphs.old }
-    ensures { graphs.new.items ≡ with_graph text spec graphs.old.items }
+    requires room { length (with_graph text dag graphs.old.items) ≤ vec_capacity graphs.old }
+    ensures { graphs.new.items ≡ with_graph text dag graphs.old.items }
 {
-    match place_of(graphs, &spec.dag_id) {
+    match place_of(graphs, &dag.spec().dag_id) {
         Some(place) => {
             let graph = &mut graphs[place];
             graph.text = text;
-            graph.spec = spec;
+            graph.dag = dag;
         }
         None => {
             let graph = Graph {
                 text,
-                spec,
+                dag,
                 paused: false,
             };
             let place = place_for_graph(graphs, &graph);

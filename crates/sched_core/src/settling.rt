@@ -1,7 +1,6 @@
 //! Settling: queued runs start, as many as may be running.
-ghost use Rattle.std.specs.Prelude.{◌≡◌, ℕ, ◌<◌, length, slice_get, Some};
+ghost use Rattle.std.specs.Prelude.{◌≡◌, ℕ, ◌<◌, Some};
 ghost use Rattle.sched_state.specs.Limits.{Bounds};
-ghost use Rattle.sched_state.specs.declared.runs.Run.{Run as RunRecord};
 ghost use Rattle.sched_state.specs.Settle.{can_start, settle};
 ghost use Rattle.sched_core.specs.Inside.{holding};
 
@@ -17,7 +16,7 @@ fn can_start(graphs: &[Graph], runs: &[Run], run: &Run) -> bool
     }
     match graph_named(graphs, &run.graph) {
         Some(graph) if !graph.paused => {
-            active_runs(runs, &run.graph) < graph.spec.max_active_runs.get() as usize
+            active_runs(runs, &run.graph) < graph.dag.spec().max_active_runs.get() as usize
         }
         _ => false,
     }

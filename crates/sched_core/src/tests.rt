@@ -179,20 +179,26 @@ fn a_refusal_changes_nothing(rt: HostRuntime) -> Result<(), Fail> {
         )
     );
     let unknown = file(alloc, "one", "@daily", "2024-01-01", "color = 1")?;
-    assert_eq!(rt;
-        refusal(&rt, alloc, &mut schedule, &unknown),
-        Refusal::GraphFault(GraphFault::UnknownKey(Place::Top))
+    assert!(rt;
+        matches!(
+            refusal(&rt, alloc, &mut schedule, &unknown),
+            Refusal::GraphFault(GraphFault::UnknownKey(Place::Top))
+        )
     );
     let load = file(alloc, "one", "@daily", "2024-01-01", "")?;
     assert_eq!(rt; made(&rt, alloc, &mut schedule, &load), (0, false));
     let second = file(alloc, "two", "@daily", "2024-01-01", "")?;
-    assert_eq!(rt;
-        refusal(&rt, alloc, &mut schedule, &second),
-        Refusal::TooManyGraphs
+    assert!(rt;
+        matches!(
+            refusal(&rt, alloc, &mut schedule, &second),
+            Refusal::TooManyGraphs
+        )
     );
-    assert_eq!(rt;
-        refusal(&rt, alloc, &mut schedule, &tick(&rt, "2024-01-04")),
-        Refusal::RecordFull
+    assert!(rt;
+        matches!(
+            refusal(&rt, alloc, &mut schedule, &tick(&rt, "2024-01-04")),
+            Refusal::RecordFull
+        )
     );
     assert_eq!(rt; schedule.now(), Moment::at(0));
     assert_eq!(rt;
@@ -200,14 +206,16 @@ fn a_refusal_changes_nothing(rt: HostRuntime) -> Result<(), Fail> {
         (2, false)
     );
     let back = tick(&rt, "2024-01-02");
-    assert_eq!(rt;
-        refusal(&rt, alloc, &mut schedule, &back),
-        Refusal::ClockBack(moment(&rt, "2024-01-03"))
-    );
+    let Refusal::ClockBack(seen) = refusal(&rt, alloc, &mut schedule, &back) else {
+        return Err(Fail::from("another refusal"));
+    };
+    assert_eq!(rt; seen, moment(&rt, "2024-01-03"));
     let other = file(alloc, "one", "@hourly", "2024-01-01", "")?;
-    assert_eq!(rt;
-        refusal(&rt, alloc, &mut schedule, &other),
-        Refusal::GraphDiffers
+    assert!(rt;
+        matches!(
+            refusal(&rt, alloc, &mut schedule, &other),
+            Refusal::GraphDiffers
+        )
     );
     assert_eq!(rt; made(&rt, alloc, &mut schedule, &load), (0, false));
     assert_eq!(rt; schedule.runs().len(), 2);

@@ -71,55 +71,55 @@ other_graph : (id other : List ℕ) (date : ℕ) → same other id ≡ false →
 other_graph id other date apart [] = refl
 other_graph id other date apart (i ∷ is) = ap (λ b. (b && i.start == date) || list_any (is_at id date) (map (scheduled_run other) is)) apart ∙ other_graph id other date apart is
 
-later_graphs : (runs : List Run) (t : ℕ) (g : Graph) (date : ℕ) (gs : List Graph) → list_all (graph_before g) gs ≡ true → list_any (is_at g.spec.dag_id date) (flat_map (named_of runs t) gs) ≡ false
+later_graphs : (runs : List Run) (t : ℕ) (g : Graph) (date : ℕ) (gs : List Graph) → list_all (graph_before g) gs ≡ true → list_any (is_at g.dag.spec.dag_id date) (flat_map (named_of runs t) gs) ≡ false
 later_graphs runs t g date [] e = refl
 later_graphs runs t g date (h ∷ hs) e =
-    let apart : same h.spec.dag_id g.spec.dag_id ≡ false = flip_same g.spec.dag_id h.spec.dag_id (before_apart g h (and_left (graph_before g h) _ e)) in
-    any_append (is_at g.spec.dag_id date) (named_of runs t h) (flat_map (named_of runs t) hs)
-    ∙ (ap (λ b. b || list_any (is_at g.spec.dag_id date) (flat_map (named_of runs t) hs)) (other_graph g.spec.dag_id h.spec.dag_id date apart (take runs_per_tick (wanted_by runs t h)))
+    let apart : same h.dag.spec.dag_id g.dag.spec.dag_id ≡ false = flip_same g.dag.spec.dag_id h.dag.spec.dag_id (before_apart g h (and_left (graph_before g h) _ e)) in
+    any_append (is_at g.dag.spec.dag_id date) (named_of runs t h) (flat_map (named_of runs t) hs)
+    ∙ (ap (λ b. b || list_any (is_at g.dag.spec.dag_id date) (flat_map (named_of runs t) hs)) (other_graph g.dag.spec.dag_id h.dag.spec.dag_id date apart (take runs_per_tick (wanted_by runs t h)))
     ∙ later_graphs runs t g date hs (and_right (graph_before g h) _ e))
 
 all_of_graph : (p : Run → Bool) (id : List ℕ) → ((i : Interval) → p (scheduled_run id i) ≡ true) → (is : List Interval) → list_all p (map (scheduled_run id) is) ≡ true
 all_of_graph p id h [] = refl
 all_of_graph p id h (i ∷ is) = both (p (scheduled_run id i)) _ (h i) (all_of_graph p id h is)
 
-wanted_free : (a : Schedule) (t : ℕ) (g : Graph) → list_all (λ (i : Interval). not (has_run_at a g.spec.dag_id i.start)) (wanted_by a.runs t g) ≡ true
-wanted_free a t g = elim g.paused as (λ b. list_all (λ (i : Interval). not (has_run_at a g.spec.dag_id i.start)) (elim b as (λ c. List Interval) [
+wanted_free : (a : Schedule) (t : ℕ) (g : Graph) → list_all (λ (i : Interval). not (has_run_at a g.dag.spec.dag_id i.start)) (wanted_by a.runs t g) ≡ true
+wanted_free a t g = elim g.paused as (λ b. list_all (λ (i : Interval). not (has_run_at a g.dag.spec.dag_id i.start)) (elim b as (λ c. List Interval) [
   | true ↦ []
-  | false ↦ wanted_intervals g.spec t (dates_of a.runs g.spec.dag_id)
+  | false ↦ wanted_intervals g.dag.spec t (dates_of a.runs g.dag.spec.dag_id)
 ]) ≡ true) [
   | true ↦ refl
-  | false ↦ all_weaker (λ (i : Interval). not (has_date (dates_of a.runs g.spec.dag_id) i.start)) (λ (i : Interval). not (has_run_at a g.spec.dag_id i.start))
-      (λ i e. ap not (sym (filtered_date g.spec.dag_id i.start a.runs)) ∙ e) _ (all_filtered _ (considered g.spec.catchup (due_intervals g.spec.schedule g.spec.start_date g.spec.end_date t)))
+  | false ↦ all_weaker (λ (i : Interval). not (has_date (dates_of a.runs g.dag.spec.dag_id) i.start)) (λ (i : Interval). not (has_run_at a g.dag.spec.dag_id i.start))
+      (λ i e. ap not (sym (filtered_date g.dag.spec.dag_id i.start a.runs)) ∙ e) _ (all_filtered _ (considered g.dag.spec.catchup (due_intervals g.dag.spec.schedule g.dag.spec.start_date g.dag.spec.end_date t)))
 ]
 
 wanted_rises : (runs : List Run) (t : ℕ) (g : Graph) → starts_rise (wanted_by runs t g) ≡ true
 wanted_rises runs t g = elim g.paused as (λ b. starts_rise (elim b as (λ c. List Interval) [
   | true ↦ []
-  | false ↦ wanted_intervals g.spec t (dates_of runs g.spec.dag_id)
+  | false ↦ wanted_intervals g.dag.spec t (dates_of runs g.dag.spec.dag_id)
 ]) ≡ true) [
   | true ↦ refl
-  | false ↦ wanted_rise g.spec t (dates_of runs g.spec.dag_id)
+  | false ↦ wanted_rise g.dag.spec t (dates_of runs g.dag.spec.dag_id)
 ]
 
-new_from : (a : Schedule) (t : ℕ) (gs : List Graph) → rises graph_before gs ≡ true → list_all (λ (g : Graph). is_some (graph_named a g.spec.dag_id)) gs ≡ true → are_new a (flat_map (named_of a.runs t) gs) ≡ true
+new_from : (a : Schedule) (t : ℕ) (gs : List Graph) → rises graph_before gs ≡ true → list_all (λ (g : Graph). is_some (graph_named a g.dag.spec.dag_id)) gs ≡ true → are_new a (flat_map (named_of a.runs t) gs) ≡ true
 new_from a t [] order known = refl
 new_from a t (g ∷ gs) order known =
     let is : List Interval = take runs_per_tick (wanted_by a.runs t g) in
-    new_append a (map (scheduled_run g.spec.dag_id) is) (flat_map (named_of a.runs t) gs)
-    (one_graph a g.spec.dag_id is (and_left (is_some (graph_named a g.spec.dag_id)) _ known) (all_take _ runs_per_tick (wanted_by a.runs t g) (wanted_free a t g)) (take_starts runs_per_tick (wanted_by a.runs t g) (wanted_rises a.runs t g)))
-    (new_from a t gs (and_right (list_all (graph_before g) gs) _ order) (and_right (is_some (graph_named a g.spec.dag_id)) _ known))
-    (all_of_graph (λ (n : Run). not (list_any (is_at n.graph n.logical) (flat_map (named_of a.runs t) gs))) g.spec.dag_id
+    new_append a (map (scheduled_run g.dag.spec.dag_id) is) (flat_map (named_of a.runs t) gs)
+    (one_graph a g.dag.spec.dag_id is (and_left (is_some (graph_named a g.dag.spec.dag_id)) _ known) (all_take _ runs_per_tick (wanted_by a.runs t g) (wanted_free a t g)) (take_starts runs_per_tick (wanted_by a.runs t g) (wanted_rises a.runs t g)))
+    (new_from a t gs (and_right (list_all (graph_before g) gs) _ order) (and_right (is_some (graph_named a g.dag.spec.dag_id)) _ known))
+    (all_of_graph (λ (n : Run). not (list_any (is_at n.graph n.logical) (flat_map (named_of a.runs t) gs))) g.dag.spec.dag_id
     (λ i. not_is _ (later_graphs a.runs t g i.start gs (and_left (list_all (graph_before g) gs) _ order))) is)
 
 -- each graph is there
-there_from : (all gs : List Graph) → ((id : List ℕ) → list_any (λ (h : Graph). same h.spec.dag_id id) gs ≡ true → list_any (λ (h : Graph). same h.spec.dag_id id) all ≡ true)
-    → list_all (λ (g : Graph). is_some (find (λ (h : Graph). same h.spec.dag_id g.spec.dag_id) all)) gs ≡ true
+there_from : (all gs : List Graph) → ((id : List ℕ) → list_any (λ (h : Graph). same h.dag.spec.dag_id id) gs ≡ true → list_any (λ (h : Graph). same h.dag.spec.dag_id id) all ≡ true)
+    → list_all (λ (g : Graph). is_some (find (λ (h : Graph). same h.dag.spec.dag_id g.dag.spec.dag_id) all)) gs ≡ true
 there_from all [] inside = refl
 there_from all (g ∷ gs) inside =
-    both (is_some (find (λ (h : Graph). same h.spec.dag_id g.spec.dag_id) all)) _
-    (find_any (λ (h : Graph). same h.spec.dag_id g.spec.dag_id) all ∙ inside g.spec.dag_id (ap (λ b. b || list_any (λ (h : Graph). same h.spec.dag_id g.spec.dag_id) gs) (same_itself g.spec.dag_id)))
-    (there_from all gs (λ id e. inside id (or_right_true (same g.spec.dag_id id) _ e)))
+    both (is_some (find (λ (h : Graph). same h.dag.spec.dag_id g.dag.spec.dag_id) all)) _
+    (find_any (λ (h : Graph). same h.dag.spec.dag_id g.dag.spec.dag_id) all ∙ inside g.dag.spec.dag_id (ap (λ b. b || list_any (λ (h : Graph). same h.dag.spec.dag_id g.dag.spec.dag_id) gs) (same_itself g.dag.spec.dag_id)))
+    (there_from all gs (λ id e. inside id (or_right_true (same g.dag.spec.dag_id id) _ e)))
 
 pub named_new : (a : Schedule) (t : ℕ) → IsSound a → are_new a (named_runs a t) ≡ true
 named_new a t s = new_from a t a.graphs s.graphs_by_id (there_from a.graphs a.graphs (λ id e. e))

@@ -1,5 +1,5 @@
 -- Each part of a step keeps a schedule sound.
-use Rattle.std.proofs.Common.{◌≡◌, refl, sym, ap, subst, ◌∙◌, ℕ, zero, suc, ◌+◌, List, [], ◌∷◌, Bool, true, false, cond, not, ◌&&◌, ◌||◌, ◌==◌, map, find, Option, Some, None, option_map, is_some, slice_get, true≢false, Ok}
+use Rattle.std.proofs.Common.{◌≡◌, refl, sym, ap, subst, ◌∙◌, ℕ, zero, suc, ◌+◌, List, [], ◌∷◌, Bool, true, false, cond, not, ◌&&◌, ◌||◌, ◌==◌, map, find, Option, Some, None, option_map, is_some, slice_get, true≢false}
 use Rattle.std.specs.List.{list_any, list_all}
 use Rattle.std.specs.Cmp.{IsTotalOrder}
 use Rattle.std.specs.Ordering.{nat_cmp, is_eq, ordering_then}
@@ -8,15 +8,14 @@ use Rattle.std.proofs.lemmas.Cmp.{nat_cmp_total, nat_list_cmp_total}
 use Rattle.std.proofs.lemmas.Map.Text.{is_eq-slice_cmp}
 use Rattle.std.proofs.lemmas.Slice.Eq.{bytes_eq-Decides}
 use Rattle.std.proofs.lemmas.Bool.{eq-eqb}
-use Rattle.graph_file.specs.declared.graph_specs.GraphSpec.{GraphSpec}
+use Rattle.dag_check.specs.Graphs.{Dag}
 use Rattle.sched_state.specs.Lists.{same, name_cmp, is_less, insert_by, change_from, first_change, repeat}
 use Rattle.sched_state.specs.Schedule.{Schedule, graph_named, graph_before, run_before}
 use Rattle.sched_state.specs.declared.graphs.Graph.{Graph}
 use Rattle.sched_state.specs.declared.runs.Run.{Run}
 use Rattle.sched_state.specs.Changes.{reloaded, new_graph, load_graph, insert_runs, add_runs}
 use Rattle.sched_state.specs.Settle.{start_run, move, settle, moves_left}
-use Rattle.graph_file.specs.Graphs.{graph_of}
-use Rattle.sched_state.specs.Sound.{IsSound, AllSay, rises, is_at, has_run_at, are_new}
+use Rattle.sched_state.specs.Sound.{IsSound, Says, AllSay, rises, is_at, has_run_at, are_new}
 use Rattle.sched_state.proofs.RepeatLemmas.{repeat_done, repeat_more}
 use Rattle.sched_state.proofs.SettleLemmas.{when_some, map_some}
 use Rattle.sched_state.proofs.OrderLemmas.{and_left, and_right, not_false, then_total, on_total, nat_tie, tie_then, eq_flips, all_map, any_map, rises_map, map_keeps, less_no_tie, all_insert, any_insert, insert_rises}
@@ -26,7 +25,7 @@ abbrev id_before : List ℕ → List ℕ → Bool
 id_before x y = is_less (name_cmp x y)
 
 abbrev id_of : Graph → List ℕ
-id_of g = g.spec.dag_id
+id_of g = g.dag.spec.dag_id
 
 graph_cmp : Graph → Graph → Ordering
 graph_cmp g h = name_cmp (id_of g) (id_of h)
@@ -80,24 +79,24 @@ find_any p (x ∷ xs) = elim (p x) as (λ b. is_some (cond b (Some x) (find p xs
 ]
 
 -- ---- loading
-chosen_id : (text : List ℕ) (spec : GraphSpec) (g : Graph) (b : Bool) → same (id_of g) spec.dag_id ≡ b → id_of (cond b (record { text = text; spec = spec; paused = g.paused }) g) ≡ id_of g
-chosen_id text spec g true e = sym (same_is _ _ e)
-chosen_id text spec g false e = refl
+chosen_id : (text : List ℕ) (dag : Dag) (g : Graph) (b : Bool) → same (id_of g) dag.spec.dag_id ≡ b → id_of (cond b (record { text = text; dag = dag; paused = g.paused }) g) ≡ id_of g
+chosen_id text dag g true e = sym (same_is _ _ e)
+chosen_id text dag g false e = refl
 
 -- the graphs' ids stay
-pub reloaded_id : (text : List ℕ) (spec : GraphSpec) (g : Graph) → id_of (reloaded text spec g) ≡ id_of g
-reloaded_id text spec g = chosen_id text spec g (same (id_of g) spec.dag_id) refl
+pub reloaded_id : (text : List ℕ) (dag : Dag) (g : Graph) → id_of (reloaded text dag g) ≡ id_of g
+reloaded_id text dag g = chosen_id text dag g (same (id_of g) dag.spec.dag_id) refl
 
-chosen_says : (text : List ℕ) (spec : GraphSpec) (g : Graph) (b : Bool) → graph_of text ≡ Ok spec → graph_of g.text ≡ Ok g.spec
-    → (let h : Graph = cond b (record { text = text; spec = spec; paused = g.paused }) g in graph_of h.text ≡ Ok h.spec)
-chosen_says text spec g true new old = new
-chosen_says text spec g false new old = old
+chosen_says : (text : List ℕ) (dag : Dag) (g : Graph) (b : Bool) → Says text dag → Says g.text g.dag
+    → (let h : Graph = cond b (record { text = text; dag = dag; paused = g.paused }) g in Says h.text h.dag)
+chosen_says text dag g true new old = new
+chosen_says text dag g false new old = old
 
-reloaded_say : (text : List ℕ) (spec : GraphSpec) → graph_of text ≡ Ok spec → (gs : List Graph) → AllSay gs → AllSay (map (reloaded text spec) gs)
-reloaded_say text spec new [] said = tt
-reloaded_say text spec new (g ∷ gs) said = (chosen_says text spec g (same (id_of g) spec.dag_id) new said.0, reloaded_say text spec new gs said.1)
+reloaded_say : (text : List ℕ) (dag : Dag) → Says text dag → (gs : List Graph) → AllSay gs → AllSay (map (reloaded text dag) gs)
+reloaded_say text dag new [] said = tt
+reloaded_say text dag new (g ∷ gs) said = (chosen_says text dag g (same (id_of g) dag.spec.dag_id) new said.0, reloaded_say text dag new gs said.1)
 
-inserted_say : (g : Graph) → graph_of g.text ≡ Ok g.spec → (gs : List Graph) → AllSay gs → AllSay (insert_by graph_before g gs)
+inserted_say : (g : Graph) → Says g.text g.dag → (gs : List Graph) → AllSay gs → AllSay (insert_by graph_before g gs)
 inserted_say g new [] said = (new, tt)
 inserted_say g new (h ∷ hs) said = elim (graph_before g h) as (λ b. AllSay (elim b [ true ↦ g ∷ h ∷ hs | false ↦ h ∷ insert_by graph_before g hs ])) [
   | true ↦ (new, said)
@@ -106,43 +105,43 @@ inserted_say g new (h ∷ hs) said = elim (graph_before g h) as (λ b. AllSay (e
 
 -- where the graphs' ids stay each is found that was
 pub known_after : (f : Graph → Graph) → ((g : Graph) → id_of (f g) ≡ id_of g) → (gs : List Graph) (id : List ℕ)
-    → is_some (find (λ (g : Graph). same g.spec.dag_id id) (map f gs)) ≡ is_some (find (λ (g : Graph). same g.spec.dag_id id) gs)
+    → is_some (find (λ (g : Graph). same g.dag.spec.dag_id id) (map f gs)) ≡ is_some (find (λ (g : Graph). same g.dag.spec.dag_id id) gs)
 known_after f keeps gs id =
-    find_any (λ (g : Graph). same g.spec.dag_id id) (map f gs)
-    ∙ any_map (λ (g : Graph). same g.spec.dag_id id) (λ (g : Graph). same g.spec.dag_id id) f (λ g. ap (λ n. same n id) (keeps g)) gs
-    ∙ sym (find_any (λ (g : Graph). same g.spec.dag_id id) gs)
+    find_any (λ (g : Graph). same g.dag.spec.dag_id id) (map f gs)
+    ∙ any_map (λ (g : Graph). same g.dag.spec.dag_id id) (λ (g : Graph). same g.dag.spec.dag_id id) f (λ g. ap (λ n. same n id) (keeps g)) gs
+    ∙ sym (find_any (λ (g : Graph). same g.dag.spec.dag_id id) gs)
 
-replaced_sound : (text : List ℕ) (spec : GraphSpec) (a : Schedule) → graph_of text ≡ Ok spec → IsSound a → IsSound (record a { graphs = map (reloaded text spec) a.graphs })
-replaced_sound text spec a new s = record {
-  said = reloaded_say text spec new a.graphs s.said;
+replaced_sound : (text : List ℕ) (dag : Dag) (a : Schedule) → Says text dag → IsSound a → IsSound (record a { graphs = map (reloaded text dag) a.graphs })
+replaced_sound text dag a new s = record {
+  said = reloaded_say text dag new a.graphs s.said;
   graphs_by_id =
-      sym (rises_map id_before id_of (map (reloaded text spec) a.graphs))
-      ∙ ap (rises id_before) (map_keeps id_of (reloaded text spec) (reloaded_id text spec) a.graphs)
+      sym (rises_map id_before id_of (map (reloaded text dag) a.graphs))
+      ∙ ap (rises id_before) (map_keeps id_of (reloaded text dag) (reloaded_id text dag) a.graphs)
       ∙ rises_map id_before id_of a.graphs ∙ s.graphs_by_id;
   runs_by_key = s.runs_by_key;
-  known = all_weaker _ _ (λ r e. known_after (reloaded text spec) (reloaded_id text spec) a.graphs r.graph ∙ e) a.runs s.known;
+  known = all_weaker _ _ (λ r e. known_after (reloaded text dag) (reloaded_id text dag) a.graphs r.graph ∙ e) a.runs s.known;
 }
 
-none_ties : (g : Graph) (gs : List Graph) → is_some (find (λ (h : Graph). same h.spec.dag_id g.spec.dag_id) gs) ≡ false → list_any (λ h. is_eq (graph_cmp g h)) gs ≡ false
+none_ties : (g : Graph) (gs : List Graph) → is_some (find (λ (h : Graph). same h.dag.spec.dag_id g.dag.spec.dag_id) gs) ≡ false → list_any (λ h. is_eq (graph_cmp g h)) gs ≡ false
 unfolding graph_cmp
 none_ties g gs e =
-    any_same (λ (h : Graph). same h.spec.dag_id g.spec.dag_id) (λ (h : Graph). is_eq (name_cmp (id_of g) (id_of h)))
+    any_same (λ (h : Graph). same h.dag.spec.dag_id g.dag.spec.dag_id) (λ (h : Graph). is_eq (name_cmp (id_of g) (id_of h)))
     (λ h. tie_flips nat_list_cmp_total (id_of g) (id_of h) ∙ is_eq-slice_cmp (id_of h) (id_of g)) gs
-    ∙ sym (find_any (λ (h : Graph). same h.spec.dag_id g.spec.dag_id) gs) ∙ e
+    ∙ sym (find_any (λ (h : Graph). same h.dag.spec.dag_id g.dag.spec.dag_id) gs) ∙ e
 
 pub or_right_true : (b c : Bool) → c ≡ true → (b || c) ≡ true
 or_right_true true c e = refl
 or_right_true false c e = e
 
 -- each graph that is found is found beside a further one
-pub known_beside : (g : Graph) (gs : List Graph) (id : List ℕ) → is_some (find (λ (h : Graph). same h.spec.dag_id id) gs) ≡ true
-    → is_some (find (λ (h : Graph). same h.spec.dag_id id) (insert_by graph_before g gs)) ≡ true
+pub known_beside : (g : Graph) (gs : List Graph) (id : List ℕ) → is_some (find (λ (h : Graph). same h.dag.spec.dag_id id) gs) ≡ true
+    → is_some (find (λ (h : Graph). same h.dag.spec.dag_id id) (insert_by graph_before g gs)) ≡ true
 known_beside g gs id e =
-    find_any (λ (h : Graph). same h.spec.dag_id id) (insert_by graph_before g gs)
-    ∙ any_insert graph_before (λ (h : Graph). same h.spec.dag_id id) g gs
-    ∙ or_right_true (same g.spec.dag_id id) _ (sym (find_any (λ (h : Graph). same h.spec.dag_id id) gs) ∙ e)
+    find_any (λ (h : Graph). same h.dag.spec.dag_id id) (insert_by graph_before g gs)
+    ∙ any_insert graph_before (λ (h : Graph). same h.dag.spec.dag_id id) g gs
+    ∙ or_right_true (same g.dag.spec.dag_id id) _ (sym (find_any (λ (h : Graph). same h.dag.spec.dag_id id) gs) ∙ e)
 
-inserted_sound : (g : Graph) (a : Schedule) → graph_of g.text ≡ Ok g.spec → is_some (graph_named a g.spec.dag_id) ≡ false → IsSound a → IsSound (record a { graphs = insert_by graph_before g a.graphs })
+inserted_sound : (g : Graph) (a : Schedule) → Says g.text g.dag → is_some (graph_named a g.dag.spec.dag_id) ≡ false → IsSound a → IsSound (record a { graphs = insert_by graph_before g a.graphs })
 unfolding graph_cmp
 inserted_sound g a new none s = record {
   said = inserted_say g new a.graphs s.said;
@@ -151,16 +150,16 @@ inserted_sound g a new none s = record {
   known = all_weaker _ _ (λ r e. known_beside g a.graphs r.graph e) a.runs s.known;
 }
 
-pub load_sound : (text : List ℕ) (spec : GraphSpec) (a : Schedule) → graph_of text ≡ Ok spec → IsSound a → IsSound (load_graph text spec a)
-load_sound text spec a new s =
-    elim (graph_named a spec.dag_id) as (λ o. graph_named a spec.dag_id ≡ o → IsSound (record a {
+pub load_sound : (text : List ℕ) (dag : Dag) (a : Schedule) → Says text dag → IsSound a → IsSound (load_graph text dag a)
+load_sound text dag a new s =
+    elim (graph_named a dag.spec.dag_id) as (λ o. graph_named a dag.spec.dag_id ≡ o → IsSound (record a {
       graphs = elim o as (λ p. List Graph) [
-        | Some g ↦ map (reloaded text spec) a.graphs
-        | None ↦ insert_by graph_before (new_graph text spec) a.graphs
+        | Some g ↦ map (reloaded text dag) a.graphs
+        | None ↦ insert_by graph_before (new_graph text dag) a.graphs
       ];
     })) [
-      | Some g ↦ λ e. replaced_sound text spec a new s
-      | None ↦ λ e. inserted_sound (new_graph text spec) a new (ap is_some e) s
+      | Some g ↦ λ e. replaced_sound text dag a new s
+      | None ↦ λ e. inserted_sound (new_graph text dag) a new (ap is_some e) s
     ] refl
 
 -- ---- adding runs

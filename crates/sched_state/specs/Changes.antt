@@ -1,30 +1,30 @@
 -- The own changes of events, and the runs that are added.
 use Rattle.std.specs.Prelude.{ℕ, Bool, false, List, [], ◌∷◌, map, find, Some, None, if◌then◌else◌}
 use Rattle.std.specs.List.{list_any}
-use Rattle.graph_file.specs.declared.graph_specs.GraphSpec.{GraphSpec}
+use Rattle.dag_check.specs.Graphs.{Dag}
 use Rattle.sched_state.specs.Lists.{same, insert_by}
 use Rattle.sched_state.specs.Schedule.{Schedule, graph_before, run_before}
 use Rattle.sched_state.specs.declared.graphs.Graph.{Graph}
 use Rattle.sched_state.specs.declared.runs.Run.{Run}
 
 -- a graph of this id takes another text in; its pause stays
-abbrev pub reloaded : List ℕ → GraphSpec → Graph → Graph
-reloaded text spec g =
-    if same g.spec.dag_id spec.dag_id then record { text = text; spec = spec; paused = g.paused } else g
+abbrev pub reloaded : List ℕ → Dag → Graph → Graph
+reloaded text dag g =
+    if same g.dag.spec.dag_id dag.spec.dag_id then record { text = text; dag = dag; paused = g.paused } else g
 
 -- a new graph is not paused
-abbrev pub new_graph : List ℕ → GraphSpec → Graph
-new_graph text spec = record { text = text; spec = spec; paused = false }
+abbrev pub new_graph : List ℕ → Dag → Graph
+new_graph text dag = record { text = text; dag = dag; paused = false }
 
--- the graphs after a text is loaded that says spec: a known one takes it in, a new one stands at its place
-abbrev pub with_graph : List ℕ → GraphSpec → List Graph → List Graph
-with_graph text spec gs = elim (find (λ (g : Graph). same g.spec.dag_id spec.dag_id) gs) [
-  | Some g ↦ map (reloaded text spec) gs
-  | None ↦ insert_by graph_before (new_graph text spec) gs
+-- the graphs after a text is loaded that says this graph: a known one takes it in, a new one stands at its place
+abbrev pub with_graph : List ℕ → Dag → List Graph → List Graph
+with_graph text dag gs = elim (find (λ (g : Graph). same g.dag.spec.dag_id dag.spec.dag_id) gs) [
+  | Some g ↦ map (reloaded text dag) gs
+  | None ↦ insert_by graph_before (new_graph text dag) gs
 ]
 
-abbrev pub load_graph : List ℕ → GraphSpec → Schedule → Schedule
-load_graph text spec a = record a { graphs = with_graph text spec a.graphs }
+abbrev pub load_graph : List ℕ → Dag → Schedule → Schedule
+load_graph text dag a = record a { graphs = with_graph text dag a.graphs }
 
 -- the clock is set
 abbrev pub set_now : ℕ → Schedule → Schedule

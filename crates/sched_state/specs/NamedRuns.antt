@@ -21,12 +21,12 @@ scheduled_run id i = record { graph = id; logical = i.start; interval = i; kind 
 abbrev pub wanted_by : List Run → ℕ → Graph → List Interval
 wanted_by runs t g = elim g.paused [
   | true ↦ []
-  | false ↦ wanted_intervals g.spec t (dates_of runs g.spec.dag_id)
+  | false ↦ wanted_intervals g.dag.spec t (dates_of runs g.dag.spec.dag_id)
 ]
 
 -- the runs of one graph that a tick at t names
 abbrev pub named_of : List Run → ℕ → Graph → List Run
-named_of runs t g = map (scheduled_run g.spec.dag_id) (take runs_per_tick (wanted_by runs t g))
+named_of runs t g = map (scheduled_run g.dag.spec.dag_id) (take runs_per_tick (wanted_by runs t g))
 
 -- the runs that a tick at t names, by graph and date
 abbrev pub named_runs : Schedule → ℕ → List Run

@@ -2,6 +2,7 @@
 use Rattle.std.specs.Prelude.{◌≡◌, ℕ, Bool, true, not, ◌==◌, ◌&&◌, List, [], ◌∷◌, IsTrue, is_some, Ok}
 use Rattle.std.specs.List.{list_any, list_all}
 use Rattle.graph_file.specs.Graphs.{graph_of}
+use Rattle.dag_check.specs.Graphs.{Dag, IsGraphOf}
 use Rattle.sched_state.specs.Lists.{same}
 use Rattle.sched_state.specs.Schedule.{Schedule, graph_named, graph_before, run_before}
 use Rattle.sched_state.specs.declared.graphs.Graph.{Graph}
@@ -12,10 +13,15 @@ abbrev pub rises : {X : Type 0} → (X → X → Bool) → List X → Bool
 rises before [] = true
 rises before (x ∷ xs) = list_all (before x) xs && rises before xs
 
+-- the graph is the one of the file that the text says
+pub record Says (text : List ℕ) (dag : Dag) : Type 0 where
+  pub read : graph_of text ≡ Ok dag.spec
+  pub checked : IsGraphOf dag.spec dag
+
 -- each graph is what its text says
 abbrev pub AllSay : List Graph → Type 0
 AllSay [] = Unit {0}
-AllSay (g ∷ gs) = (graph_of g.text ≡ Ok g.spec) × AllSay gs
+AllSay (g ∷ gs) = Says g.text g.dag × AllSay gs
 
 -- graphs and runs stand in order, each key once; each graph is what its text says, and each run is of a graph that is there
 pub record IsSound (a : Schedule) : Type 0 where

@@ -91,6 +91,13 @@ impl Limits {
         self.runs
     }
 
+    /// The most upstream names of one graph's tasks in all.
+    pub fn edges(self) -> u32
+        ensures { result ≡ self.edges }
+    {
+        self.edges
+    }
+
     /// The most tasks of one graph.
     pub fn tasks(self) -> u32
         ensures { result ≡ self.tasks }

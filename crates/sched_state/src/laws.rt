@@ -1,15 +1,14 @@
 //! Laws of the definitions.
-ghost use Rattle.std.specs.Prelude.{◌≡◌, ℕ, ◌≤◌, ◌||◌, List, None, Some, Ok, IsTrue, false, slice_get};
-ghost use Rattle.graph_file.specs.Graphs.{graph_of};
+ghost use Rattle.std.specs.Prelude.{◌≡◌, ℕ, ◌≤◌, ◌||◌, List, None, Some, IsTrue, false, slice_get};
 ghost use Rattle.std.specs.List.{list_any};
-ghost use Rattle.graph_file.specs.declared.graph_specs.GraphSpec.{GraphSpec};
+ghost use Rattle.dag_check.specs.Graphs.{Dag};
 ghost use Rattle.sched_state.specs.Lists.{same, repeat};
 ghost use Rattle.sched_state.specs.Schedule.{Schedule, graph_named};
 ghost use Rattle.sched_state.specs.declared.graphs.Graph.{Graph};
 ghost use Rattle.sched_state.specs.declared.runs.Run.{Run};
 ghost use Rattle.sched_state.specs.Changes.{load_graph, set_now, add_runs, has_runs};
 ghost use Rattle.sched_state.specs.NamedRuns.{named_runs};
-ghost use Rattle.sched_state.specs.Sound.{IsSound, is_at, has_run_at, are_new};
+ghost use Rattle.sched_state.specs.Sound.{IsSound, Says, is_at, has_run_at, are_new};
 ghost use Rattle.sched_state.specs.Settle.{move, moves_left, settle, Settles};
 
 /// Settling ends in a schedule in which no move is possible, it gets there by first moves alone, and it is the only one so
@@ -29,7 +28,7 @@ pub fn settling_goes_by_moves()
 
 /// Each part of a step keeps a sound schedule sound, where the runs that it adds are new.
 pub fn parts_of_a_step_keep_soundness()
-    ensures loaded { (text : List ℕ) (spec : GraphSpec) (a : Schedule) → graph_of text ≡ Ok spec → IsSound a → IsSound (load_graph text spec a) }
+    ensures loaded { (text : List ℕ) (dag : Dag) (a : Schedule) → Says text dag → IsSound a → IsSound (load_graph text dag a) }
     ensures clock { (t : ℕ) (a : Schedule) → IsSound a → IsSound (set_now t a) }
     ensures added { (ns : List Run) (a : Schedule) → IsTrue (are_new a ns) → IsSound a → IsSound (add_runs ns a) }
     ensures settled { (a : Schedule) → IsSound a → IsSound (settle a) }
@@ -50,10 +49,10 @@ pub fn runs_are_those_added()
 
 /// A text that takes no run's graph enables no move, and the text that a graph has already changes nothing.
 pub fn loading_is_quiet()
-    ensures still { (text : List ℕ) (spec : GraphSpec) (a : Schedule) → has_runs a spec.dag_id ≡ false → move a ≡ None
-        → move (load_graph text spec a) ≡ None }
-    ensures again { (text : List ℕ) (spec : GraphSpec) (a : Schedule) (g : Graph) → graph_of text ≡ Ok spec → IsSound a → graph_named a spec.dag_id ≡ Some g
-        → IsTrue (same g.text text) → load_graph text spec a ≡ a }
+    ensures still { (text : List ℕ) (dag : Dag) (a : Schedule) → has_runs a dag.spec.dag_id ≡ false → move a ≡ None
+        → move (load_graph text dag a) ≡ None }
+    ensures again { (text : List ℕ) (dag : Dag) (a : Schedule) (g : Graph) → Says text dag → IsSound a → graph_named a dag.spec.dag_id ≡ Some g
+        → IsTrue (same g.text text) → load_graph text dag a ≡ a }
 {}
 
 /// Of a sound schedule: the runs that a tick names are of graphs that are there, and no two runs have one graph and date.

@@ -1,23 +1,22 @@
 -- What comes of one command, and how it is answered.
-use Rattle.std.proofs.Common.{◌≡◌, ℕ, List, Option, None, Result, Ok, Err, IfOk, refl, sym, ap, subst, inl, inr}
+use Rattle.std.proofs.Common.{◌≡◌, ℕ, List, Option, Result, Ok, Err, IfOk, refl, sym, ap, subst, inl, inr}
 use Rattle.std.specs.Result.{IsErrAnd}
 use Rattle.std.specs.Io.KnownBytes.{Appends}
 use Rattle.sched_state.specs.Schedule.{Schedule}
 use Rattle.sched_core.specs.Plans.{IsStepped, IsRefusal}
 use Rattle.sched_core.specs.declared.answers.Answer.{Answer}
 use Rattle.sched_core.specs.declared.events.Event.{Event}
-use Rattle.sched_core.specs.declared.events.Event.TheVariants.{Load}
 use Rattle.sched_core.specs.declared.events.Refusal.{Refusal}
+use Rattle.sched_core.specs.declared.events.Refusal.TheVariants as refusal
 use Rattle.script_commands.specs.Commands.{Request, IsGiven}
 use Rattle.script_commands.specs.declared.commands.Command.TheVariants.{Step, ListRuns}
 use Rattle.script_commands.specs.declared.commands.CommandFault.{CommandFault}
-use Rattle.script_commands.specs.declared.commands.CommandFault.TheVariants.{Memory}
 use Rattle.answer_lines.specs.Answers.{answer_text}
 use Rattle.answer_lines.specs.Faults.{fault_text}
 use Rattle.answer_lines.specs.Refusals.{refusal_text}
 use Rattle.answer_lines.specs.Runs.{runs_text}
 use Rattle.sched_state.specs.declared.runs.Run.{Run}
-use Rattle.script_runner.specs.Outcomes.{Outcome, IsOutcome, outcome, event_outcome, refused_for, refusal_status, fault_status}
+use Rattle.script_runner.specs.Outcomes.{Outcome, IsOutcome, accepted, refused_for, refusal_status, fault_status}
 use Rattle.script_runner.specs.Runs.{IsAnswered}
 
 -- nothing is said of an error's value
@@ -35,24 +34,17 @@ pub record Comes (r : Request) (a b : Schedule) (shown : List ℕ) (status : ℕ
 
 pub comes-accepted : (e : Event) (a b : Schedule) (given : Answer) → IsStepped a e b given → Comes (Ok (Step e)) a b (answer_text given) 0
 comes-accepted e a b given s = record {
-  outcome = event_outcome None e a;
-  is = inl (sym (ap (λ (c : Option Refusal). event_outcome c e a) s.accepted));
+  outcome = accepted e a;
+  is = inl (s.accepted, refl);
   schedule = s.after;
   shows = ap answer_text s.answer;
   has_status = refl;
 }
 
 pub comes-refused : (e : Event) (a b : Schedule) (r : Refusal) → IsRefusal a e r → b ≡ a → Comes (Ok (Step e)) a b (refusal_text r) (refusal_status r)
-comes-refused e a b r (inl wanting) same = record {
+comes-refused e a b r why same = record {
   outcome = refused_for r a;
-  is = inr ((e, refl), ap (λ (x : Refusal). refused_for x a) wanting);
-  schedule = same;
-  shows = refl;
-  has_status = refl;
-}
-comes-refused e a b r (inr cause) same = record {
-  outcome = refused_for r a;
-  is = inl (sym (ap (λ (c : Option Refusal). event_outcome c e a) cause));
+  is = inr (r, why, refl);
   schedule = same;
   shows = refl;
   has_status = refl;
@@ -72,16 +64,12 @@ answered r a b shown n old new result c h = record {
 pub outcome-given : (wanted given : Request) (a : Schedule) (o : Outcome) → IsGiven wanted given → IsOutcome given a o → IsOutcome wanted a o
 outcome-given wanted given a o (inl same) h = subst (λ (r : Request). IsOutcome r a o) same h
 outcome-given wanted given a o (inr (memory, (text, load))) h =
-    starved wanted a o text load (subst (λ (r : Request). IsOutcome r a o) memory h)
-  where
-    starved : (wanted : Request) (a : Schedule) (o : Outcome) (text : List ℕ) → wanted ≡ Ok (Step (Load text)) → IsOutcome (Err Memory) a o → IsOutcome wanted a o
-    starved wanted a o text load (inl same) = inr ((Load text, load), same)
-    starved wanted a o text load (inr ((e, step), wanting)) = cc
+    subst (λ (r : Request). IsOutcome r a o) (sym load) (inr (refusal.Memory, inl refl, subst (λ (r : Request). IsOutcome r a o) memory h))
 
 pub comes-listed : (r : Request) (a : Schedule) (runs : List Run) → r ≡ Ok ListRuns → runs ≡ a.runs → Comes r a a (runs_text runs) 0
 comes-listed r a runs e same = record {
-  outcome = outcome (Ok ListRuns) a;
-  is = inl (ap (λ (x : Request). outcome x a) (sym e));
+  outcome = record { schedule = a; shown = runs_text a.runs; status = 0 };
+  is = subst (λ (x : Request). IsOutcome x a (record { schedule = a; shown = runs_text a.runs; status = 0 })) (sym e) refl;
   schedule = refl;
   shows = ap runs_text same;
   has_status = refl;
@@ -89,8 +77,8 @@ comes-listed r a runs e same = record {
 
 pub comes-fault : (r : Request) (a : Schedule) (fault : CommandFault) (n : ℕ) → r ≡ Err fault → n ≡ fault_status fault → Comes r a a (fault_text fault) n
 comes-fault r a fault n e has = record {
-  outcome = outcome (Err fault) a;
-  is = inl (ap (λ (x : Request). outcome x a) (sym e));
+  outcome = record { schedule = a; shown = fault_text fault; status = fault_status fault };
+  is = subst (λ (x : Request). IsOutcome x a (record { schedule = a; shown = fault_text fault; status = fault_status fault })) (sym e) refl;
   schedule = refl;
   shows = refl;
   has_status = has;

@@ -1,15 +1,15 @@
 -- What scripts do.
-use Rattle.std.proofs.Common.{◌≡◌, ◌∙◌, max, List, [], ◌∷◌, ◌++◌, Option, Some, None, Ok, Err, refl, sym, ap, arith, inl, inr}
+use Rattle.std.proofs.Common.{◌≡◌, ◌∙◌, max, List, [], ◌∷◌, ◌++◌, Ok, Err, refl, sym, ap, arith, inl, inr}
 use Rattle.sched_state.specs.Schedule.{Schedule}
-use Rattle.sched_core.specs.Events.{refused}
-use Rattle.sched_core.specs.Steps.{step, steps}
+use Rattle.sched_core.specs.Steps.{steps}
 use Rattle.sched_core.specs.declared.events.Event.{Event}
 use Rattle.sched_core.specs.declared.events.Refusal.{Refusal}
 use Rattle.sched_core.specs.declared.events.Refusal.TheVariants.{Memory}
+use Rattle.sched_core.proofs.StepLemmas.{steps_parts}
 use Rattle.script_commands.specs.Commands.{Request}
 use Rattle.script_commands.specs.declared.commands.Command.TheVariants.{Step, ListRuns}
 use Rattle.script_commands.specs.declared.commands.CommandFault.{CommandFault}
-use Rattle.script_runner.specs.Outcomes.{Outcome, IsOutcome, event_outcome, refused_for, refusal_status}
+use Rattle.script_runner.specs.Outcomes.{Outcome, IsOutcome, IsEventOutcome, refused_for, refusal_status}
 use Rattle.script_runner.specs.Runs.{IsRun, IsPart, StepsEvents, event_of, events_of, then_outcome}
 use Rattle.script_runner.specs.Runs.IsPart.{none, kept, left}
 
@@ -35,43 +35,31 @@ some-status _ h = cc
 not_zero : (r : Refusal) (a : Schedule) (o : Outcome) → o ≡ refused_for r a → o.status ≡ 0 → ⊥
 not_zero r a o h z = some-status r (sym (ap (λ (x : Outcome). x.status) h) ∙ z)
 
-one-event : (e : Event) (a : Schedule) (c : Option Refusal) (o : Outcome) → o ≡ event_outcome c e a → StepsOne (Ok (Step e)) a o
-one-event e a None o h = record {
+one-step : (e : Event) (a : Schedule) (o : Outcome) → IsEventOutcome e a o → StepsOne (Ok (Step e)) a o
+one-step e a o (inl (free, same)) = record {
   events = e ∷ [];
   part = λ rest more p. kept e rest more p;
-  schedule = ap (λ (x : Outcome). x.schedule) h;
+  schedule = ap (λ (x : Outcome). x.schedule) same;
   all = λ z. refl;
 }
-one-event e a (Some r) o h = one-refused e a r o h (not_zero r a o h)
-
-one-step : (e : Event) (a : Schedule) (o : Outcome) → IsOutcome (Ok (Step e)) a o → StepsOne (Ok (Step e)) a o
-one-step e a o h = elim h [
-  | inl same ↦ one-event e a (refused a e) o same
-  | inr wanting ↦ one-refused e a Memory o wanting.1 (not_zero Memory a o wanting.1)
-]
+one-step e a o (inr (r, why, same)) = one-refused e a r o same (not_zero r a o same)
 
 one-list : (a : Schedule) (o : Outcome) → IsOutcome (Ok ListRuns) a o → StepsOne (Ok ListRuns) a o
-one-list a o (inl same) = record { events = []; part = λ rest more p. p; schedule = ap (λ (x : Outcome). x.schedule) same; all = λ z. refl }
-one-list a o (inr ((e, step), wanting)) = cc
+one-list a o same = record { events = []; part = λ rest more p. p; schedule = ap (λ (x : Outcome). x.schedule) same; all = λ z. refl }
 
 one-fault : (fault : CommandFault) (a : Schedule) (o : Outcome) → IsOutcome (Err fault) a o → StepsOne (Err fault) a o
-one-fault fault a o (inl same) = record { events = []; part = λ rest more p. p; schedule = ap (λ (x : Outcome). x.schedule) same; all = λ z. refl }
-one-fault fault a o (inr ((e, step), wanting)) = cc
+one-fault fault a o same = record { events = []; part = λ rest more p. p; schedule = ap (λ (x : Outcome). x.schedule) same; all = λ z. refl }
 
 one : (r : Request) (a : Schedule) (o : Outcome) → IsOutcome r a o → StepsOne r a o
 one (Ok (Step e)) a o h = one-step e a o h
 one (Ok ListRuns) a o h = one-list a o h
 one (Err fault) a o h = one-fault fault a o h
 
-steps-append : (es fs : List Event) (a : Schedule) → steps (es ++ fs) a ≡ steps fs (steps es a)
-steps-append [] fs a = refl
-steps-append (e ∷ es) fs a = steps-append es fs (step e a)
-
 joined : (r : Request) (rs : List Request) (a : Schedule) (first rest o : Outcome) → StepsOne r a first → StepsEvents rs first.schedule rest → o ≡ then_outcome first rest → StepsEvents (r ∷ rs) a o
 joined r rs a first rest o f s e = record {
   events = f.events ++ s.events;
   part = f.part s.events (events_of rs) s.part;
-  schedule = ap (λ (x : Outcome). x.schedule) e ∙ (s.schedule ∙ (ap (steps s.events) f.schedule ∙ sym (steps-append f.events s.events a)));
+  schedule = ap (λ (x : Outcome). x.schedule) e ∙ (s.schedule ∙ (ap (steps s.events) f.schedule ∙ sym (steps_parts f.events s.events a)));
   all = λ z.
       let greatest : o.status ≡ max first.status rest.status = ap (λ (x : Outcome). x.status) e in
       let here : first.status ≡ 0 = omega arith in

@@ -1,8 +1,9 @@
 -- What comes of a command.
-use Rattle.std.specs.Prelude.{◌≡◌, ◌⊎◌, ℕ, List, Option, Some, None, Ok, Err}
+use Rattle.std.specs.Prelude.{◌≡◌, ◌⊎◌, ℕ, List, None, Ok, Err}
 use Rattle.sched_state.specs.Schedule.{Schedule}
 use Rattle.sched_core.specs.Events.{refused}
 use Rattle.sched_core.specs.Steps.{step, answer_to}
+use Rattle.sched_core.specs.Plans.{IsRefusal}
 use Rattle.sched_core.specs.declared.events.Event.{Event}
 use Rattle.sched_core.specs.declared.events.Refusal.{Refusal}
 use Rattle.sched_core.specs.declared.events.Refusal.TheVariants as refusal
@@ -32,22 +33,22 @@ fault_status (Usage fault) = 2
 fault_status (Source fault) = 4
 fault_status Memory = 4
 
--- an event that is refused for a cause changes nothing
+-- an event that is accepted is stepped, and answered
+abbrev pub accepted : Event → Schedule → Outcome
+accepted e a = record { schedule = step e a; shown = answer_text (answer_to e a); status = 0 }
+
+-- one that is refused changes nothing
 abbrev pub refused_for : Refusal → Schedule → Outcome
 refused_for r a = record { schedule = a; shown = refusal_text r; status = refusal_status r }
 
--- an event: its step and its answer, unless there is a cause against it
-abbrev pub event_outcome : Option Refusal → Event → Schedule → Outcome
-event_outcome None e a = record { schedule = step e a; shown = answer_text (answer_to e a); status = 0 }
-event_outcome (Some r) e a = refused_for r a
+-- what comes of an event: it is accepted where there is no cause against it, and else refused for the first one. Want of memory
+-- can come in the place of both
+abbrev pub IsEventOutcome : Event → Schedule → Outcome → Type 0
+IsEventOutcome e a o =
+    ((refused a e ≡ None) × (o ≡ accepted e a)) ⊎ ((r : Refusal) × IsRefusal a e r × (o ≡ refused_for r a))
 
 -- what comes of what a script has in a command's place
-abbrev pub outcome : Request → Schedule → Outcome
-outcome (Ok (Step e)) a = event_outcome (refused a e) e a
-outcome (Ok ListRuns) a = record { schedule = a; shown = runs_text a.runs; status = 0 }
-outcome (Err fault) a = record { schedule = a; shown = fault_text fault; status = fault_status fault }
-
--- want of memory can come in the place of what comes of an event, and of nothing else; it changes nothing
 abbrev pub IsOutcome : Request → Schedule → Outcome → Type 0
-IsOutcome request a o =
-    (o ≡ outcome request a) ⊎ (((e : Event) × (request ≡ Ok (Step e))) × (o ≡ refused_for refusal.Memory a))
+IsOutcome (Ok (Step e)) a o = IsEventOutcome e a o
+IsOutcome (Ok ListRuns) a o = o ≡ record { schedule = a; shown = runs_text a.runs; status = 0 }
+IsOutcome (Err fault) a o = o ≡ record { schedule = a; shown = fault_text fault; status = fault_status fault }

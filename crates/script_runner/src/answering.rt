@@ -1,5 +1,5 @@
 //! The answer to one command.
-ghost use Rattle.std.specs.Prelude.{◌≡◌, Ok, IfOk};
+ghost use Rattle.std.specs.Prelude.{◌≡◌, Ok};
 ghost use Rattle.script_commands.specs.declared.commands.Command.TheVariants.{Step};
 ghost use Rattle.script_runner.specs.Outcomes as spec;
 ghost use Rattle.script_runner.specs.Runs.{IsAnswered};
@@ -49,7 +49,7 @@ fn step<W: Write>(
         }
         Err(refusal) => {
             let status = refusal_status(&refusal);
-            put_refusal(output, refusal)?;
+            put_refusal(output, &refusal)?;
             Ok(status)
         }
     }

@@ -10,6 +10,8 @@
 #![tactic(auto)]
 
 mod answering;
+#[cfg(test)]
+mod graph_tests;
 mod laws;
 mod running;
 mod serial;

@@ -1,5 +1,4 @@
 //! Running a script.
-ghost use Rattle.std.specs.Prelude.{◌≡◌, IfOk};
 ghost use Rattle.script_runner.specs.Runs.{IsScriptRun};
 
 use crate::answering::answer;

@@ -13,7 +13,7 @@ fn graph(alloc: Global, schedule: &str, start: &str, more: &str) -> Result<Strin
 }
 
 // Asserts what a script writes, and its status; gives the number of runs.
-fn assert_script(
+pub fn assert_script(
     rt: &impl Abort,
     alloc: Global,
     script: &[u8],

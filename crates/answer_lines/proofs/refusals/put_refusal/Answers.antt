@@ -1,6 +1,7 @@
 use Rattle.std.proofs.Common.{◌++◌, append_assoc, codes}
 use Rattle.std.proofs.lemmas.Result.{on_ok_weaker}
 use Rattle.answer_lines.specs.Faults.{graph_fault_text}
+use Rattle.answer_lines.specs.DagFaults.{dag_fault_text}
 use Rattle.answer_lines.proofs.AppendLemmas.{appends_both}
 use Rattle.answer_lines.proofs.refusals.put_refusal.Goals as goal
 
@@ -18,7 +19,17 @@ pub returns-in-GraphDiffers : goal.returns-in-GraphDiffers
 returns-in-GraphDiffers g c = rw c.in-GraphDiffers.is c.write_all-in-GraphDiffers.ensures.bytes
 
 pub returns-in-ClockBack : goal.returns-in-ClockBack
-returns-in-ClockBack g c = rw c.in-ClockBack.is (simp append_assoc (let h = simp append_assoc at c.writeln.ensures.bytes in h))
+returns-in-ClockBack g c = rw c.in-ClockBack.is (simp append_assoc (let h = simp append_assoc at c.writeln-in-ClockBack.ensures.bytes in h))
 
 pub returns-in-RecordFull : goal.returns-in-RecordFull
 returns-in-RecordFull g c = rw c.in-RecordFull.is c.write_all-in-RecordFull.ensures.bytes
+
+pub returns-in_ok-put_dag_fault-in-DagFault : goal.returns-in_ok-put_dag_fault-in-DagFault
+returns-in_ok-put_dag_fault-in-DagFault g c =
+    rw c.in-DagFault.is
+    (on_ok_weaker c.write_all-in-DagFault-2.result (λ h. appends_both _ _ _ (codes "refused 2 DagFault " ++ dag_fault_text c.in-DagFault.fault) (codes "\n")
+    (appends_both _ _ _ (codes "refused 2 DagFault ") (dag_fault_text c.in-DagFault.fault) c.in_ok-write_all-in-DagFault.ensures.bytes c.in_ok-put_dag_fault-in-DagFault.ensures) h)
+    c.write_all-in-DagFault-2.ensures.bytes)
+
+pub returns-in-UnknownPool : goal.returns-in-UnknownPool
+returns-in-UnknownPool g c = rw c.in-UnknownPool.is (rw c.as_str-pool.ensures.text at c.writeln.ensures.bytes)

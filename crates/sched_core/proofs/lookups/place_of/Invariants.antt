@@ -4,4 +4,4 @@ use Rattle.sched_state.specs.Lists.{same}
 use Rattle.sched_core.proofs.lookups.place_of.Given as goal
 
 abbrev pub invariant-loop-place : goal.invariant-loop-place
-invariant-loop-place l = list_any (λ g. same g.spec.dag_id l.id) (take l.place l.graphs) ≡ false
+invariant-loop-place l = list_any (λ g. same g.dag.spec.dag_id l.id) (take l.place l.graphs) ≡ false

@@ -9,13 +9,13 @@ use Rattle.sched_core.proofs.schedules.Schedule.taken_in.Goals as goal
 
 pub quiet_change-requires : goal.quiet_change-requires
 quiet_change-requires c =
-    subst (λ (t : List ℕ). IsKept (load_graph t c.args.spec c.args.self.now.content)) (sym c.in_ok-text.ensures)
-    (loaded_kept c.args.self.now.content c.args.text.now c.args.spec c.requires.kept c.requires.said c.requires.quiet)
+    subst (λ (t : List ℕ). IsKept (load_graph t c.args.dag c.args.self.now.content)) (sym c.in_ok-text.ensures)
+    (loaded_kept c.args.self.now.content c.args.text.now c.args.dag c.requires.kept c.requires.taken.says c.requires.quiet)
 
 pub returns-clause-accepted : goal.returns-clause-accepted
 returns-clause-accepted c =
     let a = c.args.self.now.content in
-    let is : c.quiet_change.result ≡ record { before = a; after = load_graph c.args.text.now c.args.spec a; answer = no_runs } =
-    c.quiet_change.ensures ∙ ap (λ (t : List ℕ). let p : Planned = record { before = a; after = load_graph t c.args.spec a; answer = no_runs } in p) c.in_ok-text.ensures in
+    let is : c.quiet_change.result ≡ record { before = a; after = load_graph c.args.text.now c.args.dag a; answer = no_runs } =
+    c.quiet_change.ensures ∙ ap (λ (t : List ℕ). let p : Planned = record { before = a; after = load_graph t c.args.dag a; answer = no_runs } in p) c.in_ok-text.ensures in
     subst (λ (p : Planned). IsPlanned a (Load c.args.text.now) p) (sym is)
-    (planned_load a c.args.text.now c.args.spec c.requires.kept c.requires.said c.requires.quiet c.requires.accepted)
+    (planned_load a c.args.text.now c.args.dag c.requires.kept c.requires.taken.says c.requires.quiet c.requires.accepted)

@@ -2,7 +2,7 @@ use Rattle.std.proofs.Common.{◌≡◌, false, List, subst, IfOk}
 use Rattle.cron_timetable.specs.declared.timetables.Interval.{Interval}
 use Rattle.run_planner.specs.Due.{IsFirst}
 use Rattle.run_planner.proofs.LatestLemmas.{wanted_latest, wanted_never}
-use Rattle.run_planner.proofs.planning.due.Goals as goal
+use Rattle.run_planner.proofs.planning.due_of.Goals as goal
 
 pub returns-else-graph : goal.returns-else-graph
 returns-else-graph c =

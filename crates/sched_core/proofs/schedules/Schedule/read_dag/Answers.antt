@@ -1,0 +1,31 @@
+use Rattle.std.proofs.Common.{◌≡◌, ◌∙◌, sym, ap, subst, inr, List, ℕ, false, Some}
+use Rattle.sched_state.specs.Schedule.{Schedule}
+use Rattle.sched_core.specs.Changes.{Held}
+use Rattle.sched_core.specs.Events.{exceeds, refused}
+use Rattle.sched_core.specs.Inside.{IsTaken}
+use Rattle.sched_core.specs.declared.events.Event.TheVariants.{Load}
+use Rattle.sched_core.specs.declared.events.Refusal.TheVariants as refusal
+use Rattle.sched_core.proofs.LoadingLemmas.{taken_is, pool_is}
+use Rattle.sched_core.proofs.schedules.Schedule.read_dag.Goals as goal
+
+pub returns-in-None-clause-taken : goal.returns-in-None-clause-taken
+returns-in-None-clause-taken c =
+    let a : Schedule = record { limits = c.self.inside.limits; graphs = c.self.inside.graphs.items; now = c.self.inside.clock; runs = c.self.inside.runs.items } in
+    let fits : exceeds a.limits c.in_ok-spec.spec ≡ false = sym c.if-exceeds.ensures in
+    subst (λ (h : Held). IsTaken h.content c.args.text.now c.in_ok-dag.dag) c.self.view_is
+    (taken_is a c.args.text.now c.in_ok-spec.spec c.in_ok-dag.dag c.as_slice.result.now c.in_ok-spec.ensures fits c.in_ok-dag.ensures
+    (c.as_slice.ensures.tasks ∙ ap (λ s. s.tasks) c.spec.ensures.spec) c.in-None.ensures)
+
+pub returns-in_ok-copy-in-Some-clause-refused : goal.returns-in_ok-copy-in-Some-clause-refused
+returns-in_ok-copy-in-Some-clause-refused c =
+    let a : Schedule = record { limits = c.self.inside.limits; graphs = c.self.inside.graphs.items; now = c.self.inside.clock; runs = c.self.inside.runs.items } in
+    let fits : exceeds a.limits c.in_ok-spec.spec ≡ false = sym c.if-exceeds.ensures in
+    let first : refused a (Load c.args.text.now) ≡ Some (refusal.UnknownPool c.in-Some.pool.now) =
+    pool_is a c.args.text.now c.in_ok-spec.spec c.in_ok-dag.dag c.as_slice.result.now c.in-Some.pool.now c.in_ok-spec.ensures fits c.in_ok-dag.ensures
+    (c.as_slice.ensures.tasks ∙ ap (λ s. s.tasks) c.spec.ensures.spec) c.in-Some.ensures in
+    inr (record {
+      first =
+          subst (λ (h : Held). refused h.content (Load c.args.text.now) ≡ Some (refusal.UnknownPool c.in_ok-copy-in-Some.field-0)) c.self.view_is
+          (first ∙ ap (λ (n : List ℕ). Some (refusal.UnknownPool n)) (sym c.in_ok-copy-in-Some.ensures));
+      shown = tt;
+    })

@@ -1,0 +1,131 @@
+//! Planning a load: the text is read and checked, then the bounds and the pools are asked, then the graph that is there.
+ghost use Rattle.std.specs.Prelude.{◌≡◌, ◌≤◌, IfOk, IfErr, MatchResult, None, false, not, find, option_map};
+ghost use Rattle.std.specs.Option.{option_copied};
+ghost use Rattle.graph_file.specs.TaskLists.{upstream_limit};
+ghost use Rattle.sched_state.specs.Lists.{same};
+ghost use Rattle.sched_state.specs.Schedule.{default_pool};
+ghost use Rattle.sched_state.specs.Changes.{has_runs};
+ghost use Rattle.sched_core.specs.Events.{refused, exceeds, edge_count};
+ghost use Rattle.sched_core.specs.Plans.{IsPlanned, IsRefusal};
+ghost use Rattle.sched_core.specs.Changes.{IsKept};
+ghost use Rattle.sched_core.specs.declared.events.Event.TheVariants.{Load};
+ghost use Rattle.sched_core.specs.Inside.{IsRead, IsReadFault, IsChecked, IsCheckFault, IsTaken};
+
+use crate::changes::{Change, Effect};
+use crate::events::Refusal;
+use crate::lookups::{has_runs, place_of};
+use crate::schedules::Schedule;
+use dag_check::{Graph as Dag, check};
+use graph_file::{GraphFault, GraphSpec, Name, TaskSpec, read_graph};
+use sched_state::{Limits, Text};
+use std::alloc::Global;
+
+// The pool that is always there (Airflow 2, "Pools").
+const DEFAULT_POOL: &str = "default_pool";
+
+impl Schedule {
+    // What loading the text would do, or why it is refused.
+    pub(crate) fn plan_load(&self, alloc: Global, text: &Text) -> Result<Change, Refusal>
+        ensures accepted { IfOk result (IsPlanned self.now.content (Load text.now)) }
+        ensures refused { IfErr result (IsRefusal self.now.content (Load text.now)) }
+    {
+        let dag = self.read_dag(alloc, text)?;
+        let id = &dag.spec().dag_id;
+        match place_of(&self.graphs, id) {
+            None => {
+                if self.limits.graphs() as usize <= self.graphs.len() {
+                    return Err(Refusal::TooManyGraphs);
+                }
+                self.taken_in(alloc, text, dag)
+            }
+            Some(place) => {
+                if self.graphs[place].text.is_same(text) {
+                    return Ok(self.quiet_change(alloc, Effect::Nothing));
+                }
+                if has_runs(&self.runs, id) {
+                    return Err(Refusal::GraphDiffers);
+                }
+                self.taken_in(alloc, text, dag)
+            }
+        }
+    }
+
+    // The graph that the text says, or the first cause against it that does not lie in the graphs that are there.
+    fn read_dag(&self, alloc: Global, text: &Text) -> Result<Dag, Refusal>
+        ensures taken { IfOk result (IsTaken self.now.content text.now) }
+        ensures refused { IfErr result (IsRefusal self.now.content (Load text.now)) }
+    {
+        let spec = read(alloc, text)?;
+        if exceeds(&spec, self.limits) {
+            return Err(Refusal::GraphFault(GraphFault::TooMany));
+        }
+        let dag = checked(alloc, spec)?;
+        match unknown_pool(dag.spec().tasks.as_slice()) {
+            None => Ok(dag),
+            Some(pool) => Err(Refusal::UnknownPool(pool.copy(alloc)?)),
+        }
+    }
+
+    // The text is taken in, against which there is no cause.
+    fn taken_in(&self, alloc: Global, text: &Text, dag: Dag) -> Result<Change, Refusal>
+        requires kept { IsKept self.now.content }
+        requires taken { IsTaken self.now.content text.now dag }
+        requires quiet { has_runs self.now.content dag.spec.dag_id ≡ false }
+        requires accepted { refused self.now.content (Load text.now) ≡ None }
+        ensures accepted { IfOk result (IsPlanned self.now.content (Load text.now)) }
+        ensures refused { IfErr result (IsRefusal self.now.content (Load text.now)) }
+    {
+        let text = text.copy(alloc)?;
+        Ok(self.quiet_change(alloc, Effect::Load(text, dag)))
+    }
+}
+
+// The file that a text says, or why it says none.
+fn read(alloc: Global, text: &Text) -> Result<GraphSpec, Refusal>
+    ensures { MatchResult result (IsRead text.now) (IsReadFault text.now) }
+{
+    match read_graph(alloc, text.as_str()) {
+        Ok(spec) => Ok(spec),
+        Err(GraphFault::Memory) => Err(Refusal::Memory),
+        Err(fault) => Err(Refusal::GraphFault(fault)),
+    }
+}
+
+// The graph of a file, or why it has none.
+fn checked(alloc: Global, spec: GraphSpec) -> Result<Dag, Refusal>
+    ensures { MatchResult result (IsChecked spec) (IsCheckFault spec) }
+{
+    match check(alloc, spec) {
+        Ok(dag) => Ok(dag),
+        Err((_, fault)) => Err(Refusal::from(fault)),
+    }
+}
+
+// Whether the graph has more tasks or more upstream names than the bounds allow.
+fn exceeds(spec: &GraphSpec, limits: Limits) -> bool
+    ensures { result ≡ exceeds limits spec.now }
+{
+    let tasks = spec.tasks.as_slice();
+    (limits.tasks() as usize) < tasks.len() || (limits.edges() as usize) < edge_count(tasks)
+}
+
+// How many upstream names the tasks have in all.
+fn edge_count(tasks: &[TaskSpec]) -> usize
+    requires { edge_count tasks.now ≤ upstream_limit }
+    ensures { result ≡ edge_count tasks.now }
+{
+    tasks
+        .iter()
+        .map(|task| task.upstream.as_slice().len())
+        .sum()
+}
+
+// The pool of the first task whose pool is not there.
+fn unknown_pool(tasks: &[TaskSpec]) -> Option<&Name>
+    ensures { option_copied result ≡ option_map (λ t. t.pool) (find (λ t. not (same t.pool default_pool)) tasks.now) }
+{
+    tasks
+        .iter()
+        .find(|task| task.pool.as_str() != DEFAULT_POOL)
+        .map(|task| &task.pool)
+}
