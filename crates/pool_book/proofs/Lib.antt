@@ -1,0 +1,4 @@
+pub mod OrderLemmas
+pub mod PoolLemmas
+pub mod RankLemmas
+pub mod LawLemmas

@@ -1,0 +1,82 @@
+//! Keys: task instances that could be handed out, and their rank.
+ghost use Rattle.std.specs.Prelude.{◌≡◌, IfOk};
+ghost use Rattle.pool_book.specs.Keys.{rank, same_instance, same_key, fits};
+
+use crate::{Pools, Slots};
+use graph_file::Name;
+use moment_core::Moment;
+use std::alloc::{AllocError, Global};
+use std::cmp::Ordering;
+
+/// A task instance that could be handed out.
+#[derive(Debug, Drop)]
+pub struct Key {
+    /// Its effective weight.
+    pub weight: u64,
+    /// The logical date of its run.
+    pub logical: Moment,
+    /// The name of its graph.
+    pub graph: Name,
+    /// The name of its task.
+    pub task: Name,
+    /// The pool whose slots it takes.
+    pub pool: Name,
+    /// How many of them.
+    pub slots: Slots,
+}
+
+impl Key {
+    /// The same key once more.
+    pub fn copy(&self, alloc: Global) -> Result<Key, AllocError>
+        ensures { IfOk result (λ key. key ≡ self.now) }
+    {
+        Ok(Key {
+            weight: self.weight,
+            logical: self.logical,
+            graph: self.graph.copy(alloc)?,
+            task: self.task.copy(alloc)?,
+            pool: self.pool.copy(alloc)?,
+            slots: self.slots,
+        })
+    }
+
+    // Where it ranks against another: the greater weight is first, then the earlier logical date, then the lesser name of the
+    // graph, then that of the task, both by bytes.
+    pub(crate) fn rank(&self, other: &Key) -> Ordering
+        ensures { result ≡ rank self.now other.now }
+    {
+        other
+            .weight
+            .cmp(&self.weight)
+            .then(self.logical.cmp(&other.logical))
+            .then(self.graph.cmp(&other.graph))
+            .then(self.task.cmp(&other.task))
+    }
+
+    // Whether it is of the same task instance.
+    pub(crate) fn is_same_instance(&self, other: &Key) -> bool
+        ensures { result ≡ same_instance self.now other.now }
+    {
+        self.logical == other.logical && self.graph == other.graph && self.task == other.task
+    }
+
+    // Whether it is the same in all its parts.
+    pub(crate) fn is(&self, other: &Key) -> bool
+        ensures { result ≡ same_key self.now other.now }
+    {
+        self.weight == other.weight
+            && self.is_same_instance(other)
+            && self.pool == other.pool
+            && self.slots == other.slots
+    }
+
+    // Whether its slots are open in its pool; where there is no such pool, they aren't.
+    pub(crate) fn fits(&self, pools: &Pools) -> bool
+        ensures { result ≡ fits pools.now.pools self.now }
+    {
+        match pools.get(&self.pool) {
+            Some(pool) => pool.fits(self.slots),
+            None => false,
+        }
+    }
+}
