@@ -1,0 +1,125 @@
+-- A clear that names no try without an end keeps a sound schedule sound.
+use Rattle.std.proofs.Common.{◌≡◌, refl, sym, ap, ◌∙◌, ℕ, ◌+◌, List, [], ◌∷◌, Bool, true, false, cond, ◌&&◌, filter, flat_map, map, Option, Some, None, true≢false, is_some, is_none, zip}
+use Rattle.std.specs.List.{list_all, enumerate_from}
+use Rattle.graph_file.specs.declared.task_specs.TaskSpec.{TaskSpec}
+use Rattle.instance_machine.specs.Instances.{Held}
+use Rattle.instance_machine.specs.declared.tries.Try.{Try}
+use Rattle.instance_machine.specs.declared.tries.End.{End}
+use Rattle.sched_state.specs.declared.runs.Phase.{Phase}
+use Rattle.sched_state.specs.declared.runs.Phase.TheVariants as phase
+use Rattle.sched_state.proofs.OrderLemmas.{and_left, and_right}
+use Rattle.sched_model.specs.Lists.{all_pairs, map_places, best_by}
+use Rattle.sched_model.specs.Schedule.{Run, Schedule, dag_among, is_ended}
+use Rattle.sched_model.specs.States.{is_open}
+use Rattle.sched_model.specs.Clearing.{Naming, cleared, clear_pair, pairs_of, named_in, requeued, clear_if, clear_run, clear, named_pairs}
+use Rattle.sched_model.specs.Causes.{open_serials, least_in_flight}
+use Rattle.sched_model.specs.Sound.{IsSound, is_sound_in, is_sound_instance, is_sound_run, has_end}
+use Rattle.sched_laws.proofs.ListLemmas.{both, all_front, all_back}
+use Rattle.sched_laws.proofs.InstanceLemmas.{cleared_sound}
+use Rattle.sched_laws.proofs.RunLemmas.{key, serials_in, run_serials, flat_by, paired_sound, pairs_of_run, goes_on}
+use Rattle.sched_laws.proofs.SoundLemmas.{runs_changed}
+use Rattle.sched_laws.proofs.RankLemmas.{some_of_cons}
+
+-- ---- no named try is open
+abbrev all_over : List (TaskSpec × Held) → Bool
+all_over es = list_all (λ (e : TaskSpec × Held). list_all has_end e.1.tries) es
+
+all_flat : {X Y : Type 0} (p : Y → Bool) (f : X → List Y) (xs : List X) → list_all p (flat_map f xs) ≡ true → list_all (λ x. list_all p (f x)) xs ≡ true
+all_flat p f [] e = refl
+all_flat p f (x ∷ xs) e = both _ _ (all_front p (f x) (flat_map f xs) e) (all_flat p f xs (all_back p (f x) (flat_map f xs) e))
+
+best_empty : {X : Type 0} (before : X → X → Bool) (xs : List X) → best_by before xs ≡ None → xs ≡ []
+best_empty before [] e = refl
+best_empty before (x ∷ xs) e = absurd (some_of_cons before x (best_by before xs) e)
+
+closed_end : (o : Option End) → is_none o ≡ false → is_some o ≡ true
+closed_end None e = absurd (true≢false e)
+closed_end (Some x) e = refl
+
+none_open : (ts : List Try) → open_serials ts ≡ [] → list_all has_end ts ≡ true
+none_open [] e = refl
+none_open (t ∷ ts) e = elim (is_open t) as (λ b. is_open t ≡ b → map (λ (u : Try). u.serial) (cond b (t ∷ filter is_open ts) (filter is_open ts)) ≡ [] → list_all has_end (t ∷ ts) ≡ true) [
+  | true ↦ λ q f. absurd (let c : ◌≡◌ {A = List ℕ} (t.serial ∷ map (λ (u : Try). u.serial) (filter is_open ts)) [] = f in cc)
+  | false ↦ λ q f. both _ _ (closed_end t.ended q) (none_open ts f)
+] refl e
+
+named_over : (a : Schedule) (named : Naming) → least_in_flight a named ≡ None → list_all (λ r. all_over (named_in a named r)) a.runs ≡ true
+named_over a named e =
+    let ts : List Try = flat_map (λ (x : TaskSpec × Held). x.1.tries) (named_pairs a named) in
+    let over : list_all has_end ts ≡ true = none_open ts (best_empty _ (open_serials ts) e) in
+    all_flat (λ (x : TaskSpec × Held). list_all has_end x.1.tries) (named_in a named) a.runs (all_flat has_end (λ (x : TaskSpec × Held). x.1.tries) (named_pairs a named) over)
+
+-- ---- one run
+requeued_goes_on : (ph : Phase) → is_ended (requeued ph) ≡ false
+requeued_goes_on phase.Queued = refl
+requeued_goes_on phase.Running = refl
+requeued_goes_on phase.Success = refl
+requeued_goes_on phase.Failed = refl
+
+abbrev chosen : (ℕ → TaskSpec × Held → Bool) → List (ℕ × (TaskSpec × Held)) → List (TaskSpec × Held)
+chosen named es = map (λ (e : ℕ × (TaskSpec × Held)). e.1) (filter (λ (e : ℕ × (TaskSpec × Held)). named e.0 e.1) es)
+
+cleared_pairs : (named : ℕ → TaskSpec × Held → Bool) (ph : Phase) (k : ℕ) (ts : List TaskSpec) (is : List Held) → all_over (chosen named (enumerate_from k (zip ts is))) ≡ true → all_pairs (is_sound_in ph) ts is ≡ true
+    → all_pairs (is_sound_in (requeued ph)) ts (map_places (clear_pair named) k (zip ts is)) ≡ true
+cleared_pairs named ph k [] [] o e = refl
+cleared_pairs named ph k [] (i ∷ is) o e = absurd (true≢false (sym e))
+cleared_pairs named ph k (t ∷ ts) [] o e = absurd (true≢false (sym e))
+cleared_pairs named ph k (t ∷ ts) (i ∷ is) o e =
+    let si : is_sound_instance t i ≡ true = and_left _ _ (and_left _ _ e) in
+    let se : all_pairs (is_sound_in ph) ts is ≡ true = and_right (is_sound_in ph t i) _ e in
+    elim (named k (t, i)) as (λ b. all_over (map (λ (x : ℕ × (TaskSpec × Held)). x.1) (cond b ((k, (t, i)) ∷ filter (λ (x : ℕ × (TaskSpec × Held)). named x.0 x.1) (enumerate_from (k + 1) (zip ts is))) (filter (λ (x : ℕ × (TaskSpec × Held)). named x.0 x.1) (enumerate_from (k + 1) (zip ts is))))) ≡ true
+    → (is_sound_in (requeued ph) t (cond b (cleared i) i) && all_pairs (is_sound_in (requeued ph)) ts (map_places (clear_pair named) (k + 1) (zip ts is))) ≡ true) [
+      | true ↦ λ q. both _ _ (goes_on (requeued ph) t (cleared i) (requeued_goes_on ph) (cleared_sound t i si (and_left _ _ q)))
+          (cleared_pairs named ph (k + 1) ts is (and_right (list_all has_end i.tries) _ q) se)
+      | false ↦ λ q. both _ _ (goes_on (requeued ph) t i (requeued_goes_on ph) si) (cleared_pairs named ph (k + 1) ts is q se)
+    ] o
+
+cleared_serials : (named : ℕ → TaskSpec × Held → Bool) (p : TaskSpec → Held → Bool) (k : ℕ) (ts : List TaskSpec) (is : List Held) → all_pairs p ts is ≡ true
+    → map serials_in (map_places (clear_pair named) k (zip ts is)) ≡ map serials_in is
+cleared_serials named p k [] [] e = refl
+cleared_serials named p k [] (i ∷ is) e = absurd (true≢false (sym e))
+cleared_serials named p k (t ∷ ts) [] e = refl
+cleared_serials named p k (t ∷ ts) (i ∷ is) e =
+    let ih : map serials_in (map_places (clear_pair named) (k + 1) (zip ts is)) ≡ map serials_in is = cleared_serials named p (k + 1) ts is (and_right (p t i) _ e) in
+    elim (named k (t, i)) as (λ b. serials_in (cond b (cleared i) i) ∷ map serials_in (map_places (clear_pair named) (k + 1) (zip ts is)) ≡ serials_in i ∷ map serials_in is) [
+      | true ↦ ap (λ zs. serials_in i ∷ zs) ih
+      | false ↦ ap (λ zs. serials_in i ∷ zs) ih
+    ]
+
+one_sound : (a : Schedule) (named : Naming) (r : Run) (es : List (TaskSpec × Held)) → all_over (named_in a named r) ≡ true → is_sound_run a.graphs r ≡ true → is_sound_run a.graphs (clear_if a named r es) ≡ true
+one_sound a named r [] o e = e
+one_sound a named r (x ∷ es) o e =
+    paired_sound a.graphs r (requeued r.phase) (map_places (clear_pair (named r)) 0 (pairs_of a r)) e
+    (cleared_pairs (named r) r.phase 0 (dag_among a.graphs r.graph).tasks r.instances o (pairs_of_run a.graphs r e))
+
+one_serials : (a : Schedule) (named : Naming) (r : Run) (es : List (TaskSpec × Held)) → is_sound_run a.graphs r ≡ true → run_serials (clear_if a named r es) ≡ run_serials r
+one_serials a named r [] e = refl
+one_serials a named r (x ∷ es) e = flat_by serials_in (map_places (clear_pair (named r)) 0 (pairs_of a r)) r.instances
+    (cleared_serials (named r) (is_sound_in r.phase) 0 (dag_among a.graphs r.graph).tasks r.instances (pairs_of_run a.graphs r e))
+
+one_key : (a : Schedule) (named : Naming) (r : Run) (es : List (TaskSpec × Held)) → key (clear_if a named r es) ≡ key r
+one_key a named r [] = refl
+one_key a named r (x ∷ es) = refl
+
+-- ---- all runs
+all_sound : (a : Schedule) (named : Naming) (rs : List Run) → list_all (λ r. all_over (named_in a named r)) rs ≡ true → list_all (is_sound_run a.graphs) rs ≡ true → list_all (is_sound_run a.graphs) (map (clear_run a named) rs) ≡ true
+all_sound a named [] o e = refl
+all_sound a named (r ∷ rs) o e = both _ _ (one_sound a named r (named_in a named r) (and_left _ _ o) (and_left _ _ e))
+    (all_sound a named rs (and_right (all_over (named_in a named r)) _ o) (and_right (is_sound_run a.graphs r) _ e))
+
+all_serials : (a : Schedule) (named : Naming) (rs : List Run) → list_all (is_sound_run a.graphs) rs ≡ true → map run_serials (map (clear_run a named) rs) ≡ map run_serials rs
+all_serials a named [] e = refl
+all_serials a named (r ∷ rs) e =
+    ap (λ (x : List ℕ). x ∷ map run_serials (map (clear_run a named) rs)) (one_serials a named r (named_in a named r) (and_left _ _ e))
+    ∙ ap (λ xs. run_serials r ∷ xs) (all_serials a named rs (and_right (is_sound_run a.graphs r) _ e))
+
+pub all_keys : (a : Schedule) (named : Naming) (rs : List Run) → map key (map (clear_run a named) rs) ≡ map key rs
+all_keys a named [] = refl
+all_keys a named (r ∷ rs) = ap (λ k. k ∷ map key (map (clear_run a named) rs)) (one_key a named r (named_in a named r)) ∙ ap (λ ks. key r ∷ ks) (all_keys a named rs)
+
+pub clear_sound : (named : Naming) (a : Schedule) → least_in_flight a named ≡ None → IsSound a → IsSound (clear named a)
+clear_sound named a n s = runs_changed a (map (clear_run a named) a.runs) (record {
+  keys = all_keys a named a.runs;
+  serials = flat_by run_serials (map (clear_run a named) a.runs) a.runs (all_serials a named a.runs s.runs);
+  sound = λ h. all_sound a named a.runs (named_over a named n) h;
+}) s

@@ -1,0 +1,5 @@
+pub mod Offered
+pub mod Seen
+pub mod Passing
+pub mod Sweep
+pub mod Stages

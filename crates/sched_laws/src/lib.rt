@@ -1,0 +1,30 @@
+//! The laws of the abstract schedule: the theorems about its definitions that a reader or a proof may rely on.
+//!
+//! Nothing here runs: the functions are empty, and their contracts are the laws. `settling` and `hand_outs` say that what follows an
+//! event is determined and leaves nothing undone, `sound` that it leaves a sound schedule, with each serial and each key once.
+//! `decisions` and `stages` say what a faster way to the same schedule may rely on: which decisions look at which instances, and in
+//! which order moves may be made. Easy to get wrong: decisions in another order may lead to another schedule.
+#![tactic(auto)]
+
+mod decisions;
+mod hand_outs;
+mod settling;
+mod sound;
+mod stages;
+
+pub use decisions::{
+    decisions_are_one_sweep, decisions_look_back, dirty_positions_are_enough,
+    new_runs_enable_nothing, upstreams_are_exchanged,
+};
+pub use hand_outs::{
+    advancing_leaves_settled, hand_out_goes_by_hands, hand_out_is_one_pass, hand_out_keeps_bounds,
+    hands_are_counted,
+};
+pub use settling::{moves_see_what_is_seen, settling_goes_by_moves, settling_is_determined};
+pub use sound::{
+    a_date_has_one_run, advancing_keeps_soundness, graphs_stay_said, own_changes_keep_soundness,
+    runs_are_those_named, serials_are_used_once,
+};
+pub use stages::{
+    marked_runs_are_enough, phases_are_looked_at_by_their_runs, settling_goes_by_stages,
+};

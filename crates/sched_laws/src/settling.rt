@@ -1,0 +1,26 @@
+//! Laws of settling.
+ghost use Rattle.std.specs.Prelude.{◌≡◌, ℕ, ◌≤◌, None, Some};
+ghost use Rattle.sched_state.specs.Lists.{repeat};
+ghost use Rattle.sched_model.specs.Schedule.{Schedule};
+ghost use Rattle.sched_model.specs.Settle.{move, moves_left, settle, Settles};
+ghost use Rattle.sched_laws.specs.Seen.{sights};
+
+/// Settling ends in a schedule in which no move is possible, it gets there by first moves alone, and it is the only one so
+/// reached. More turns than there are moves change nothing.
+pub fn settling_is_determined()
+    ensures ends { (a : Schedule) → move (settle a) ≡ None }
+    ensures reached { (a : Schedule) → Settles a (settle a) }
+    ensures unique { (a b : Schedule) → Settles a b → settle a ≡ b }
+    ensures enough { (a : Schedule) (n : ℕ) → moves_left a ≤ n → repeat n move a ≡ settle a }
+{}
+
+/// Where no move is possible settling changes nothing, and a first move changes nothing of where it ends.
+pub fn settling_goes_by_moves()
+    ensures still { (a : Schedule) → move a ≡ None → settle a ≡ a }
+    ensures moved { (a b : Schedule) → move a ≡ Some b → settle a ≡ settle b }
+{}
+
+/// Of an instance the moves see whether it is undecided, and its state where that is an end.
+pub fn moves_see_what_is_seen()
+    ensures { (a b : Schedule) → a.graphs ≡ b.graphs → sights a ≡ sights b → move a ≡ None → move b ≡ None }
+{}

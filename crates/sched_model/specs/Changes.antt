@@ -1,0 +1,95 @@
+-- The own changes of events, but for clearings; and what follows every change.
+use Rattle.std.specs.Prelude.{ℕ, Bool, true, false, ◌==◌, if◌then◌else◌, List, map, Option, Some, None, unwrap_or}
+use Rattle.dag_check.specs.Graphs.{Dag}
+use Rattle.instance_machine.specs.Instances.{Held}
+use Rattle.instance_machine.specs.Reports.{report_try}
+use Rattle.instance_machine.specs.declared.tries.Try.{Try}
+use Rattle.instance_machine.specs.declared.tries.End.{End}
+use Rattle.instance_machine.specs.declared.tries.Stage.{Stage}
+use Rattle.instance_machine.specs.declared.tries.Outcome.TheVariants.{Lost}
+use Rattle.sched_state.specs.Lists.{same, insert_by}
+use Rattle.sched_state.specs.declared.graphs.Graph.{Graph}
+use Rattle.sched_model.specs.Schedule.{Schedule, Run, Pool, graph_among, has_pool, graph_before, pool_before}
+use Rattle.sched_model.specs.Settle.{settle}
+use Rattle.sched_model.specs.Handout.{hand_out}
+use Rattle.sched_model.specs.NamedRuns.{Named, add_runs}
+
+-- ---- what follows every own change: the runs that the event names are added, moves are made, tries are handed out
+abbrev pub advance : List Named → Schedule → Schedule
+advance ns a = hand_out (settle (add_runs ns a))
+
+-- ---- a graph is loaded
+-- a graph of this id takes another text in; its pause stays
+abbrev pub reloaded : List ℕ → Dag → Graph → Graph
+reloaded text dag g =
+    if same g.dag.spec.dag_id dag.spec.dag_id then record { text = text; dag = dag; paused = g.paused } else g
+
+-- a new graph is not paused
+abbrev pub new_graph : List ℕ → Dag → Graph
+new_graph text dag = record { text = text; dag = dag; paused = false }
+
+-- a known graph takes the text in, a new one stands at its place
+abbrev pub with_graph : List ℕ → Dag → List Graph → List Graph
+with_graph text dag gs = elim (graph_among gs dag.spec.dag_id) [
+  | Some g ↦ map (reloaded text dag) gs
+  | None ↦ insert_by graph_before (new_graph text dag) gs
+]
+
+abbrev pub load_graph : List ℕ → Dag → Schedule → Schedule
+load_graph text dag a = record a { graphs = with_graph text dag a.graphs }
+
+-- ---- the clock is set
+abbrev pub set_now : ℕ → Schedule → Schedule
+set_now t a = record a { now = t }
+
+-- ---- a graph is paused, or no more
+abbrev pub pause_graph : List ℕ → Bool → Graph → Graph
+pause_graph id paused g = if same g.dag.spec.dag_id id then record g { paused = paused } else g
+
+abbrev pub set_paused : List ℕ → Bool → Schedule → Schedule
+set_paused id paused a = record a { graphs = map (pause_graph id paused) a.graphs }
+
+-- ---- a pool gets a size; an unknown one is made
+abbrev pub resize_pool : List ℕ → ℕ → Pool → Pool
+resize_pool name size q = if same q.name name then record q { size = size } else q
+
+abbrev pub new_pool : List ℕ → ℕ → Pool
+new_pool name size = record { name = name; size = size }
+
+abbrev pub with_pool : Bool → List ℕ → ℕ → List Pool → List Pool
+with_pool true name size qs = map (resize_pool name size) qs
+with_pool false name size qs = insert_by pool_before (new_pool name size) qs
+
+abbrev pub resize : List ℕ → ℕ → Schedule → Schedule
+resize name size a = record a { pools = with_pool (has_pool a name) name size a.pools }
+
+-- ---- tries
+-- every try is changed
+abbrev pub map_tries : (Try → Try) → Held → Held
+map_tries f i = record i { tries = map f i.tries }
+
+abbrev pub map_tries_of : (Try → Try) → Run → Run
+map_tries_of f r = record r { instances = map (map_tries f) r.instances }
+
+abbrev pub map_all_tries : (Try → Try) → Schedule → Schedule
+map_all_tries f a = record a { runs = map (map_tries_of f) a.runs }
+
+-- the try with the serial takes a report in, where it is its turn
+abbrev pub reported_try : ℕ → Stage → ℕ → Try → Try
+reported_try serial stage now t = if t.serial == serial then unwrap_or (report_try stage now t) t else t
+
+-- a worker reports of the try with a serial
+abbrev pub report : ℕ → Stage → Schedule → Schedule
+report serial stage a = map_all_tries (reported_try serial stage a.now) a
+
+-- a try without an end is lost
+abbrev pub lost_if : ℕ → Option End → Try → Try
+lost_if now None t = record t { ended = Some (record { moment = now; outcome = Lost }) }
+lost_if now (Some e) t = t
+
+abbrev pub lost_try : ℕ → Try → Try
+lost_try now t = lost_if now t.ended t
+
+-- the scheduler is restarted: tries without an end are lost, and the lanes are set
+abbrev pub restart : ℕ → Schedule → Schedule
+restart lanes a = let b : Schedule = map_all_tries (lost_try a.now) a in record b { lanes = lanes }

@@ -1,0 +1,109 @@
+-- Clearing: named instances are set back to none, their tries are kept. Airflow 2, 'DAG Runs' (re-run tasks) and 'Tasks'.
+use Rattle.std.specs.Prelude.{ℕ, Bool, true, false, not, ◌&&◌, ◌||◌, ◌==◌, cond, List, [], ◌∷◌, length, map, filter, flat_map, count_by, Option, Some, None, nat_le}
+use Rattle.std.specs.List.{zip, enumerate_from, position_from}
+use Rattle.graph_file.specs.declared.task_specs.TaskSpec.{TaskSpec}
+use Rattle.dag_check.specs.Graphs.{Dag}
+use Rattle.dag_check.specs.Orders.{is_in}
+use Rattle.dag_check.specs.Reach.{reach_of}
+use Rattle.dag_check.specs.declared.graphs.Direction.TheVariants as to
+use Rattle.run_planner.specs.Index.{has_date}
+use Rattle.trigger_rules.specs.States.{is_bad}
+use Rattle.trigger_rules.specs.declared.states.State.{State}
+use Rattle.trigger_rules.specs.declared.states.State.TheVariants as state
+use Rattle.instance_machine.specs.Instances.{Held}
+use Rattle.instance_machine.specs.States.{state_of}
+use Rattle.sched_state.specs.Lists.{same}
+use Rattle.sched_state.specs.declared.runs.Phase.{Phase}
+use Rattle.sched_state.specs.declared.runs.Phase.TheVariants as phase
+use Rattle.sched_model.specs.Lists.{map_places}
+use Rattle.sched_model.specs.Schedule.{Schedule, Run, dag_named, tasks_of}
+
+-- ---- which instances are named
+-- a test of a run, of a place in it, and of the task and the instance there
+abbrev pub Naming : Type 0
+Naming = Run → ℕ → TaskSpec × Held → Bool
+
+-- what a clear asks for: the runs of a graph in a span of dates, and of them all tasks, or one with what it reaches upstream
+-- or downstream; of these all instances, or only the failed and upstream_failed ones
+pub record Clearing : Type 0 where
+  pub graph : List ℕ
+  pub low : ℕ
+  pub high : ℕ
+  pub task : Option (List ℕ)
+  pub upstream : Bool
+  pub downstream : Bool
+  pub only_failed : Bool
+
+abbrev pub in_span : Clearing → Run → Bool
+in_span c r = same r.graph c.graph && (nat_le c.low r.logical && nat_le r.logical c.high)
+
+-- the place of the task with this id
+abbrev pub place_of : List TaskSpec → List ℕ → Option ℕ
+place_of tasks id = position_from (λ (t : TaskSpec). same t.task_id id) 0 tasks
+
+-- the place q itself, and what it reaches in the directions that are asked for
+abbrev pub around : Clearing → Dag → Option ℕ → ℕ → Bool
+around c g None p = false
+around c g (Some q) p =
+    p == q || (c.upstream && is_in (reach_of g to.Upstream q) p || c.downstream && is_in (reach_of g to.Downstream q) p)
+
+abbrev pub names_place : Clearing → Dag → Option (List ℕ) → ℕ → Bool
+names_place c g None p = true
+names_place c g (Some id) p = around c g (place_of g.tasks id) p
+
+-- the instances that a clear names
+abbrev pub cleared_by : Schedule → Clearing → Naming
+cleared_by a c r p e =
+    in_span c r && (names_place c (dag_named a r.graph) c.task p && (not c.only_failed || is_bad (state_of e.0 e.1)))
+
+-- the instances that the reset of a backfill names: all of the graph's runs with these dates
+abbrev pub reset_by : List ℕ → List ℕ → Naming
+reset_by id dates r p e = same r.graph id && has_date dates r.logical
+
+-- ---- clearing
+-- an instance set back: it has no verdict, and none of its tries counts
+abbrev pub cleared : Held → Held
+cleared i = record { verdict = None; since = length i.tries; tries = i.tries }
+
+abbrev pub clear_pair : (ℕ → TaskSpec × Held → Bool) → ℕ → TaskSpec × Held → Held
+clear_pair named p e = cond (named p e) (cleared e.1) e.1
+
+-- the pairs of a run, each of a task and its instance, and those that are named
+abbrev pub pairs_of : Schedule → Run → List (TaskSpec × Held)
+pairs_of a r = zip (tasks_of a r) r.instances
+
+abbrev pub named_in : Schedule → Naming → Run → List (TaskSpec × Held)
+named_in a named r = map (λ (e : ℕ × (TaskSpec × Held)). e.1) (filter (λ (e : ℕ × (TaskSpec × Held)). named r e.0 e.1) (enumerate_from 0 (pairs_of a r)))
+
+-- a finished run is queued again
+abbrev pub requeued : Phase → Phase
+requeued phase.Queued = phase.Queued
+requeued phase.Running = phase.Running
+requeued phase.Success = phase.Queued
+requeued phase.Failed = phase.Queued
+
+abbrev pub with_cleared : Schedule → Naming → Run → Run
+with_cleared a named r = record r { phase = requeued r.phase; instances = map_places (clear_pair (named r)) 0 (pairs_of a r) }
+
+-- a run in which no instance is named stays as it is
+abbrev pub clear_if : Schedule → Naming → Run → List (TaskSpec × Held) → Run
+clear_if a named r [] = r
+clear_if a named r (e ∷ es) = with_cleared a named r
+
+abbrev pub clear_run : Schedule → Naming → Run → Run
+clear_run a named r = clear_if a named r (named_in a named r)
+
+abbrev pub clear : Naming → Schedule → Schedule
+clear named a = record a { runs = map (clear_run a named) a.runs }
+
+-- ---- what a clear answers
+abbrev pub named_pairs : Schedule → Naming → List (TaskSpec × Held)
+named_pairs a named = flat_map (named_in a named) a.runs
+
+abbrev pub is_none_state : State → Bool
+is_none_state state.None = true
+is_none_state _ = false
+
+-- how many named instances were not none
+abbrev pub count_cleared : Schedule → Naming → ℕ
+count_cleared a named = count_by (λ (e : TaskSpec × Held). not (is_none_state (state_of e.0 e.1))) (named_pairs a named)

@@ -1,0 +1,47 @@
+-- What is told of a try that is handed out.
+use Rattle.std.specs.Prelude.{ℕ, ◌-◌, ◌==◌, List, map, filter, flat_map}
+use Rattle.std.specs.List.{enumerate_from, range_with_len}
+use Rattle.graph_file.specs.Operators.{Call}
+use Rattle.graph_file.specs.declared.task_specs.TaskSpec.{TaskSpec}
+use Rattle.instance_machine.specs.Instances.{Held}
+use Rattle.instance_machine.specs.declared.tries.Try.{Try}
+use Rattle.sched_model.specs.Schedule.{Schedule, Run}
+use Rattle.sched_model.specs.Clearing.{pairs_of}
+
+pub record Job : Type 0 where
+  pub serial : ℕ
+  pub graph : List ℕ
+  pub logical : ℕ
+  pub task : List ℕ
+  -- the number of the try among those of its instance, from 1
+  pub try_number : ℕ
+  -- what the task does
+  pub action : Call
+  pub pool : List ℕ
+  pub slots : ℕ
+
+abbrev pub job_of : Run → TaskSpec → ℕ × Try → Job
+job_of r t e = record {
+  serial = e.1.serial;
+  graph = r.graph;
+  logical = r.logical;
+  task = t.task_id;
+  try_number = e.0;
+  action = t.action;
+  pool = t.pool;
+  slots = e.1.slots;
+}
+
+abbrev pub jobs_of : Run → TaskSpec × Held → List Job
+jobs_of r e = map (job_of r e.0) (enumerate_from 1 e.1.tries)
+
+-- a job for each try
+abbrev pub all_jobs : Schedule → List Job
+all_jobs a = flat_map (λ r. flat_map (jobs_of r) (pairs_of a r)) a.runs
+
+abbrev pub job_at : Schedule → ℕ → List Job
+job_at a serial = filter (λ (j : Job). j.serial == serial) (all_jobs a)
+
+-- the jobs that were handed out between two schedules, by serial
+abbrev pub handed : Schedule → Schedule → List Job
+handed a b = flat_map (job_at b) (range_with_len a.next (b.next - a.next))

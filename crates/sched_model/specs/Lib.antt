@@ -1,0 +1,13 @@
+pub mod Lists
+pub mod Schedule
+pub mod States
+pub mod Settle
+pub mod Handout
+pub mod NamedRuns
+pub mod Changes
+pub mod Clearing
+pub mod Causes
+pub mod Jobs
+pub mod Tables
+pub mod Sound
+pub mod Rows

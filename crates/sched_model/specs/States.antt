@@ -1,0 +1,60 @@
+-- What is recomputed from a schedule: the states of instances, what came before a run, and the slots that are taken.
+use Rattle.std.specs.Prelude.{ℕ, Bool, not, ◌&&◌, ◌||◌, cond, List, length, map, filter, flat_map, sum_by, count_by, Option, option_map, unwrap_or, slice_get, nat_lt, is_none}
+use Rattle.std.specs.List.{zip}
+use Rattle.graph_file.specs.declared.task_specs.TaskSpec.{TaskSpec}
+use Rattle.trigger_rules.specs.declared.states.State.{State}
+use Rattle.trigger_rules.specs.declared.states.State.TheVariants as state
+use Rattle.instance_machine.specs.Instances.{Held}
+use Rattle.instance_machine.specs.States.{state_of, opens_gate}
+use Rattle.instance_machine.specs.declared.tries.Try.{Try}
+use Rattle.sched_state.specs.Lists.{same}
+use Rattle.sched_model.specs.Lists.{zip_with, last_passing}
+use Rattle.sched_model.specs.Schedule.{Schedule, Run, tasks_of, is_running}
+
+-- the states of a run's instances, by place (Airflow 2, 'Tasks': task instances)
+abbrev pub states : Schedule → Run → List State
+states a r = zip_with state_of (tasks_of a r) r.instances
+
+-- the state at a place: none where there is no such place
+abbrev pub state_at : Schedule → Run → ℕ → State
+state_at a r p = unwrap_or (slice_get (states a r) p) state.None
+
+-- ---- the past (Airflow 2, 'DAGs': depends on past)
+-- q is a run of r's graph with a smaller logical date
+abbrev pub is_earlier : Run → Run → Bool
+is_earlier r q = same q.graph r.graph && nat_lt q.logical r.logical
+
+-- the run before r: of the earlier runs of its graph that with the greatest date, which stands last
+abbrev pub previous : Schedule → Run → Option Run
+previous a r = last_passing (is_earlier r) a.runs
+
+-- the past does not hold a task back: it does not depend on it, or there is no run before, or the task was a success or
+-- skipped there
+abbrev pub past_is_open : Schedule → Run → TaskSpec → ℕ → Bool
+past_is_open a r t p = not t.depends_on_past || opens_gate (option_map (λ q. state_at a q p) (previous a r))
+
+-- ---- counts
+-- how many runs of a graph are running
+abbrev pub active_runs : Schedule → List ℕ → ℕ
+active_runs a id = count_by (λ (r : Run). same r.graph id && is_running r.phase) a.runs
+
+abbrev pub is_open : Try → Bool
+is_open t = is_none t.ended
+
+-- the tries of an instance without an end, each beside its task
+abbrev pub open_of : TaskSpec × Held → List (TaskSpec × Try)
+open_of e = map (λ t. (e.0, t)) (filter is_open e.1.tries)
+
+abbrev pub open_tries : Schedule → List (TaskSpec × Try)
+open_tries a = flat_map (λ r. flat_map open_of (zip (tasks_of a r) r.instances)) a.runs
+
+-- the slots that tries without an end take of a pool (Airflow 2, 'Pools')
+abbrev pub slots_in : List ℕ → TaskSpec × Try → ℕ
+slots_in p e = cond (same e.0.pool p) e.1.slots 0
+
+abbrev pub occupied : Schedule → List ℕ → ℕ
+occupied a p = sum_by (slots_in p) (open_tries a)
+
+-- how many tries are without an end
+abbrev pub in_flight : Schedule → ℕ
+in_flight a = length (open_tries a)

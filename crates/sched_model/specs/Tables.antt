@@ -1,0 +1,163 @@
+-- The rows of the record's tables, each table by its key: this project's own profile.
+use Rattle.std.specs.Prelude.{ℕ, Bool, true, false, List, [], ◌∷◌, map, flat_map, Option, Some, None, option_map, nat_lt}
+use Rattle.std.specs.List.{enumerate_from}
+use Rattle.graph_file.specs.declared.task_specs.TaskSpec.{TaskSpec}
+use Rattle.trigger_rules.specs.declared.verdicts.Verdict.{Verdict}
+use Rattle.trigger_rules.specs.declared.verdicts.Verdict.TheVariants as verdict
+use Rattle.instance_machine.specs.Instances.{Held}
+use Rattle.instance_machine.specs.declared.tries.Try.{Try}
+use Rattle.instance_machine.specs.declared.tries.End.{End}
+use Rattle.instance_machine.specs.declared.tries.Outcome.{Outcome}
+use Rattle.instance_machine.specs.declared.tries.Outcome.TheVariants as outcome
+use Rattle.sched_state.specs.Lists.{name_cmp, is_less, insert_by}
+use Rattle.sched_state.specs.declared.graphs.Graph.{Graph}
+use Rattle.sched_state.specs.declared.runs.Kind.{Kind}
+use Rattle.sched_state.specs.declared.runs.Kind.TheVariants as kind
+use Rattle.sched_state.specs.declared.runs.Phase.{Phase}
+use Rattle.sched_state.specs.declared.runs.Phase.TheVariants as phase
+use Rattle.sched_model.specs.Schedule.{Schedule, Run, Pool}
+use Rattle.sched_model.specs.Clearing.{pairs_of}
+
+-- ---- codes
+abbrev pub kind_code : Kind → ℕ
+kind_code kind.Scheduled = 0
+kind_code kind.Manual = 1
+kind_code kind.Backfill = 2
+
+abbrev pub phase_code : Phase → ℕ
+phase_code phase.Queued = 0
+phase_code phase.Running = 1
+phase_code phase.Success = 2
+phase_code phase.Failed = 3
+
+abbrev pub verdict_code : Option Verdict → ℕ
+verdict_code None = 0
+verdict_code (Some verdict.Wait) = 0
+verdict_code (Some verdict.Run) = 1
+verdict_code (Some verdict.Skip) = 2
+verdict_code (Some verdict.UpstreamFailed) = 3
+
+abbrev pub outcome_code : Outcome → ℕ
+outcome_code outcome.Success = 0
+outcome_code outcome.Failed = 1
+outcome_code outcome.Skipped = 2
+outcome_code outcome.Lost = 3
+
+abbrev pub flag_code : Bool → ℕ
+flag_code false = 0
+flag_code true = 1
+
+-- ---- rows, with fields named as the columns
+pub record MetaRow : Type 0 where
+  pub one : ℕ
+  pub version : ℕ
+  pub now : ℕ
+  pub next_serial : ℕ
+  pub lanes : ℕ
+
+pub record PoolRow : Type 0 where
+  pub name : List ℕ
+  pub size : ℕ
+
+pub record DagRow : Type 0 where
+  pub dag_id : List ℕ
+  pub body : List ℕ
+  pub paused : ℕ
+
+pub record RunRow : Type 0 where
+  pub dag_id : List ℕ
+  pub logical : ℕ
+  pub data_start : ℕ
+  pub data_end : ℕ
+  pub kind : ℕ
+  pub phase : ℕ
+
+pub record InstanceRow : Type 0 where
+  pub dag_id : List ℕ
+  pub logical : ℕ
+  pub task_id : List ℕ
+  pub verdict : ℕ
+  pub since : ℕ
+
+pub record AttemptRow : Type 0 where
+  pub serial : ℕ
+  pub dag_id : List ℕ
+  pub logical : ℕ
+  pub task_id : List ℕ
+  pub try_number : ℕ
+  pub slots : ℕ
+  pub started : Option ℕ
+  pub ended : Option ℕ
+  pub outcome : Option ℕ
+
+pub record Tables : Type 0 where
+  pub metas : List MetaRow
+  pub pools : List PoolRow
+  pub dags : List DagRow
+  pub runs : List RunRow
+  pub instances : List InstanceRow
+  pub attempts : List AttemptRow
+
+-- ---- the row of each thing
+abbrev pub meta_row : Schedule → MetaRow
+meta_row a = record { one = 1; version = 1; now = a.now; next_serial = a.next; lanes = a.lanes }
+
+abbrev pub pool_row : Pool → PoolRow
+pool_row q = record { name = q.name; size = q.size }
+
+abbrev pub dag_row : Graph → DagRow
+dag_row g = record { dag_id = g.dag.spec.dag_id; body = g.text; paused = flag_code g.paused }
+
+abbrev pub run_row : Run → RunRow
+run_row r = record {
+  dag_id = r.graph;
+  logical = r.logical;
+  data_start = r.interval.start;
+  data_end = r.interval.end;
+  kind = kind_code r.kind;
+  phase = phase_code r.phase;
+}
+
+abbrev pub instance_row : Run → TaskSpec × Held → InstanceRow
+instance_row r e = record { dag_id = r.graph; logical = r.logical; task_id = e.0.task_id; verdict = verdict_code e.1.verdict; since = e.1.since }
+
+abbrev pub attempt_row : Run → TaskSpec → ℕ × Try → AttemptRow
+attempt_row r t e = record {
+  serial = e.1.serial;
+  dag_id = r.graph;
+  logical = r.logical;
+  task_id = t.task_id;
+  try_number = e.0;
+  slots = e.1.slots;
+  started = e.1.started;
+  ended = option_map (λ (x : End). x.moment) e.1.ended;
+  outcome = option_map (λ (x : End). outcome_code x.outcome) e.1.ended;
+}
+
+-- ---- the tables, by key
+abbrev pub sort_by : {X : Type 0} → (X → X → Bool) → List X → List X
+sort_by before [] = []
+sort_by before (x ∷ xs) = insert_by before x (sort_by before xs)
+
+abbrev pub task_before : InstanceRow → InstanceRow → Bool
+task_before x y = is_less (name_cmp x.task_id y.task_id)
+
+-- the instances of a run stand by place, their rows by task
+abbrev pub instance_rows : Schedule → Run → List InstanceRow
+instance_rows a r = sort_by task_before (map (instance_row r) (pairs_of a r))
+
+abbrev pub attempt_rows : Run → TaskSpec × Held → List AttemptRow
+attempt_rows r e = map (attempt_row r e.0) (enumerate_from 1 e.1.tries)
+
+abbrev pub serial_before : AttemptRow → AttemptRow → Bool
+serial_before x y = nat_lt x.serial y.serial
+
+abbrev pub tables : Schedule → Tables
+tables a = record {
+  metas = meta_row a ∷ [];
+  pools = map pool_row a.pools;
+  dags = map dag_row a.graphs;
+  runs = map run_row a.runs;
+  instances = flat_map (instance_rows a) a.runs;
+  attempts = sort_by serial_before (flat_map (λ r. flat_map (attempt_rows r) (pairs_of a r)) a.runs);
+}
