@@ -1,3 +1,4 @@
+pub mod JumpLemmas
 pub mod NumberLemmas
 pub mod SetLemmas
 pub mod TickLemmas

@@ -1,5 +1,5 @@
 -- Stretches of time in which nothing fires, by the field that does not hold.
-use Rattle.std.proofs.Common.{◌≡◌, ℕ, ◌+◌, ◌*◌, ◌-◌, ◌/◌, ◌%◌, ◌<◌, ◌≤◌, ◌≢◌, true, false, arith, inl, inr, sym, subst}
+use Rattle.std.proofs.Common.{◌≡◌, ℕ, ◌+◌, ◌*◌, ◌/◌, ◌%◌, ◌<◌, ◌≤◌, ◌≢◌, true, false, arith, inl, inr}
 use Rattle.std.proofs.lemmas.Bool.{cases_lt}
 use Rattle.moment_core.specs.Calendar.{day_of, hour_of, minute_of}
 use Rattle.cron_timetable.specs.Sets.{has}
@@ -23,14 +23,6 @@ NoneBetween-after_first c s b whole within k from below = fires-off_minute c k (
 pub NoneBetween-before_first : (c : Fields) (a s : ℕ) → s % 60 ≡ 0 → s ≤ a + 59 → NoneBetween c a s
 NoneBetween-before_first c a s whole within k from below = fires-off_minute c k (omega arith)
 
--- nor in a minute whose first second does not fire
-pub NoneBetween-minute : (c : Fields) (s : ℕ) → s % 60 ≡ 0 → fires c s ≡ false → NoneBetween c s (s + 60)
-NoneBetween-minute c s whole off k from below =
-    elim (cases_lt s k) [
-      | inl h ↦ NoneBetween-after_first c s (s + 60) whole (omega arith) k (omega arith) below
-      | inr h ↦ let same : k ≡ s = omega arith in subst (λ (n : ℕ). fires c n ≡ false) (sym same) off
-    ]
-
 -- nothing fires where a field does not hold
 fires-date : (c : Fields) (m : ℕ) → date_fires c (day_of m) ≡ false → fires c m ≡ false
 unfolding fires
@@ -40,42 +32,23 @@ fires-hour : (c : Fields) (m : ℕ) → has c.hours (hour_of m) ≡ false → fi
 unfolding fires
 fires-hour c m off = grind arith
 
-pub fires-minute : (c : Fields) (m : ℕ) → has c.minutes (minute_of m) ≡ false → fires c m ≡ false
+fires-minute : (c : Fields) (m : ℕ) → has c.minutes (minute_of m) ≡ false → fires c m ≡ false
 unfolding fires
 fires-minute c m off = grind arith
 
--- nor on a day that does not hold, up to the end of the day
-pub NoneBetween-date : (c : Fields) (s : ℕ) → date_fires c (s / 86400) ≡ false → NoneBetween c s ((s / 86400 + 1) * 86400)
-NoneBetween-date c s off k from below =
-    let same : k / 86400 ≡ s / 86400 = omega arith in
-    fires-date c k (subst (λ (n : ℕ). date_fires c n ≡ false) (sym same) off)
+-- nor on the days from low up to below high, where none of them does
+pub NoneBetween-days : (c : Fields) (low high s e : ℕ) → ((k : ℕ) → low ≤ k → k < high → date_fires c k ≡ false) → low * 86400 ≤ s → e ≤ high * 86400 → NoneBetween c s e
+NoneBetween-days c low high s e off from to k above below = fires-date c k (off (k / 86400) (omega arith) (omega arith))
 
--- nor in an hour that does not hold, up to the end of the hour
-pub NoneBetween-hour : (c : Fields) (s : ℕ) → has c.hours (s % 86400 / 3600) ≡ false → NoneBetween c s ((s / 3600 + 1) * 3600)
-NoneBetween-hour c s off k from below =
-    let same : k % 86400 / 3600 ≡ s % 86400 / 3600 = omega arith in
-    fires-hour c k (subst (λ (n : ℕ). has c.hours n ≡ false) (sym same) off)
+-- nor in the hours of a day
+pub NoneBetween-hours : (c : Fields) (day low high s e : ℕ) → ((k : ℕ) → low ≤ k → k < high → has c.hours k ≡ false) → high ≤ 24 → day * 86400 + low * 3600 ≤ s → e ≤ day * 86400 + high * 3600 → NoneBetween c s e
+NoneBetween-hours c day low high s e off within from to k above below = fires-hour c k (off (k % 86400 / 3600) (omega arith) (omega arith))
 
--- nor in them from their beginning on
-pub NoneBetween-date_back : (c : Fields) (e : ℕ) → 0 < e → e % 60 ≡ 0 → date_fires c ((e - 60) / 86400) ≡ false → NoneBetween c ((e - 60) / 86400 * 86400) e
-NoneBetween-date_back c e some whole off k from below =
-    let same : k / 86400 ≡ (e - 60) / 86400 = omega arith in
-    fires-date c k (subst (λ (n : ℕ). date_fires c n ≡ false) (sym same) off)
-
-pub NoneBetween-hour_back : (c : Fields) (e : ℕ) → 0 < e → e % 60 ≡ 0 → has c.hours ((e - 60) % 86400 / 3600) ≡ false → NoneBetween c ((e - 60) / 3600 * 3600) e
-NoneBetween-hour_back c e some whole off k from below =
-    let same : k % 86400 / 3600 ≡ (e - 60) % 86400 / 3600 = omega arith in
-    fires-hour c k (subst (λ (n : ℕ). has c.hours n ≡ false) (sym same) off)
-
-pub NoneBetween-minute_back : (c : Fields) (e : ℕ) → 0 < e → e % 60 ≡ 0 → has c.minutes ((e - 60) % 3600 / 60) ≡ false → NoneBetween c (e - 60) e
-NoneBetween-minute_back c e some whole off k from below =
-    NoneBetween-minute c (e - 60) (omega arith) (fires-minute c (e - 60) off) k from (omega arith)
+-- nor in the minutes of an hour
+pub NoneBetween-minutes : (c : Fields) (hour low high s e : ℕ) → ((k : ℕ) → low ≤ k → k < high → has c.minutes k ≡ false) → high ≤ 60 → hour * 3600 + low * 60 ≤ s → e ≤ hour * 3600 + high * 60 → NoneBetween c s e
+NoneBetween-minutes c hour low high s e off within from to k above below = fires-minute c k (off (k % 3600 / 60) (omega arith) (omega arith))
 
 -- and where all hold it does
 pub fires-all : (c : Fields) (m : ℕ) → m % 60 ≡ 0 → has c.minutes (m % 3600 / 60) ≡ true → has c.hours (m % 86400 / 3600) ≡ true → date_fires c (m / 86400) ≡ true → fires c m ≡ true
 unfolding fires
 fires-all c m whole minute hour date = grind arith
-
-pub ruleset spans = (fires-all, fires-minute, NoneBetween-date, NoneBetween-hour, NoneBetween-minute)
-
-pub ruleset spans_back = (fires-all, NoneBetween-date_back, NoneBetween-hour_back, NoneBetween-minute_back)

@@ -4,7 +4,7 @@
 //! by its spelling: `*/2` restricts it, and `0-6` in the day of the week does not.
 ghost use Rattle.std.specs.Prelude.{◌≡◌, ◌<◌, ◌&&◌};
 ghost use Rattle.moment_core.specs.Moments.{seconds_end, days_end};
-ghost use Rattle.moment_core.specs.Calendar.{minute_of, hour_of};
+ghost use Rattle.moment_core.specs.Calendar.{date_of, minute_of, hour_of};
 ghost use Rattle.cron_timetable.specs.Sets.{has};
 ghost use Rattle.cron_timetable.specs.Fields.{every_day, every_weekday, is_restricted, day_fires, date_fires, fires};
 
@@ -17,11 +17,11 @@ use std::marker::Model;
 /// Contracts see it as a record of five sets, `Fields`. Two expressions are equal where their sets are, whatever their spelling.
 #[derive(Clone, Copy, Debug, PartialEq, Eq)]
 pub struct Cron {
-    minutes: FieldSet,
-    hours: FieldSet,
-    days: FieldSet,
-    months: FieldSet,
-    weekdays: FieldSet,
+    pub(crate) minutes: FieldSet,
+    pub(crate) hours: FieldSet,
+    pub(crate) days: FieldSet,
+    pub(crate) months: FieldSet,
+    pub(crate) weekdays: FieldSet,
 }
 
 impl Model for Cron {
@@ -113,7 +113,15 @@ impl Cron {
         requires { epoch_day < days_end }
         ensures { result ≡ date_fires self.now epoch_day }
     {
-        self.months.has(u32::from(date_at(epoch_day).month)) && self.day_fires(epoch_day)
+        self.month_fires(epoch_day) && self.day_fires(epoch_day)
+    }
+
+    // Whether the month is in its field.
+    pub(crate) fn month_fires(&self, epoch_day: u32) -> bool
+        requires { epoch_day < days_end }
+        ensures { result ≡ has self.now.months (date_of epoch_day).month }
+    {
+        self.months.has(u32::from(date_at(epoch_day).month))
     }
 
     // Whether the day is in its fields.
@@ -133,7 +141,7 @@ impl Cron {
 
     // Whether both day fields are restricted.
     #[tactic(auto, using(crate::proofs::SetLemmas::whole_sets))]
-    fn restricts_both(&self) -> bool
+    pub(crate) fn restricts_both(&self) -> bool
         ensures { result ≡ (is_restricted every_day self.now.days
             && is_restricted every_weekday self.now.weekdays) }
     {

@@ -1,5 +1,5 @@
 //! Sets of numbers below 64, which the fields of a cron expression name.
-ghost use Rattle.std.specs.Prelude.{◌≡◌, ◌<◌, bit_or};
+ghost use Rattle.std.specs.Prelude.{◌≡◌, ℕ, ◌+◌, ◌-◌, ◌<◌, ◌≤◌, true, false, bit_or};
 ghost use Rattle.cron_timetable.specs.Sets.{has};
 ghost use Rattle.cron_timetable.specs.Fields.{is_restricted};
 
@@ -36,6 +36,27 @@ impl FieldSet {
         ensures { result ≡ has self n }
     {
         self.bits >> n & 1 == 1
+    }
+
+    // The least number from `n` on that is in the set, or some number above all where there is none.
+    pub(crate) fn least_from(self, n: u32) -> u32
+        requires { n < 64 }
+        ensures from { n ≤ result }
+        ensures small { result < 128 }
+        ensures none { (k : ℕ) → n ≤ k → k < result → has self k ≡ false }
+        ensures found { result < 64 → has self result ≡ true }
+    {
+        n + (self.bits >> n).trailing_zeros()
+    }
+
+    // One more than the greatest number up to `n` that is in the set, or 0 where there is none.
+    pub(crate) fn past_greatest_to(self, n: u32) -> u32
+        requires { n < 64 }
+        ensures to { result ≤ n + 1 }
+        ensures none { (k : ℕ) → result ≤ k → k ≤ n → has self k ≡ false }
+        ensures found { 0 < result → has self (result - 1) ≡ true }
+    {
+        64 - (self.bits & u64::MAX >> (63 - n)).leading_zeros()
     }
 
     // Whether the set is another one than the whole set of its field.

@@ -11,6 +11,7 @@
 //! ```
 #![tactic(auto)]
 
+mod days;
 mod elements;
 mod expressions;
 mod faults;
@@ -19,6 +20,8 @@ mod fields;
 mod laws;
 mod pieces;
 mod reading;
+#[cfg(test)]
+mod search_tests;
 mod searches;
 #[cfg(test)]
 mod tests;

@@ -1,7 +1,7 @@
 //! The searches for the tick next to a moment.
 //!
-//! They go by day, hour and minute: each turn passes over the rest of a day, an hour or a minute in which nothing fires. So an
-//! expression that never fires is found out in as many turns as there are days.
+//! They jump field by field: each turn passes over the rest of a month, of the days, of the hours or of the minutes in which
+//! nothing fires. So the search for a tick eight years ahead takes about a hundred turns.
 ghost use Rattle.std.specs.Prelude.{◌≡◌, ◌+◌, ◌-◌, ◌%◌, ◌≤◌, ◌<◌, true};
 ghost use Rattle.moment_core.specs.Moments.{seconds_end};
 ghost use Rattle.cron_timetable.specs.Fields.{fires};
@@ -15,15 +15,8 @@ impl Cron {
     pub fn next_at_or_after(&self, from: Moment) -> Option<Moment>
         ensures { IsNextTick self.now from result }
     {
-        let mut secs = from.secs().div_ceil(60) * 60;
-        while secs < END {
-            let next = self.skip(secs);
-            if next == secs {
-                return Some(Moment::at(secs));
-            }
-            secs = next;
-        }
-        None
+        let (tick, _turns) = self.search(from);
+        tick
     }
 
     /// The least tick after `from`, or `None` where there is none before 2200.
@@ -49,60 +42,91 @@ impl Cron {
     pub fn last_before(&self, from: Moment) -> Option<Moment>
         ensures { IsLastTick self.now from result }
     {
+        let (tick, _turns) = self.search_back(from);
+        tick
+    }
+
+    // The least tick at or after `from`, and the number of turns of the search.
+    pub(crate) fn search(&self, from: Moment) -> (Option<Moment>, u64)
+        ensures { IsNextTick self.now from result.0 }
+    {
+        let mut secs = from.secs().div_ceil(60) * 60;
+        let mut turns = 0;
+        while secs < END {
+            turns += 1;
+            let next = self.jump(secs);
+            if next == secs {
+                return (Some(Moment::at(secs)), turns);
+            }
+            secs = next;
+        }
+        (None, turns)
+    }
+
+    // The greatest tick before `from`, and the number of turns of the search.
+    pub(crate) fn search_back(&self, from: Moment) -> (Option<Moment>, u64)
+        ensures { IsLastTick self.now from result.0 }
+    {
         let mut end = from.secs().div_ceil(60) * 60;
+        let mut turns = 0;
         while end > 0 {
-            let before = self.skip_back(end);
+            turns += 1;
+            let before = self.jump_back(end);
             if before == end {
-                return Some(Moment::at(end - 60));
+                return (Some(Moment::at(end - 60)), turns);
             }
             end = before;
         }
-        None
+        (None, turns)
     }
 
-    // The second up to which nothing fires from `secs` on, at most a day later; `secs` itself where it fires.
-    #[tactic(auto, using(crate::proofs::TickLemmas::spans))]
-    pub(crate) fn skip(&self, secs: u64) -> u64
+    // The second before which nothing fires from `secs` on, at most a month later; `secs` itself where it fires.
+    fn jump(&self, secs: u64) -> u64
         requires in_range { secs < seconds_end }
         requires whole { secs % 60 ≡ 0 }
         ensures ahead { secs ≤ result }
-        ensures near { result ≤ secs + 86400 }
         ensures whole { result % 60 ≡ 0 }
         ensures none { NoneBetween self.now secs result }
         ensures stays { result ≡ secs → fires self.now secs ≡ true }
     {
-        if !self.date_fires((secs / 86_400) as u32) {
-            (secs / 86_400 + 1) * 86_400
-        } else if !self.hour_fires(secs) {
-            (secs / 3_600 + 1) * 3_600
-        } else if !self.minute_fires(secs) {
-            secs + 60
-        } else {
-            secs
+        let day = (secs / 86_400) as u32;
+        let next_day = self.jump_days(day);
+        if next_day > day {
+            return u64::from(next_day) * 86_400;
         }
+        let hour = (secs % 86_400 / 3_600) as u32;
+        let next_hour = self.hours.least_from(hour).min(24);
+        if next_hour > hour {
+            return secs / 86_400 * 86_400 + u64::from(next_hour) * 3_600;
+        }
+        let minute = (secs % 3_600 / 60) as u32;
+        let next_minute = self.minutes.least_from(minute).min(60);
+        secs / 3_600 * 3_600 + u64::from(next_minute) * 60
     }
 
-    // The second from which on nothing fires before `end`, at most a day earlier; `end` itself where the minute before it fires.
-    #[tactic(auto, using(crate::proofs::TickLemmas::spans_back))]
-    fn skip_back(&self, end: u64) -> u64
+    // The second from which on nothing fires before `end`, at most a month earlier; `end` itself where the minute before it fires.
+    fn jump_back(&self, end: u64) -> u64
         requires some { 0 < end }
         requires in_range { end ≤ seconds_end }
         requires whole { end % 60 ≡ 0 }
         ensures behind { result ≤ end }
-        ensures near { end ≤ result + 86400 }
         ensures whole { result % 60 ≡ 0 }
         ensures none { NoneBetween self.now result end }
         ensures stays { result ≡ end → fires self.now (end - 60) ≡ true }
     {
         let secs = end - 60;
-        if !self.date_fires((secs / 86_400) as u32) {
-            secs / 86_400 * 86_400
-        } else if !self.hour_fires(secs) {
-            secs / 3_600 * 3_600
-        } else if !self.minute_fires(secs) {
-            secs
-        } else {
-            end
+        let day = (secs / 86_400) as u32;
+        let end_day = self.jump_days_back(day);
+        if end_day <= day {
+            return u64::from(end_day) * 86_400;
         }
+        let hour = (secs % 86_400 / 3_600) as u32;
+        let end_hour = self.hours.past_greatest_to(hour);
+        if end_hour <= hour {
+            return secs / 86_400 * 86_400 + u64::from(end_hour) * 3_600;
+        }
+        let minute = (secs % 3_600 / 60) as u32;
+        let end_minute = self.minutes.past_greatest_to(minute);
+        secs / 3_600 * 3_600 + u64::from(end_minute) * 60
     }
 }

@@ -1,5 +1,4 @@
 use super::*;
-use crate::reading::fields;
 use moment_core::Moment;
 use std::process::Abort;
 use std::test::Fail;
@@ -383,14 +382,4 @@ fn answers_the_first_fault(rt: HostRuntime) {
     for (text, fault) in rows {
         assert_eq!(rt; Cron::read(text), Err(fault), "{text}");
     }
-}
-
-// The search of an expression that never fires passes over a day at each turn.
-#[test]
-fn passes_over_a_day_without_ticks(rt: HostRuntime) -> Result<(), Fail> {
-    let never = fields(b"* * 31 4 *").map_err(|_| "refused")?;
-    for day in 0..84_006 {
-        assert_eq!(rt; never.skip(day * 86_400), (day + 1) * 86_400);
-    }
-    Ok(())
 }

@@ -1,6 +1,6 @@
 use Rattle.std.proofs.Common.{◌≡◌, ◌+◌, ◌%◌, ◌≤◌}
 use Rattle.cron_timetable.specs.Ticks.{NoneBetween}
-use Rattle.cron_timetable.proofs.expressions.Cron.last_before.Given as goal
+use Rattle.cron_timetable.proofs.expressions.Cron.search_back.Given as goal
 
 abbrev pub invariant-loop-end : goal.invariant-loop-end
 invariant-loop-end l = record {
@@ -8,6 +8,7 @@ invariant-loop-end l = record {
   within : l.end ≤ l.fn.from + 59;
   in_range : l.end ≤ 7258118400;
   none : NoneBetween l.self l.end l.fn.from;
+  counted : l.turns + l.end ≤ 7258118400;
 }
 
 abbrev pub decreases-loop-end : goal.decreases-loop-end

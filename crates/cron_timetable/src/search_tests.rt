@@ -1,0 +1,176 @@
+//! The searches beside a plain walk by minutes, and the number of their turns.
+ghost use Rattle.std.specs.Prelude.{◌<◌};
+
+use crate::Cron;
+use crate::field_sets::FieldSet;
+use moment_core::{END, Moment};
+use std::process::Abort;
+use std::test::Fail;
+
+// How far the plain walk goes: sixty days, over the end of two months.
+const WALKED: u64 = 60 * 86_400;
+
+// The first tick from the first second on to before the last one, minute by minute.
+fn walk(cron: &Cron, first: u64, last: u64) -> Option<Moment> {
+    for minute in first.div_ceil(60)..last.div_ceil(60) {
+        let at = Moment::at(0).checked_plus(minute * 60)?;
+        if cron.fires(at) {
+            return Some(at);
+        }
+    }
+    None
+}
+
+// The last such tick.
+fn walk_back(cron: &Cron, first: u64, last: u64) -> Option<Moment> {
+    for minute in (first.div_ceil(60)..last.div_ceil(60)).rev() {
+        let at = Moment::at(0).checked_plus(minute * 60)?;
+        if cron.fires(at) {
+            return Some(at);
+        }
+    }
+    None
+}
+
+// Asserts that the searches find what the walk finds, as far as it goes.
+fn assert_walked(rt: &impl Abort, text: &str, at: Moment) -> Result<(), Fail> {
+    let cron = Cron::read(text).map_err(|_| "refused")?;
+    let secs = at.secs();
+    let end = (secs + WALKED).min(END);
+    let start = secs.saturating_sub(WALKED);
+    let before_end = |tick: &Moment| tick.secs() < end;
+    let from_start = |tick: &Moment| tick.secs() >= start;
+    assert_eq!(rt;
+        cron.next_at_or_after(at).filter(before_end),
+        walk(&cron, secs, end),
+        "{text} {secs}"
+    );
+    assert_eq!(rt;
+        cron.next_after(at).filter(before_end),
+        walk(&cron, secs + 1, end),
+        "{text} {secs}"
+    );
+    assert_eq!(rt;
+        cron.last_at_or_before(at).filter(from_start),
+        walk_back(&cron, start, secs + 1),
+        "{text} {secs}"
+    );
+    assert_eq!(rt;
+        cron.last_before(at).filter(from_start),
+        walk_back(&cron, start, secs),
+        "{text} {secs}"
+    );
+    Ok(())
+}
+
+#[test]
+fn finds_what_a_plain_walk_finds(rt: HostRuntime) -> Result<(), Fail> {
+    let texts = [
+        "* * * * *",
+        "*/7 * * * *",
+        "59 23 * * *",
+        "0 0 31 * *",
+        "30 4 1,15 * 5",
+        "0 0 13 * 5",
+        "0 12 29 2 *",
+        "5 4 * * SUN",
+        "0 12 * 1-3,11 MON-FRI",
+        "0 0 */2 * TUE",
+        "7 9-17/4 28-31 * *",
+        "0 22 30 4,6,9,11 6",
+    ];
+    let moments = [
+        "1970-01-01",
+        "1970-01-31T23:59:59Z",
+        "2024-02-28T23:59:30Z",
+        "2023-12-31T23:00:00Z",
+        "2100-02-28T12:34:56Z",
+        "2199-12-31T23:59:59Z",
+    ];
+    for text in texts {
+        for moment in moments {
+            let at = Moment::read(moment).map_err(|_| "no moment")?;
+            assert_walked(&rt, text, at)?;
+        }
+    }
+    Ok(())
+}
+
+#[test]
+fn finds_a_leap_day_in_few_turns(rt: HostRuntime) -> Result<(), Fail> {
+    let cron = Cron::read("0 0 29 2 *").map_err(|_| "refused")?;
+    let march = Moment::read("2096-03-01").map_err(|_| "no moment")?;
+    let leap_day = Moment::read("2104-02-29").map_err(|_| "no moment")?;
+    let (next, turns) = cron.search(march);
+    assert_eq!(rt; next, Some(leap_day));
+    assert!(rt; turns < 200, "{turns}");
+    let (last, turns) = cron.search_back(leap_day);
+    assert_eq!(rt; last, Moment::read("2096-02-29").ok());
+    assert!(rt; turns < 200, "{turns}");
+    Ok(())
+}
+
+// The ticks of a date and of the Sundays of its month, through the whole range.
+const TICKS: u32 = 230 * 6;
+
+// The greatest number of turns from one tick to the next.
+fn most_turns(cron: &Cron) -> u64 {
+    let mut from = Moment::at(0);
+    let mut most = 0;
+    for _tick in 0..TICKS {
+        let (tick, turns) = cron.search(from);
+        most = most.max(turns);
+        let Some(after) = tick.and_then(|tick| tick.checked_plus(60)) else {
+            return most;
+        };
+        from = after;
+    }
+    most
+}
+
+// The greatest number of turns from one tick to the one before.
+fn most_turns_back(cron: &Cron) -> u64 {
+    let mut from = Moment::at(END - 1);
+    let mut most = 0;
+    for _tick in 0..TICKS {
+        let (tick, turns) = cron.search_back(from);
+        most = most.max(turns);
+        let Some(before) = tick else {
+            return most;
+        };
+        from = before;
+    }
+    most
+}
+
+// One minute of a date, or of the weekdays too.
+fn date(month: u32, day: u32, weekdays: u64) -> Cron
+    requires month { month < 64 }
+    requires day { day < 64 }
+{
+    Cron::of_sets(
+        FieldSet::of_bits(1 << 58),
+        FieldSet::of_bits(1 << 23),
+        FieldSet::of_bits(1 << day),
+        FieldSet::of_bits(1 << month),
+        FieldSet::of_bits(weekdays),
+    )
+}
+
+// Every date of a year, alone and with the Sundays of its month. The 30th of February never comes.
+#[test]
+fn takes_few_turns_through_the_whole_range(rt: HostRuntime) {
+    for month in 1..=12 {
+        for day in 1..=31 {
+            for weekdays in [0x7f, 1] {
+                let cron = date(month, day, weekdays);
+                let most = most_turns(&cron).max(most_turns_back(&cron));
+                let fires = cron.next_at_or_after(Moment::at(0)).is_some();
+                assert!(rt;
+                    most < if fires { 200 } else { 3_000 },
+                    "{month} {day} {weekdays}: {most}"
+                );
+            }
+        }
+    }
+}
