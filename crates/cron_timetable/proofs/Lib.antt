@@ -1,4 +1,5 @@
 pub mod JumpLemmas
+pub mod MonthLemmas
 pub mod NumberLemmas
 pub mod SetLemmas
 pub mod TickLemmas

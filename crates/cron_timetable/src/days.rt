@@ -1,45 +1,77 @@
-//! Jumps over the days that an expression leaves out: to the end of a month, or to a day that the month or the week names.
+//! Jumps over the days that an expression leaves out: over whole months, or to a day that the month or the week names.
 //!
 //! Easy to get wrong: where one of the day fields is enough the nearer day of the two counts, else the farther one.
 ghost use Rattle.std.specs.Prelude.{◌≡◌, ℕ, ◌+◌, ◌-◌, ◌≤◌, ◌<◌, true, false};
 ghost use Rattle.moment_core.specs.Moments.{days_end};
 ghost use Rattle.moment_core.specs.Calendar.{date_of};
+ghost use Rattle.cron_timetable.specs.Sets.{has};
 ghost use Rattle.cron_timetable.specs.Fields.{day_fires, date_fires};
 
 use crate::Cron;
-use moment_core::{date_at, month_end, month_start};
+use moment_core::{END, date_at, month_end, month_start};
+
+// The last day of the range, and the days that each month has at least.
+const LAST_DAY: u32 = ((END - 1) / 86_400) as u32;
+
+const SHORTEST_MONTH: u32 = 28;
 
 impl Cron {
-    // The day before which no day from `epoch_day` on has the month and the day, at most a month later; `epoch_day` itself where it has.
+    // The day before which no day from `epoch_day` on has the month and the day, at most a year later; `epoch_day` itself where it has.
     pub(crate) fn jump_days(&self, epoch_day: u32) -> u32
         requires { epoch_day < days_end }
         ensures ahead { epoch_day ≤ result }
         ensures none { (k : ℕ) → epoch_day ≤ k → k < result → date_fires self.now k ≡ false }
         ensures stays { result ≡ epoch_day → date_fires self.now epoch_day ≡ true }
     {
-        let next_month = month_end(epoch_day) + 1;
-        if self.month_fires(epoch_day) {
-            (epoch_day + self.days_ahead(epoch_day)).min(next_month)
-        } else {
-            next_month
+        let months = self.months_ahead(epoch_day);
+        if months == 0 {
+            return (epoch_day + self.days_ahead(epoch_day)).min(month_end(epoch_day) + 1);
         }
+        // So many days on it is one of these months still.
+        let within = epoch_day + SHORTEST_MONTH * (months - 1);
+        month_end(within.min(LAST_DAY)) + 1
     }
 
-    // The day from which on no day up to `epoch_day` has the month and the day, at most a month earlier; the day after it where it has.
+    // The day from which on no day up to `epoch_day` has the month and the day, at most a year earlier; the day after it where it has.
     pub(crate) fn jump_days_back(&self, epoch_day: u32) -> u32
         requires { epoch_day < days_end }
         ensures behind { result ≤ epoch_day + 1 }
         ensures none { (k : ℕ) → result ≤ k → k ≤ epoch_day → date_fires self.now k ≡ false }
         ensures stays { result ≡ epoch_day + 1 → date_fires self.now epoch_day ≡ true }
     {
-        let first = month_start(epoch_day);
-        if self.month_fires(epoch_day) {
-            (epoch_day + 1)
+        let months = self.months_back(epoch_day);
+        if months == 0 {
+            let first = month_start(epoch_day);
+            return (epoch_day + 1)
                 .saturating_sub(self.days_back(epoch_day))
-                .max(first)
-        } else {
-            first
+                .max(first);
         }
+        month_start(epoch_day.saturating_sub(SHORTEST_MONTH * (months - 1)))
+    }
+
+    // How many months from that of `epoch_day` on are not in the field, within its year.
+    fn months_ahead(&self, epoch_day: u32) -> u32
+        requires { epoch_day < days_end }
+        ensures few { (date_of epoch_day).month + result ≤ 13 }
+        ensures none { (k : ℕ) → (date_of epoch_day).month ≤ k → k < (date_of epoch_day).month + result →
+            has self.now.months k ≡ false }
+        ensures stays { result ≡ 0 → has self.now.months (date_of epoch_day).month ≡ true }
+    {
+        let month = u32::from(date_at(epoch_day).month);
+        self.months.least_from(month).min(13) - month
+    }
+
+    // How many months up to that of `epoch_day` are not in the field, within its year.
+    fn months_back(&self, epoch_day: u32) -> u32
+        requires { epoch_day < days_end }
+        ensures few { result ≤ 12 }
+        ensures within { result ≤ (date_of epoch_day).month }
+        ensures none { (k : ℕ) → k ≤ (date_of epoch_day).month → (date_of epoch_day).month < k + result →
+            has self.now.months k ≡ false }
+        ensures stays { result ≡ 0 → has self.now.months (date_of epoch_day).month ≡ true }
+    {
+        let month = u32::from(date_at(epoch_day).month);
+        month + 1 - self.months.past_greatest_to(month).max(1)
     }
 
     // How many days from `epoch_day` on are not in the day fields, within its month and its week.

@@ -4,7 +4,7 @@
 //! by its spelling: `*/2` restricts it, and `0-6` in the day of the week does not.
 ghost use Rattle.std.specs.Prelude.{◌≡◌, ◌<◌, ◌&&◌};
 ghost use Rattle.moment_core.specs.Moments.{seconds_end, days_end};
-ghost use Rattle.moment_core.specs.Calendar.{date_of, minute_of, hour_of};
+ghost use Rattle.moment_core.specs.Calendar.{minute_of, hour_of};
 ghost use Rattle.cron_timetable.specs.Sets.{has};
 ghost use Rattle.cron_timetable.specs.Fields.{every_day, every_weekday, is_restricted, day_fires, date_fires, fires};
 
@@ -113,15 +113,7 @@ impl Cron {
         requires { epoch_day < days_end }
         ensures { result ≡ date_fires self.now epoch_day }
     {
-        self.month_fires(epoch_day) && self.day_fires(epoch_day)
-    }
-
-    // Whether the month is in its field.
-    pub(crate) fn month_fires(&self, epoch_day: u32) -> bool
-        requires { epoch_day < days_end }
-        ensures { result ≡ has self.now.months (date_of epoch_day).month }
-    {
-        self.months.has(u32::from(date_at(epoch_day).month))
+        self.months.has(u32::from(date_at(epoch_day).month)) && self.day_fires(epoch_day)
     }
 
     // Whether the day is in its fields.

@@ -1,19 +1,19 @@
-use Rattle.std.proofs.Common.{◌∙◌, arith, sym, ap}
-use Rattle.cron_timetable.specs.Sets.{has}
-use Rattle.cron_timetable.proofs.JumpLemmas.{later_in_month, date_fires-no_month, date_fires-no_day, date_fires-both}
+use Rattle.std.proofs.Common.{arith}
+use Rattle.cron_timetable.proofs.JumpLemmas.{later_in_month, date_fires-no_day, date_fires-both}
+use Rattle.cron_timetable.proofs.MonthLemmas.{none_ahead}
 use Rattle.cron_timetable.proofs.expressions.Cron.jump_days.Goals as goal
 
-pub returns-then-month_fires-clause-none : goal.returns-then-month_fires-clause-none
-returns-then-month_fires-clause-none c k from below =
-    let turn = later_in_month _ _ k c.month_end-next_month.ensures.last from (omega arith) in
+pub returns-then-months-eq0-clause-none : goal.returns-then-months-eq0-clause-none
+returns-then-months-eq0-clause-none c k from below =
+    let turn = later_in_month _ _ k c.month_end.ensures.last from (omega arith) in
     date_fires-no_day _ k (c.days_ahead.ensures.none k from (omega arith) turn)
 
-pub returns-then-month_fires-clause-stays : goal.returns-then-month_fires-clause-stays
-returns-then-month_fires-clause-stays c here =
-    let after = c.month_end-next_month.ensures.last.after in
-    date_fires-both _ _ (sym c.month_fires.ensures ∙ c.if-month_fires.true) (c.days_ahead.ensures.stays (omega arith))
+pub returns-then-months-eq0-clause-stays : goal.returns-then-months-eq0-clause-stays
+returns-then-months-eq0-clause-stays c here =
+    let after = c.month_end.ensures.last.after in
+    date_fires-both _ _ (c.months_ahead-months.ensures.stays c.if-months-eq0.true) (c.days_ahead.ensures.stays (omega arith))
 
-pub returns-else-month_fires-clause-none : goal.returns-else-month_fires-clause-none
-returns-else-month_fires-clause-none c k from below =
-    let same = c.month_end-next_month.ensures.last.within k from (omega arith) in
-    date_fires-no_month _ k (ap (has c.args.self.now.months) same.month ∙ (sym c.month_fires.ensures ∙ c.if-month_fires.false))
+pub returns-clause-none : goal.returns-clause-none
+returns-clause-none c k from below =
+    none_ahead _ _ c.months_ahead-months.result c.min-2.result _ (omega arith) c.months_ahead-months.ensures.few c.months_ahead-months.ensures.none
+    (omega arith) (omega arith) c.month_end-2.ensures.last k from (omega arith)
