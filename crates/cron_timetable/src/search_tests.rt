@@ -3,6 +3,7 @@ ghost use Rattle.std.specs.Prelude.{◌<◌};
 
 use crate::Cron;
 use crate::field_sets::FieldSet;
+use crate::reading::fields;
 use moment_core::{END, Moment};
 use std::process::Abort;
 use std::test::Fail;
@@ -103,10 +104,10 @@ fn finds_a_leap_day_in_few_turns(rt: HostRuntime) -> Result<(), Fail> {
     let leap_day = Moment::read("2104-02-29").map_err(|_| "no moment")?;
     let (next, turns) = cron.search(march);
     assert_eq!(rt; next, Some(leap_day));
-    assert!(rt; turns < 200, "{turns}");
+    assert!(rt; turns < 30, "{turns}");
     let (last, turns) = cron.search_back(leap_day);
     assert_eq!(rt; last, Moment::read("2096-02-29").ok());
-    assert!(rt; turns < 200, "{turns}");
+    assert!(rt; turns < 30, "{turns}");
     Ok(())
 }
 
@@ -167,10 +168,20 @@ fn takes_few_turns_through_the_whole_range(rt: HostRuntime) {
                 let most = most_turns(&cron).max(most_turns_back(&cron));
                 let fires = cron.next_at_or_after(Moment::at(0)).is_some();
                 assert!(rt;
-                    most < if fires { 200 } else { 3_000 },
+                    most < if fires { 30 } else { 1_000 },
                     "{month} {day} {weekdays}: {most}"
                 );
             }
         }
     }
+}
+
+// The months without a 31st are passed one by one.
+#[test]
+fn finds_out_that_nothing_fires(rt: HostRuntime) -> Result<(), Fail> {
+    let never = fields(b"0 0 31 2,4,6,9,11 *").map_err(|_| "refused")?;
+    let (tick, turns) = never.search(Moment::at(0));
+    assert_eq!(rt; tick, None);
+    assert!(rt; turns < 3_000, "{turns}");
+    Ok(())
 }

@@ -1,7 +1,7 @@
 //! The searches for the tick next to a moment.
 //!
-//! They jump field by field: each turn passes over the rest of a month, of the days, of the hours or of the minutes in which
-//! nothing fires. So the search for a tick eight years ahead takes about a hundred turns.
+//! They jump field by field: each turn passes over the months, the days, the hours or the minutes that no field names, up to the
+//! next one that is named. So a search for a leap day eight years ahead takes some twenty turns.
 ghost use Rattle.std.specs.Prelude.{◌≡◌, ◌+◌, ◌-◌, ◌%◌, ◌≤◌, ◌<◌, true};
 ghost use Rattle.moment_core.specs.Moments.{seconds_end};
 ghost use Rattle.cron_timetable.specs.Fields.{fires};
@@ -80,7 +80,7 @@ impl Cron {
         (None, turns)
     }
 
-    // The second before which nothing fires from `secs` on, at most a month later; `secs` itself where it fires.
+    // The second before which nothing fires from `secs` on, at most a year later; `secs` itself where it fires.
     fn jump(&self, secs: u64) -> u64
         requires in_range { secs < seconds_end }
         requires whole { secs % 60 ≡ 0 }
@@ -104,7 +104,7 @@ impl Cron {
         secs / 3_600 * 3_600 + u64::from(next_minute) * 60
     }
 
-    // The second from which on nothing fires before `end`, at most a month earlier; `end` itself where the minute before it fires.
+    // The second from which on nothing fires before `end`, at most a year earlier; `end` itself where the minute before it fires.
     fn jump_back(&self, end: u64) -> u64
         requires some { 0 < end }
         requires in_range { end ≤ seconds_end }

@@ -1,4 +1,5 @@
-use Rattle.std.proofs.Common.{arith}
+use Rattle.std.proofs.Common.{◌+◌, ◌-◌, ◌*◌, ◌≤◌, ◌⊎◌, inl, inr, arith}
+use Rattle.std.proofs.lemmas.Bool.{cases_lt}
 use Rattle.cron_timetable.proofs.JumpLemmas.{earlier_in_month, date_fires-no_day, date_fires-both}
 use Rattle.cron_timetable.proofs.MonthLemmas.{none_back}
 use Rattle.cron_timetable.proofs.expressions.Cron.jump_days_back.Goals as goal
@@ -15,5 +16,10 @@ returns-then-months-eq0-clause-stays c here =
 
 pub returns-clause-none : goal.returns-clause-none
 returns-clause-none c k from to =
-    none_back _ _ c.months_back-months.result c.saturating_sub-2.result _ (omega arith) c.months_back-months.ensures.within c.months_back-months.ensures.none
-    (omega arith) (omega arith) c.month_start.ensures k from to
+    let end = c.month_end.result in
+    let within = c.min.result in
+    let months = c.months_back-months.result in
+    let near : (c.args.epoch_day ≤ within) ⊎ (end ≤ within + 31 * (months - 1)) =
+    elim (cases_lt within c.args.epoch_day) [ inl earlier ↦ inr (omega arith) | inr same ↦ inl (omega arith) ] in
+    none_back _ _ months end within _ (omega arith) c.months_back-months.ensures.few c.months_back-months.ensures.none c.month_end.ensures.last (omega arith) near
+    c.month_start.ensures k from to
