@@ -4,3 +4,4 @@ pub mod KeyLemmas
 pub mod ScheduleLemmas
 pub mod FaultLemmas
 pub mod StatusLemmas
+pub mod WriteLemmas

@@ -10,3 +10,4 @@ pub mod Classes
 pub mod TaskLists
 pub mod Faults
 pub mod Graphs
+pub mod Lending

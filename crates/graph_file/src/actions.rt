@@ -29,6 +29,13 @@ impl Argument {
         Ok(Argument { text })
     }
 
+    /// An equal argument.
+    pub fn copy(&self, alloc: Global) -> Result<Argument, AllocError>
+        ensures { IfOk result (λ argument. argument ≡ self.now) }
+    {
+        Argument::new(alloc, self.as_str())
+    }
+
     /// The text.
     pub fn as_str(&self) -> &str
         ensures { result.now ≡ self.now }
@@ -65,6 +72,17 @@ impl Action {
         ensures { result ≡ record { operator = operator; argv = argv } }
     {
         Action { operator, argv }
+    }
+
+    /// An equal operator with equal arguments.
+    pub fn copy(&self, alloc: Global) -> Result<Action, AllocError>
+        ensures { IfOk result (λ action. action ≡ self.now) }
+    {
+        let mut argv = Vec::new(alloc);
+        for argument in self.argv() {
+            argv.push(argument.copy(alloc)?)?;
+        }
+        Ok(Action::new(self.operator, Sequence::new(argv)))
     }
 
     /// The operator.

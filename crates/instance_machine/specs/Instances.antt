@@ -1,5 +1,5 @@
 -- A task instance as contracts see it.
-use Rattle.std.specs.Prelude.{ℕ, ◌-◌, List, [], length, drop, slice_get, slice_set, Option, None}
+use Rattle.std.specs.Prelude.{ℕ, ◌-◌, List, [], length, map, drop, slice_get, slice_set, Option, None}
 use Rattle.trigger_rules.specs.declared.verdicts.Verdict.{Verdict}
 use Rattle.instance_machine.specs.declared.tries.Try.{Try}
 
@@ -23,3 +23,7 @@ last_of xs = slice_get xs (length xs - 1)
 -- the list with its last element changed
 abbrev pub with_last : {X : Type 0} → X → List X → List X
 with_last x xs = slice_set xs (length xs - 1) x
+
+-- every try is changed
+abbrev pub map_tries : (Try → Try) → Held → Held
+map_tries f i = record i { tries = map f i.tries }

@@ -1,5 +1,5 @@
 -- What a report does to an instance.
-use Rattle.std.specs.Prelude.{◌≡◌, ℕ, Option, Some, None, Result, Ok, Err, option_and_then}
+use Rattle.std.specs.Prelude.{◌≡◌, ℕ, ◌==◌, if◌then◌else◌, Option, Some, None, Result, Ok, Err, option_and_then, unwrap_or}
 use Rattle.instance_machine.specs.Instances.{Held, last_of, with_last}
 use Rattle.instance_machine.specs.declared.reports.ReportFault.{ReportFault}
 use Rattle.instance_machine.specs.declared.reports.ReportFault.TheVariants.{OutOfTurn}
@@ -32,3 +32,15 @@ taken None old new result = (result ≡ Err OutOfTurn) × (new ≡ old)
 
 abbrev pub reported : Stage → ℕ → Held → Held → Result (Unit {0}) ReportFault → Type 0
 reported stage now old new result = taken (option_and_then (report_try stage now) (last_of old.tries)) old new result
+
+-- the try with the serial takes a report in, where it is its turn
+abbrev pub reported_try : ℕ → Stage → ℕ → Try → Try
+reported_try serial stage now t = if t.serial == serial then unwrap_or (report_try stage now t) t else t
+
+-- a try without an end is lost
+abbrev pub lost_if : ℕ → Option End → Try → Try
+lost_if now None t = record t { ended = Some (record { moment = now; outcome = Lost }) }
+lost_if now (Some e) t = t
+
+abbrev pub lost_try : ℕ → Try → Try
+lost_try now t = lost_if now t.ended t

@@ -1,10 +1,13 @@
 //! A task instance, and what is done to it.
-ghost use Rattle.std.specs.Prelude.{◌≡◌, ◌≢◌, [], ◌∷◌, ◌++◌, length, None, Some, IfOk, OnOk, OnErr};
+ghost use Rattle.std.specs.Prelude.{◌≡◌, ◌≢◌, [], ◌∷◌, ◌++◌, length, map, None, Some, IfOk, OnOk, OnErr};
 ghost use Rattle.trigger_rules.specs.declared.verdicts.Verdict.TheVariants.{Wait};
-ghost use Rattle.instance_machine.specs.Instances.{new_instance, with_last, last_of, recent};
+ghost use Rattle.instance_machine.specs.Instances.{new_instance, with_last, last_of, recent, map_tries};
+ghost use Rattle.instance_machine.specs.Reports.{reported_try, lost_try};
 
-use crate::tries::Try;
+use crate::reports::{lost_try, reported_try};
+use crate::tries::{Stage, Try};
 use graph_file::Bounded;
+use moment_core::Moment;
 use std::alloc::{AllocError, Global};
 use std::marker::Model;
 use trigger_rules::Verdict;
@@ -39,6 +42,21 @@ impl Instance {
             since: 0,
             tries: Vec::new(alloc),
         }
+    }
+
+    /// An equal instance.
+    pub fn copy(&self, alloc: Global) -> Result<Instance, AllocError>
+        ensures { IfOk result (λ instance. instance ≡ self.now) }
+    {
+        let mut tries = Vec::with_capacity(alloc, self.tries.len())?;
+        for one in self.tries() {
+            tries.push(*one)?;
+        }
+        Ok(Instance {
+            verdict: self.verdict,
+            since: self.since,
+            tries,
+        })
     }
 
     /// What its rule decided, if it has since the last clearing; never `Wait`.
@@ -92,6 +110,20 @@ impl Instance {
         self.since = self.tries.len();
     }
 
+    /// The try with this serial takes in what a worker reports of it, where it is its turn; nothing else changes.
+    pub fn report(&mut self, serial: u64, stage: Stage, now: Moment)
+        ensures { self.new ≡ map_tries (reported_try serial stage now) self.old }
+    {
+        report_all(&mut self.tries, serial, stage, now);
+    }
+
+    /// The scheduler is restarted: each open try is lost (Airflow 2, "Tasks": zombie tasks).
+    pub fn lose(&mut self, now: Moment)
+        ensures { self.new ≡ map_tries (lost_try now) self.old }
+    {
+        lose_all(&mut self.tries, now);
+    }
+
     // Its last try is changed, if it has one.
     pub(crate) fn set_last(&mut self, last: Try)
         ensures { self.new ≡ record self.old { tries = with_last last self.old.tries } }
@@ -119,5 +151,23 @@ impl Instance {
         ensures { result ≡ length (recent self.now) }
     {
         self.tries.len() - self.since
+    }
+}
+
+// The try with this serial takes the report in.
+fn report_all(tries: &mut Vec<Try>, serial: u64, stage: Stage, now: Moment)
+    ensures { tries.new.items ≡ map (reported_try serial stage now) tries.old.items }
+{
+    for at in 0..tries.len() {
+        tries[at] = reported_try(&tries[at], serial, stage, now);
+    }
+}
+
+// Each open try is lost.
+fn lose_all(tries: &mut Vec<Try>, now: Moment)
+    ensures { tries.new.items ≡ map (lost_try now) tries.old.items }
+{
+    for at in 0..tries.len() {
+        tries[at] = lost_try(tries[at], now);
     }
 }

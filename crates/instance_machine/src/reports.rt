@@ -1,5 +1,6 @@
 //! Reports of workers.
 ghost use Rattle.std.specs.Prelude.{◌≡◌};
+ghost use Rattle.instance_machine.specs.Reports as spec;
 ghost use Rattle.instance_machine.specs.Reports.{reported, report_try};
 
 use crate::instances::Instance;
@@ -45,5 +46,33 @@ fn after_report(last: Try, stage: Stage, now: Moment) -> Option<Try>
             ..last
         }),
         _ => None,
+    }
+}
+
+// The try after a report of the one with this serial.
+pub fn reported_try(old: &Try, serial: u64, stage: Stage, now: Moment) -> Try
+    ensures { result ≡ spec.reported_try serial stage now old.now }
+{
+    if old.serial == serial {
+        if let Some(new) = after_report(*old, stage, now) {
+            return new;
+        }
+    }
+    *old
+}
+
+// The try after a restart at this moment.
+pub fn lost_try(old: Try, now: Moment) -> Try
+    ensures { result ≡ spec.lost_try now old }
+{
+    match old.ended {
+        Some(_) => old,
+        None => Try {
+            ended: Some(End {
+                moment: now,
+                outcome: Outcome::Lost,
+            }),
+            ..old
+        },
     }
 }

@@ -6,7 +6,7 @@ ghost use Rattle.sched_state.specs.Schedule.{dates_of};
 ghost use Rattle.sched_state.specs.NamedRuns.{scheduled_run, named_of, leaves_some};
 
 use cron_timetable::Interval;
-use graph_file::Name;
+use graph_file::{Name, Sequence};
 use moment_core::Moment;
 use run_planner::{RunIndex, due};
 use sched_state::{Graph, Kind, Phase, Run};
@@ -48,6 +48,7 @@ fn runs_for(alloc: Global, id: &Name, intervals: &[Interval]) -> Result<Vec<Run>
             interval: *interval,
             kind: Kind::Scheduled,
             phase: Phase::Queued,
+            instances: Sequence::new(Vec::new(alloc)),
         })?;
     }
     Ok(runs)

@@ -15,7 +15,8 @@ use Rattle.sched_state.specs.declared.runs.Phase.TheVariants as phase
 use Rattle.sched_state.proofs.OrderLemmas.{and_left, and_right, not_false, then_total, on_total, nat_tie, tie_then, all_insert, any_insert}
 use Rattle.sched_state.proofs.SoundLemmas.{or_assoc}
 use Rattle.sched_model.specs.Lists.{all_pairs, rises}
-use Rattle.sched_model.specs.Schedule.{Schedule, Run, dag_among, graph_named, has_run_at, is_at, run_before}
+use Rattle.sched_model.specs.Schedule.{Schedule, dag_among, graph_named, has_run_at, is_at, run_before}
+use Rattle.sched_state.specs.declared.runs.Run.{Run}
 use Rattle.sched_model.specs.NamedRuns.{Named, is_for, queued_run, insert_runs, add_runs}
 use Rattle.sched_model.specs.Causes.{is_full_with}
 use Rattle.sched_model.specs.Sound.{IsSound, is_sound_in, is_sound_instance, is_sound_run, is_new, are_new, is_used, serials_of}

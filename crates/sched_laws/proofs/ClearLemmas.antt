@@ -9,7 +9,8 @@ use Rattle.sched_state.specs.declared.runs.Phase.{Phase}
 use Rattle.sched_state.specs.declared.runs.Phase.TheVariants as phase
 use Rattle.sched_state.proofs.OrderLemmas.{and_left, and_right}
 use Rattle.sched_model.specs.Lists.{all_pairs, map_places, best_by}
-use Rattle.sched_model.specs.Schedule.{Run, Schedule, dag_among, is_ended}
+use Rattle.sched_model.specs.Schedule.{Schedule, dag_among, is_ended}
+use Rattle.sched_state.specs.declared.runs.Run.{Run}
 use Rattle.sched_model.specs.States.{is_open}
 use Rattle.sched_model.specs.Clearing.{Naming, cleared, clear_pair, pairs_of, named_in, requeued, clear_if, clear_run, clear, named_pairs}
 use Rattle.sched_model.specs.Causes.{open_serials, least_in_flight}

@@ -17,7 +17,8 @@ use Rattle.sched_model.specs.Lists.{at, map_places, rises}
 use Rattle.dag_check.specs.Orders.{is_in}
 use Rattle.std.specs.Ordering.{ordering_then}
 use Rattle.instance_machine.specs.Instances.{Held}
-use Rattle.sched_model.specs.Schedule.{Run, Schedule, tasks_of, is_running, run_before, dag_among, dag_named, graph_among, no_dag}
+use Rattle.sched_model.specs.Schedule.{Schedule, tasks_of, is_running, run_before, dag_among, dag_named, graph_among, no_dag}
+use Rattle.sched_state.specs.declared.runs.Run.{Run}
 use Rattle.sched_state.specs.declared.graphs.Graph.{Graph}
 use Rattle.instance_machine.specs.declared.tries.Try.{Try}
 use Rattle.sched_model.specs.Settle.{decide_task, decide_instance, decide_run, moves_left, moves_left_of}

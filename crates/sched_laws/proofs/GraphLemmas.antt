@@ -16,7 +16,8 @@ use Rattle.sched_state.specs.declared.graphs.Graph.{Graph}
 use Rattle.sched_state.proofs.OrderLemmas.{and_left, and_right, or_left, or_right, not_true, eq_flips, on_total, all_insert, map_keeps}
 use Rattle.sched_state.proofs.SoundLemmas.{same_is, find_any, same_itself}
 use Rattle.sched_model.specs.Lists.{all_pairs, rises}
-use Rattle.sched_model.specs.Schedule.{Schedule, Run, graph_among, dag_among, no_dag, has_runs, graph_before}
+use Rattle.sched_model.specs.Schedule.{Schedule, graph_among, dag_among, no_dag, has_runs, graph_before}
+use Rattle.sched_state.specs.declared.runs.Run.{Run}
 use Rattle.sched_model.specs.Changes.{reloaded, new_graph, with_graph, load_graph, pause_graph, set_paused}
 use Rattle.sched_model.specs.Causes.{has_too_many_graphs}
 use Rattle.sched_model.specs.Sound.{IsSound, is_sound_graph, is_sound_dag, has_pools, is_sound_run, is_sound_in, is_moment}

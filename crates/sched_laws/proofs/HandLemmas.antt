@@ -10,7 +10,8 @@ use Rattle.sched_state.specs.Lists.{same, repeat}
 use Rattle.sched_model.specs.Lists.{at, zip_with}
 use Rattle.instance_machine.specs.Instances.{last_of, Held, recent}
 use Rattle.graph_file.specs.declared.task_specs.TaskSpec.{TaskSpec}
-use Rattle.sched_model.specs.Schedule.{Run, Schedule, tasks_of, size_of}
+use Rattle.sched_model.specs.Schedule.{Schedule, tasks_of, size_of}
+use Rattle.sched_state.specs.declared.runs.Run.{Run}
 use Rattle.sched_state.specs.declared.graphs.Graph.{Graph}
 use Rattle.instance_machine.specs.declared.tries.Try.{Try}
 use Rattle.sched_model.specs.States.{is_open, open_of, open_tries, occupied, in_flight, slots_in}

@@ -18,7 +18,7 @@ use Rattle.instance_machine.specs.declared.tries.Outcome.TheVariants as outcome
 use Rattle.sched_state.proofs.OrderLemmas.{and_left, and_right}
 use Rattle.sched_model.specs.Lists.{but_last}
 use Rattle.sched_model.specs.Handout.{is_ready, is_scheduled, new_try, with_try}
-use Rattle.sched_model.specs.Changes.{map_tries}
+use Rattle.instance_machine.specs.Instances.{map_tries}
 use Rattle.sched_model.specs.Clearing.{cleared}
 use Rattle.sched_model.specs.Sound.{is_sound_try, is_sound_instance, has_end, has_failed, is_failure, is_failure_if, is_run, is_wait, is_empty, earlier}
 use Rattle.sched_laws.proofs.ListLemmas.{both, or_true, all_impl, all_under, all_join, but_last_snoc, but_last_map, last_split, last_none}

@@ -11,7 +11,8 @@ use Rattle.sched_state.proofs.OrderLemmas.{and_left, and_right, or_left, or_righ
 use Rattle.sched_state.proofs.RepeatLemmas.{repeat_done, repeat_more}
 use Rattle.sched_state.proofs.SoundLemmas.{same_itself}
 use Rattle.sched_model.specs.Lists.{rises}
-use Rattle.sched_model.specs.Schedule.{Schedule, Run, has_run_at, is_at, run_before}
+use Rattle.sched_model.specs.Schedule.{Schedule, has_run_at, is_at, run_before}
+use Rattle.sched_state.specs.declared.runs.Run.{Run}
 use Rattle.sched_model.specs.Settle.{move, move_runs, with_runs, settle, moves_left}
 use Rattle.sched_model.specs.Handout.{hand, hand_one, best_offer, serials_left, in_instance, with_try, new_try}
 use Rattle.sched_model.specs.NamedRuns.{Named, is_for, add_runs}

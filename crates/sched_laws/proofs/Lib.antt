@@ -21,3 +21,7 @@ pub mod PassLemmas
 pub mod NewRunLemmas
 pub mod DecisionLemmas
 pub mod TextLemmas
+pub mod LoadLemmas
+pub mod UpstreamLemmas
+pub mod SaidLemmas
+pub mod NamedLemmas

@@ -11,7 +11,8 @@ use Rattle.dag_check.specs.Orders.{is_in}
 use Rattle.graph_file.specs.Lists.{when}
 use Rattle.graph_file.specs.declared.task_specs.TaskSpec.{TaskSpec}
 use Rattle.trigger_rules.specs.Rules.{rule_verdict}
-use Rattle.sched_model.specs.Schedule.{Run, Schedule, tasks_of, is_running, dag_named}
+use Rattle.sched_model.specs.Schedule.{Schedule, tasks_of, is_running, dag_named}
+use Rattle.sched_state.specs.declared.runs.Run.{Run}
 use Rattle.instance_machine.specs.declared.tries.Try.{Try}
 use Rattle.instance_machine.specs.States.{state_of, opens_gate}
 use Rattle.sched_model.specs.States.{state_at, past_is_open, previous, is_earlier}

@@ -11,7 +11,8 @@ use Rattle.trigger_rules.specs.declared.states.State.TheVariants as state
 use Rattle.sched_model.specs.Lists.{at}
 use Rattle.graph_file.specs.declared.task_specs.TaskSpec.{TaskSpec}
 use Rattle.instance_machine.specs.Instances.{Held, last_of, recent}
-use Rattle.sched_model.specs.Schedule.{Run, Schedule, tasks_of, is_running, is_paused, size_of, dag_among}
+use Rattle.sched_model.specs.Schedule.{Schedule, tasks_of, is_running, is_paused, size_of, dag_among}
+use Rattle.sched_state.specs.declared.runs.Run.{Run}
 use Rattle.instance_machine.specs.declared.tries.Try.{Try}
 use Rattle.instance_machine.specs.States.{state_of, is_up_for_retry, retry_of}
 use Rattle.sched_model.specs.States.{occupied, in_flight}

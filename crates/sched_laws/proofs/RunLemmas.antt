@@ -17,7 +17,8 @@ use Rattle.sched_state.specs.declared.runs.Phase.{Phase}
 use Rattle.sched_state.specs.declared.runs.Phase.TheVariants as phase
 use Rattle.sched_state.proofs.OrderLemmas.{and_left, and_right, all_map}
 use Rattle.sched_model.specs.Lists.{all_pairs, zip_with, rises}
-use Rattle.sched_model.specs.Schedule.{Run, Schedule, graph_among, dag_among, tasks_of, is_running, is_ended}
+use Rattle.sched_model.specs.Schedule.{Schedule, graph_among, dag_among, tasks_of, is_running, is_ended}
+use Rattle.sched_state.specs.declared.runs.Run.{Run}
 use Rattle.sched_model.specs.Settle.{decides, decided_verdict, decide_task, decide_instance, decide_run, has_bad_leaf, finish_run, start_run, move_runs}
 use Rattle.sched_model.specs.Sound.{is_sound_instance, is_sound_in, is_sound_run, is_moment, is_wait, serials_of}
 use Rattle.sched_laws.proofs.ListLemmas.{both, change_all, change_keeps, pairs_change, pairs_impl}

@@ -18,7 +18,8 @@ use Rattle.graph_file.specs.declared.task_specs.TaskSpec.{TaskSpec}
 use Rattle.trigger_rules.specs.Rules.{rule_verdict, row_of}
 use Rattle.trigger_rules.specs.States.{is_finished, is_bad, is_success, is_skipped, is_failed}
 use Rattle.sched_model.specs.Settle.{decides, decide_task, decide_instance, decide_run, finish_run, start_run, move_runs, move, upstream_states, is_undecided, decided_verdict}
-use Rattle.sched_model.specs.Schedule.{Run, Schedule, is_running, is_queued, tasks_of, is_paused, max_active_runs_of, dag_named}
+use Rattle.sched_model.specs.Schedule.{Schedule, is_running, is_queued, tasks_of, is_paused, max_active_runs_of, dag_named}
+use Rattle.sched_state.specs.declared.runs.Run.{Run}
 use Rattle.instance_machine.specs.declared.tries.Try.{Try}
 use Rattle.sched_state.specs.declared.graphs.Graph.{Graph}
 use Rattle.sched_model.specs.States.{states, state_at, past_is_open, previous, is_earlier}

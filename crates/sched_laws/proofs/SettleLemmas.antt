@@ -6,7 +6,8 @@ use Rattle.sched_state.specs.declared.runs.Phase.TheVariants as phase
 use Rattle.graph_file.specs.Lists.{when, first_some}
 use Rattle.sched_state.specs.Lists.{change_from, first_change, repeat}
 use Rattle.instance_machine.specs.Instances.{Held}
-use Rattle.sched_model.specs.Schedule.{Run, Schedule, tasks_of, is_running, is_queued}
+use Rattle.sched_model.specs.Schedule.{Schedule, tasks_of, is_running, is_queued}
+use Rattle.sched_state.specs.declared.runs.Run.{Run}
 use Rattle.instance_machine.specs.declared.tries.Try.{Try}
 use Rattle.sched_model.specs.Settle.{decide_task, decide_instance, decide_run, finish_run, start_run, move_runs, move, settle, Settles, still, moved, moves_left, moves_left_of, decisions_left, has_bad_leaf, moves_left_in}
 use Rattle.sched_state.proofs.RepeatLemmas.{Falls, repeat_done, repeat_ends, repeat_enough, repeat_more, repeat_turn, change_falls}

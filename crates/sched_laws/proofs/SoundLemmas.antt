@@ -16,10 +16,13 @@ use Rattle.sched_state.specs.declared.runs.Phase.{Phase}
 use Rattle.sched_state.proofs.OrderLemmas.{and_left, and_right, or_left, or_right, not_false, not_true, map_keeps}
 use Rattle.sched_state.proofs.RepeatLemmas.{repeat_done, repeat_more}
 use Rattle.sched_model.specs.Lists.{at, rises}
-use Rattle.sched_model.specs.Schedule.{Run, Schedule, dag_among, is_ended, size_of}
+use Rattle.sched_model.specs.Schedule.{Schedule, dag_among, is_ended, size_of}
+use Rattle.sched_state.specs.declared.runs.Run.{Run}
 use Rattle.sched_model.specs.Settle.{move, move_runs, with_runs, settle, moves_left}
 use Rattle.sched_model.specs.Handout.{Offer, new_try, with_try, in_instance, hand, hand_one, hand_out, best_offer, fits, serials_left, last_serial}
-use Rattle.sched_model.specs.Changes.{map_tries, map_tries_of, map_all_tries, report, restart, set_now, reported_try, lost_try}
+use Rattle.sched_model.specs.Changes.{map_tries_of, map_all_tries, report, restart, set_now}
+use Rattle.instance_machine.specs.Instances.{map_tries}
+use Rattle.instance_machine.specs.Reports.{reported_try, lost_try}
 use Rattle.sched_model.specs.Causes.{has_too_many_lanes}
 use Rattle.sched_model.specs.Sound.{IsSound, is_sound_in, is_sound_run, is_sound_instance, is_used, is_moment, serials_of}
 use Rattle.sched_laws.specs.Offered.{IsEligible}

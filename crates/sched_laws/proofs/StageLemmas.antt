@@ -13,12 +13,13 @@ use Rattle.sched_state.specs.Lists.{same, change_from, first_change, repeat}
 use Rattle.sched_model.specs.Lists.{at}
 use Rattle.graph_file.specs.Lists.{when, first_some}
 use Rattle.instance_machine.specs.Instances.{Held}
-use Rattle.sched_model.specs.Schedule.{Run, Schedule, is_running, is_queued, is_paused, max_active_runs_of}
+use Rattle.sched_model.specs.Schedule.{Schedule, is_running, is_queued, is_paused, max_active_runs_of}
+use Rattle.sched_state.specs.declared.runs.Run.{Run}
 use Rattle.sched_model.specs.States.{states, active_runs, previous, state_at, is_earlier}
 use Rattle.trigger_rules.specs.States.{is_finished}
 use Rattle.sched_model.specs.Settle.{decide_instance, decide_run, finish_run, start_run, move, settle, moves_left, has_bad_leaf}
 use Rattle.sched_laws.specs.Sweep.{decide_one, decide_all, decision_in, decision, change_at, sweep}
-use Rattle.sched_laws.specs.Stages.{finish_one, start_one, ended_run, finish_every, in_phase, phase_at, AllEnded, Started, CoversEnds, CoversStarts, also_run}
+use Rattle.sched_laws.specs.Stages.{finish_one, start_one, ended_run, finish_every, in_phase, phase_at, AllEnded, Started, CoversEnds, CoversStarts, also_run, IsOrdered}
 use Rattle.sched_laws.specs.Stages.{also_graph}
 use Rattle.sched_laws.proofs.SettleLemmas.{settle_still, settle_moved, move_falls, map_some, when_some}
 use Rattle.sched_state.proofs.RepeatLemmas.{repeat_done, repeat_more, repeat_ends}
@@ -221,12 +222,15 @@ pub all_ends : (a : Schedule) → decide_one a ≡ None → AllEnded a (finish_e
 all_ends a d = ends_in (moves_left a) a (omega arith) d
 
 -- all ends after one sweep
-pub swept_ends : (a : Schedule) → IsSound a → AllEnded a (finish_every (sweep a))
-swept_ends a s =
-    let e : sweep a ≡ decide_all a = sweep_all a (sound_ordered a s) in
+pub ordered_ends : (a : Schedule) → IsOrdered a → AllEnded a (finish_every (sweep a))
+ordered_ends a s =
+    let e : sweep a ≡ decide_all a = sweep_all a s in
     let d : decide_one (decide_all a) ≡ None = repeat_ends moves_left decide_one one_falls (moves_left a) a (omega arith) in
     let h = all_ends (sweep a) (subst (λ (x : Schedule). decide_one x ≡ None) (sym e) d) in
     record { settles = decide_settles a ∙ ap settle (sym e) ∙ h.settles; decided = h.decided; ended = h.ended }
+
+pub swept_ends : (a : Schedule) → IsSound a → AllEnded a (finish_every (sweep a))
+swept_ends a s = ordered_ends a (sound_ordered a s)
 
 -- ---- starts
 

@@ -11,7 +11,8 @@ use Rattle.sched_laws.proofs.HandLemmas.{map_at}
 use Rattle.dag_check.specs.Names.{repeats}
 use Rattle.sched_model.specs.Lists.{at, rises}
 use Rattle.instance_machine.specs.Instances.{Held}
-use Rattle.sched_model.specs.Schedule.{Run, Schedule, is_running}
+use Rattle.sched_model.specs.Schedule.{Schedule, is_running}
+use Rattle.sched_state.specs.declared.runs.Run.{Run}
 use Rattle.sched_state.specs.declared.graphs.Graph.{Graph}
 use Rattle.sched_model.specs.Settle.{decide_instance}
 use Rattle.sched_model.specs.Handout.{in_instance}
@@ -34,7 +35,7 @@ pub record Swept (n p : ℕ) (a b : Schedule) : Type 0 where
   pub ordered : IsOrdered b
   pub lens : lens b ≡ lens a
 
-length_at : {X : Type 0} (g : X → X) (n : ℕ) (xs : List X) → length (at g n xs) ≡ length xs
+pub length_at : {X : Type 0} (g : X → X) (n : ℕ) (xs : List X) → length (at g n xs) ≡ length xs
 length_at g n [] = refl
 length_at g zero (x ∷ xs) = refl
 length_at g (suc n) (x ∷ xs) = ap suc (length_at g n xs)
@@ -45,7 +46,7 @@ put_ordered a j n p h = record {
   graphs = h.graphs;
 }
 
-put_lens : (a : Schedule) (j : Held) (n p : ℕ) → lens (put j n p a) ≡ lens a
+pub put_lens : (a : Schedule) (j : Held) (n p : ℕ) → lens (put j n p a) ≡ lens a
 put_lens a j n p = map_at (λ (r : Run). length r.instances) (in_instance (λ i. j) p) n a.runs (λ r e. length_at (λ i. j) p r.instances)
 
 -- before the next place: at this one, or before it

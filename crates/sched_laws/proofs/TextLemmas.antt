@@ -1,5 +1,5 @@
 -- Each graph stays what its text says.
-use Rattle.std.proofs.Common.{List, [], ◌∷◌, ℕ, Bool, true, false, cond, Option, Some, None, map}
+use Rattle.std.proofs.Common.{List, [], ◌∷◌, ℕ, Bool, true, false, cond, Some, None, map}
 use Rattle.dag_check.specs.Graphs.{Dag}
 use Rattle.sched_state.specs.Lists.{same, insert_by}
 use Rattle.sched_state.specs.declared.graphs.Graph.{Graph}

@@ -8,7 +8,7 @@ use Rattle.instance_machine.specs.declared.tries.Stage.TheVariants.{Started, End
 use Rattle.instance_machine.specs.declared.tries.Outcome.{Outcome}
 use Rattle.instance_machine.specs.declared.tries.Outcome.TheVariants as outcome
 use Rattle.sched_state.proofs.OrderLemmas.{and_left, and_right}
-use Rattle.sched_model.specs.Changes.{reported_try, lost_if, lost_try}
+use Rattle.instance_machine.specs.Reports.{reported_try, lost_if, lost_try}
 use Rattle.sched_model.specs.Sound.{is_sound_try, is_sound_end, is_moment, has_end}
 use Rattle.sched_laws.proofs.ListLemmas.{both}
 use Rattle.sched_laws.proofs.InstanceLemmas.{IsQuiet}

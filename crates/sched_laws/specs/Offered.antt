@@ -3,7 +3,8 @@ use Rattle.std.specs.Prelude.{◌≡◌, ℕ, ◌<◌, ◌≤◌, cond, true, fa
 use Rattle.sched_state.specs.Lists.{same}
 use Rattle.graph_file.specs.declared.task_specs.TaskSpec.{TaskSpec}
 use Rattle.instance_machine.specs.Instances.{Held}
-use Rattle.sched_model.specs.Schedule.{Run, Schedule, tasks_of, is_running, is_paused, size_of}
+use Rattle.sched_model.specs.Schedule.{Schedule, tasks_of, is_running, is_paused, size_of}
+use Rattle.sched_state.specs.declared.runs.Run.{Run}
 use Rattle.sched_model.specs.States.{occupied, in_flight}
 use Rattle.sched_model.specs.Handout.{Offer, offer_of, is_ready, fits, ranks_before, hand, last_serial}
 

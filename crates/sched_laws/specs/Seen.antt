@@ -13,7 +13,8 @@ use Rattle.sched_state.specs.Lists.{same}
 use Rattle.sched_state.specs.declared.graphs.Graph.{Graph}
 use Rattle.sched_state.specs.declared.runs.Phase.{Phase}
 use Rattle.sched_model.specs.Lists.{zip_with, last_passing}
-use Rattle.sched_model.specs.Schedule.{Run, Schedule, graph_among, dag_among, is_running, is_queued}
+use Rattle.sched_model.specs.Schedule.{Schedule, graph_among, dag_among, is_running, is_queued}
+use Rattle.sched_state.specs.declared.runs.Run.{Run}
 use Rattle.sched_model.specs.Settle.{decides, is_undecided}
 
 -- an end, and none for each state that is not one

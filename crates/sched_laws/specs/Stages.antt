@@ -7,7 +7,8 @@ use Rattle.sched_state.specs.declared.runs.Phase.{Phase}
 use Rattle.sched_state.specs.declared.runs.Phase.TheVariants as phase
 use Rattle.sched_state.specs.Lists.{same, first_change}
 use Rattle.sched_model.specs.Lists.{at, rises, map_places}
-use Rattle.sched_model.specs.Schedule.{Run, Schedule, run_before}
+use Rattle.sched_model.specs.Schedule.{Schedule, run_before}
+use Rattle.sched_state.specs.declared.runs.Run.{Run}
 use Rattle.sched_state.specs.declared.graphs.Graph.{Graph}
 use Rattle.sched_model.specs.Settle.{settle, finish_run, start_run, with_runs}
 use Rattle.sched_laws.specs.Sweep.{decide_one, Covers}

@@ -7,7 +7,8 @@ use Rattle.sched_model.specs.Lists.{at}
 use Rattle.dag_check.specs.Orders.{is_in}
 use Rattle.graph_file.specs.declared.task_specs.TaskSpec.{TaskSpec}
 use Rattle.instance_machine.specs.Instances.{Held}
-use Rattle.sched_model.specs.Schedule.{Run, Schedule, tasks_of, is_running, dag_named}
+use Rattle.sched_model.specs.Schedule.{Schedule, tasks_of, is_running, dag_named}
+use Rattle.sched_state.specs.declared.runs.Run.{Run}
 use Rattle.sched_model.specs.Settle.{decide_instance, decide_run, moves_left, with_runs}
 use Rattle.sched_model.specs.Handout.{in_instance}
 

@@ -2,7 +2,8 @@
 ghost use Rattle.std.specs.Prelude.{◌≡◌, ℕ, Bool, ◌&&◌, ◌==◌, cond, List, map, None, Some, true, false};
 ghost use Rattle.dag_check.specs.Graphs.{ups};
 ghost use Rattle.instance_machine.specs.Instances.{Held};
-ghost use Rattle.sched_model.specs.Schedule.{Schedule, Run, dag_named};
+ghost use Rattle.sched_model.specs.Schedule.{Schedule, dag_named};
+ghost use Rattle.sched_state.specs.declared.runs.Run.{Run};
 ghost use Rattle.sched_model.specs.States.{state_at};
 ghost use Rattle.sched_model.specs.Settle.{upstream_states};
 ghost use Rattle.sched_model.specs.Handout.{in_instance};

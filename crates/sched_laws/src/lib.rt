@@ -2,12 +2,16 @@
 //!
 //! Nothing here runs: the functions are empty, and their contracts are the laws. `settling` and `hand_outs` say that what follows an
 //! event is determined and leaves nothing undone, `sound` that it leaves a sound schedule, with each serial and each key once.
+//! `loading` and `naming` are about what comes in: a text that takes in a graph without runs leaves nothing to do, what it says
+//! is sound within the limits, and the runs that a tick names are new.
 //! `decisions` and `stages` say what a faster way to the same schedule may rely on: which decisions look at which instances, and in
 //! which order moves may be made. Easy to get wrong: decisions in another order may lead to another schedule.
 #![tactic(auto)]
 
 mod decisions;
 mod hand_outs;
+mod loading;
+mod naming;
 mod settling;
 mod sound;
 mod stages;
@@ -20,6 +24,8 @@ pub use hand_outs::{
     advancing_leaves_settled, hand_out_goes_by_hands, hand_out_is_one_pass, hand_out_keeps_bounds,
     hands_are_counted,
 };
+pub use loading::{loading_is_quiet, said_graphs_are_sound, upstreams_are_few};
+pub use naming::named_runs_are_new;
 pub use settling::{moves_see_what_is_seen, settling_goes_by_moves, settling_is_determined};
 pub use sound::{
     a_date_has_one_run, advancing_keeps_soundness, graphs_stay_said, own_changes_keep_soundness,

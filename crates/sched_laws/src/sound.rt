@@ -3,7 +3,8 @@ ghost use Rattle.std.specs.Prelude.{◌≡◌, ℕ, Bool, ◌<◌, ◌||◌, Lis
 ghost use Rattle.std.specs.List.{list_any};
 ghost use Rattle.dag_check.specs.Graphs.{Dag};
 ghost use Rattle.instance_machine.specs.declared.tries.Stage.{Stage};
-ghost use Rattle.sched_model.specs.Schedule.{Schedule, Run, has_runs, has_run_at};
+ghost use Rattle.sched_model.specs.Schedule.{Schedule, has_runs, has_run_at};
+ghost use Rattle.sched_state.specs.declared.runs.Run.{Run};
 ghost use Rattle.sched_model.specs.Settle.{settle};
 ghost use Rattle.sched_model.specs.Handout.{hand_out};
 ghost use Rattle.sched_model.specs.NamedRuns.{Named, is_for, add_runs};

@@ -2,7 +2,8 @@
 ghost use Rattle.std.specs.Prelude.{◌≡◌, ℕ, Bool, ◌==◌, List, None, Some, false, slice_get};
 ghost use Rattle.instance_machine.specs.Instances.{Held};
 ghost use Rattle.sched_state.specs.declared.runs.Phase.{Phase};
-ghost use Rattle.sched_model.specs.Schedule.{Schedule, Run, is_running};
+ghost use Rattle.sched_model.specs.Schedule.{Schedule, is_running};
+ghost use Rattle.sched_state.specs.declared.runs.Run.{Run};
 ghost use Rattle.sched_model.specs.Settle.{settle, finish_run, start_run};
 ghost use Rattle.sched_model.specs.Sound.{IsSound};
 ghost use Rattle.sched_laws.specs.Sweep.{decide_one, decide_all, decision, change_at, sweep};

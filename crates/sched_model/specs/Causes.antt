@@ -6,7 +6,8 @@ use Rattle.graph_file.specs.declared.task_specs.TaskSpec.{TaskSpec}
 use Rattle.instance_machine.specs.declared.tries.Try.{Try}
 use Rattle.instance_machine.specs.declared.tries.Stage.{Stage}
 use Rattle.sched_model.specs.Lists.{least}
-use Rattle.sched_model.specs.Schedule.{Schedule, Run, dag_named, graph_named, has_pool}
+use Rattle.sched_model.specs.Schedule.{Schedule, dag_named, graph_named, has_pool}
+use Rattle.sched_state.specs.declared.runs.Run.{Run}
 use Rattle.sched_model.specs.States.{is_open}
 use Rattle.sched_model.specs.Clearing.{Naming, Clearing, named_pairs, place_of}
 use Rattle.sched_model.specs.NamedRuns.{Named}

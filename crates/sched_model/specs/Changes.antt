@@ -1,15 +1,14 @@
 -- The own changes of events, but for clearings; and what follows every change.
-use Rattle.std.specs.Prelude.{ℕ, Bool, true, false, ◌==◌, if◌then◌else◌, List, map, Option, Some, None, unwrap_or}
+use Rattle.std.specs.Prelude.{ℕ, Bool, true, false, if◌then◌else◌, List, map, Some, None}
 use Rattle.dag_check.specs.Graphs.{Dag}
-use Rattle.instance_machine.specs.Instances.{Held}
-use Rattle.instance_machine.specs.Reports.{report_try}
+use Rattle.instance_machine.specs.Instances.{map_tries}
+use Rattle.instance_machine.specs.Reports.{reported_try, lost_try}
 use Rattle.instance_machine.specs.declared.tries.Try.{Try}
-use Rattle.instance_machine.specs.declared.tries.End.{End}
 use Rattle.instance_machine.specs.declared.tries.Stage.{Stage}
-use Rattle.instance_machine.specs.declared.tries.Outcome.TheVariants.{Lost}
 use Rattle.sched_state.specs.Lists.{same, insert_by}
 use Rattle.sched_state.specs.declared.graphs.Graph.{Graph}
-use Rattle.sched_model.specs.Schedule.{Schedule, Run, Pool, graph_among, has_pool, graph_before, pool_before}
+use Rattle.sched_model.specs.Schedule.{Schedule, Pool, graph_among, has_pool, graph_before, pool_before}
+use Rattle.sched_state.specs.declared.runs.Run.{Run}
 use Rattle.sched_model.specs.Settle.{settle}
 use Rattle.sched_model.specs.Handout.{hand_out}
 use Rattle.sched_model.specs.NamedRuns.{Named, add_runs}
@@ -64,31 +63,16 @@ abbrev pub resize : List ℕ → ℕ → Schedule → Schedule
 resize name size a = record a { pools = with_pool (has_pool a name) name size a.pools }
 
 -- ---- tries
--- every try is changed
-abbrev pub map_tries : (Try → Try) → Held → Held
-map_tries f i = record i { tries = map f i.tries }
-
+-- every try of a run is changed
 abbrev pub map_tries_of : (Try → Try) → Run → Run
 map_tries_of f r = record r { instances = map (map_tries f) r.instances }
 
 abbrev pub map_all_tries : (Try → Try) → Schedule → Schedule
 map_all_tries f a = record a { runs = map (map_tries_of f) a.runs }
 
--- the try with the serial takes a report in, where it is its turn
-abbrev pub reported_try : ℕ → Stage → ℕ → Try → Try
-reported_try serial stage now t = if t.serial == serial then unwrap_or (report_try stage now t) t else t
-
 -- a worker reports of the try with a serial
 abbrev pub report : ℕ → Stage → Schedule → Schedule
 report serial stage a = map_all_tries (reported_try serial stage a.now) a
-
--- a try without an end is lost
-abbrev pub lost_if : ℕ → Option End → Try → Try
-lost_if now None t = record t { ended = Some (record { moment = now; outcome = Lost }) }
-lost_if now (Some e) t = t
-
-abbrev pub lost_try : ℕ → Try → Try
-lost_try now t = lost_if now t.ended t
 
 -- the scheduler is restarted: tries without an end are lost, and the lanes are set
 abbrev pub restart : ℕ → Schedule → Schedule

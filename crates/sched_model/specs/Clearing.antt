@@ -16,7 +16,8 @@ use Rattle.sched_state.specs.Lists.{same}
 use Rattle.sched_state.specs.declared.runs.Phase.{Phase}
 use Rattle.sched_state.specs.declared.runs.Phase.TheVariants as phase
 use Rattle.sched_model.specs.Lists.{map_places}
-use Rattle.sched_model.specs.Schedule.{Schedule, Run, dag_named, tasks_of}
+use Rattle.sched_model.specs.Schedule.{Schedule, dag_named, tasks_of}
+use Rattle.sched_state.specs.declared.runs.Run.{Run}
 
 -- ---- which instances are named
 -- a test of a run, of a place in it, and of the task and the instance there

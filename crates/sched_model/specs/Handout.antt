@@ -12,7 +12,8 @@ use Rattle.instance_machine.specs.States.{state_of, retry_at}
 use Rattle.instance_machine.specs.declared.tries.Try.{Try}
 use Rattle.sched_state.specs.Lists.{name_cmp, is_less, repeat}
 use Rattle.sched_model.specs.Lists.{at, best_by}
-use Rattle.sched_model.specs.Schedule.{Run, Schedule, dag_named, tasks_of, is_paused, size_of, is_running}
+use Rattle.sched_model.specs.Schedule.{Schedule, dag_named, tasks_of, is_paused, size_of, is_running}
+use Rattle.sched_state.specs.declared.runs.Run.{Run}
 use Rattle.sched_model.specs.States.{occupied, in_flight}
 
 -- ---- ready (Airflow 2, 'Tasks': task instances; BaseOperator: retry_delay)

@@ -1,24 +1,13 @@
 -- What is told of a try that is handed out.
 use Rattle.std.specs.Prelude.{ℕ, ◌-◌, ◌==◌, List, map, filter, flat_map}
 use Rattle.std.specs.List.{enumerate_from, range_with_len}
-use Rattle.graph_file.specs.Operators.{Call}
 use Rattle.graph_file.specs.declared.task_specs.TaskSpec.{TaskSpec}
 use Rattle.instance_machine.specs.Instances.{Held}
 use Rattle.instance_machine.specs.declared.tries.Try.{Try}
-use Rattle.sched_model.specs.Schedule.{Schedule, Run}
+use Rattle.sched_state.specs.declared.jobs.Job.{Job}
+use Rattle.sched_model.specs.Schedule.{Schedule}
+use Rattle.sched_state.specs.declared.runs.Run.{Run}
 use Rattle.sched_model.specs.Clearing.{pairs_of}
-
-pub record Job : Type 0 where
-  pub serial : ℕ
-  pub graph : List ℕ
-  pub logical : ℕ
-  pub task : List ℕ
-  -- the number of the try among those of its instance, from 1
-  pub try_number : ℕ
-  -- what the task does
-  pub action : Call
-  pub pool : List ℕ
-  pub slots : ℕ
 
 abbrev pub job_of : Run → TaskSpec → ℕ × Try → Job
 job_of r t e = record {

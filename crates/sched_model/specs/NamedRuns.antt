@@ -11,7 +11,8 @@ use Rattle.sched_state.specs.declared.graphs.Graph.{Graph}
 use Rattle.sched_state.specs.declared.runs.Kind.{Kind}
 use Rattle.sched_state.specs.declared.runs.Kind.TheVariants.{Scheduled, Manual, Backfill}
 use Rattle.sched_state.specs.declared.runs.Phase.TheVariants.{Queued}
-use Rattle.sched_model.specs.Schedule.{Schedule, Run, dag_named, dates_of, run_before}
+use Rattle.sched_model.specs.Schedule.{Schedule, dag_named, dates_of, run_before}
+use Rattle.sched_state.specs.declared.runs.Run.{Run}
 
 -- a run that an event names
 pub record Named : Type 0 where

@@ -14,12 +14,14 @@ use Rattle.sched_state.specs.declared.graphs.Graph.{Graph}
 use Rattle.sched_state.specs.declared.runs.Kind.{Kind}
 use Rattle.sched_state.specs.declared.runs.Kind.TheVariants.{Scheduled, Manual, Backfill}
 use Rattle.sched_state.specs.declared.runs.Phase.{Phase}
-use Rattle.sched_model.specs.Schedule.{Schedule, Run, default_pool, empty_schedule}
+use Rattle.sched_model.specs.Schedule.{Schedule, default_pool, empty_schedule}
+use Rattle.sched_state.specs.declared.runs.Run.{Run}
 use Rattle.sched_model.specs.States.{states}
 use Rattle.sched_model.specs.NamedRuns.{Named}
 use Rattle.sched_model.specs.Changes.{advance, set_now, report, restart, resize, set_paused}
 use Rattle.sched_model.specs.Clearing.{Clearing, cleared_by, clear}
-use Rattle.sched_model.specs.Jobs.{Job, handed}
+use Rattle.sched_state.specs.declared.jobs.Job.{Job}
+use Rattle.sched_model.specs.Jobs.{handed}
 
 -- ---- tasks and graphs
 -- a task of weight 1 and one slot of the default pool, without a further try

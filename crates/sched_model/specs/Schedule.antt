@@ -2,27 +2,15 @@
 use Rattle.std.specs.Prelude.{ℕ, Bool, true, false, ◌&&◌, ◌==◌, List, [], ◌∷◌, map, filter, find, codes, Option, None, option_map, unwrap_or}
 use Rattle.std.specs.List.{list_any}
 use Rattle.std.specs.Ordering.{nat_cmp, ordering_then}
-use Rattle.cron_timetable.specs.declared.timetables.Interval.{Interval}
 use Rattle.cron_timetable.specs.declared.timetables.Timetable.TheVariants.{Never}
 use Rattle.graph_file.specs.declared.task_specs.TaskSpec.{TaskSpec}
 use Rattle.dag_check.specs.Graphs.{Dag}
-use Rattle.instance_machine.specs.Instances.{Held}
 use Rattle.sched_state.specs.Lists.{same, name_cmp, is_less}
 use Rattle.sched_state.specs.Limits.{Bounds}
 use Rattle.sched_state.specs.declared.graphs.Graph.{Graph}
-use Rattle.sched_state.specs.declared.runs.Kind.{Kind}
+use Rattle.sched_state.specs.declared.runs.Run.{Run}
 use Rattle.sched_state.specs.declared.runs.Phase.{Phase}
 use Rattle.sched_state.specs.declared.runs.Phase.TheVariants.{Queued, Running, Success, Failed}
-
--- a run of a graph for one data interval (Airflow 2, 'DAG Runs')
-pub record Run : Type 0 where
-  pub graph : List ℕ
-  pub logical : ℕ
-  pub interval : Interval
-  pub kind : Kind
-  pub phase : Phase
-  -- one for each task of the graph, by place
-  pub instances : List Held
 
 -- a bound on the slots that tries without an end take together (Airflow 2, 'Pools')
 pub record Pool : Type 0 where

@@ -14,7 +14,8 @@ use Rattle.sched_state.specs.Lists.{change_from, first_change, repeat}
 use Rattle.sched_state.specs.declared.runs.Phase.{Phase}
 use Rattle.sched_state.specs.declared.runs.Phase.TheVariants as phase
 use Rattle.sched_model.specs.Lists.{map_places}
-use Rattle.sched_model.specs.Schedule.{Run, Schedule, dag_named, tasks_of, is_paused, max_active_runs_of, is_queued, is_running}
+use Rattle.sched_model.specs.Schedule.{Schedule, dag_named, tasks_of, is_paused, max_active_runs_of, is_queued, is_running}
+use Rattle.sched_state.specs.declared.runs.Run.{Run}
 use Rattle.sched_model.specs.States.{states, state_at, past_is_open, active_runs}
 
 -- ---- decisions (Airflow 2, 'DAGs': trigger rules; that a decision stays is this project's own profile)

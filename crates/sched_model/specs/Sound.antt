@@ -21,7 +21,8 @@ use Rattle.instance_machine.specs.declared.tries.Outcome.TheVariants as outcome
 use Rattle.sched_state.specs.declared.graphs.Graph.{Graph}
 use Rattle.sched_state.specs.declared.runs.Phase.{Phase}
 use Rattle.sched_model.specs.Lists.{rises, map_places, all_pairs, but_last}
-use Rattle.sched_model.specs.Schedule.{Schedule, Run, Pool, graph_among, dag_among, has_pool, default_pool, graph_before, pool_before, run_before, has_run_at, graph_named, is_ended}
+use Rattle.sched_model.specs.Schedule.{Schedule, Pool, graph_among, dag_among, has_pool, default_pool, graph_before, pool_before, run_before, has_run_at, graph_named, is_ended}
+use Rattle.sched_state.specs.declared.runs.Run.{Run}
 use Rattle.sched_model.specs.Handout.{last_serial}
 use Rattle.sched_model.specs.NamedRuns.{Named, is_for}
 use Rattle.sched_model.specs.Causes.{tries_of}

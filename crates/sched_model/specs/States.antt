@@ -9,7 +9,8 @@ use Rattle.instance_machine.specs.States.{state_of, opens_gate}
 use Rattle.instance_machine.specs.declared.tries.Try.{Try}
 use Rattle.sched_state.specs.Lists.{same}
 use Rattle.sched_model.specs.Lists.{zip_with, last_passing}
-use Rattle.sched_model.specs.Schedule.{Schedule, Run, tasks_of, is_running}
+use Rattle.sched_model.specs.Schedule.{Schedule, tasks_of, is_running}
+use Rattle.sched_state.specs.declared.runs.Run.{Run}
 
 -- the states of a run's instances, by place (Airflow 2, 'Tasks': task instances)
 abbrev pub states : Schedule → Run → List State

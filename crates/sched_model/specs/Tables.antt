@@ -15,7 +15,8 @@ use Rattle.sched_state.specs.declared.runs.Kind.{Kind}
 use Rattle.sched_state.specs.declared.runs.Kind.TheVariants as kind
 use Rattle.sched_state.specs.declared.runs.Phase.{Phase}
 use Rattle.sched_state.specs.declared.runs.Phase.TheVariants as phase
-use Rattle.sched_model.specs.Schedule.{Schedule, Run, Pool}
+use Rattle.sched_model.specs.Schedule.{Schedule, Pool}
+use Rattle.sched_state.specs.declared.runs.Run.{Run}
 use Rattle.sched_model.specs.Clearing.{pairs_of}
 
 -- ---- codes

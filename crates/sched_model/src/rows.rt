@@ -9,7 +9,8 @@ ghost use Rattle.sched_model.specs.Clearing.{cleared_by, count_cleared};
 ghost use Rattle.sched_model.specs.Sound.{IsSound};
 ghost use Rattle.sched_model.specs.Schedule.{size_of};
 ghost use Rattle.sched_model.specs.States.{occupied};
-ghost use Rattle.sched_model.specs.Jobs.{Job, handed};
+ghost use Rattle.sched_state.specs.declared.jobs.Job.{Job};
+ghost use Rattle.sched_model.specs.Jobs.{handed};
 ghost use Rattle.sched_model.specs.Tables.{tables};
 ghost use Rattle.sched_model.specs.Rows.{phases, all_states, told_between, does, ends, starts, tick, clears, pause, two_running, root_running, failed_once, a_second_early, in_time, failed_twice, cleared_once, all_of, two_days, first_failed, first_cleared, hand_between, hand_failed, one_lane, two_due, two_leaves, one_after, two_graphs, competing, three_wanting, three_handed, four_wanting, made_smaller, two_ended, three_queued, diamond_done, from_b, cleared_from_b, backfilled, a_day};
 

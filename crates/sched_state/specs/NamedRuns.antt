@@ -15,7 +15,7 @@ runs_per_tick = 10
 
 -- a new run is queued
 abbrev pub scheduled_run : List ℕ → Interval → Run
-scheduled_run id i = record { graph = id; logical = i.start; interval = i; kind = Scheduled; phase = Queued }
+scheduled_run id i = record { graph = id; logical = i.start; interval = i; kind = Scheduled; phase = Queued; instances = [] }
 
 -- the intervals of a graph for which a tick at t wants a run, beside these runs; a paused graph wants none
 abbrev pub wanted_by : List Run → ℕ → Graph → List Interval

@@ -19,7 +19,7 @@ dag_without_tasks spec = record { spec = spec; tasks = []; upstreams = [] }
 
 -- a queued run of one day
 abbrev pub day_run : List ℕ → ℕ → Run
-day_run id day = record { graph = id; logical = day; interval = record { start = day; end = day + 86400 }; kind = Scheduled; phase = Queued }
+day_run id day = record { graph = id; logical = day; interval = record { start = day; end = day + 86400 }; kind = Scheduled; phase = Queued; instances = [] }
 
 -- three queued runs of one graph, of which two may be running
 abbrev pub three : Bool → Schedule

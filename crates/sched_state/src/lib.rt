@@ -8,6 +8,7 @@
 
 mod bounds;
 mod graphs;
+mod jobs;
 mod laws;
 mod rows;
 mod runs;
@@ -17,6 +18,7 @@ mod texts;
 
 pub use bounds::Limits;
 pub use graphs::Graph;
+pub use jobs::Job;
 pub use laws::{
     a_date_has_one_run, loading_is_quiet, named_runs_are_new, parts_of_a_step_keep_soundness,
     runs_are_those_added, settling_goes_by_moves, settling_is_determined,

@@ -2,7 +2,8 @@
 ghost use Rattle.std.specs.Prelude.{◌≡◌, IfOk};
 
 use cron_timetable::Interval;
-use graph_file::Name;
+use graph_file::{Name, Sequence};
+use instance_machine::Instance;
 use moment_core::Moment;
 use std::alloc::{AllocError, Global};
 
@@ -38,6 +39,8 @@ pub struct Run {
     pub interval: Interval,
     pub kind: Kind,
     pub phase: Phase,
+    /// Its task instances, one for each task of its graph, by place (Airflow 2, "Tasks": task instances).
+    pub instances: Sequence<Instance>,
 }
 
 impl Run {
@@ -45,12 +48,17 @@ impl Run {
     pub fn copy(&self, alloc: Global) -> Result<Run, AllocError>
         ensures { IfOk result (λ run. run ≡ self.now) }
     {
+        let mut instances = Vec::new(alloc);
+        for instance in self.instances.as_slice() {
+            instances.push(instance.copy(alloc)?)?;
+        }
         Ok(Run {
             graph: self.graph.copy(alloc)?,
             logical: self.logical,
             interval: self.interval,
             kind: self.kind,
             phase: self.phase,
+            instances: Sequence::new(instances),
         })
     }
 }

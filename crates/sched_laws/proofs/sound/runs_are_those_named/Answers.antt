@@ -1,5 +1,5 @@
 use Rattle.std.proofs.Common.{refl}
-use Rattle.sched_model.specs.Changes.{reported_try, lost_try}
+use Rattle.instance_machine.specs.Reports.{reported_try, lost_try}
 use Rattle.sched_laws.proofs.KeyLemmas.{advance_keys, tries_keys, clear_keys}
 use Rattle.sched_laws.proofs.sound.runs_are_those_named.Goals as goal
 

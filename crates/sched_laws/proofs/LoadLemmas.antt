@@ -1,0 +1,226 @@
+-- A text that takes in a graph without runs enables no move and no hand-out, and the text that a graph has already changes nothing.
+use Rattle.std.proofs.Common.{◌≡◌, refl, sym, ap, subst, ◌∙◌, ℕ, ◌+◌, List, [], ◌∷◌, ◌++◌, Bool, true, false, cond, not, ◌&&◌, ◌||◌, map, filter, flat_map, length, sum_by, Option, Some, None, option_map, unwrap_or, is_some, slice_get, nat_lt, nat_le, Result, Ok}
+use Rattle.std.specs.List.{list_any, list_all, zip, enumerate_from}
+use Rattle.std.proofs.lemmas.Map.Text.{is_eq-slice_cmp}
+use Rattle.graph_file.specs.declared.faults.GraphFault.{GraphFault}
+use Rattle.graph_file.specs.declared.graph_specs.GraphSpec.{GraphSpec}
+use Rattle.graph_file.specs.declared.task_specs.TaskSpec.{TaskSpec}
+use Rattle.dag_check.specs.Graphs.{Dag, dag_of, ups}
+use Rattle.trigger_rules.specs.Rules.{rule_verdict}
+use Rattle.trigger_rules.specs.declared.verdicts.Verdict.{Verdict}
+use Rattle.priority_weights.specs.Weights.{effective_weight}
+use Rattle.instance_machine.specs.Instances.{Held}
+use Rattle.instance_machine.specs.States.{state_of}
+use Rattle.instance_machine.specs.declared.tries.Try.{Try}
+use Rattle.sched_state.specs.Lists.{same, name_cmp, insert_by}
+use Rattle.sched_state.specs.declared.graphs.Graph.{Graph}
+use Rattle.sched_state.proofs.OrderLemmas.{and_left, and_right, or_left, or_right, less_no_tie}
+use Rattle.sched_state.proofs.SoundLemmas.{same_is}
+use Rattle.sched_model.specs.Lists.{rises, zip_with, best_by}
+use Rattle.sched_model.specs.Schedule.{Schedule, graph_among, graph_named, dag_among, no_dag, has_runs, graph_before, is_running, is_queued, size_of}
+use Rattle.sched_state.specs.declared.runs.Run.{Run}
+use Rattle.sched_model.specs.States.{open_of, open_tries, slots_in}
+use Rattle.sched_model.specs.Settle.{move, is_undecided, decides}
+use Rattle.sched_model.specs.Handout.{Offer, offers, offers_in, is_ready, ranks_before, best_offer, hand, hand_one, last_serial}
+use Rattle.sched_model.specs.Changes.{reloaded, new_graph, with_graph, load_graph}
+use Rattle.sched_model.specs.Sound.{IsSound, Says, AllSay}
+use Rattle.sched_laws.specs.Seen.{Sight, seen_past, seen_at, seen, sight_of, can_decide, can_decide_in, can_start_seen, can_finish, can_move, has_verdict, any_from, tasks_among, seen_active}
+use Rattle.sched_laws.proofs.GraphLemmas.{find_loaded, flip_same, reloaded_other}
+use Rattle.sched_laws.proofs.SeenLemmas.{move_seen, none_from}
+
+-- ---- runs whose graphs are found as before
+abbrev AllFound : List Graph → List Graph → List Run → Type 0
+AllFound gs hs [] = Unit {0}
+AllFound gs hs (r ∷ rs) = (graph_among hs r.graph ≡ graph_among gs r.graph) × AllFound gs hs rs
+
+-- no run is of the graph that is loaded
+found_after : (text : List ℕ) (dag : Dag) (gs : List Graph) (rs : List Run) → list_any (λ (r : Run). same r.graph dag.spec.dag_id) rs ≡ false → AllFound gs (with_graph text dag gs) rs
+found_after text dag gs [] e = tt
+found_after text dag gs (r ∷ rs) e = (
+  find_loaded text dag gs r.graph (flip_same r.graph dag.spec.dag_id (or_left _ _ e)),
+  found_after text dag gs rs (or_right (same r.graph dag.spec.dag_id) _ e),
+)
+
+dag_found : (gs hs : List Graph) (id : List ℕ) → graph_among hs id ≡ graph_among gs id → dag_among hs id ≡ dag_among gs id
+dag_found gs hs id e = ap (λ (o : Option Graph). unwrap_or (option_map (λ (g : Graph). g.dag) o) no_dag) e
+
+-- ---- moves
+sight_by : Run → Dag → Sight
+sight_by r d = record {
+  graph = r.graph;
+  logical = r.logical;
+  phase = r.phase;
+  undecided = map is_undecided r.instances;
+  states = map seen (zip_with state_of d.tasks r.instances);
+}
+
+same_sights : (gs hs : List Graph) (rs : List Run) → AllFound gs hs rs → map (sight_of hs) rs ≡ map (sight_of gs) rs
+unfolding sight_by
+same_sights gs hs [] f = refl
+same_sights gs hs (r ∷ rs) f =
+    ap (λ v. v ∷ map (sight_of hs) rs) (ap (sight_by r) (dag_found gs hs r.graph f.0))
+    ∙ ap (λ vs. sight_of gs r ∷ vs) (same_sights gs hs rs f.1)
+
+abbrev verdict_by : List Sight → Sight → ℕ → TaskSpec → Dag → Option Verdict
+verdict_by vs v p t d = decides (seen_past vs v t p) (rule_verdict t.trigger_rule (map (seen_at v) (ups d p)))
+
+verdict_alike : (gs hs : List Graph) (vs : List Sight) (v : Sight) (p : ℕ) (o : Option TaskSpec) → dag_among hs v.graph ≡ dag_among gs v.graph → has_verdict hs vs v p o ≡ has_verdict gs vs v p o
+verdict_alike gs hs vs v p None e = refl
+verdict_alike gs hs vs v p (Some t) e = ap (λ (d : Dag). is_some (verdict_by vs v p t d)) e
+
+decide_alike : (gs hs : List Graph) (vs : List Sight) (v : Sight) → dag_among hs v.graph ≡ dag_among gs v.graph → (p : ℕ) (b : Bool) → can_decide hs vs v p b ≡ can_decide gs vs v p b
+decide_alike gs hs vs v e p b =
+    ap (λ (d : Dag). b && has_verdict hs vs v p (slice_get d.tasks p)) e
+    ∙ ap (λ c. b && c) (verdict_alike gs hs vs v p (slice_get (tasks_among gs v.graph) p) e)
+
+any_alike : {X : Type 0} (f g : ℕ → X → Bool) → ((i : ℕ) (x : X) → f i x ≡ g i x) → (i : ℕ) (xs : List X) → any_from f i xs ≡ any_from g i xs
+any_alike f g h i [] = refl
+any_alike f g h i (x ∷ xs) = rw (h i x, any_alike f g h (i + 1) xs) refl
+
+deciding_alike : (gs hs : List Graph) (vs : List Sight) (rs : List Run) → AllFound gs hs rs → list_any (can_decide_in hs vs) (map (sight_of gs) rs) ≡ list_any (can_decide_in gs vs) (map (sight_of gs) rs)
+deciding_alike gs hs vs [] f = refl
+deciding_alike gs hs vs (r ∷ rs) f =
+    let v : Sight = sight_of gs r in
+    let here : can_decide_in hs vs v ≡ can_decide_in gs vs v =
+    ap (λ b. is_running r.phase && b) (any_alike (can_decide hs vs v) (can_decide gs vs v) (decide_alike gs hs vs v (dag_found gs hs r.graph f.0)) 0 v.undecided) in
+    ap (λ b. b || list_any (can_decide_in hs vs) (map (sight_of gs) rs)) here
+    ∙ ap (λ b. can_decide_in gs vs v || b) (deciding_alike gs hs vs rs f.1)
+
+abbrev start_by : List Sight → Sight → Option Graph → Bool
+start_by vs v o =
+    is_queued v.phase
+    && (not (unwrap_or (option_map (λ (g : Graph). g.paused) o) false)
+    && nat_lt (seen_active vs v.graph) (unwrap_or (option_map (λ (g : Graph). g.dag) o) no_dag).spec.max_active_runs)
+
+starting_alike : (gs hs : List Graph) (vs : List Sight) (rs : List Run) → AllFound gs hs rs → list_any (can_start_seen hs vs) (map (sight_of gs) rs) ≡ list_any (can_start_seen gs vs) (map (sight_of gs) rs)
+starting_alike gs hs vs [] f = refl
+starting_alike gs hs vs (r ∷ rs) f =
+    ap (λ b. b || list_any (can_start_seen hs vs) (map (sight_of gs) rs)) (ap (start_by vs (sight_of gs r)) f.0)
+    ∙ ap (λ b. can_start_seen gs vs (sight_of gs r) || b) (starting_alike gs hs vs rs f.1)
+
+-- whether a move is possible is seen as before
+moves_alike : (gs hs : List Graph) (rs : List Run) → AllFound gs hs rs → can_move hs (map (sight_of hs) rs) ≡ can_move gs (map (sight_of gs) rs)
+moves_alike gs hs rs f =
+    let vs : List Sight = map (sight_of gs) rs in
+    ap (can_move hs) (same_sights gs hs rs f)
+    ∙ ap (λ b. b || (list_any can_finish vs || list_any (can_start_seen hs vs) vs)) (deciding_alike gs hs vs rs f)
+    ∙ ap (λ b. list_any (can_decide_in gs vs) vs || (list_any can_finish vs || b)) (starting_alike gs hs vs rs f)
+
+pub load_still : (text : List ℕ) (dag : Dag) (a : Schedule) → has_runs a dag.spec.dag_id ≡ false → move a ≡ None → move (load_graph text dag a) ≡ None
+load_still text dag a none still =
+    none_from (move (load_graph text dag a))
+    (move_seen (load_graph text dag a)
+    ∙ moves_alike a.graphs (with_graph text dag a.graphs) a.runs (found_after text dag a.graphs a.runs none)
+    ∙ sym (move_seen a) ∙ ap is_some still)
+
+-- ---- hand-outs
+open_alike : (a : Schedule) (hs : List Graph) (rs : List Run) → AllFound a.graphs hs rs
+    → flat_map (λ (r : Run). flat_map open_of (zip (dag_among hs r.graph).tasks r.instances)) rs ≡ flat_map (λ (r : Run). flat_map open_of (zip (dag_among a.graphs r.graph).tasks r.instances)) rs
+open_alike a hs [] f = refl
+open_alike a hs (r ∷ rs) f =
+    ap (λ (d : Dag). flat_map open_of (zip d.tasks r.instances) ++ flat_map (λ (q : Run). flat_map open_of (zip (dag_among hs q.graph).tasks q.instances)) rs) (dag_found a.graphs hs r.graph f.0)
+    ∙ ap (λ us. flat_map open_of (zip (dag_among a.graphs r.graph).tasks r.instances) ++ us) (open_alike a hs rs f.1)
+
+abbrev offer_by : ℕ → Run → Dag → ℕ → TaskSpec → Offer
+offer_by n r d p t = record {
+  run = n;
+  place = p;
+  weight = effective_weight d p;
+  logical = r.logical;
+  graph = r.graph;
+  task = t.task_id;
+  pool = t.pool;
+  slots = t.pool_slots;
+}
+
+abbrev offered_by : ℕ → ℕ → Run → Dag → ℕ × (TaskSpec × Held) → List Offer
+offered_by now n r d e = elim (is_ready now e.1.0 e.1.1) [ true ↦ offer_by n r d e.0 e.1.0 ∷ [] | false ↦ [] ]
+
+abbrev offers_by : ℕ → ℕ → Run → Option Graph → List Offer
+offers_by now n r o = elim (is_running r.phase && not (unwrap_or (option_map (λ (g : Graph). g.paused) o) false)) [
+  | true ↦ flat_map (offered_by now n r (unwrap_or (option_map (λ (g : Graph). g.dag) o) no_dag)) (enumerate_from 0 (zip (unwrap_or (option_map (λ (g : Graph). g.dag) o) no_dag).tasks r.instances))
+  | false ↦ []
+]
+
+with_graphs : Schedule → List Graph → Schedule
+with_graphs a hs = record a { graphs = hs }
+
+offers_alike : (a : Schedule) (hs : List Graph) (n : ℕ) (rs : List Run) → AllFound a.graphs hs rs → flat_map (offers_in (with_graphs a hs)) (enumerate_from n rs) ≡ flat_map (offers_in a) (enumerate_from n rs)
+unfolding with_graphs
+offers_alike a hs n [] f = refl
+offers_alike a hs n (r ∷ rs) f =
+    ap (λ (o : Option Graph). offers_by a.now n r o ++ flat_map (offers_in (with_graphs a hs)) (enumerate_from (n + 1) rs)) f.0
+    ∙ ap (λ (os : List Offer). offers_by a.now n r (graph_among a.graphs r.graph) ++ os) (offers_alike a hs (n + 1) rs f.1)
+
+-- the first in rank of the offers that fit beside these tries
+abbrev best_with : Schedule → List (TaskSpec × Try) → List Offer → Option Offer
+best_with a ts os =
+    best_by ranks_before (filter (λ (o : Offer). nat_le (sum_by (slots_in o.pool) ts + o.slots) (size_of a o.pool) && (nat_lt (length ts) a.lanes && nat_le a.next last_serial)) os)
+
+best_alike : (a : Schedule) (hs : List Graph) → AllFound a.graphs hs a.runs → best_offer (with_graphs a hs) ≡ best_offer a
+unfolding with_graphs
+best_alike a hs f =
+    ap (λ (ts : List (TaskSpec × Try)). best_with a ts (offers (with_graphs a hs))) (open_alike a hs a.runs f)
+    ∙ ap (best_with a (open_tries a)) (offers_alike a hs 0 a.runs f)
+
+map_none : {A B : Type 0} (f : A → B) (o : Option A) → option_map f o ≡ None → o ≡ None
+map_none f None e = refl
+map_none {A} {B} f (Some x) e = absurd (let c : ◌≡◌ {A = Option B} (Some (f x)) None = e in cc)
+
+pub load_no_hand : (text : List ℕ) (dag : Dag) (a : Schedule) → has_runs a dag.spec.dag_id ≡ false → hand_one a ≡ None → hand_one (load_graph text dag a) ≡ None
+unfolding with_graphs
+load_no_hand text dag a none still =
+    ap (option_map (hand (load_graph text dag a)))
+    (best_alike a (with_graph text dag a.graphs) (found_after text dag a.graphs a.runs none) ∙ map_none (hand a) (best_offer a) still)
+
+-- ---- the same text
+reloaded_named : (text : List ℕ) (dag : Dag) (g : Graph) → same g.dag.spec.dag_id dag.spec.dag_id ≡ true → reloaded text dag g ≡ record { text = text; dag = dag; paused = g.paused }
+reloaded_named text dag g e = ap (λ b. cond b (record { text = text; dag = dag; paused = g.paused }) g) e
+
+pub before_apart : (g h : Graph) → graph_before g h ≡ true → same g.dag.spec.dag_id h.dag.spec.dag_id ≡ false
+before_apart g h e = sym (is_eq-slice_cmp g.dag.spec.dag_id h.dag.spec.dag_id) ∙ less_no_tie (name_cmp g.dag.spec.dag_id h.dag.spec.dag_id) e
+
+others_stay : (text : List ℕ) (dag : Dag) (g : Graph) → same g.dag.spec.dag_id dag.spec.dag_id ≡ true → (gs : List Graph) → list_all (graph_before g) gs ≡ true → map (reloaded text dag) gs ≡ gs
+others_stay text dag g e [] after = refl
+others_stay text dag g e (h ∷ hs) after =
+    let apart : same h.dag.spec.dag_id dag.spec.dag_id ≡ false =
+    flip_same dag.spec.dag_id h.dag.spec.dag_id (ap (λ n. same n h.dag.spec.dag_id) (sym (same_is _ _ e)) ∙ before_apart g h (and_left (graph_before g h) _ after)) in
+    let rest : map (reloaded text dag) hs ≡ hs = others_stay text dag g e hs (and_right (graph_before g h) _ after) in
+    ap (λ k. k ∷ map (reloaded text dag) hs) (reloaded_other text dag h apart) ∙ ap (λ ks. h ∷ ks) rest
+
+-- what a text says is one thing
+said_once : (text : List ℕ) (dag other : Dag) → Says text dag → Says text other → dag ≡ other
+said_once text dag other e f =
+    let c : ◌≡◌ {A = Result GraphSpec GraphFault} (Ok dag.spec) (Ok other.spec) = sym e.read ∙ f.read in
+    let specs : dag.spec ≡ other.spec = cc in
+    e.checked.is ∙ (ap dag_of specs ∙ sym f.checked.is)
+
+same_graphs : (text : List ℕ) (dag : Dag) (g : Graph) (gs : List Graph) → Says text dag → graph_among gs dag.spec.dag_id ≡ Some g → same g.text text ≡ true
+    → AllSay gs → rises graph_before gs ≡ true → map (reloaded text dag) gs ≡ gs
+same_graphs text dag g [] new e f said order = refl
+same_graphs text dag g (h ∷ hs) new e f said order =
+    elim (same h.dag.spec.dag_id dag.spec.dag_id) as (λ b. same h.dag.spec.dag_id dag.spec.dag_id ≡ b → cond b (Some h) (graph_among hs dag.spec.dag_id) ≡ Some g → map (reloaded text dag) (h ∷ hs) ≡ h ∷ hs) [
+      | true ↦ λ p q.
+          let found : h ≡ g = cc in
+          let text_is : text ≡ h.text = sym (ap (λ (k : Graph). k.text) found ∙ same_is g.text text f) in
+          let dag_is : dag ≡ h.dag = said_once text dag h.dag new (subst (λ (t : List ℕ). Says t h.dag) (sym text_is) said.0) in
+          let stays : reloaded text dag h ≡ h =
+          reloaded_named text dag h p
+          ∙ (ap (λ (t : List ℕ). let k : Graph = record { text = t; dag = dag; paused = h.paused } in k) text_is
+          ∙ ap (λ (d : Dag). let k : Graph = record { text = h.text; dag = d; paused = h.paused } in k) dag_is) in
+          ap (λ k. k ∷ map (reloaded text dag) hs) stays
+          ∙ ap (λ ks. h ∷ ks) (others_stay text dag h p hs (and_left (list_all (graph_before h) hs) _ order))
+      | false ↦ λ p q.
+          ap (λ k. k ∷ map (reloaded text dag) hs) (reloaded_other text dag h p)
+          ∙ ap (λ ks. h ∷ ks) (same_graphs text dag g hs new q f said.1 (and_right (list_all (graph_before h) hs) _ order))
+    ] refl e
+
+pub load_again : (text : List ℕ) (dag : Dag) (a : Schedule) (g : Graph) → Says text dag → IsSound a → AllSay a.graphs → graph_named a dag.spec.dag_id ≡ Some g → same g.text text ≡ true → load_graph text dag a ≡ a
+load_again text dag a g new s said found text_is =
+    ap (λ (o : Option Graph). let b : Schedule = record a {
+      graphs = elim o as (λ p. List Graph) [
+        | Some h ↦ map (reloaded text dag) a.graphs
+        | None ↦ insert_by graph_before (new_graph text dag) a.graphs
+      ];
+    } in b) found
+    ∙ ap (λ gs. record a { graphs = gs }) (same_graphs text dag g a.graphs new found text_is said s.graphs_by_id)
