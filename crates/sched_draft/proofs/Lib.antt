@@ -1,0 +1,2 @@
+pub mod AtLemmas
+pub mod JobLemmas

@@ -1,0 +1,30 @@
+-- Changes of one run or one instance, and where a run is put.
+use Rattle.std.specs.Prelude.{◌≡◌, ℕ, ◌+◌, ◌≤◌, true, false, List, length, take, Some, option_map, unwrap_or, slice_get}
+use Rattle.std.specs.List.{list_any}
+use Rattle.trigger_rules.specs.declared.verdicts.Verdict.{Verdict}
+use Rattle.instance_machine.specs.Instances.{Held}
+use Rattle.sched_state.specs.declared.runs.Run.{Run}
+use Rattle.sched_state.specs.declared.runs.Phase.{Phase}
+use Rattle.sched_model.specs.Lists.{at}
+use Rattle.sched_model.specs.Schedule.{Schedule, run_before}
+use Rattle.sched_model.specs.Handout.{in_instance, with_try, new_try}
+
+abbrev pub in_phase : Phase → Run → Run
+in_phase ph r = record r { phase = ph }
+
+abbrev pub decided_as : Verdict → Held → Held
+decided_as v i = record i { verdict = Some v }
+
+-- how many instances the run at the position has: 0 where there is none
+abbrev pub instances_at : ℕ → Schedule → ℕ
+instances_at n a = unwrap_or (option_map (λ (r : Run). length r.instances) (slice_get a.runs n)) 0
+
+-- the instance at the place of the run gets a try with the next serial
+abbrev pub handed_at : ℕ → ℕ → ℕ → Schedule → Schedule
+handed_at n p slots a = record a { next = a.next + 1; runs = at (in_instance (with_try (new_try a.next slots)) p) n a.runs }
+
+-- the position at which a run is put into a list: before the first that it stands before
+pub record IsPositionFor (r : Run) (rs : List Run) (position : ℕ) : Type 0 where
+  pub within : position ≤ length rs
+  pub passed : list_any (run_before r) (take position rs) ≡ false
+  pub reached : (q : Run) → slice_get rs position ≡ Some q → run_before r q ≡ true
