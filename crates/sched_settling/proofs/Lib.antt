@@ -1,0 +1,5 @@
+pub mod StateLemmas
+pub mod DecideLemmas
+pub mod EndLemmas
+pub mod StartLemmas
+pub mod StageLemmas

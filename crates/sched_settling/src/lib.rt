@@ -1,0 +1,15 @@
+//! Settling a draft: decisions, ends and starts are made until none is possible.
+//!
+//! Moves are made by stages: one sweep of decisions over all runs, then all ends, then the first start, and again. That this leads
+//! where the first possible move at each turn leads is a law of `sched_laws`. Each stage looks at all runs.
+#![tactic(auto)]
+
+mod deciding;
+mod ending;
+mod settling;
+mod starting;
+mod states;
+#[cfg(test)]
+mod tests;
+
+pub use settling::settle;
