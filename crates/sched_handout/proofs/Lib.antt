@@ -1,0 +1,5 @@
+pub mod ListLemmas
+pub mod RoomLemmas
+pub mod ChoiceLemmas
+pub mod WeighLemmas
+pub mod HandLemmas

@@ -1,0 +1,33 @@
+use Rattle.std.proofs.Common.{◌≡◌, ◌∙◌, ◌<◌, refl, ap, sym, List, [], drop, flat_map, length, Some, slice_get, arith}
+use Rattle.std.specs.List.{zip}
+use Rattle.std.proofs.lemmas.Option.{slice_get_read, slice_get-get_or}
+use Rattle.graph_file.specs.declared.task_specs.TaskSpec.{TaskSpec}
+use Rattle.dag_check.specs.Graphs.{no_task}
+use Rattle.instance_machine.specs.Instances.{Held}
+use Rattle.sched_model.specs.States.{open_of}
+use Rattle.sched_handout.specs.Rooms.{left_by}
+use Rattle.sched_handout.proofs.ListLemmas.{zip_at, zip_over}
+use Rattle.sched_handout.proofs.RoomLemmas.{left_none, left_turn}
+use Rattle.sched_handout.proofs.counting.left_by_run.Goals as goal
+
+pub loop-place-preserved : goal.loop-place-preserved
+loop-place-preserved c =
+    let tasks = c.args.dag.now.tasks in
+    let instances = c.as_slice-instances.result.now in
+    let n = c.loop-place.place in
+    let within : n < length tasks = omega (arith, c.min-count.ensures, c.len.ensures.len, c.loop-place-test.true) in
+    let inside : n < length instances = omega (arith, c.min-count.ensures, c.loop-place-test.true) in
+    let task : slice_get tasks n ≡ Some c.task.result.now = slice_get-get_or tasks n no_task within ∙ ap (λ (t : TaskSpec). Some t) (sym c.task.ensures) in
+    let instance : slice_get instances n ≡ Some c.index-instances-place.result = slice_get_read instances _ n _ refl inside c.index-instances-place.is in
+    left_turn open_of (zip tasks instances) n (c.task.result.now, c.index-instances-place.result) c.loop-place.left c.left_by_instance-left.result
+    (zip_at tasks instances n _ _ task instance) c.left_by_instance-left.ensures ∙ c.loop-place.invariant
+
+pub returns : goal.returns
+returns c =
+    let tasks = c.args.dag.now.tasks in
+    let instances = c.as_slice-instances.result.now in
+    let left = c.loop-place.left in
+    let none : drop c.loop-place.place (zip tasks instances) ≡ [] =
+    zip_over tasks instances c.loop-place.place (omega (arith, c.min-count.ensures, c.len.ensures.len, c.loop-place-test.false)) in
+    sym (left_none left) ∙ (ap (λ (es : List (TaskSpec × Held)). left_by left (flat_map open_of es)) (sym none)
+    ∙ (c.loop-place.invariant ∙ ap (λ (is : List Held). left_by c.args.room (flat_map open_of (zip tasks is))) c.as_slice-instances.ensures))

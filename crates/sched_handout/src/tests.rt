@@ -1,0 +1,220 @@
+use super::*;
+use cron_timetable::Interval;
+use dag_check::{Graph as Dag, check};
+use graph_file::{Bounded, Sequence, read_graph};
+use instance_machine::{Instance, Outcome, Stage};
+use moment_core::Moment;
+use sched_draft::Draft;
+use sched_state::{Graph, Kind, Limits, Phase, Run, Text};
+use std::alloc::Global;
+use std::test::Fail;
+use trigger_rules::Verdict;
+
+// The graph of a file with these tasks, each with its name and its other keys.
+fn graph(alloc: Global, id: &str, tasks: &[(&str, &str)]) -> Result<Graph, Fail> {
+    let mut text = format!(in alloc;
+        "dag_id = \"{id}\"\nschedule = \"@daily\"\nstart_date = \"2024-01-01\"\n"
+    )?;
+    for (task, more) in tasks {
+        write!(
+            text,
+            "[[task]]\ntask_id = \"{task}\"\noperator = \"noop\"\n{more}\n"
+        )?;
+    }
+    let spec = read_graph(alloc, text.as_str())?;
+    let Ok(dag) = check(alloc, spec) else {
+        return Err(Fail::from("no graph"));
+    };
+    Ok(Graph {
+        text: Text::from_string(text),
+        dag,
+        paused: false,
+    })
+}
+
+fn moment(secs: i64) -> Result<Moment, Fail> {
+    Ok(Moment::from_secs(secs).ok_or("no moment")?)
+}
+
+// A running run of a graph at this second, with these instances.
+fn run_with(
+    alloc: Global,
+    graph: &Graph,
+    secs: i64,
+    instances: Vec<Instance>,
+) -> Result<Run, Fail> {
+    let logical = moment(secs)?;
+    Ok(Run {
+        graph: graph.dag.spec().dag_id.copy(alloc)?,
+        logical,
+        interval: Interval {
+            start: logical,
+            end: logical,
+        },
+        kind: Kind::Scheduled,
+        phase: Phase::Running,
+        instances: Sequence::new(instances),
+    })
+}
+
+// The same, each instance scheduled.
+fn run(alloc: Global, graph: &Graph, secs: i64) -> Result<Run, Fail> {
+    let mut instances = Vec::new(alloc);
+    for _ in 0..graph.dag.len() {
+        let mut instance = Instance::new(alloc);
+        instance.decide(Verdict::Run);
+        instances.push(instance)?;
+    }
+    run_with(alloc, graph, secs, instances)
+}
+
+// A draft at second 1,000, after hand-outs. These are made again where memory ran out.
+fn handed_out<'a>(
+    alloc: Global,
+    graphs: &'a [Graph],
+    lanes: u32,
+    runs: Vec<Run>,
+) -> Result<Draft<'a>, Fail> {
+    let mut draft = Draft::new(Limits::full(), graphs, moment(1_000)?, lanes, 2, runs);
+    match hand_out(alloc, &mut draft) {
+        Ok(()) => Ok(draft),
+        Err(_) => {
+            hand_out(alloc, &mut draft)?;
+            Ok(draft)
+        }
+    }
+}
+
+// Whether the instance at a place has the try with this serial.
+fn has_try(run: &Run, place: usize, serial: u64) -> bool {
+    match run.instances.as_slice().get(place) {
+        None => false,
+        Some(instance) => instance.tries().iter().any(|one| one.serial == serial),
+    }
+}
+
+// Writes the instances of a run that have the try with this serial.
+fn write_run(text: &mut String, dag: &Dag, run: &Run, serial: u64) -> Result<(), Fail> {
+    let second = run.logical.secs();
+    for place in 0..dag.len() {
+        if has_try(run, place, serial) {
+            let id = run.graph.as_str();
+            let task = dag.task(place).task_id.as_str();
+            write!(text, "{id}.{second}.{task} ")?;
+        }
+    }
+    Ok(())
+}
+
+// The instances to which tries were handed out, in the order of the serials.
+fn written(alloc: Global, draft: &Draft<'_>) -> Result<String, Fail> {
+    let mut text = String::new(alloc);
+    for serial in 2..draft.next_serial() {
+        for run in draft.runs() {
+            if let Some(graph) = draft.graph(&run.graph) {
+                write_run(&mut text, &graph.dag, run, serial)?;
+            }
+        }
+    }
+    Ok(text)
+}
+
+// By Airflow 2's pages 'Priority Weights' and 'Pools'.
+#[test]
+fn the_first_in_rank_that_fits_gets_a_try(rt: HostRuntime) -> Result<(), Fail> {
+    let alloc = rt.alloc();
+    let diamond: &[(&str, &str)] = &[
+        ("a", ""),
+        ("b", "priority_weight = 3\nupstream = [\"a\"]"),
+        ("c", "priority_weight = 5\nupstream = [\"a\"]"),
+        ("d", "upstream = [\"b\", \"c\"]"),
+    ];
+    let rows: [(&[(&str, &str)], u32, &str); 7] = [
+        (diamond, 64, "g.0.a g.0.c g.0.b g.0.d "),
+        (diamond, 2, "g.0.a g.0.c "),
+        (diamond, 1, "g.0.a "),
+        (diamond, 0, ""),
+        // 100 and 50 slots of 128
+        (
+            &[("a", "pool_slots = 100"), ("b", "pool_slots = 50")],
+            64,
+            "g.0.a ",
+        ),
+        (
+            &[("a", "pool_slots = 100"), ("b", "pool_slots = 28")],
+            64,
+            "g.0.a g.0.b ",
+        ),
+        // what does not fit is passed over, and so is another pool
+        (
+            &[
+                ("a", "pool_slots = 129\npriority_weight = 9"),
+                ("b", "pool = \"p\"\npriority_weight = 5"),
+                ("c", ""),
+            ],
+            64,
+            "g.0.c ",
+        ),
+    ];
+    for (tasks, lanes, wanted) in rows {
+        let graph = graph(alloc, "g", tasks)?;
+        let mut runs = Vec::new(alloc);
+        runs.push(run(alloc, &graph, 0)?)?;
+        let graphs = [graph];
+        let draft = handed_out(alloc, &graphs, lanes, runs)?;
+        let found = written(alloc, &draft)?;
+        assert_eq!(rt; found.as_str(), wanted, "{lanes} lanes");
+    }
+    Ok(())
+}
+
+#[test]
+fn ties_go_by_date_then_graph_then_task(rt: HostRuntime) -> Result<(), Fail> {
+    let alloc = rt.alloc();
+    let tasks = [("b", ""), ("a", "")];
+    let first = graph(alloc, "g", &tasks)?;
+    let second = graph(alloc, "h", &tasks)?;
+    let mut runs = Vec::new(alloc);
+    runs.push(run(alloc, &first, 1)?)?;
+    runs.push(run(alloc, &first, 2)?)?;
+    runs.push(run(alloc, &second, 1)?)?;
+    let graphs = [first, second];
+    let draft = handed_out(alloc, &graphs, 5, runs)?;
+    let found = written(alloc, &draft)?;
+    assert_eq!(rt; found.as_str(), "g.1.a g.1.b h.1.a h.1.b g.2.a ");
+    Ok(())
+}
+
+// An instance whose try with serial 1 failed at this second.
+fn failed(alloc: Global, secs: i64) -> Result<Instance, Fail> {
+    let end = moment(secs)?;
+    let mut instance = Instance::new(alloc);
+    instance.decide(Verdict::Run);
+    instance.hand_out(1, Bounded::new(1))?;
+    instance.report(1, Stage::Started, end);
+    instance.report(1, Stage::Ended(Outcome::Failed), end);
+    Ok(instance)
+}
+
+// The clock stands at second 1,000.
+#[test]
+fn a_retry_is_handed_out_at_its_second(rt: HostRuntime) -> Result<(), Fail> {
+    let alloc = rt.alloc();
+    for (end, delay, wanted) in [
+        (990, "retry_delay = 10", "g.0.a "),
+        (990, "retry_delay = 11", ""),
+        (991, "retry_delay = 10", ""),
+    ] {
+        let more = format!(in alloc; "retries = 1\n{delay}")?;
+        let graph = graph(alloc, "g", &[("a", more.as_str())])?;
+        let mut instances = Vec::new(alloc);
+        instances.push(failed(alloc, end)?)?;
+        let mut runs = Vec::new(alloc);
+        runs.push(run_with(alloc, &graph, 0, instances)?)?;
+        let graphs = [graph];
+        let draft = handed_out(alloc, &graphs, 1, runs)?;
+        let found = written(alloc, &draft)?;
+        assert_eq!(rt; found.as_str(), wanted, "{end} and {delay}");
+    }
+    Ok(())
+}

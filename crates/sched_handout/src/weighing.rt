@@ -1,0 +1,28 @@
+//! The effective weights of all graphs.
+ghost use Rattle.std.specs.Prelude.{IfOk};
+ghost use Rattle.sched_handout.specs.Weighing.{WeighTasks, WeighGraphs};
+
+use dag_check::Graph as Dag;
+use priority_weights::effective;
+use sched_state::Graph;
+use std::alloc::{AllocError, Global};
+
+/// The effective weights of the graphs' tasks, by position and place.
+pub fn weigh_graphs(alloc: Global, graphs: &[Graph]) -> Result<Vec<Vec<u64>>, AllocError>
+    ensures { IfOk result (λ rows. WeighGraphs graphs.now rows.items) }
+{
+    let mut rows = Vec::with_capacity(alloc, graphs.len())?;
+    for graph in graphs {
+        let weights = weigh_tasks(alloc, &graph.dag)?;
+        rows.push(weights)?;
+    }
+    Ok(rows)
+}
+
+// The effective weights of a graph's tasks, by place.
+fn weigh_tasks(alloc: Global, dag: &Dag) -> Result<Vec<u64>, AllocError>
+    ensures { IfOk result (λ weights. WeighTasks dag.now weights.items) }
+{
+    let _count = dag.len();
+    effective(alloc, dag)
+}
