@@ -1,0 +1,14 @@
+//! The runs that an event names, and how they are added to a draft (Airflow 2, "DAG Runs").
+//!
+//! A named run is made as queued, with an instance for each task of its graph, none of them decided. Each graph's runs are gone
+//! through once.
+#![tactic(auto)]
+
+mod adding;
+mod new_runs;
+#[cfg(test)]
+mod tests;
+mod ticks;
+
+pub use adding::add;
+pub use ticks::{Named, named_by_tick};

@@ -1,0 +1,85 @@
+//! The runs that a tick names.
+ghost use Rattle.std.specs.Prelude.{◌≡◌, ℕ, IfOk, map, true};
+ghost use Rattle.run_planner.specs.Index.{has_date};
+ghost use Rattle.sched_model.specs.Lists.{rises};
+ghost use Rattle.sched_model.specs.Schedule.{graph_before, dag_named, dates_of};
+ghost use Rattle.sched_model.specs.NamedRuns.{named_of, named_by_tick, leaves_some, leaves_more, queued_run};
+
+use crate::new_runs::scheduled_runs;
+use graph_file::Name;
+use moment_core::Moment;
+use run_planner::{RunIndex, due};
+use sched_draft::Draft;
+use sched_state::{Graph, Run};
+use std::alloc::{AllocError, Global};
+
+// The most runs of one graph that one tick makes.
+const RUNS_PER_TICK: usize = 10;
+
+/// The runs that a tick names, and whether it leaves some for the next one.
+#[derive(Drop)]
+pub struct Named {
+    /// The runs, by graph and logical date.
+    pub runs: Vec<Run>,
+    /// Whether a graph has more due runs than one tick makes.
+    pub more: bool,
+}
+
+// The logical dates of the graph's runs.
+fn dates_of(alloc: Global, draft: &Draft<'_>, id: &Name) -> Result<RunIndex, AllocError>
+    ensures { IfOk result (λ index. (d : ℕ) → has_date index.dates d ≡ has_date (dates_of draft.now id.now) d) }
+{
+    let mut index = RunIndex::new(alloc);
+    for run in draft.runs() {
+        if run.graph == *id {
+            index.reserve(1)?;
+            index.add(run.logical);
+        }
+    }
+    Ok(index)
+}
+
+// The runs of one graph that a tick names, beside those that are there.
+fn named_of(
+    alloc: Global,
+    draft: &Draft<'_>,
+    graph: &Graph,
+    moment: Moment,
+) -> Result<Named, AllocError>
+    requires { dag_named draft.now graph.now.dag.spec.dag_id ≡ graph.now.dag }
+    ensures { IfOk result (λ named. (named.runs.items ≡ map (queued_run draft.now) (named_of draft.now moment graph.now)) × (named.more ≡ leaves_some draft.now moment graph.now)) }
+{
+    if graph.paused {
+        return Ok(Named {
+            runs: Vec::new(alloc),
+            more: false,
+        });
+    }
+    let index = dates_of(alloc, draft, &graph.dag.spec().dag_id)?;
+    let planned = due(alloc, &graph.dag, moment, &index, RUNS_PER_TICK)?;
+    let runs = scheduled_runs(alloc, &graph.dag, &planned.intervals)?;
+    Ok(Named {
+        runs,
+        more: planned.more,
+    })
+}
+
+/// The runs that a tick at the moment names, beside those that are there: at most ten of each graph that is not paused.
+///
+/// The graphs stand in the order of their ids, as in each sound schedule.
+pub fn named_by_tick(alloc: Global, draft: &Draft<'_>, moment: Moment) -> Result<Named, AllocError>
+    requires { rises graph_before draft.now.graphs ≡ true }
+    ensures runs { IfOk result (λ named. named.runs.items ≡ map (queued_run draft.now) (named_by_tick draft.now moment)) }
+    ensures more { IfOk result (λ named. named.more ≡ leaves_more draft.now moment) }
+{
+    let mut named = Named {
+        runs: Vec::new(alloc),
+        more: false,
+    };
+    for graph in draft.graphs() {
+        let mut next = named_of(alloc, draft, graph, moment)?;
+        named.runs.append(&mut next.runs)?;
+        named.more = named.more || next.more;
+    }
+    Ok(named)
+}
