@@ -68,6 +68,7 @@ fn runs_have_a_row_each(rt: HostRuntime) -> Result<(), Fail> {
             },
             kind: Kind::Scheduled,
             phase,
+            instances: Sequence::new(Vec::new(alloc)),
         })?;
     }
     let mut lines = Vec::new(alloc);
