@@ -1,7 +1,6 @@
 pub mod InsertLemmas
-pub mod NamingLemmas
-pub mod PlanLemmas
-pub mod LoadingLemmas
-pub mod StepLemmas
-pub mod SweepLemmas
+pub mod GraphLemmas
 pub mod TakeInLemmas
+pub mod LoadingLemmas
+pub mod PlanLemmas
+pub mod FindLemmas

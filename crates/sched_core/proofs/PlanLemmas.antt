@@ -1,6 +1,6 @@
--- Which texts are refused, and what taking one in does.
-use Rattle.std.proofs.Common.{◌≡◌, refl, sym, ap, subst, ◌∙◌, ℕ, ◌≤◌, List, [], ◌∷◌, ◌++◌, Bool, true, false, not, ◌&&◌, is_none, is_some, length, nat_le, Option, Some, None, option_map, Ok, true≢false, get_or, slice_get}
-use Rattle.std.specs.List.{list_any}
+-- Which events are refused, and what is planned for one that is not.
+use Rattle.std.proofs.Common.{◌≡◌, refl, sym, ap, subst, ◌∙◌, ℕ, ◌-◌, ◌≤◌, List, [], ◌∷◌, Bool, true, false, not, ◌&&◌, is_none, is_some, length, map, flat_map, nat_le, nat_lt, Option, Some, None, option_map, option_and_then, Ok, true≢false, get_or, slice_get, arith}
+use Rattle.std.specs.List.{list_any, range_with_len}
 use Rattle.std.proofs.lemmas.Bool.{le-leb}
 use Rattle.std.proofs.lemmas.Option.{slice_get-get_or}
 use Rattle.graph_file.specs.Graphs.{graph_of}
@@ -11,26 +11,40 @@ use Rattle.dag_check.specs.Graphs.{Dag, dag_of}
 use Rattle.dag_check.specs.Faults.{first_fault}
 use Rattle.dag_check.specs.declared.faults.DagFault.{DagFault}
 use Rattle.dag_check.proofs.FirstLemmas.{faultless}
-use Rattle.sched_state.specs.Lists.{same, insert_by}
-use Rattle.sched_state.specs.Schedule.{Schedule, graph_named, run_before}
-use Rattle.sched_state.specs.Settle.{move, settle}
-use Rattle.sched_state.specs.Changes.{load_graph, set_now, add_runs, has_runs, insert_runs}
-use Rattle.sched_state.specs.NamedRuns.{named_runs}
-use Rattle.sched_state.specs.Sound.{IsSound, Says, is_at, has_run_at, are_new}
+use Rattle.instance_machine.specs.Reports.{report_try}
+use Rattle.instance_machine.specs.declared.tries.Stage.{Stage}
+use Rattle.instance_machine.specs.declared.tries.Try.{Try}
+use Rattle.sched_state.specs.Lists.{same}
 use Rattle.sched_state.specs.declared.graphs.Graph.{Graph}
 use Rattle.sched_state.specs.declared.runs.Run.{Run}
-use Rattle.sched_state.proofs.SettleLemmas.{settle_still, settle_ends}
-use Rattle.sched_state.proofs.SoundLemmas.{find_any, load_sound, add_sound, settle_sound}
-use Rattle.sched_state.proofs.NamedLemmas.{named_new}
-use Rattle.sched_state.proofs.LoadLemmas.{found_at, load_still, load_again}
-use Rattle.sched_core.specs.Changes.{IsKept}
-use Rattle.sched_core.specs.Events.{exceeds, unknown_pool, is_one_too_many, differs, refused_text, refused, load_result}
-use Rattle.sched_core.specs.Steps.{step, no_runs}
-use Rattle.sched_core.specs.Plans.{IsPlanned}
-use Rattle.sched_core.specs.Inside.{StandsAt, IsTaken, holding}
-use Rattle.sched_core.specs.declared.events.Event.TheVariants.{Load}
-use Rattle.sched_core.specs.declared.events.Refusal.{Refusal}
-use Rattle.sched_core.specs.declared.events.Refusal.TheVariants as refusal
+use Rattle.sched_state.proofs.SoundLemmas.{find_any}
+use Rattle.sched_model.specs.Schedule.{Schedule, graph_named, has_runs}
+use Rattle.sched_model.specs.Settle.{settle}
+use Rattle.sched_model.specs.Handout.{hand_out}
+use Rattle.sched_model.specs.Jobs.{job_at, handed}
+use Rattle.sched_model.specs.NamedRuns.{Named, named_by_tick, queued_run, add_runs}
+use Rattle.sched_model.specs.Changes.{load_graph}
+use Rattle.sched_model.specs.Causes.{open_try, has_too_many_graphs, is_full_with}
+use Rattle.sched_model.specs.Sound.{IsSound, Says, AllSay}
+use Rattle.sched_laws.proofs.SettleLemmas.{settle_still}
+use Rattle.sched_laws.proofs.HandOutLemmas.{hand_still}
+use Rattle.sched_laws.proofs.LoadLemmas.{load_still, load_no_hand, load_again}
+use Rattle.sched_events.specs.Events.{named_by, change_by, leaves_more_by, load_result, IsDated}
+use Rattle.sched_events.specs.Causes.{exceeds, unknown_pool, differs, refused_text, refused}
+use Rattle.sched_events.specs.Steps.{step, id_of, answer_to}
+use Rattle.sched_events.specs.Kept.{IsKept}
+use Rattle.sched_events.specs.declared.answers.Answer.{Answer}
+use Rattle.sched_events.specs.declared.answers.RunId.{RunId}
+use Rattle.sched_events.specs.declared.events.Event.{Event}
+use Rattle.sched_events.specs.declared.events.Event.TheVariants.{Load, Tick, Report, Restart}
+use Rattle.sched_events.specs.declared.refusals.Refusal.{Refusal}
+use Rattle.sched_events.specs.declared.refusals.Refusal.TheVariants as refusal
+use Rattle.sched_events.proofs.AcceptLemmas.{change_kept}
+use Rattle.sched_events.proofs.StepLemmas.{added_sound, step_kept}
+use Rattle.sched_core.specs.Changes.{Planned}
+use Rattle.sched_core.specs.Plans.{IsPlanned, no_runs, run_id}
+use Rattle.sched_core.specs.Inside.{StandsAt, IsTaken}
+use Rattle.sched_core.proofs.GraphLemmas.{found_at}
 
 -- ---- causes
 abbrev five : Bool → Option DagFault → Option (List ℕ) → Bool → Bool → Option Refusal
@@ -41,9 +55,9 @@ abbrev two : Bool → Bool → Option Refusal
 two b c = first_some (when b refusal.TooManyGraphs ∷ when c refusal.GraphDiffers ∷ [])
 
 -- what is left of the causes against a text that has a graph
-causes : (a : Schedule) (text : List ℕ) (dag : Dag) → IsTaken a text dag → refused a (Load text) ≡ two (is_one_too_many a dag.spec) (differs a text dag.spec)
+causes : (a : Schedule) (text : List ℕ) (dag : Dag) → IsTaken a text dag → refused a (Load text) ≡ two (has_too_many_graphs a dag.spec.dag_id) (differs a text dag.spec)
 causes a text dag t =
-    let more : Bool = is_one_too_many a dag.spec in
+    let more : Bool = has_too_many_graphs a dag.spec.dag_id in
     let other : Bool = differs a text dag.spec in
     let none : first_fault dag.spec.tasks ≡ None = faultless dag.spec dag t.says.checked in
     ap (refused_text a text) t.says.read
@@ -54,23 +68,23 @@ causes a text dag t =
 -- the causes that lie in the text, the bounds and the pools
 pub refused_long : (a : Schedule) (text : List ℕ) (spec : GraphSpec) → graph_of text ≡ Ok spec → exceeds a.limits spec ≡ true → refused a (Load text) ≡ Some (refusal.GraphFault TooMany)
 refused_long a text spec said long =
-    ap (refused_text a text) said ∙ ap (λ b. five b (first_fault spec.tasks) (unknown_pool a spec) (is_one_too_many a spec) (differs a text spec)) long
+    ap (refused_text a text) said ∙ ap (λ b. five b (first_fault spec.tasks) (unknown_pool a spec) (has_too_many_graphs a spec.dag_id) (differs a text spec)) long
 
 pub refused_faulty : (a : Schedule) (text : List ℕ) (spec : GraphSpec) (f : DagFault) → graph_of text ≡ Ok spec → exceeds a.limits spec ≡ false → first_fault spec.tasks ≡ Some f
     → refused a (Load text) ≡ Some (refusal.DagFault f)
 refused_faulty a text spec f said fits first =
     ap (refused_text a text) said
-    ∙ (ap (λ b. five b (first_fault spec.tasks) (unknown_pool a spec) (is_one_too_many a spec) (differs a text spec)) fits
-    ∙ ap (λ g. five false g (unknown_pool a spec) (is_one_too_many a spec) (differs a text spec)) first)
+    ∙ (ap (λ b. five b (first_fault spec.tasks) (unknown_pool a spec) (has_too_many_graphs a spec.dag_id) (differs a text spec)) fits
+    ∙ ap (λ g. five false g (unknown_pool a spec) (has_too_many_graphs a spec.dag_id) (differs a text spec)) first)
 
 pub refused_pool : (a : Schedule) (text : List ℕ) (dag : Dag) (pool : List ℕ) → Says text dag → exceeds a.limits dag.spec ≡ false → unknown_pool a dag.spec ≡ Some pool
     → refused a (Load text) ≡ Some (refusal.UnknownPool pool)
 refused_pool a text dag pool says fits unknown =
     let none : first_fault dag.spec.tasks ≡ None = faultless dag.spec dag says.checked in
     ap (refused_text a text) says.read
-    ∙ (ap (λ b. five b (first_fault dag.spec.tasks) (unknown_pool a dag.spec) (is_one_too_many a dag.spec) (differs a text dag.spec)) fits
-    ∙ (ap (λ f. five false f (unknown_pool a dag.spec) (is_one_too_many a dag.spec) (differs a text dag.spec)) none
-    ∙ ap (λ p. five false None p (is_one_too_many a dag.spec) (differs a text dag.spec)) unknown))
+    ∙ (ap (λ b. five b (first_fault dag.spec.tasks) (unknown_pool a dag.spec) (has_too_many_graphs a dag.spec.dag_id) (differs a text dag.spec)) fits
+    ∙ (ap (λ f. five false f (unknown_pool a dag.spec) (has_too_many_graphs a dag.spec.dag_id) (differs a text dag.spec)) none
+    ∙ ap (λ p. five false None p (has_too_many_graphs a dag.spec.dag_id) (differs a text dag.spec)) unknown))
 
 none_of : (b c : Bool) → b ≡ false → c ≡ false → two b c ≡ None
 none_of b c e f = rw (e, f) refl
@@ -135,56 +149,104 @@ accepted_other a text dag i g kept taken at named other runs =
     ∙ (ap (λ b. two false (not b && has_runs a dag.spec.dag_id)) other ∙ ap (λ b. two false b) runs)
 
 -- ---- steps
-pub load_step : (a : Schedule) (text : List ℕ) (dag : Dag) → Says text dag → step (Load text) a ≡ settle (load_graph text dag a)
+-- where the next serial stays no try is handed out
+no_jobs : (a b : Schedule) → b.next ≡ a.next → handed a b ≡ []
+no_jobs a b e =
+    let none : b.next - a.next ≡ 0 = omega (arith, e) in
+    ap (λ (n : ℕ). flat_map (job_at b) (range_with_len a.next n)) none
+
+pub load_step : (a : Schedule) (text : List ℕ) (dag : Dag) → Says text dag → step (Load text) a ≡ hand_out (settle (load_graph text dag a))
 load_step a text dag said =
-    ap (λ r. settle (load_result text r a)) said.read
-    ∙ (ap (λ (o : Option DagFault). let b : Schedule = elim o [ None ↦ load_graph text (dag_of dag.spec) a | Some f ↦ a ] in settle b) (faultless dag.spec dag said.checked)
-    ∙ ap (λ (d : Dag). settle (load_graph text d a)) (sym said.checked.is))
+    ap (λ r. hand_out (settle (load_result text r a))) said.read
+    ∙ (ap (λ (o : Option DagFault). let b : Schedule = elim o [ None ↦ load_graph text (dag_of dag.spec) a | Some f ↦ a ] in hand_out (settle b)) (faultless dag.spec dag said.checked)
+    ∙ ap (λ (d : Dag). hand_out (settle (load_graph text d a))) (sym said.checked.is))
+
+-- a step that ends where nothing is handed out answers nothing
+quiet_answer : (a b : Schedule) (text : List ℕ) → step (Load text) a ≡ b → b.next ≡ a.next → no_runs ≡ answer_to (Load text) a
+quiet_answer a b text is next = ap (λ js. record no_runs { jobs = js }) (sym (ap (handed a) is ∙ no_jobs a b next))
 
 -- the same text changes nothing
 pub planned_same : (a : Schedule) (text : List ℕ) (dag : Dag) (i : ℕ) (g : Graph) → IsKept a → Says text dag → refused a (Load text) ≡ None
     → slice_get a.graphs i ≡ Some g → same g.dag.spec.dag_id dag.spec.dag_id ≡ true → same g.text text ≡ true → IsPlanned a (Load text) (record { before = a; after = a; answer = no_runs })
-planned_same a text dag i g kept said accepted at named text_is =
-    let found = found_at dag.spec.dag_id a.graphs i g at named kept.sound.graphs_by_id in
-    record {
-      accepted = accepted;
-      before = refl;
-      after = sym (load_step a text dag said ∙ (ap settle (load_again text dag a g said kept.sound found text_is) ∙ settle_still a kept.settled));
-      answer = refl;
-    }
+planned_same a text dag i g kept said accepted there named text_is =
+    let found = found_at dag.spec.dag_id a.graphs i g there named kept.sound.graphs_by_id in
+    let is : step (Load text) a ≡ a =
+    load_step a text dag said
+    ∙ (ap (λ (b : Schedule). hand_out (settle b)) (load_again text dag a g said kept.sound kept.said found text_is)
+    ∙ (ap hand_out (settle_still a kept.settled) ∙ hand_still a kept.handed)) in
+    record { accepted = accepted; before = refl; after = sym is; answer = quiet_answer a a text is refl }
 
--- a text that takes no run's graph is taken in, and no run starts
-pub loaded_kept : (a : Schedule) (text : List ℕ) (dag : Dag) → IsKept a → Says text dag → has_runs a dag.spec.dag_id ≡ false → IsKept (load_graph text dag a)
-loaded_kept a text dag kept said quiet = record { sound = load_sound text dag a said kept.sound; settled = load_still text dag a quiet kept.settled }
+-- a text that takes no run's graph is taken in, and nothing moves
+pub loaded_kept : (a : Schedule) (text : List ℕ) (dag : Dag) → IsKept a → IsTaken a text dag → has_runs a dag.spec.dag_id ≡ false → refused a (Load text) ≡ None → IsKept (load_graph text dag a)
+loaded_kept a text dag kept t quiet accepted =
+    let is : change_by (Load text) a ≡ load_graph text dag a =
+    ap (λ r. load_result text r a) t.says.read
+    ∙ (ap (λ (o : Option DagFault). let b : Schedule = elim o [ None ↦ load_graph text (dag_of dag.spec) a | Some f ↦ a ] in b) (faultless dag.spec dag t.says.checked)
+    ∙ ap (λ (d : Dag). load_graph text d a) (sym t.says.checked.is)) in
+    let c = change_kept (Load text) a tt accepted kept in
+    record {
+      sound = subst IsSound is c.0;
+      said = subst (λ (b : Schedule). AllSay b.graphs) is c.1;
+      settled = load_still text dag a quiet kept.settled;
+      handed = load_no_hand text dag a quiet kept.handed;
+    }
 
 pub planned_load : (a : Schedule) (text : List ℕ) (dag : Dag) → IsKept a → Says text dag → has_runs a dag.spec.dag_id ≡ false → refused a (Load text) ≡ None
     → IsPlanned a (Load text) (record { before = a; after = load_graph text dag a; answer = no_runs })
-planned_load a text dag kept said quiet accepted = record {
-  accepted = accepted;
-  before = refl;
-  after = sym (load_step a text dag said ∙ settle_still (load_graph text dag a) (load_still text dag a quiet kept.settled));
-  answer = refl;
-}
+planned_load a text dag kept said quiet accepted =
+    let b : Schedule = load_graph text dag a in
+    let is : step (Load text) a ≡ b =
+    load_step a text dag said ∙ (ap hand_out (settle_still b (load_still text dag a quiet kept.settled)) ∙ hand_still b (load_no_hand text dag a quiet kept.handed)) in
+    record { accepted = accepted; before = refl; after = sym is; answer = quiet_answer a b text is refl }
 
--- ---- added runs
-pub insert_runs-last : (ns : List Run) (n : Run) (rs : List Run) → insert_runs (ns ++ n ∷ []) rs ≡ insert_runs ns (insert_by run_before n rs)
-insert_runs-last [] n rs = refl
-insert_runs-last (m ∷ ns) n rs = ap (insert_by run_before m) (insert_runs-last ns n rs)
+-- ---- by a draft
+pub draft_sound : (e : Event) (a b : Schedule) → IsDated e → refused a e ≡ None → IsKept a → b ≡ add_runs (named_by e a) (change_by e a) → IsSound b
+draft_sound e a b dated accepted kept is = subst IsSound (sym is) (added_sound e a dated accepted kept (change_kept e a dated accepted kept).0)
 
--- ---- ticks
--- the runs that a tick names are new also after the clock is set
-pub still_new : (a : Schedule) (t : ℕ) (ns : List Run) → are_new (set_now t a) ns ≡ are_new a ns
-still_new a t [] = refl
-still_new a t (n ∷ ns) = ap (λ b. (is_some (graph_named a n.graph) && not (has_run_at a n.graph n.logical)) && (not (list_any (is_at n.graph n.logical) ns) && b)) (still_new a t ns)
+pub draft_kept : (e : Event) (a b : Schedule) → IsDated e → refused a e ≡ None → IsKept a → b ≡ add_runs (named_by e a) (change_by e a) → IsKept (hand_out (settle b))
+draft_kept e a b dated accepted kept is = subst (λ (c : Schedule). IsKept (hand_out (settle c))) (sym is) (step_kept e a dated accepted kept)
 
--- the schedule after a tick is kept
-pub tick_kept : (a : Schedule) (t : ℕ) (named rs : List Run) → IsKept a → named ≡ named_runs a t
-    → settle (holding a.limits a.graphs t (insert_runs named a.runs)) ≡ holding a.limits a.graphs t rs → IsKept (holding a.limits a.graphs t rs)
-tick_kept a t named rs kept is after =
-    let clock : IsSound (set_now t a) = record { graphs_by_id = kept.sound.graphs_by_id; said = kept.sound.said; runs_by_key = kept.sound.runs_by_key; known = kept.sound.known } in
-    let new : are_new (set_now t a) named ≡ true = still_new a t named ∙ (ap (are_new a) is ∙ named_new a t kept.sound) in
-    let b : Schedule = add_runs named (set_now t a) in
-    record {
-      sound = subst (λ (s : Schedule). IsSound s) after (settle_sound b (add_sound named (set_now t a) new clock));
-      settled = ap move (sym after) ∙ settle_ends b;
-    }
+pub draft_planned : (e : Event) (a b : Schedule) (made : List RunId) (more : Bool) (c : Planned) → refused a e ≡ None → b ≡ add_runs (named_by e a) (change_by e a) → made ≡ map id_of (named_by e a)
+    → more ≡ leaves_more_by e a → c ≡ record { before = a; after = hand_out (settle b); answer = record { made = made; more = more; jobs = handed a (hand_out (settle b)) } } → IsPlanned a e c
+draft_planned e a b made more c accepted is made_is more_is planned =
+    let after : hand_out (settle b) ≡ step e a = ap (λ (s : Schedule). hand_out (settle s)) is in
+    let answer : ◌≡◌ {A = Answer} (record { made = made; more = more; jobs = handed a (hand_out (settle b)) }) (answer_to e a) =
+    ap (λ ids. record { made = ids; more = more; jobs = handed a (hand_out (settle b)) }) made_is
+    ∙ (ap (λ m. record { made = map id_of (named_by e a); more = m; jobs = handed a (hand_out (settle b)) }) more_is
+    ∙ ap (λ (s : Schedule). record { made = map id_of (named_by e a); more = leaves_more_by e a; jobs = handed a s }) after) in
+    subst (IsPlanned a e) (sym planned) (record { accepted = accepted; before = refl; after = after; answer = answer })
+
+-- the tick's causes
+two_none : (b c : Bool) {x y : Refusal} → b ≡ false → c ≡ false → first_some (when b x ∷ when c y ∷ []) ≡ None
+two_none b c e f = rw (e, f) refl
+
+pub tick_accepted : (a : Schedule) (t : ℕ) → nat_lt t a.now ≡ false → is_full_with a (named_by_tick a t) ≡ false → refused a (Tick t) ≡ None
+tick_accepted a t back full = two_none (nat_lt t a.now) (is_full_with a (named_by_tick a t)) back full
+
+pub tick_back : (a : Schedule) (t : ℕ) → nat_lt t a.now ≡ true → refused a (Tick t) ≡ Some (refusal.ClockBack a.now)
+tick_back a t back = ap (λ b. first_some (when b (refusal.ClockBack a.now) ∷ when (is_full_with a (named_by_tick a t)) refusal.RecordFull ∷ [])) back
+
+pub tick_full : (a : Schedule) (t : ℕ) → nat_lt t a.now ≡ false → is_full_with a (named_by_tick a t) ≡ true → refused a (Tick t) ≡ Some refusal.RecordFull
+tick_full a t back full =
+    ap (λ b. first_some (when b (refusal.ClockBack a.now) ∷ when (is_full_with a (named_by_tick a t)) refusal.RecordFull ∷ [])) back
+    ∙ ap (λ b. first_some (when b refusal.RecordFull ∷ [])) full
+
+-- the runs of names are those names
+pub ids_named : (a : Schedule) (ns : List Named) → map run_id (map (queued_run a) ns) ≡ map id_of ns
+ids_named a [] = refl
+ids_named a (n ∷ ns) = ap (λ ids. id_of n ∷ ids) (ids_named a ns)
+
+-- the report's causes
+pub not_in_flight : (a : Schedule) (serial : ℕ) (stage : Stage) → None ≡ open_try a serial → refused a (Report serial stage) ≡ Some (refusal.NotInFlight serial)
+not_in_flight a serial stage none =
+    ap (λ (o : Option Try). first_some (when (is_none o) (refusal.NotInFlight serial) ∷ when (not (is_none o) && is_none (option_and_then (report_try stage a.now) o)) (refusal.OutOfTurn serial) ∷ [])) (sym none)
+
+pub out_of_turn : (a : Schedule) (serial : ℕ) (stage : Stage) (t : Try) → Some t ≡ open_try a serial → is_some (report_try stage a.now t) ≡ false → refused a (Report serial stage) ≡ Some (refusal.OutOfTurn serial)
+out_of_turn a serial stage t there turn =
+    ap (λ (o : Option Try). first_some (when (is_none o) (refusal.NotInFlight serial) ∷ when (not (is_none o) && is_none (option_and_then (report_try stage a.now) o)) (refusal.OutOfTurn serial) ∷ [])) (sym there)
+    ∙ ap (λ b. first_some (when b (refusal.OutOfTurn serial) ∷ [])) (is_none-not (report_try stage a.now t) ∙ ap not turn)
+
+pub in_turn : (a : Schedule) (serial : ℕ) (stage : Stage) (t : Try) → Some t ≡ open_try a serial → is_some (report_try stage a.now t) ≡ true → refused a (Report serial stage) ≡ None
+in_turn a serial stage t there turn =
+    ap (λ (o : Option Try). first_some (when (is_none o) (refusal.NotInFlight serial) ∷ when (not (is_none o) && is_none (option_and_then (report_try stage a.now) o)) (refusal.OutOfTurn serial) ∷ [])) (sym there)
+    ∙ ap (λ b. first_some (when b (refusal.OutOfTurn serial) ∷ [])) (is_none-not (report_try stage a.now t) ∙ ap not turn)

@@ -6,11 +6,11 @@ use Rattle.std.proofs.lemmas.List.Folds.{list_any_at}
 use Rattle.std.proofs.lemmas.Option.{slice_get-get_or}
 use Rattle.dag_check.specs.Graphs.{Dag}
 use Rattle.sched_state.specs.Lists.{same, insert_by}
-use Rattle.sched_state.specs.Schedule.{graph_before}
+use Rattle.sched_model.specs.Schedule.{graph_before}
 use Rattle.sched_state.specs.declared.graphs.Graph.{Graph}
-use Rattle.sched_state.specs.Changes.{reloaded, new_graph, with_graph}
-use Rattle.sched_state.specs.Sound.{rises}
-use Rattle.sched_state.proofs.LoadLemmas.{replaced_at, with_known, with_unknown}
+use Rattle.sched_model.specs.Changes.{reloaded, new_graph, with_graph}
+use Rattle.sched_model.specs.Lists.{rises}
+use Rattle.sched_core.proofs.GraphLemmas.{replaced_at, with_known, with_unknown}
 use Rattle.sched_core.specs.Inside.{StandsAt, IsPlaceFor}
 use Rattle.sched_core.proofs.InsertLemmas.{insert-place}
 

@@ -7,16 +7,16 @@ use Rattle.dag_check.specs.Graphs.{Dag, IsGraphOf}
 use Rattle.dag_check.specs.Faults.{Stands, first_fault, without_names}
 use Rattle.dag_check.specs.declared.faults.DagFault.{DagFault}
 use Rattle.dag_check.specs.declared.faults.DagFault.TheVariants.{DoubleTask, UnknownUpstream, DoubleEdge, Cycle, Memory}
-use Rattle.sched_state.specs.Sound.{Says}
-use Rattle.sched_core.specs.Events.{exceeds, unknown_pool}
+use Rattle.sched_model.specs.Sound.{Says}
+use Rattle.sched_events.specs.Causes.{exceeds, unknown_pool}
 use Rattle.std.specs.List.{list_any}
 use Rattle.sched_state.specs.Limits.{Bounds}
 use Rattle.sched_state.specs.Lists.{same}
-use Rattle.sched_state.specs.Schedule.{Schedule}
+use Rattle.sched_model.specs.Schedule.{Schedule}
 use Rattle.sched_state.specs.declared.graphs.Graph.{Graph}
 use Rattle.sched_state.specs.declared.runs.Run.{Run}
-use Rattle.sched_core.specs.declared.events.Refusal.{Refusal}
-use Rattle.sched_core.specs.declared.events.Refusal.TheVariants as refusal
+use Rattle.sched_events.specs.declared.refusals.Refusal.{Refusal}
+use Rattle.sched_events.specs.declared.refusals.Refusal.TheVariants as refusal
 
 -- a graph of this id stands at the place
 pub record StandsAt (id : List ℕ) (graphs : List Graph) (place : ℕ) : Type 0 where
@@ -28,10 +28,6 @@ pub record StandsAt (id : List ℕ) (graphs : List Graph) (place : ℕ) : Type 0
 -- the place of a graph of this id, or none where there is none
 abbrev pub IsPlaceOf : List ℕ → List Graph → Option ℕ → Type 0
 IsPlaceOf id graphs place = MatchOption place (list_any (λ (g : Graph). same g.dag.spec.dag_id id) graphs ≡ false) (StandsAt id graphs)
-
--- a schedule with these parts
-abbrev pub holding : Bounds → List Graph → ℕ → List Run → Schedule
-holding limits graphs now runs = record { limits = limits; graphs = graphs; now = now; runs = runs }
 
 -- the place at which x is put into a list: before the first element that it stands before
 pub record IsPlaceFor {X : Type 0} (before : X → X → Bool) (x : X) (xs : List X) (place : ℕ) : Type 0 where
@@ -59,17 +55,15 @@ pub record IsFirstFault (spec : GraphSpec) (fault : DagFault) : Type 0 where
   pub stands : Stands spec.tasks fault
   pub first : first_fault spec.tasks ≡ Some (without_names fault)
 
--- the refusal for a fault
-abbrev pub refusal_of : DagFault → Refusal
-refusal_of (DoubleTask i) = refusal.DagFault (DoubleTask i)
-refusal_of (UnknownUpstream i) = refusal.DagFault (UnknownUpstream i)
-refusal_of (DoubleEdge i) = refusal.DagFault (DoubleEdge i)
-refusal_of (Cycle names) = refusal.DagFault (Cycle names)
-refusal_of Memory = refusal.Memory
-
 abbrev pub IsCheckFault : GraphSpec → Refusal → Type 0
 IsCheckFault spec r = (r ≡ refusal.Memory) ⊎ ((fault : DagFault) × (r ≡ refusal.DagFault fault) × IsFirstFault spec fault)
 
 -- memory ran out, or the text has this fault
 abbrev pub IsReadFault : List ℕ → Refusal → Type 0
 IsReadFault text r = (r ≡ refusal.Memory) ⊎ ((fault : GraphFault) × (r ≡ refusal.GraphFault fault) × (graph_of text ≡ Err fault))
+
+-- the draft is over the same graphs, pools and limits
+pub record IsOver (a b : Schedule) : Type 0 where
+  pub limits : b.limits ≡ a.limits
+  pub graphs : b.graphs ≡ a.graphs
+  pub pools : b.pools ≡ a.pools

@@ -1,5 +1,3 @@
-pub mod Events
-pub mod Steps
 pub mod Changes
 pub mod Effects
 pub mod Plans

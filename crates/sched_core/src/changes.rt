@@ -1,9 +1,9 @@
 //! A planned change.
 
-use crate::answers::Answer;
 use crate::schedules::Schedule;
 use dag_check::Graph as Dag;
 use moment_core::Moment;
+use sched_events::Answer;
 use sched_state::{Run, Text};
 use std::marker::Model;
 use std::snapshot::Snapshot;
@@ -15,8 +15,18 @@ pub enum Effect {
     Nothing,
     // A text is taken in, which says this graph.
     Load(Text, Dag),
-    // The clock is set, and these are the runs.
-    Runs(Moment, Vec<Run>),
+    // All but the graphs is this.
+    Next(Next),
+}
+
+// What an event leaves, but for the graphs.
+#[derive(Drop)]
+pub struct Next {
+    pub clock: Moment,
+    pub lanes: u32,
+    // The serial of the next try.
+    pub serial: u64,
+    pub runs: Vec<Run>,
 }
 
 /// What an accepted event will do: it is made by `Schedule::plan`, and done by `Schedule::commit`.
@@ -30,7 +40,8 @@ pub struct Change {
 }
 
 impl Model for Change {
-    ghost use Rattle.sched_core.specs.Changes.{Planned, IsKept};
+    ghost use Rattle.sched_core.specs.Changes.{Planned};
+    ghost use Rattle.sched_events.specs.Kept.{IsKept};
     ghost use Rattle.sched_core.specs.Effects.{applied};
 
     ghost Value = { Planned };

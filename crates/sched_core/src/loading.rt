@@ -3,20 +3,21 @@ ghost use Rattle.std.specs.Prelude.{◌≡◌, ◌≤◌, IfOk, IfErr, MatchResu
 ghost use Rattle.std.specs.Option.{option_copied};
 ghost use Rattle.graph_file.specs.TaskLists.{upstream_limit};
 ghost use Rattle.sched_state.specs.Lists.{same};
-ghost use Rattle.sched_state.specs.Schedule.{default_pool};
-ghost use Rattle.sched_state.specs.Changes.{has_runs};
-ghost use Rattle.sched_core.specs.Events.{refused, exceeds, edge_count};
-ghost use Rattle.sched_core.specs.Plans.{IsPlanned, IsRefusal};
-ghost use Rattle.sched_core.specs.Changes.{IsKept};
-ghost use Rattle.sched_core.specs.declared.events.Event.TheVariants.{Load};
+ghost use Rattle.sched_model.specs.Schedule.{default_pool};
+ghost use Rattle.sched_model.specs.Schedule.{has_runs};
+ghost use Rattle.sched_events.specs.Causes.{refused, exceeds, edge_count};
+ghost use Rattle.sched_core.specs.Plans.{IsPlanned};
+ghost use Rattle.sched_events.specs.Outcomes.{IsRefusal};
+ghost use Rattle.sched_events.specs.Kept.{IsKept};
+ghost use Rattle.sched_events.specs.declared.events.Event.TheVariants.{Load};
 ghost use Rattle.sched_core.specs.Inside.{IsRead, IsReadFault, IsChecked, IsCheckFault, IsTaken};
 
 use crate::changes::{Change, Effect};
-use crate::events::Refusal;
 use crate::lookups::{has_runs, place_of};
 use crate::schedules::Schedule;
 use dag_check::{Graph as Dag, check};
 use graph_file::{GraphFault, GraphSpec, Name, TaskSpec, read_graph};
+use sched_events::Refusal;
 use sched_state::{Limits, Text};
 use std::alloc::Global;
 
@@ -122,10 +123,10 @@ fn edge_count(tasks: &[TaskSpec]) -> usize
 
 // The pool of the first task whose pool is not there.
 fn unknown_pool(tasks: &[TaskSpec]) -> Option<&Name>
-    ensures { option_copied result ≡ option_map (λ t. t.pool) (find (λ t. not (same t.pool default_pool)) tasks.now) }
+    ensures { option_copied result ≡ option_map (λ t. t.pool) (find (λ t. not (same default_pool.name t.pool)) tasks.now) }
 {
     tasks
         .iter()
-        .find(|task| task.pool.as_str() != DEFAULT_POOL)
+        .find(|task| DEFAULT_POOL != task.pool.as_str())
         .map(|task| &task.pool)
 }

@@ -3,11 +3,11 @@ ghost use Rattle.std.specs.Prelude.{◌≡◌, ◌&&◌, ◌<◌, find, count_by
 ghost use Rattle.std.specs.List.{list_any};
 ghost use Rattle.std.specs.Option.{option_copied};
 ghost use Rattle.sched_state.specs.Lists.{same};
-ghost use Rattle.sched_state.specs.Schedule.{is_running};
+ghost use Rattle.sched_model.specs.Schedule.{is_running};
 ghost use Rattle.sched_core.specs.Inside.{IsPlaceOf};
 
 use graph_file::Name;
-use sched_state::{Graph, Phase, Run};
+use sched_state::{Graph, Run};
 
 // The graph with this id.
 pub fn graph_named<'a>(graphs: &'a [Graph], id: &Name) -> Option<&'a Graph>
@@ -33,18 +33,4 @@ pub fn has_runs(runs: &[Run], id: &Name) -> bool
     ensures { result ≡ list_any (λ r. same r.graph id.now) runs.now }
 {
     runs.iter().any(|run| run.graph == *id)
-}
-
-// Whether this is a running run of the graph.
-fn is_active(run: &Run, id: &Name) -> bool
-    ensures { result ≡ (same run.now.graph id.now && is_running run.now.phase) }
-{
-    run.graph == *id && matches!(run.phase, Phase::Running)
-}
-
-// How many runs of the graph are running.
-pub fn active_runs(runs: &[Run], id: &Name) -> usize
-    ensures { result ≡ count_by (λ r. same r.graph id.now && is_running r.phase) runs.now }
-{
-    runs.iter().filter(|run| is_active(run, id)).count()
 }

@@ -1,24 +1,28 @@
 //! Planning an event: refused for its first cause, or a change that does exactly its step.
-ghost use Rattle.std.specs.Prelude.{◌≡◌, IfOk, IfErr, OnOk, map, false};
-ghost use Rattle.sched_state.specs.Changes.{insert_runs, has_runs};
-ghost use Rattle.sched_core.specs.Events.{refused};
-ghost use Rattle.sched_core.specs.Steps.{id_of, no_runs};
-ghost use Rattle.sched_core.specs.Plans.{IsPlanned, IsRefusal};
-ghost use Rattle.sched_core.specs.Changes.{IsKept};
+ghost use Rattle.std.specs.Prelude.{◌≡◌, IfOk, IfErr, map};
+ghost use Rattle.sched_model.specs.Settle.{settle};
+ghost use Rattle.sched_model.specs.Handout.{hand_out};
+ghost use Rattle.sched_model.specs.Jobs.{handed};
+ghost use Rattle.sched_model.specs.Sound.{IsSound};
+ghost use Rattle.sched_events.specs.Kept.{IsKept};
+ghost use Rattle.sched_events.specs.Outcomes.{IsRefusal};
+ghost use Rattle.sched_events.specs.declared.events.Event.TheVariants.{Tick, Report, Restart};
+ghost use Rattle.sched_core.specs.Plans.{IsPlanned, no_runs, run_id};
 ghost use Rattle.sched_core.specs.Effects.{applied};
-ghost use Rattle.sched_core.specs.declared.events.Event.TheVariants.{Load, Tick};
+ghost use Rattle.sched_core.specs.Inside.{IsOver};
 
-use crate::answers::{Answer, RunId};
-use crate::changes::{Change, Effect};
-use crate::events::{Event, Refusal};
-use crate::lookups::{has_runs, place_of};
-use crate::naming::named_runs;
-use crate::ordering::insert_run;
+use crate::changes::{Change, Effect, Next};
+use crate::finding::{open_try, takes};
 use crate::schedules::Schedule;
-use crate::settling::settle;
-use graph_file::{GraphFault, GraphSpec, Sequence, read_graph};
+use graph_file::Sequence;
+use instance_machine::Stage;
 use moment_core::Moment;
-use sched_state::{Run, Text};
+use sched_draft::Draft;
+use sched_events::{Answer, Event, Refusal, RunId};
+use sched_handout::hand_out;
+use sched_naming::{add, named_by_tick};
+use sched_settling::settle;
+use sched_state::Run;
 use std::alloc::{AllocError, Global};
 use std::snapshot::Snapshot;
 
@@ -34,10 +38,12 @@ impl Schedule {
         match event {
             Event::Load(text) => self.plan_load(alloc, text),
             Event::Tick(moment) => self.plan_tick(alloc, *moment),
+            Event::Report(serial, stage) => self.plan_report(alloc, *serial, *stage),
+            Event::Restart(lanes) => self.plan_restart(alloc, *lanes),
         }
     }
 
-    // A change that makes no run.
+    // A change that makes no run and hands out no try.
     pub(crate) fn quiet_change(&self, alloc: Global, effect: Effect) -> Change
         requires { IsKept (applied effect self.now.content) }
         ensures { result ≡ record { before = self.now.content; after = applied effect self.now.content; answer = no_runs } }
@@ -48,8 +54,58 @@ impl Schedule {
             answer: Answer {
                 made: Sequence::new(Vec::new(alloc)),
                 more: false,
+                jobs: Sequence::new(Vec::new(alloc)),
             },
         }
+    }
+
+    // The schedule as a draft.
+    fn draft(&self, alloc: Global) -> Result<Draft<'_>, AllocError>
+        ensures { IfOk result (λ draft. draft ≡ self.now.content) }
+    {
+        let runs = copied(alloc, &self.runs)?;
+        Ok(Draft::new(
+            self.limits,
+            &self.graphs,
+            self.clock,
+            self.lanes,
+            self.next,
+            runs,
+        ))
+    }
+
+    // The change that ends in this draft, settled and handed out.
+    fn finished(
+        &self,
+        alloc: Global,
+        draft: Draft<'_>,
+        made: Sequence<RunId>,
+        more: bool,
+    ) -> Result<Change, AllocError>
+        requires sound { IsSound draft.entry }
+        requires over { IsOver self.now.content draft.entry }
+        requires kept { IsKept (hand_out (settle draft.entry)) }
+        ensures { IfOk result (λ change. change ≡ record {
+          before = self.now.content;
+          after = hand_out (settle draft.entry);
+          answer = record { made = made; more = more; jobs = handed self.now.content (hand_out (settle draft.entry)) };
+        }) }
+    {
+        let mut draft = draft;
+        settle(&mut draft);
+        hand_out(alloc, &mut draft)?;
+        let jobs = draft.jobs_from(alloc, self.next)?;
+        let next = Next {
+            clock: draft.clock(),
+            lanes: draft.lanes(),
+            serial: draft.next_serial(),
+            runs: draft.into_runs(),
+        };
+        Ok(Change {
+            before: Snapshot::of(self),
+            effect: Effect::Next(next),
+            answer: Answer { made, more, jobs },
+        })
     }
 
     fn plan_tick(&self, alloc: Global, moment: Moment) -> Result<Change, Refusal>
@@ -59,28 +115,50 @@ impl Schedule {
         if moment < self.clock {
             return Err(Refusal::ClockBack(self.clock));
         }
-        let named = named_runs(alloc, &self.graphs, &self.runs, moment)?;
+        let mut draft = self.draft(alloc)?;
+        let named = named_by_tick(alloc, &draft, moment)?;
         if (self.limits.runs() as usize) < self.runs.len() + named.runs.len() {
             return Err(Refusal::RecordFull);
         }
         let made = ids_of(alloc, &named.runs)?;
-        let mut runs = copied(alloc, &self.runs)?;
-        insert_all(&mut runs, named.runs)?;
-        settle(&self.graphs, &mut runs);
-        Ok(Change {
-            before: Snapshot::of(self),
-            effect: Effect::Runs(moment, runs),
-            answer: Answer {
-                made,
-                more: named.more,
-            },
-        })
+        draft.set_clock(moment);
+        add(&mut draft, named.runs)?;
+        Ok(self.finished(alloc, draft, made, named.more)?)
+    }
+
+    fn plan_report(&self, alloc: Global, serial: u64, stage: Stage) -> Result<Change, Refusal>
+        ensures accepted { IfOk result (IsPlanned self.now.content (Report serial stage)) }
+        ensures refused { IfErr result (IsRefusal self.now.content (Report serial stage)) }
+    {
+        let Some(one) = open_try(&self.runs, serial) else {
+            return Err(Refusal::NotInFlight(serial));
+        };
+        if !takes(&one, stage) {
+            return Err(Refusal::OutOfTurn(serial));
+        }
+        let mut draft = self.draft(alloc)?;
+        draft.report(serial, stage);
+        let made = Sequence::new(Vec::new(alloc));
+        Ok(self.finished(alloc, draft, made, false)?)
+    }
+
+    fn plan_restart(&self, alloc: Global, lanes: u32) -> Result<Change, Refusal>
+        ensures accepted { IfOk result (IsPlanned self.now.content (Restart lanes)) }
+        ensures refused { IfErr result (IsRefusal self.now.content (Restart lanes)) }
+    {
+        if self.limits.lanes() < lanes {
+            return Err(Refusal::LanesTooMany);
+        }
+        let mut draft = self.draft(alloc)?;
+        draft.restart(lanes);
+        let made = Sequence::new(Vec::new(alloc));
+        Ok(self.finished(alloc, draft, made, false)?)
     }
 }
 
 // Which runs these are.
 fn ids_of(alloc: Global, runs: &[Run]) -> Result<Sequence<RunId>, AllocError>
-    ensures { IfOk result (λ ids. ids ≡ map id_of runs.now) }
+    ensures { IfOk result (λ ids. ids ≡ map run_id runs.now) }
 {
     let mut ids = Vec::new(alloc);
     for run in runs {
@@ -102,14 +180,4 @@ fn copied(alloc: Global, runs: &[Run]) -> Result<Vec<Run>, AllocError>
         copies.push(run.copy(alloc)?)?;
     }
     Ok(copies)
-}
-
-// Adds each of the new runs at its place.
-fn insert_all(runs: &mut Vec<Run>, mut new: Vec<Run>) -> Result<(), AllocError>
-    ensures { OnOk result (runs.new.items ≡ insert_runs new.items runs.old.items) }
-{
-    while let Some(run) = new.pop() {
-        insert_run(runs, run)?;
-    }
-    Ok(())
 }

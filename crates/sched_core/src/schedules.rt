@@ -4,25 +4,25 @@
 //! and neither changes what the schedule holds.
 ghost use Rattle.std.specs.Prelude.{◌≡◌, ◌≤◌, length, IfOk, IfErr, OnOk, true, vec_capacity};
 ghost use Rattle.std.specs.Option.{option_copied};
-ghost use Rattle.sched_state.specs.Schedule.{empty_schedule, graph_before, graph_named};
-ghost use Rattle.sched_state.specs.Changes.{with_graph};
-ghost use Rattle.sched_state.specs.Sound.{rises};
-ghost use Rattle.sched_core.specs.Changes.{HasRoom, IsKept};
-ghost use Rattle.sched_core.specs.Plans.{IsStepped, IsRefusal};
+ghost use Rattle.sched_model.specs.Lists.{rises};
+ghost use Rattle.sched_model.specs.Schedule.{empty_schedule, graph_before, graph_named};
+ghost use Rattle.sched_model.specs.Changes.{with_graph};
+ghost use Rattle.sched_events.specs.Kept.{IsKept};
+ghost use Rattle.sched_events.specs.Outcomes.{IsStepped, IsRefusal};
+ghost use Rattle.sched_core.specs.Changes.{HasRoom};
 
-use crate::answers::Answer;
 use crate::changes::{Change, Effect};
-use crate::events::{Event, Refusal};
 use crate::lookups::{graph_named, place_of};
 use crate::ordering::place_for_graph;
 use dag_check::Graph as Dag;
 use graph_file::Name;
 use moment_core::Moment;
+use sched_events::{Answer, Event, Refusal};
 use sched_state::{Graph, Limits, Run, Text};
 use std::alloc::{AllocError, Global};
 use std::marker::Model;
 
-/// A schedule (Airflow 2, "Scheduler"): graphs with their runs, and the last moment that it has seen.
+/// A schedule (Airflow 2, "Scheduler"): graphs with their runs and task instances, and the last moment that it has seen.
 ///
 /// Contracts see what it holds, `content`, and the `room` that is reserved.
 #[derive(Drop)]
@@ -30,25 +30,30 @@ pub struct Schedule {
     pub(crate) limits: Limits,
     pub(crate) graphs: Vec<Graph>,
     pub(crate) clock: Moment,
+    pub(crate) lanes: u32,
+    // The serial of the next try.
+    pub(crate) next: u64,
     pub(crate) runs: Vec<Run>,
 }
 
 impl Model for Schedule {
-    ghost use Rattle.std.specs.Prelude.{◌-◌, vec_len, vec_capacity};
-    ghost use Rattle.sched_core.specs.Changes.{Held, IsKept};
+    ghost use Rattle.std.specs.Prelude.{◌-◌, [], ◌∷◌, vec_len, vec_capacity};
+    ghost use Rattle.sched_model.specs.Schedule.{default_pool};
+    ghost use Rattle.sched_core.specs.Changes.{Held};
+    ghost use Rattle.sched_events.specs.Kept.{IsKept};
 
     ghost Value = { Held };
 
     ghost view = { λ s. record {
-      content = record { limits = s.limits; graphs = s.graphs.items; now = s.clock; runs = s.runs.items };
+      content = record { limits = s.limits; graphs = s.graphs.items; pools = default_pool ∷ []; now = s.clock; lanes = s.lanes; next = s.next; runs = s.runs.items };
       room = record { graphs = vec_capacity s.graphs - vec_len s.graphs };
     } };
 
-    ghost invariant = { λ s. IsKept (record { limits = s.limits; graphs = s.graphs.items; now = s.clock; runs = s.runs.items }) };
+    ghost invariant = { λ s. IsKept (record { limits = s.limits; graphs = s.graphs.items; pools = default_pool ∷ []; now = s.clock; lanes = s.lanes; next = s.next; runs = s.runs.items }) };
 }
 
 impl Schedule {
-    /// A schedule without graphs, whose clock stands at 1970-01-01T00:00:00Z. This takes no memory.
+    /// A schedule without graphs and lanes, whose clock stands at 1970-01-01T00:00:00Z. This takes no memory.
     pub fn new(alloc: Global, limits: Limits) -> Schedule
         ensures { result.content ≡ empty_schedule limits }
     {
@@ -56,6 +61,8 @@ impl Schedule {
             limits,
             graphs: Vec::new(alloc),
             clock: Moment::at(0),
+            lanes: 0,
+            next: 1,
             runs: Vec::new(alloc),
         }
     }
@@ -65,6 +72,20 @@ impl Schedule {
         ensures { result ≡ self.now.content.now }
     {
         self.clock
+    }
+
+    /// The most tries that may be without an end at once.
+    pub fn lanes(&self) -> u32
+        ensures { result ≡ self.now.content.lanes }
+    {
+        self.lanes
+    }
+
+    /// The serial of the next try.
+    pub fn next_serial(&self) -> u64
+        ensures { result ≡ self.now.content.next }
+    {
+        self.next
     }
 
     /// The runs, by graph id and logical date.
@@ -89,7 +110,7 @@ impl Schedule {
     {
         match &change.effect {
             Effect::Load(_, _) => self.graphs.reserve(1),
-            Effect::Nothing | Effect::Runs(_, _) => Ok(()),
+            Effect::Nothing | Effect::Next(_) => Ok(()),
         }
     }
 
@@ -108,9 +129,11 @@ impl Schedule {
         match effect {
             Effect::Nothing => {}
             Effect::Load(text, dag) => take_in(&mut self.graphs, text, dag),
-            Effect::Runs(moment, runs) => {
-                self.clock = moment;
-                self.runs = runs;
+            Effect::Next(next) => {
+                self.clock = next.clock;
+                self.lanes = next.lanes;
+                self.next = next.serial;
+                self.runs = next.runs;
             }
         }
         answer

@@ -104,4 +104,11 @@ impl Limits {
     {
         self.tasks
     }
+
+    /// The most tries that may be without an end at once.
+    pub fn lanes(self) -> u32
+        ensures { result ≡ self.lanes }
+    {
+        self.lanes
+    }
 }

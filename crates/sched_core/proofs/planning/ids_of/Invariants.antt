@@ -1,6 +1,6 @@
 use Rattle.std.proofs.Common.{◌≡◌, map, take}
-use Rattle.sched_core.specs.Steps.{id_of}
+use Rattle.sched_core.specs.Plans.{run_id}
 use Rattle.sched_core.proofs.planning.ids_of.Given as goal
 
 abbrev pub invariant-loop-run : goal.invariant-loop-run
-invariant-loop-run l = l.ids.items ≡ map id_of (take l.run-index l.runs)
+invariant-loop-run l = l.ids.items ≡ map run_id (take l.run-index l.runs)

@@ -3,9 +3,9 @@ use Rattle.std.specs.List.{list_any}
 use Rattle.std.specs.Result.{is_ok}
 use Rattle.graph_file.specs.declared.graph_specs.GraphSpec.{GraphSpec}
 use Rattle.sched_state.specs.Lists.{same}
-use Rattle.sched_state.specs.Schedule.{graph_before}
+use Rattle.sched_model.specs.Schedule.{graph_before}
 use Rattle.sched_state.specs.declared.graphs.Graph.{Graph}
-use Rattle.sched_state.specs.Changes.{new_graph, with_graph}
+use Rattle.sched_model.specs.Changes.{new_graph, with_graph}
 use Rattle.sched_core.specs.Inside.{StandsAt, IsPlaceFor}
 use Rattle.sched_core.proofs.TakeInLemmas.{taken_known, taken_new, length-new}
 use Rattle.sched_core.proofs.schedules.take_in.Goals as goal

@@ -1,26 +1,27 @@
-use Rattle.std.proofs.Common.{◌≡◌, ◌∙◌, true, false, List, length, nat_le, ap, sym, subst, arith, inr, None, Some}
+use Rattle.sched_model.specs.Schedule.{default_pool}
+use Rattle.std.proofs.Common.{[], ◌∷◌, refl, ◌≡◌, ◌∙◌, true, false, List, length, nat_le, ap, sym, subst, arith, inr, None, Some}
 use Rattle.std.specs.List.{list_any}
 use Rattle.std.proofs.lemmas.Bool.Decides.{nat_tests}
 use Rattle.graph_file.specs.declared.graph_specs.GraphSpec.{GraphSpec}
 use Rattle.sched_state.specs.Lists.{same}
-use Rattle.sched_state.specs.Changes.{has_runs}
-use Rattle.sched_state.specs.Schedule.{Schedule}
+use Rattle.sched_model.specs.Schedule.{has_runs}
+use Rattle.sched_model.specs.Schedule.{Schedule}
 use Rattle.sched_state.specs.declared.graphs.Graph.{Graph}
 use Rattle.sched_state.specs.declared.runs.Run.{Run}
-use Rattle.sched_state.proofs.LoadLemmas.{unknown_no_runs}
+use Rattle.sched_core.proofs.GraphLemmas.{unknown_no_runs}
 use Rattle.sched_core.specs.Changes.{Held, Planned}
-use Rattle.sched_core.specs.Events.{refused}
+use Rattle.sched_events.specs.Causes.{refused}
 use Rattle.sched_core.specs.Inside.{StandsAt, IsTaken}
 use Rattle.sched_core.specs.Plans.{IsPlanned}
-use Rattle.sched_core.specs.Steps.{no_runs}
-use Rattle.sched_core.specs.declared.events.Event.TheVariants.{Load}
-use Rattle.sched_core.specs.declared.events.Refusal.TheVariants as refusal
+use Rattle.sched_core.specs.Plans.{no_runs}
+use Rattle.sched_events.specs.declared.events.Event.TheVariants.{Load}
+use Rattle.sched_events.specs.declared.refusals.Refusal.TheVariants as refusal
 use Rattle.sched_core.proofs.PlanLemmas.{known_is, refused_full, accepted_new, accepted_same, refused_differs, accepted_other, planned_same}
 use Rattle.sched_core.proofs.schedules.Schedule.plan_load.Goals as goal
 
 pub returns-then-graphs-len-clause-refused : goal.returns-then-graphs-len-clause-refused
 returns-then-graphs-len-clause-refused c =
-    let a : Schedule = record { limits = c.self.inside.limits; graphs = c.self.inside.graphs.items; now = c.self.inside.clock; runs = c.self.inside.runs.items } in
+    let a : Schedule = record { limits = c.self.inside.limits; graphs = c.self.inside.graphs.items; pools = default_pool ∷ []; now = c.self.inside.clock; lanes = c.self.inside.lanes; next = c.self.inside.next; runs = c.self.inside.runs.items } in
     let dag = c.in_ok-dag.dag in
     let taken = subst (λ (h : Held). IsTaken h.content c.args.text.now dag) (sym c.self.view_is) c.in_ok-dag.ensures.taken in
     let unknown = subst (λ (s : GraphSpec). list_any (λ (g : Graph). same g.dag.spec.dag_id s.dag_id) a.graphs ≡ false) c.spec.ensures.spec
@@ -29,7 +30,7 @@ returns-then-graphs-len-clause-refused c =
 
 pub taken_in-requires-clause-quiet : goal.taken_in-requires-clause-quiet
 taken_in-requires-clause-quiet c =
-    let a : Schedule = record { limits = c.self.inside.limits; graphs = c.self.inside.graphs.items; now = c.self.inside.clock; runs = c.self.inside.runs.items } in
+    let a : Schedule = record { limits = c.self.inside.limits; graphs = c.self.inside.graphs.items; pools = default_pool ∷ []; now = c.self.inside.clock; lanes = c.self.inside.lanes; next = c.self.inside.next; runs = c.self.inside.runs.items } in
     let dag = c.in_ok-dag.dag in
     let taken = subst (λ (h : Held). IsTaken h.content c.args.text.now dag) (sym c.self.view_is) c.in_ok-dag.ensures.taken in
     let unknown = subst (λ (s : GraphSpec). list_any (λ (g : Graph). same g.dag.spec.dag_id s.dag_id) a.graphs ≡ false) c.spec.ensures.spec
@@ -38,7 +39,7 @@ taken_in-requires-clause-quiet c =
 
 pub taken_in-requires-clause-accepted : goal.taken_in-requires-clause-accepted
 taken_in-requires-clause-accepted c =
-    let a : Schedule = record { limits = c.self.inside.limits; graphs = c.self.inside.graphs.items; now = c.self.inside.clock; runs = c.self.inside.runs.items } in
+    let a : Schedule = record { limits = c.self.inside.limits; graphs = c.self.inside.graphs.items; pools = default_pool ∷ []; now = c.self.inside.clock; lanes = c.self.inside.lanes; next = c.self.inside.next; runs = c.self.inside.runs.items } in
     let dag = c.in_ok-dag.dag in
     let taken = subst (λ (h : Held). IsTaken h.content c.args.text.now dag) (sym c.self.view_is) c.in_ok-dag.ensures.taken in
     let unknown = subst (λ (s : GraphSpec). list_any (λ (g : Graph). same g.dag.spec.dag_id s.dag_id) a.graphs ≡ false) c.spec.ensures.spec
@@ -49,7 +50,7 @@ taken_in-requires-clause-accepted c =
 
 pub returns-then-is_same-clause-accepted : goal.returns-then-is_same-clause-accepted
 returns-then-is_same-clause-accepted c =
-    let a : Schedule = record { limits = c.self.inside.limits; graphs = c.self.inside.graphs.items; now = c.self.inside.clock; runs = c.self.inside.runs.items } in
+    let a : Schedule = record { limits = c.self.inside.limits; graphs = c.self.inside.graphs.items; pools = default_pool ∷ []; now = c.self.inside.clock; lanes = c.self.inside.lanes; next = c.self.inside.next; runs = c.self.inside.runs.items } in
     let dag = c.in_ok-dag.dag in
     let taken = subst (λ (h : Held). IsTaken h.content c.args.text.now dag) (sym c.self.view_is) c.in_ok-dag.ensures.taken in
     let g = c.index.result.now in
@@ -64,7 +65,7 @@ returns-then-is_same-clause-accepted c =
 
 pub returns-then-has_runs-clause-refused : goal.returns-then-has_runs-clause-refused
 returns-then-has_runs-clause-refused c =
-    let a : Schedule = record { limits = c.self.inside.limits; graphs = c.self.inside.graphs.items; now = c.self.inside.clock; runs = c.self.inside.runs.items } in
+    let a : Schedule = record { limits = c.self.inside.limits; graphs = c.self.inside.graphs.items; pools = default_pool ∷ []; now = c.self.inside.clock; lanes = c.self.inside.lanes; next = c.self.inside.next; runs = c.self.inside.runs.items } in
     let dag = c.in_ok-dag.dag in
     let taken = subst (λ (h : Held). IsTaken h.content c.args.text.now dag) (sym c.self.view_is) c.in_ok-dag.ensures.taken in
     let g = c.index.result.now in
@@ -78,7 +79,7 @@ returns-then-has_runs-clause-refused c =
 
 pub taken_in-requires-in-Some-clause-accepted : goal.taken_in-requires-in-Some-clause-accepted
 taken_in-requires-in-Some-clause-accepted c =
-    let a : Schedule = record { limits = c.self.inside.limits; graphs = c.self.inside.graphs.items; now = c.self.inside.clock; runs = c.self.inside.runs.items } in
+    let a : Schedule = record { limits = c.self.inside.limits; graphs = c.self.inside.graphs.items; pools = default_pool ∷ []; now = c.self.inside.clock; lanes = c.self.inside.lanes; next = c.self.inside.next; runs = c.self.inside.runs.items } in
     let dag = c.in_ok-dag.dag in
     let taken = subst (λ (h : Held). IsTaken h.content c.args.text.now dag) (sym c.self.view_is) c.in_ok-dag.ensures.taken in
     let g = c.index.result.now in
@@ -93,7 +94,7 @@ taken_in-requires-in-Some-clause-accepted c =
 
 pub taken_in-requires-in-Some-clause-quiet : goal.taken_in-requires-in-Some-clause-quiet
 taken_in-requires-in-Some-clause-quiet c =
-    let a : Schedule = record { limits = c.self.inside.limits; graphs = c.self.inside.graphs.items; now = c.self.inside.clock; runs = c.self.inside.runs.items } in
+    let a : Schedule = record { limits = c.self.inside.limits; graphs = c.self.inside.graphs.items; pools = default_pool ∷ []; now = c.self.inside.clock; lanes = c.self.inside.lanes; next = c.self.inside.next; runs = c.self.inside.runs.items } in
     let dag = c.in_ok-dag.dag in
     let taken = subst (λ (h : Held). IsTaken h.content c.args.text.now dag) (sym c.self.view_is) c.in_ok-dag.ensures.taken in
     let runs = subst (λ (s : GraphSpec). has_runs a s.dag_id ≡ false) c.spec.ensures.spec

@@ -1,6 +1,6 @@
 use Rattle.std.proofs.Common.{◌≤◌, ◌+◌, ◌-◌, length, subst, sym, arith, vec_len, vec_capacity, ℕ}
 use Rattle.std.proofs.lemmas.Result.{on_ok_weaker}
-use Rattle.sched_state.specs.Schedule.{Schedule}
+use Rattle.sched_model.specs.Schedule.{Schedule}
 use Rattle.sched_core.specs.declared.changes.Effect.{Effect}
 use Rattle.sched_core.specs.Changes.{Planned}
 use Rattle.sched_core.specs.Effects.{applied}

@@ -1,16 +1,17 @@
 use Rattle.std.proofs.Common.{◌≡◌, ◌∙◌, List, ℕ, ap, sym, subst}
-use Rattle.sched_state.specs.Changes.{load_graph}
-use Rattle.sched_core.specs.Changes.{Planned, IsKept}
-use Rattle.sched_core.specs.Steps.{no_runs}
+use Rattle.sched_model.specs.Changes.{load_graph}
+use Rattle.sched_core.specs.Changes.{Planned}
+use Rattle.sched_events.specs.Kept.{IsKept}
+use Rattle.sched_core.specs.Plans.{no_runs}
 use Rattle.sched_core.specs.Plans.{IsPlanned}
-use Rattle.sched_core.specs.declared.events.Event.TheVariants.{Load}
+use Rattle.sched_events.specs.declared.events.Event.TheVariants.{Load}
 use Rattle.sched_core.proofs.PlanLemmas.{loaded_kept, planned_load}
 use Rattle.sched_core.proofs.schedules.Schedule.taken_in.Goals as goal
 
 pub quiet_change-requires : goal.quiet_change-requires
 quiet_change-requires c =
     subst (λ (t : List ℕ). IsKept (load_graph t c.args.dag c.args.self.now.content)) (sym c.in_ok-text.ensures)
-    (loaded_kept c.args.self.now.content c.args.text.now c.args.dag c.requires.kept c.requires.taken.says c.requires.quiet)
+    (loaded_kept c.args.self.now.content c.args.text.now c.args.dag c.requires.kept c.requires.taken c.requires.quiet c.requires.accepted)
 
 pub returns-clause-accepted : goal.returns-clause-accepted
 returns-clause-accepted c =

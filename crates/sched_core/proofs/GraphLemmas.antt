@@ -1,0 +1,106 @@
+-- A graph among those that stand by id: how it is found, replaced and put in, and that no run is of one that is not there.
+use Rattle.std.proofs.Common.{◌≡◌, refl, sym, ap, ◌∙◌, ℕ, zero, suc, List, [], ◌∷◌, Bool, true, false, cond, ◌&&◌, map, find, is_some, Option, Some, None, slice_get, slice_set, true≢false}
+use Rattle.std.specs.List.{list_any, list_all}
+use Rattle.std.proofs.lemmas.Map.Text.{is_eq-slice_cmp}
+use Rattle.dag_check.specs.Graphs.{Dag}
+use Rattle.sched_state.specs.Lists.{same, name_cmp, insert_by}
+use Rattle.sched_state.specs.declared.graphs.Graph.{Graph}
+use Rattle.sched_state.specs.declared.runs.Run.{Run}
+use Rattle.sched_state.proofs.OrderLemmas.{and_left, and_right, not_true, less_no_tie}
+use Rattle.sched_state.proofs.SoundLemmas.{same_is, same_itself, find_any}
+use Rattle.sched_model.specs.Lists.{rises}
+use Rattle.sched_model.specs.Schedule.{Schedule, graph_before, has_runs}
+use Rattle.sched_model.specs.Changes.{reloaded, new_graph, with_graph}
+use Rattle.sched_model.specs.Sound.{IsSound, is_sound_run}
+use Rattle.sched_laws.proofs.ListLemmas.{all_get, all_impl}
+
+reloaded_other : (text : List ℕ) (dag : Dag) (g : Graph) → same g.dag.spec.dag_id dag.spec.dag_id ≡ false → reloaded text dag g ≡ g
+reloaded_other text dag g e = ap (λ b. cond b (record { text = text; dag = dag; paused = g.paused }) g) e
+
+reloaded_named : (text : List ℕ) (dag : Dag) (g : Graph) → same g.dag.spec.dag_id dag.spec.dag_id ≡ true → reloaded text dag g ≡ record { text = text; dag = dag; paused = g.paused }
+reloaded_named text dag g e = ap (λ b. cond b (record { text = text; dag = dag; paused = g.paused }) g) e
+
+
+pub flip_same : (x y : List ℕ) → same x y ≡ false → same y x ≡ false
+flip_same x y e = not_true _ (λ f. true≢false (sym (same_itself x) ∙ (ap (same x) (sym (same_is y x f)) ∙ e)))
+
+
+pub before_apart : (g h : Graph) → graph_before g h ≡ true → same g.dag.spec.dag_id h.dag.spec.dag_id ≡ false
+before_apart g h e = sym (is_eq-slice_cmp g.dag.spec.dag_id h.dag.spec.dag_id) ∙ less_no_tie (name_cmp g.dag.spec.dag_id h.dag.spec.dag_id) e
+
+others_stay : (text : List ℕ) (dag : Dag) (g : Graph) → same g.dag.spec.dag_id dag.spec.dag_id ≡ true → (gs : List Graph) → list_all (graph_before g) gs ≡ true → map (reloaded text dag) gs ≡ gs
+others_stay text dag g e [] after = refl
+others_stay text dag g e (h ∷ hs) after =
+    let apart : same h.dag.spec.dag_id dag.spec.dag_id ≡ false =
+    flip_same dag.spec.dag_id h.dag.spec.dag_id (ap (λ n. same n h.dag.spec.dag_id) (sym (same_is _ _ e)) ∙ before_apart g h (and_left (graph_before g h) _ after)) in
+    let rest : map (reloaded text dag) hs ≡ hs = others_stay text dag g e hs (and_right (graph_before g h) _ after) in
+    ap (λ k. k ∷ map (reloaded text dag) hs) (reloaded_other text dag h apart) ∙ ap (λ ks. h ∷ ks) rest
+
+
+-- a known graph takes the text in at its place, and all others stay
+pub replaced_at : (text : List ℕ) (dag : Dag) (gs : List Graph) (i : ℕ) (g : Graph) → slice_get gs i ≡ Some g → same g.dag.spec.dag_id dag.spec.dag_id ≡ true → rises graph_before gs ≡ true
+    → map (reloaded text dag) gs ≡ slice_set gs i (record { text = text; dag = dag; paused = g.paused })
+replaced_at text dag [] i g at named order = absurd (let c : ◌≡◌ {A = Option Graph} None (Some g) = at in cc)
+replaced_at text dag (h ∷ hs) zero g at named order =
+    let c : ◌≡◌ {A = Option Graph} (Some h) (Some g) = at in
+    let is : h ≡ g = cc in
+    let here : same h.dag.spec.dag_id dag.spec.dag_id ≡ true = ap (λ (k : Graph). same k.dag.spec.dag_id dag.spec.dag_id) is ∙ named in
+    ap (λ k. k ∷ map (reloaded text dag) hs) (reloaded_named text dag h here ∙ ap (λ (k : Graph). let m : Graph = record { text = text; dag = dag; paused = k.paused } in m) is)
+    ∙ ap (λ ks. record { text = text; dag = dag; paused = g.paused } ∷ ks) (others_stay text dag h here hs (and_left (list_all (graph_before h) hs) _ order))
+replaced_at text dag (h ∷ hs) (suc i) g at named order =
+    let before : graph_before h g ≡ true = all_get (graph_before h) hs i g (and_left (list_all (graph_before h) hs) _ order) at in
+    let apart : same h.dag.spec.dag_id dag.spec.dag_id ≡ false = ap (same h.dag.spec.dag_id) (sym (same_is g.dag.spec.dag_id dag.spec.dag_id named)) ∙ before_apart h g before in
+    ap (λ k. k ∷ map (reloaded text dag) hs) (reloaded_other text dag h apart)
+    ∙ ap (λ ks. h ∷ ks) (replaced_at text dag hs i g at named (and_right (list_all (graph_before h) hs) _ order))
+
+-- which of the two happens
+pub with_known : (text : List ℕ) (dag : Dag) (gs : List Graph) → list_any (λ (g : Graph). same g.dag.spec.dag_id dag.spec.dag_id) gs ≡ true → with_graph text dag gs ≡ map (reloaded text dag) gs
+with_known text dag gs known =
+    elim (find (λ (g : Graph). same g.dag.spec.dag_id dag.spec.dag_id) gs) as (λ o. is_some o ≡ true → (elim o as (λ p. List Graph) [
+      | Some g ↦ map (reloaded text dag) gs
+      | None ↦ insert_by graph_before (new_graph text dag) gs
+    ]) ≡ map (reloaded text dag) gs) [
+      | Some g ↦ λ e. refl
+      | None ↦ λ e. absurd (true≢false (sym e))
+    ] (find_any (λ (g : Graph). same g.dag.spec.dag_id dag.spec.dag_id) gs ∙ known)
+
+pub with_unknown : (text : List ℕ) (dag : Dag) (gs : List Graph) → list_any (λ (g : Graph). same g.dag.spec.dag_id dag.spec.dag_id) gs ≡ false → with_graph text dag gs ≡ insert_by graph_before (new_graph text dag) gs
+with_unknown text dag gs unknown =
+    elim (find (λ (g : Graph). same g.dag.spec.dag_id dag.spec.dag_id) gs) as (λ o. is_some o ≡ false → (elim o as (λ p. List Graph) [
+      | Some g ↦ map (reloaded text dag) gs
+      | None ↦ insert_by graph_before (new_graph text dag) gs
+    ]) ≡ insert_by graph_before (new_graph text dag) gs) [
+      | Some g ↦ λ e. absurd (true≢false e)
+      | None ↦ λ e. refl
+    ] (find_any (λ (g : Graph). same g.dag.spec.dag_id dag.spec.dag_id) gs ∙ unknown)
+
+-- the graph at a place is the one that is found
+pub found_at : (id : List ℕ) (gs : List Graph) (i : ℕ) (g : Graph) → slice_get gs i ≡ Some g → same g.dag.spec.dag_id id ≡ true → rises graph_before gs ≡ true
+    → find (λ (h : Graph). same h.dag.spec.dag_id id) gs ≡ Some g
+found_at id [] i g at named order = absurd (let c : ◌≡◌ {A = Option Graph} None (Some g) = at in cc)
+found_at id (h ∷ hs) zero g at named order =
+    let c : ◌≡◌ {A = Option Graph} (Some h) (Some g) = at in
+    let is : h ≡ g = cc in
+    ap (λ b. cond b (Some h) (find (λ (k : Graph). same k.dag.spec.dag_id id) hs)) (ap (λ (k : Graph). same k.dag.spec.dag_id id) is ∙ named) ∙ ap (λ k. Some k) is
+found_at id (h ∷ hs) (suc i) g at named order =
+    let before : graph_before h g ≡ true = all_get (graph_before h) hs i g (and_left (list_all (graph_before h) hs) _ order) at in
+    let apart : same h.dag.spec.dag_id id ≡ false = ap (same h.dag.spec.dag_id) (sym (same_is g.dag.spec.dag_id id named)) ∙ before_apart h g before in
+    ap (λ b. cond b (Some h) (find (λ (k : Graph). same k.dag.spec.dag_id id) hs)) apart ∙ found_at id hs i g at named (and_right (list_all (graph_before h) hs) _ order)
+
+-- no run is of a graph that is not there
+none_known : (gs : List Graph) (id : List ℕ) → list_any (λ (g : Graph). same g.dag.spec.dag_id id) gs ≡ false → (rs : List Run)
+    → list_all (λ (r : Run). is_some (find (λ (g : Graph). same g.dag.spec.dag_id r.graph) gs)) rs ≡ true → list_any (λ (r : Run). same r.graph id) rs ≡ false
+none_known gs id unknown [] known = refl
+none_known gs id unknown (r ∷ rs) known =
+    let here : same r.graph id ≡ false = not_true _ (λ e. true≢false (
+    sym (and_left (is_some (find (λ (g : Graph). same g.dag.spec.dag_id r.graph) gs)) _ known)
+    ∙ (find_any (λ (g : Graph). same g.dag.spec.dag_id r.graph) gs
+    ∙ (ap (λ n. list_any (λ (g : Graph). same g.dag.spec.dag_id n) gs) (same_is r.graph id e) ∙ unknown)))) in
+    let rest : list_any (λ (q : Run). same q.graph id) rs ≡ false = none_known gs id unknown rs (and_right (is_some (find (λ (g : Graph). same g.dag.spec.dag_id r.graph) gs)) _ known) in
+    rw (here, rest) refl
+
+sound_known : (gs : List Graph) (r : Run) → is_sound_run gs r ≡ true → is_some (find (λ (g : Graph). same g.dag.spec.dag_id r.graph) gs) ≡ true
+sound_known gs r e = and_left (is_some (find (λ (g : Graph). same g.dag.spec.dag_id r.graph) gs)) _ e
+
+pub unknown_no_runs : (a : Schedule) (id : List ℕ) → IsSound a → list_any (λ (g : Graph). same g.dag.spec.dag_id id) a.graphs ≡ false → has_runs a id ≡ false
+unknown_no_runs a id s unknown = none_known a.graphs id unknown a.runs (all_impl (is_sound_run a.graphs) (λ (r : Run). is_some (find (λ (g : Graph). same g.dag.spec.dag_id r.graph) a.graphs)) (sound_known a.graphs) a.runs s.runs)

@@ -1,5 +1,0 @@
-use Rattle.sched_core.proofs.StepLemmas.{steps_kept}
-use Rattle.sched_core.proofs.laws.lists_of_steps_keep_the_schedule.Goals as goal
-
-pub returns : goal.returns
-returns c = steps_kept

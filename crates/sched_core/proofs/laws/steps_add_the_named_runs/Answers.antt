@@ -1,5 +1,0 @@
-use Rattle.sched_core.proofs.StepLemmas.{step_dates}
-use Rattle.sched_core.proofs.laws.steps_add_the_named_runs.Goals as goal
-
-pub returns : goal.returns
-returns c = step_dates

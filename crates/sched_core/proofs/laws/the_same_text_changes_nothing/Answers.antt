@@ -1,5 +1,0 @@
-use Rattle.sched_core.proofs.StepLemmas.{same_text}
-use Rattle.sched_core.proofs.laws.the_same_text_changes_nothing.Goals as goal
-
-pub returns : goal.returns
-returns c = same_text

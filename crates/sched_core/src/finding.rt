@@ -1,0 +1,63 @@
+//! Tries, found by their serials.
+ghost use Rattle.std.specs.Prelude.{◌≡◌, ℕ, ◌&&◌, ◌==◌, find, flat_map, is_some};
+ghost use Rattle.instance_machine.specs.Instances.{Held};
+ghost use Rattle.instance_machine.specs.Reports.{report_try};
+ghost use Rattle.sched_state.specs.declared.runs.Run.{Run as RunRecord};
+ghost use Rattle.sched_model.specs.States.{is_open};
+
+use instance_machine::{Instance, Outcome, Stage, Try};
+use sched_state::Run;
+
+// Whether the try has no end, and this serial.
+fn is_open_as(one: &Try, serial: u64) -> bool
+    ensures { result ≡ (is_open one.now && one.now.serial == serial) }
+{
+    one.ended.is_none() && one.serial == serial
+}
+
+// The try without an end that has this serial, among these.
+fn open_among(tries: &[Try], serial: u64) -> Option<Try>
+    ensures { result ≡ find (λ t. is_open t && t.serial == serial) tries.now }
+{
+    tries
+        .iter()
+        .find(|one| is_open_as(one, serial))
+        .copied()
+}
+
+// The same, among the tries of these instances.
+fn open_in(instances: &[Instance], serial: u64) -> Option<Try>
+    ensures { result ≡ find (λ t. is_open t && t.serial == serial) (flat_map (λ (i : Held). i.tries) instances.now) }
+{
+    for instance in instances {
+        if let Some(found) = open_among(instance.tries(), serial) {
+            return Some(found);
+        }
+    }
+    None
+}
+
+// The try without an end that has this serial.
+pub fn open_try(runs: &[Run], serial: u64) -> Option<Try>
+    ensures { result ≡ find (λ t. is_open t && t.serial == serial) (flat_map (λ (r : RunRecord). flat_map (λ (i : Held). i.tries) r.instances) runs.now) }
+{
+    for run in runs {
+        if let Some(found) = open_in(run.instances.as_slice(), serial) {
+            return Some(found);
+        }
+    }
+    None
+}
+
+// Whether the try may report this.
+pub fn takes(one: &Try, stage: Stage) -> bool
+    ensures { (now : ℕ) → result ≡ is_some (report_try stage now one.now) }
+{
+    if one.ended.is_some() {
+        return false;
+    }
+    match stage {
+        Stage::Started => one.started.is_none(),
+        Stage::Ended(outcome) => one.started.is_some() && outcome != Outcome::Lost,
+    }
+}

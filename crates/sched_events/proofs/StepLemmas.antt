@@ -1,0 +1,149 @@
+-- What a step keeps and what it adds.
+use Rattle.std.proofs.Common.{◌≡◌, ◌∙◌, refl, sym, ap, subst, cond, find, ℕ, zero, suc, List, [], ◌∷◌, ◌++◌, Bool, true, false, ◌||◌, Option, Some, None, Result, Ok, Err}
+use Rattle.std.specs.List.{list_any}
+use Rattle.std.proofs.lemmas.List.Folds.{list_any-append}
+use Rattle.graph_file.specs.Graphs.{graph_of}
+use Rattle.graph_file.specs.declared.faults.GraphFault.{GraphFault}
+use Rattle.graph_file.specs.declared.graph_specs.GraphSpec.{GraphSpec}
+use Rattle.dag_check.specs.Graphs.{Dag, dag_of}
+use Rattle.dag_check.proofs.FirstLemmas.{faultless}
+use Rattle.dag_check.specs.Faults.{first_fault}
+use Rattle.sched_state.specs.Lists.{same, repeat}
+use Rattle.sched_state.specs.declared.graphs.Graph.{Graph}
+use Rattle.instance_machine.specs.Reports.{reported_try, lost_try}
+use Rattle.sched_model.specs.Schedule.{Schedule, graph_named, has_run_at}
+use Rattle.sched_model.specs.Settle.{move, move_runs, with_runs, moves_left, settle}
+use Rattle.sched_model.specs.Handout.{hand, hand_one, best_offer, serials_left, hand_out}
+use Rattle.sched_model.specs.NamedRuns.{is_for, add_runs}
+use Rattle.sched_model.specs.Changes.{load_graph}
+use Rattle.sched_model.specs.Sound.{IsSound, Says, AllSay}
+use Rattle.sched_laws.proofs.SettleLemmas.{settle_ends, settle_still, map_some}
+use Rattle.sched_laws.proofs.HandLemmas.{out_still}
+use Rattle.sched_laws.proofs.HandOutLemmas.{hand_ends, hand_still}
+use Rattle.sched_laws.proofs.SoundLemmas.{settle_sound, out_sound}
+use Rattle.sched_laws.proofs.AddLemmas.{add_sound}
+use Rattle.sched_laws.proofs.KeyLemmas.{advance_keys, tries_keys}
+use Rattle.sched_state.proofs.SoundLemmas.{same_is}
+use Rattle.sched_laws.proofs.LoadLemmas.{load_again}
+use Rattle.sched_laws.proofs.NamedLemmas.{named_new}
+use Rattle.sched_events.specs.Events.{named_by, change_by, load_result, IsDated}
+use Rattle.sched_events.specs.Causes.{refused}
+use Rattle.sched_events.specs.Steps.{step, steps, named_along, AreAccepted}
+use Rattle.sched_events.specs.Kept.{IsKept}
+use Rattle.sched_events.specs.declared.events.Event.{Event}
+use Rattle.sched_events.specs.declared.events.Event.TheVariants.{Load, Tick, Report, Restart}
+use Rattle.sched_events.proofs.AcceptLemmas.{change_kept, still_new, tick_room}
+
+-- ---- graphs stay
+repeat_keeps : {X Y : Type 0} (h : X → Y) (f : X → Option X) → ((x y : X) → f x ≡ Some y → h y ≡ h x) → (n : ℕ) (x : X) → h (repeat n f x) ≡ h x
+repeat_keeps h f keeps zero x = refl
+repeat_keeps h f keeps (suc n) x = elim (f x) as (λ o. f x ≡ o → h (repeat (suc n) f x) ≡ h x) [
+  | Some y ↦ λ e. rw (e, repeat) (repeat_keeps h f keeps n y ∙ keeps x y e)
+  | None ↦ λ e. rw (e, repeat) refl
+] refl
+
+move_graphs : (a b : Schedule) → move a ≡ Some b → b.graphs ≡ a.graphs
+move_graphs a b e = let t = map_some (with_runs a) (move_runs a) b e in ap (λ (c : Schedule). c.graphs) (sym t.2)
+
+hand_graphs : (a b : Schedule) → hand_one a ≡ Some b → b.graphs ≡ a.graphs
+hand_graphs a b e = let t = map_some (hand a) (best_offer a) b e in ap (λ (c : Schedule). c.graphs) (sym t.2)
+
+pub settle_graphs : (a : Schedule) → (settle a).graphs ≡ a.graphs
+settle_graphs a = repeat_keeps (λ (c : Schedule). c.graphs) move move_graphs (moves_left a) a
+
+pub out_graphs : (a : Schedule) → (hand_out a).graphs ≡ a.graphs
+out_graphs a = repeat_keeps (λ (c : Schedule). c.graphs) hand_one hand_graphs (serials_left a) a
+
+-- ---- what follows an own change
+pub step_settled : (e : Event) (a : Schedule) → move (step e a) ≡ None
+step_settled e a = let b : Schedule = add_runs (named_by e a) (change_by e a) in out_still (settle b) (settle_ends b)
+
+pub step_handed : (e : Event) (a : Schedule) → hand_one (step e a) ≡ None
+step_handed e a = hand_ends (settle (add_runs (named_by e a) (change_by e a)))
+
+-- a sound schedule with graphs that are said, advanced
+pub finished_kept : (b : Schedule) → IsSound b → AllSay b.graphs → IsKept (hand_out (settle b))
+finished_kept b sound said = record {
+  sound = out_sound (settle b) (settle_sound b sound);
+  said = subst AllSay (sym (out_graphs (settle b) ∙ settle_graphs b)) said;
+  settled = out_still (settle b) (settle_ends b);
+  handed = hand_ends (settle b);
+}
+
+-- with the runs that it names the changed schedule is sound
+pub added_sound : (e : Event) (a : Schedule) → IsDated e → refused a e ≡ None → IsKept a → IsSound (change_by e a) → IsSound (add_runs (named_by e a) (change_by e a))
+added_sound (Load text) a dated accepted kept s = s
+added_sound (Tick t) a dated accepted kept s = add_sound (named_by (Tick t) a) (change_by (Tick t) a) (still_new a t (named_by (Tick t) a) ∙ named_new a t kept.sound dated) (tick_room a t accepted) s
+added_sound (Report serial stage) a dated accepted kept s = s
+added_sound (Restart lanes) a dated accepted kept s = s
+
+pub step_kept : (e : Event) (a : Schedule) → IsDated e → refused a e ≡ None → IsKept a → IsKept (step e a)
+step_kept e a dated accepted kept =
+    let c = change_kept e a dated accepted kept in
+    finished_kept (add_runs (named_by e a) (change_by e a)) (added_sound e a dated accepted kept c.0) c.1
+
+-- ---- runs
+loaded_dates : (text : List ℕ) (r : Result GraphSpec GraphFault) (a : Schedule) (id : List ℕ) (date : ℕ) → has_run_at (load_result text r a) id date ≡ has_run_at a id date
+loaded_dates text (Ok spec) a id date = elim (first_fault spec.tasks) as (λ o. (let b : Schedule = elim o as (λ p. Schedule) [ None ↦ load_graph text (dag_of spec) a | Some fault ↦ a ] in has_run_at b id date ≡ has_run_at a id date)) [
+  | None ↦ refl
+  | Some fault ↦ refl
+]
+loaded_dates text (Err fault) a id date = refl
+
+change_dates : (e : Event) (a : Schedule) (id : List ℕ) (date : ℕ) → has_run_at (change_by e a) id date ≡ has_run_at a id date
+change_dates (Load text) a id date = loaded_dates text (graph_of text) a id date
+change_dates (Tick t) a id date = refl
+change_dates (Report serial stage) a id date = tries_keys (reported_try serial stage a.now) a id date
+change_dates (Restart lanes) a id date = tries_keys (lost_try a.now) a id date
+
+pub step_dates : (e : Event) (a : Schedule) (id : List ℕ) (date : ℕ) → has_run_at (step e a) id date ≡ (list_any (is_for id date) (named_by e a) || has_run_at a id date)
+step_dates e a id date = advance_keys (named_by e a) (change_by e a) id date ∙ ap (λ b. list_any (is_for id date) (named_by e a) || b) (change_dates e a id date)
+
+-- ---- lists of events
+pub steps_kept : (es : List Event) (a : Schedule) → AreAccepted es a → IsKept a → IsKept (steps es a)
+steps_kept [] a accepted kept = kept
+steps_kept (e ∷ es) a accepted kept = steps_kept es (step e a) accepted.2 (step_kept e a accepted.0 accepted.1 kept)
+
+pub steps_parts : (es fs : List Event) (a : Schedule) → steps (es ++ fs) a ≡ steps fs (steps es a)
+steps_parts [] fs a = refl
+steps_parts (e ∷ es) fs a = steps_parts es fs (step e a)
+
+or-regroup : (later here before : Bool) → (later || (here || before)) ≡ ((here || later) || before)
+or-regroup true true before = refl
+or-regroup true false before = refl
+or-regroup false true before = refl
+or-regroup false false before = refl
+
+pub steps_dates : (es : List Event) (a : Schedule) (id : List ℕ) (date : ℕ) → has_run_at (steps es a) id date ≡ (list_any (is_for id date) (named_along es a) || has_run_at a id date)
+steps_dates [] a id date = refl
+steps_dates (e ∷ es) a id date =
+    let later = named_along es (step e a) in
+    steps_dates es (step e a) id date
+    ∙ (ap (λ b. list_any (is_for id date) later || b) (step_dates e a id date)
+    ∙ (or-regroup (list_any (is_for id date) later) (list_any (is_for id date) (named_by e a)) (has_run_at a id date)
+    ∙ ap (λ b. b || has_run_at a id date) (sym (list_any-append (is_for id date) (named_by e a) later))))
+
+-- ---- the same text again
+-- a graph that is found is what its text says
+found_says : (id : List ℕ) (gs : List Graph) (g : Graph) → AllSay gs → find (λ (h : Graph). same h.dag.spec.dag_id id) gs ≡ Some g → Says g.text g.dag
+found_says id [] g said found = absurd (let c : ◌≡◌ {A = Option Graph} None (Some g) = found in cc)
+found_says id (h ∷ hs) g said found =
+    elim (same h.dag.spec.dag_id id) as (λ b. cond b (Some h) (find (λ (k : Graph). same k.dag.spec.dag_id id) hs) ≡ Some g → Says g.text g.dag) [
+      | true ↦ λ e. let c : ◌≡◌ {A = Option Graph} (Some h) (Some g) = e in let is : h ≡ g = cc in subst (λ (k : Graph). Says k.text k.dag) is said.0
+      | false ↦ λ e. found_says id hs g said.1 e
+    ] found
+
+pub same_text : (a : Schedule) (text : List ℕ) (spec : GraphSpec) (g : Graph) → IsKept a → graph_of text ≡ Ok spec → graph_named a spec.dag_id ≡ Some g → same g.text text ≡ true → step (Load text) a ≡ a
+same_text a text spec g kept read found alike =
+    let says : Says g.text g.dag = found_says spec.dag_id a.graphs g kept.said found in
+    let is : g.text ≡ text = same_is g.text text alike in
+    let c : ◌≡◌ {A = Result GraphSpec GraphFault} (Ok spec) (Ok g.dag.spec) = sym read ∙ (ap graph_of (sym is) ∙ says.read) in
+    let spec_is : spec ≡ g.dag.spec = cc in
+    let mine : Says text g.dag = subst (λ (t : List ℕ). Says t g.dag) is says in
+    let named : graph_named a g.dag.spec.dag_id ≡ Some g = subst (λ (k : GraphSpec). graph_named a k.dag_id ≡ Some g) spec_is found in
+    let plain : first_fault g.dag.spec.tasks ≡ None = faultless g.dag.spec g.dag mine.checked in
+    let loads : load_result text (graph_of text) a ≡ a =
+    ap (λ r. load_result text r a) mine.read
+    ∙ (ap (λ o. let b : Schedule = elim o [ None ↦ load_graph text (dag_of g.dag.spec) a | Some fault ↦ a ] in b) plain
+    ∙ (ap (λ (d : Dag). load_graph text d a) (sym mine.checked.is) ∙ load_again text g.dag a g mine kept.sound kept.said named alike)) in
+    ap (λ (b : Schedule). hand_out (settle b)) loads ∙ (ap hand_out (settle_still a kept.settled) ∙ hand_still a kept.handed)

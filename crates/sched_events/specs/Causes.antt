@@ -1,0 +1,53 @@
+-- The causes for which an event is refused.
+use Rattle.std.specs.Prelude.{ℕ, not, ◌&&◌, ◌||◌, Bool, List, [], ◌∷◌, length, sum_by, find, nat_lt, Option, Some, option_map, Result, Ok, Err}
+use Rattle.graph_file.specs.Graphs.{graph_of}
+use Rattle.graph_file.specs.Lists.{when, first_some, holds_at}
+use Rattle.graph_file.specs.declared.faults.GraphFault.{GraphFault}
+use Rattle.graph_file.specs.declared.faults.GraphFault.TheVariants.{TooMany}
+use Rattle.graph_file.specs.declared.graph_specs.GraphSpec.{GraphSpec}
+use Rattle.graph_file.specs.declared.task_specs.TaskSpec.{TaskSpec}
+use Rattle.dag_check.specs.Faults.{first_fault}
+use Rattle.sched_state.specs.Limits.{Bounds}
+use Rattle.sched_state.specs.Lists.{same}
+use Rattle.sched_state.specs.declared.graphs.Graph.{Graph}
+use Rattle.sched_model.specs.Schedule.{Schedule, graph_named, has_pool, has_runs}
+use Rattle.sched_model.specs.NamedRuns.{named_by_tick}
+use Rattle.sched_model.specs.Causes.{is_not_in_flight, is_out_of_turn, has_too_many_graphs, has_too_many_lanes, is_full_with}
+use Rattle.sched_events.specs.declared.events.Event.{Event}
+use Rattle.sched_events.specs.declared.events.Event.TheVariants.{Load, Tick, Report, Restart}
+use Rattle.sched_events.specs.declared.refusals.Refusal.{Refusal}
+use Rattle.sched_events.specs.declared.refusals.Refusal.TheVariants as refusal
+
+-- how many upstream names the tasks have in all
+abbrev pub edge_count : List TaskSpec → ℕ
+edge_count tasks = sum_by (λ (t : TaskSpec). length t.upstream) tasks
+
+-- the graph has more tasks than the bound, or more edges
+abbrev pub exceeds : Bounds → GraphSpec → Bool
+exceeds bounds spec = nat_lt bounds.tasks (length spec.tasks) || nat_lt bounds.edges (edge_count spec.tasks)
+
+-- the pool of the first task in the file whose pool is not there
+abbrev pub unknown_pool : Schedule → GraphSpec → Option (List ℕ)
+unknown_pool a spec = option_map (λ (t : TaskSpec). t.pool) (find (λ (t : TaskSpec). not (has_pool a t.pool)) spec.tasks)
+
+-- the graph is there, with another text, and has runs
+abbrev pub differs : Schedule → List ℕ → GraphSpec → Bool
+differs a text spec = holds_at (λ (g : Graph). not (same g.text text)) (graph_named a spec.dag_id) && has_runs a spec.dag_id
+
+-- the first cause against a text. A cycle stands there without its names: which of several is shown is open
+abbrev pub refused_text : Schedule → List ℕ → Result GraphSpec GraphFault → Option Refusal
+refused_text a text (Err fault) = Some (refusal.GraphFault fault)
+refused_text a text (Ok spec) = first_some (
+    when (exceeds a.limits spec) (refusal.GraphFault TooMany)
+    ∷ option_map refusal.DagFault (first_fault spec.tasks)
+    ∷ option_map refusal.UnknownPool (unknown_pool a spec)
+    ∷ when (has_too_many_graphs a spec.dag_id) refusal.TooManyGraphs
+    ∷ when (differs a text spec) refusal.GraphDiffers
+    ∷ [])
+
+-- the first cause against an event, in the order of the refusals; want of memory is none of them
+abbrev pub refused : Schedule → Event → Option Refusal
+refused a (Load text) = refused_text a text (graph_of text)
+refused a (Tick t) = first_some (when (nat_lt t a.now) (refusal.ClockBack a.now) ∷ when (is_full_with a (named_by_tick a t)) refusal.RecordFull ∷ [])
+refused a (Report serial stage) = first_some (when (is_not_in_flight a serial) (refusal.NotInFlight serial) ∷ when (is_out_of_turn a serial stage) (refusal.OutOfTurn serial) ∷ [])
+refused a (Restart lanes) = when (has_too_many_lanes a lanes) refusal.LanesTooMany

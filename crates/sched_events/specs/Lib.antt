@@ -1,0 +1,5 @@
+pub mod Events
+pub mod Causes
+pub mod Steps
+pub mod Kept
+pub mod Outcomes

@@ -1,0 +1,37 @@
+-- The step that an accepted event makes, and its answer.
+use Rattle.std.specs.Prelude.{◌≡◌, List, [], ◌∷◌, ◌++◌, map, None}
+use Rattle.sched_model.specs.Schedule.{Schedule}
+use Rattle.sched_model.specs.NamedRuns.{Named}
+use Rattle.sched_model.specs.Changes.{advance}
+use Rattle.sched_model.specs.Jobs.{handed}
+use Rattle.sched_events.specs.Events.{named_by, leaves_more_by, change_by, IsDated}
+use Rattle.sched_events.specs.Causes.{refused}
+use Rattle.sched_events.specs.declared.answers.RunId.{RunId}
+use Rattle.sched_events.specs.declared.answers.Answer.{Answer}
+use Rattle.sched_events.specs.declared.events.Event.{Event}
+
+-- the schedule after an accepted event: its own change, with the runs that it names, settled, and handed out
+abbrev pub step : Event → Schedule → Schedule
+step e a = advance (named_by e a) (change_by e a)
+
+-- a list of events, one after another
+abbrev pub steps : List Event → Schedule → Schedule
+steps [] a = a
+steps (e ∷ es) a = steps es (step e a)
+
+-- each of the events is accepted at the schedule that it comes to
+abbrev pub AreAccepted : List Event → Schedule → Type 0
+AreAccepted [] a = Unit {0}
+AreAccepted (e ∷ es) a = IsDated e × (refused a e ≡ None) × AreAccepted es (step e a)
+
+-- the runs that a list of events names, each at the schedule that it comes to
+abbrev pub named_along : List Event → Schedule → List Named
+named_along [] a = []
+named_along (e ∷ es) a = named_by e a ++ named_along es (step e a)
+
+abbrev pub id_of : Named → RunId
+id_of n = record { graph = n.graph; logical = n.logical; kind = n.kind }
+
+-- what an accepted event answers: the runs made, whether some are left for the next event of its kind, and the tries handed out
+abbrev pub answer_to : Event → Schedule → Answer
+answer_to e a = record { made = map id_of (named_by e a); more = leaves_more_by e a; jobs = handed a (step e a) }

@@ -1,0 +1,34 @@
+//! What comes to a schedule.
+ghost use Rattle.std.specs.Prelude.{◌≡◌, IfOk};
+
+use instance_machine::Stage;
+use moment_core::Moment;
+use sched_state::Text;
+use std::alloc::{AllocError, Global};
+
+/// What comes to a schedule.
+#[derive(Debug, Drop)]
+pub enum Event {
+    /// The text of a graph file is taken in (Airflow 2, "DAGs").
+    Load(Text),
+    /// The clock has reached this moment (Airflow 2, "Scheduler").
+    Tick(Moment),
+    /// A worker reports of the try with this serial.
+    Report(u64, Stage),
+    /// The scheduler was restarted, with so many lanes: tries without an end are lost (Airflow 2, "Tasks": zombie tasks).
+    Restart(u32),
+}
+
+impl Event {
+    /// An equal event.
+    pub fn copy(&self, alloc: Global) -> Result<Event, AllocError>
+        ensures { IfOk result (λ event. event ≡ self.now) }
+    {
+        match self {
+            Event::Load(text) => Ok(Event::Load(text.copy(alloc)?)),
+            Event::Tick(moment) => Ok(Event::Tick(*moment)),
+            Event::Report(serial, stage) => Ok(Event::Report(*serial, *stage)),
+            Event::Restart(lanes) => Ok(Event::Restart(*lanes)),
+        }
+    }
+}

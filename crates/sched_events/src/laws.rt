@@ -1,0 +1,54 @@
+//! Laws of the steps.
+ghost use Rattle.std.specs.Prelude.{◌≡◌, ℕ, ◌||◌, ◌++◌, List, None, Some, Ok, IsTrue};
+ghost use Rattle.std.specs.List.{list_any};
+ghost use Rattle.graph_file.specs.Graphs.{graph_of};
+ghost use Rattle.graph_file.specs.declared.graph_specs.GraphSpec.{GraphSpec};
+ghost use Rattle.sched_state.specs.Lists.{same};
+ghost use Rattle.sched_state.specs.declared.graphs.Graph.{Graph};
+ghost use Rattle.sched_model.specs.Schedule.{Schedule, graph_named, has_run_at};
+ghost use Rattle.sched_model.specs.Settle.{move};
+ghost use Rattle.sched_model.specs.Handout.{hand_one};
+ghost use Rattle.sched_model.specs.NamedRuns.{is_for};
+ghost use Rattle.sched_events.specs.Events.{named_by, IsDated};
+ghost use Rattle.sched_events.specs.Causes.{refused};
+ghost use Rattle.sched_events.specs.Steps.{step, steps, named_along, AreAccepted};
+ghost use Rattle.sched_events.specs.Kept.{IsKept};
+ghost use Rattle.sched_events.specs.declared.events.Event.{Event};
+ghost use Rattle.sched_events.specs.declared.events.Event.TheVariants.{Load};
+
+/// After each step neither a move nor a hand-out is possible, and the step of an accepted event keeps a schedule: it stays sound, and
+/// each graph is what its text says.
+pub fn steps_keep_the_schedule()
+    ensures settled { (e : Event) (a : Schedule) → move (step e a) ≡ None }
+    ensures handed { (e : Event) (a : Schedule) → hand_one (step e a) ≡ None }
+    ensures kept { (e : Event) (a : Schedule) → IsDated e → refused a e ≡ None → IsKept a → IsKept (step e a) }
+{}
+
+/// The runs after a step are those before it and the named ones, by graph and logical date.
+pub fn steps_add_the_named_runs()
+    ensures { (e : Event) (a : Schedule) (id : List ℕ) (date : ℕ) →
+        has_run_at (step e a) id date ≡ (list_any (is_for id date) (named_by e a) || has_run_at a id date) }
+{}
+
+/// The text that a graph has already changes nothing.
+pub fn the_same_text_changes_nothing()
+    ensures { (a : Schedule) (text : List ℕ) (spec : GraphSpec) (g : Graph) → IsKept a → graph_of text ≡ Ok spec
+        → graph_named a spec.dag_id ≡ Some g → IsTrue (same g.text text) → step (Load text) a ≡ a }
+{}
+
+/// A list of accepted events keeps the schedule.
+pub fn lists_of_steps_keep_the_schedule()
+    ensures { (es : List Event) (a : Schedule) → AreAccepted es a → IsKept a → IsKept (steps es a) }
+{}
+
+/// The runs after a list of events are those before it and those that the events name, each at the schedule that it comes to, by
+/// graph and logical date.
+pub fn lists_of_steps_add_their_runs()
+    ensures { (es : List Event) (a : Schedule) (id : List ℕ) (date : ℕ) →
+        has_run_at (steps es a) id date ≡ (list_any (is_for id date) (named_along es a) || has_run_at a id date) }
+{}
+
+/// A list of events in two parts is the one and then the other.
+pub fn lists_of_steps_go_in_parts()
+    ensures { (es fs : List Event) (a : Schedule) → steps (es ++ fs) a ≡ steps fs (steps es a) }
+{}

@@ -1,0 +1,57 @@
+//! Why an event is refused.
+use dag_check::DagFault;
+use graph_file::{GraphFault, Name};
+use moment_core::Moment;
+use std::alloc::AllocError;
+
+/// Why an event is refused. Where several causes stand, the first in this order is answered, and nothing changes.
+#[derive(Debug, Drop)]
+pub enum Refusal {
+    /// The text is no graph file, or has more tasks or upstream names than the schedule's limits (`TooMany`).
+    GraphFault(GraphFault),
+    /// The file is no graph without cycles (Airflow 2, "DAGs").
+    DagFault(DagFault),
+    /// There is no pool of this name; it is that of the first such task in the file.
+    UnknownPool(Name),
+    /// The graph is new, and there are as many graphs as the limit.
+    TooManyGraphs,
+    /// The graph has another text, and has runs.
+    GraphDiffers,
+    /// The moment lies before this one, which the schedule has seen.
+    ClockBack(Moment),
+    /// No try without an end has this serial.
+    NotInFlight(u64),
+    /// The try with this serial has begun already, or not yet, or is reported lost.
+    OutOfTurn(u64),
+    /// There would be more lanes than the limit.
+    LanesTooMany,
+    /// There would be more runs than the limit.
+    RecordFull,
+    /// Memory ran out. This comes at any point before.
+    Memory,
+}
+
+impl From<AllocError> for Refusal {
+    ghost use Rattle.std.specs.Prelude.{◌≡◌};
+    ghost use Rattle.sched_events.specs.declared.refusals.Refusal.TheVariants.{Memory};
+
+    ghost from_gives = { λ _ e. e ≡ Memory };
+
+    fn from(_error: AllocError) -> Refusal {
+        Refusal::Memory
+    }
+}
+
+impl From<DagFault> for Refusal {
+    ghost use Rattle.std.specs.Prelude.{◌≡◌};
+    ghost use Rattle.sched_events.specs.Outcomes.{refusal_of};
+
+    ghost from_gives = { λ fault refusal. refusal ≡ refusal_of fault };
+
+    fn from(fault: DagFault) -> Refusal {
+        match fault {
+            DagFault::Memory => Refusal::Memory,
+            fault => Refusal::DagFault(fault),
+        }
+    }
+}
