@@ -7,7 +7,7 @@ use Rattle.sched_state.specs.Lists.{same, name_cmp, insert_by}
 use Rattle.sched_state.specs.declared.graphs.Graph.{Graph}
 use Rattle.sched_state.specs.declared.runs.Run.{Run}
 use Rattle.sched_state.proofs.OrderLemmas.{and_left, and_right, not_true, less_no_tie}
-use Rattle.sched_state.proofs.SoundLemmas.{same_is, same_itself, find_any}
+use Rattle.sched_state.proofs.NameLemmas.{same_is, same_itself, find_any}
 use Rattle.sched_model.specs.Lists.{rises}
 use Rattle.sched_model.specs.Schedule.{Schedule, graph_before, has_runs}
 use Rattle.sched_model.specs.Changes.{reloaded, new_graph, with_graph}

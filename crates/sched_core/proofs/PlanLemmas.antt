@@ -19,7 +19,7 @@ use Rattle.instance_machine.specs.declared.tries.Try.{Try}
 use Rattle.sched_state.specs.Lists.{same}
 use Rattle.sched_state.specs.declared.graphs.Graph.{Graph}
 use Rattle.sched_state.specs.declared.runs.Run.{Run}
-use Rattle.sched_state.proofs.SoundLemmas.{find_any}
+use Rattle.sched_state.proofs.NameLemmas.{find_any}
 use Rattle.sched_model.specs.Schedule.{Schedule, graph_named, has_runs}
 use Rattle.sched_model.specs.States.{is_open}
 use Rattle.sched_model.specs.Settle.{settle}

@@ -13,7 +13,7 @@ use Rattle.dag_check.proofs.PlacedLemmas.{graph-of-faultless}
 use Rattle.sched_state.specs.Lists.{same}
 use Rattle.sched_state.specs.declared.graphs.Graph.{Graph}
 use Rattle.sched_state.specs.declared.runs.Run.{Run}
-use Rattle.sched_state.proofs.SoundLemmas.{same_is}
+use Rattle.sched_state.proofs.NameLemmas.{same_is}
 use Rattle.sched_state.proofs.OrderLemmas.{and_left, and_right, or_left, or_right}
 use Rattle.sched_model.specs.Schedule.{Schedule, graph_among, graph_named, has_pool, has_runs}
 use Rattle.sched_model.specs.Changes.{load_graph, set_now}

@@ -23,7 +23,7 @@ use Rattle.sched_laws.proofs.HandOutLemmas.{hand_ends, hand_still}
 use Rattle.sched_laws.proofs.SoundLemmas.{settle_sound, out_sound}
 use Rattle.sched_laws.proofs.AddLemmas.{add_sound}
 use Rattle.sched_laws.proofs.KeyLemmas.{advance_keys, tries_keys}
-use Rattle.sched_state.proofs.SoundLemmas.{same_is}
+use Rattle.sched_state.proofs.NameLemmas.{same_is}
 use Rattle.sched_laws.proofs.LoadLemmas.{load_again}
 use Rattle.sched_laws.proofs.NamedLemmas.{named_new}
 use Rattle.sched_events.specs.Events.{named_by, change_by, load_result, IsDated}

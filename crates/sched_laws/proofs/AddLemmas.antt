@@ -13,7 +13,7 @@ use Rattle.instance_machine.specs.Instances.{new_instance}
 use Rattle.sched_state.specs.Lists.{same, name_cmp, insert_by}
 use Rattle.sched_state.specs.declared.runs.Phase.TheVariants as phase
 use Rattle.sched_state.proofs.OrderLemmas.{and_left, and_right, not_false, then_total, on_total, nat_tie, tie_then, all_insert, any_insert}
-use Rattle.sched_state.proofs.SoundLemmas.{or_assoc}
+use Rattle.sched_state.proofs.NameLemmas.{or_assoc}
 use Rattle.sched_model.specs.Lists.{all_pairs, rises}
 use Rattle.sched_model.specs.Schedule.{Schedule, dag_among, graph_named, has_run_at, is_at, run_before}
 use Rattle.sched_state.specs.declared.runs.Run.{Run}

@@ -14,7 +14,7 @@ use Rattle.dag_check.specs.Graphs.{Dag}
 use Rattle.sched_state.specs.Lists.{same, name_cmp, is_less, insert_by}
 use Rattle.sched_state.specs.declared.graphs.Graph.{Graph}
 use Rattle.sched_state.proofs.OrderLemmas.{and_left, and_right, or_left, or_right, not_true, eq_flips, on_total, all_insert, map_keeps}
-use Rattle.sched_state.proofs.SoundLemmas.{same_is, find_any, same_itself}
+use Rattle.sched_state.proofs.NameLemmas.{same_is, find_any, same_itself}
 use Rattle.sched_model.specs.Lists.{all_pairs, rises}
 use Rattle.sched_model.specs.Schedule.{Schedule, graph_among, dag_among, no_dag, has_runs, graph_before}
 use Rattle.sched_state.specs.declared.runs.Run.{Run}

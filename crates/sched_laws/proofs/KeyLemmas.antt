@@ -9,7 +9,7 @@ use Rattle.instance_machine.specs.declared.tries.Try.{Try}
 use Rattle.sched_state.specs.Lists.{same, repeat, name_cmp}
 use Rattle.sched_state.proofs.OrderLemmas.{and_left, and_right, or_left, or_right, not_false, any_map, map_keeps, less_no_tie}
 use Rattle.sched_state.proofs.RepeatLemmas.{repeat_done, repeat_more}
-use Rattle.sched_state.proofs.SoundLemmas.{same_itself}
+use Rattle.sched_state.proofs.NameLemmas.{same_itself}
 use Rattle.sched_model.specs.Lists.{rises}
 use Rattle.sched_model.specs.Schedule.{Schedule, has_run_at, is_at, run_before}
 use Rattle.sched_state.specs.declared.runs.Run.{Run}

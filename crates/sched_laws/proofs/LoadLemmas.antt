@@ -15,7 +15,7 @@ use Rattle.instance_machine.specs.declared.tries.Try.{Try}
 use Rattle.sched_state.specs.Lists.{same, name_cmp, insert_by}
 use Rattle.sched_state.specs.declared.graphs.Graph.{Graph}
 use Rattle.sched_state.proofs.OrderLemmas.{and_left, and_right, or_left, or_right, less_no_tie}
-use Rattle.sched_state.proofs.SoundLemmas.{same_is}
+use Rattle.sched_state.proofs.NameLemmas.{same_is}
 use Rattle.sched_model.specs.Lists.{rises, zip_with, best_by}
 use Rattle.sched_model.specs.Schedule.{Schedule, graph_among, graph_named, dag_among, no_dag, has_runs, graph_before, is_running, is_queued, size_of}
 use Rattle.sched_state.specs.declared.runs.Run.{Run}

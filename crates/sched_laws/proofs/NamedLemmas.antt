@@ -17,7 +17,7 @@ use Rattle.sched_state.specs.Lists.{same}
 use Rattle.sched_state.specs.declared.graphs.Graph.{Graph}
 use Rattle.sched_state.specs.declared.runs.Kind.TheVariants.{Scheduled}
 use Rattle.sched_state.proofs.OrderLemmas.{and_left, and_right, not_true, not_false}
-use Rattle.sched_state.proofs.SoundLemmas.{same_itself, find_any, or_assoc, or_right_true}
+use Rattle.sched_state.proofs.NameLemmas.{same_itself, find_any, or_assoc, or_right_true}
 use Rattle.sched_model.specs.Lists.{rises}
 use Rattle.sched_model.specs.Schedule.{Schedule, graph_among, graph_named, graph_before, dates_of, has_run_at, is_at}
 use Rattle.sched_state.specs.declared.runs.Run.{Run}

@@ -11,7 +11,7 @@ use Rattle.sched_state.specs.Lists.{same, insert_by}
 use Rattle.sched_state.specs.declared.graphs.Graph.{Graph}
 use Rattle.sched_state.specs.declared.runs.Run.{Run}
 use Rattle.sched_state.specs.declared.runs.Kind.TheVariants.{Scheduled}
-use Rattle.sched_state.proofs.SoundLemmas.{same_itself}
+use Rattle.sched_state.proofs.NameLemmas.{same_itself}
 use Rattle.sched_state.proofs.OrderLemmas.{and_left, and_right}
 use Rattle.sched_model.specs.Lists.{rises}
 use Rattle.sched_model.specs.Schedule.{Schedule, graph_before, graph_among, dag_named, no_dag, dates_of, run_before}

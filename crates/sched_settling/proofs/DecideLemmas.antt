@@ -11,7 +11,7 @@ use Rattle.instance_machine.specs.Instances.{Held}
 use Rattle.instance_machine.specs.States.{opens_gate}
 use Rattle.sched_state.specs.Lists.{same}
 use Rattle.sched_state.specs.declared.runs.Run.{Run}
-use Rattle.sched_state.proofs.SoundLemmas.{same_is}
+use Rattle.sched_state.proofs.NameLemmas.{same_is}
 use Rattle.sched_model.specs.Lists.{at, last_passing, or_else}
 use Rattle.sched_model.specs.Schedule.{Schedule, dag_named}
 use Rattle.sched_model.specs.States.{is_earlier, past_is_open, state_at}

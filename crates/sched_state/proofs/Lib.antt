@@ -1,6 +1,3 @@
-pub mod LoadLemmas
-pub mod NamedLemmas
+pub mod NameLemmas
 pub mod OrderLemmas
 pub mod RepeatLemmas
-pub mod SettleLemmas
-pub mod SoundLemmas

@@ -1,4 +1,4 @@
--- Orders by one key after another, and lists that rise by them.
+-- Tests, orders by one key after another, and lists under a map and an insertion.
 use Rattle.std.proofs.Common.{◌≡◌, refl, sym, ap, ◌∙◌, ℕ, ◌<◌, List, [], ◌∷◌, Bool, true, false, cond, not, ◌&&◌, ◌||◌, map, arith, true≢false, nat_lt, nat_eq}
 use Rattle.std.specs.List.{list_any, list_all}
 use Rattle.std.specs.Cmp.{IsTotalOrder}
@@ -7,7 +7,6 @@ use Rattle.std.specs.declared.cmp.Ordering.{Ordering}
 use Rattle.std.specs.declared.cmp.Ordering.TheVariants.{Less, Equal, Greater}
 use Rattle.std.proofs.lemmas.Bool.{ltb-true, eqb-true}
 use Rattle.sched_state.specs.Lists.{is_less, insert_by}
-use Rattle.sched_state.specs.Sound.{rises}
 
 -- ---- tests
 pub and_left : (b c : Bool) → (b && c) ≡ true → b ≡ true
@@ -90,21 +89,10 @@ tie_then Less b = refl
 tie_then Equal b = refl
 tie_then Greater b = refl
 
-less_is : (k : Ordering) → is_less k ≡ true → k ≡ Less
-less_is Less e = refl
-less_is Equal e = absurd (true≢false (sym e))
-less_is Greater e = absurd (true≢false (sym e))
-
 pub less_no_tie : (k : Ordering) → is_less k ≡ true → is_eq k ≡ false
 less_no_tie Less e = refl
 less_no_tie Equal e = absurd (true≢false (sym e))
 less_no_tie Greater e = absurd (true≢false (sym e))
-
--- the other way round
-back : (k : Ordering) → is_less k ≡ false → is_eq k ≡ false → is_less (ordering_reverse k) ≡ true
-back Less e f = absurd (true≢false e)
-back Equal e f = absurd (true≢false f)
-back Greater e f = refl
 
 pub eq_flips : (k : Ordering) → is_eq (ordering_reverse k) ≡ is_eq k
 eq_flips Less = refl
@@ -119,10 +107,6 @@ all_map q p f h (y ∷ ys) = rw (h y, all_map q p f h ys) refl
 pub any_map : {X Y : Type 0} (q : Y → Bool) (p : X → Bool) (f : Y → X) → ((y : Y) → p (f y) ≡ q y) → (ys : List Y) → list_any p (map f ys) ≡ list_any q ys
 any_map q p f h [] = refl
 any_map q p f h (y ∷ ys) = rw (h y, any_map q p f h ys) refl
-
-pub rises_map : {X Y : Type 0} (before : X → X → Bool) (f : Y → X) (ys : List Y) → rises before (map f ys) ≡ rises (λ x y. before (f x) (f y)) ys
-rises_map before f [] = refl
-rises_map before f (y ∷ ys) = rw (all_map (λ z. before (f y) (f z)) (before (f y)) f (λ z. refl) ys, rises_map before f ys) refl
 
 pub map_keeps : {X Y : Type 0} (h : X → Y) (g : X → X) → ((x : X) → h (g x) ≡ h x) → (xs : List X) → map h (map g xs) ≡ map h xs
 map_keeps h g k [] = refl
@@ -143,27 +127,4 @@ any_insert before p x (y ∷ ys) = elim (before x y) as (λ b. list_any p (elim 
   | false ↦ rw (any_insert before p x ys) (swap_or (p y) (p x) (list_any p ys))
 ]
 
-below_all : {X : Type 0} (R : X → X → Ordering) → IsTotalOrder R → (x y : X) → R x y ≡ Less → (zs : List X) → list_all (λ z. is_less (R y z)) zs ≡ true → list_all (λ z. is_less (R x z)) zs ≡ true
-below_all R o x y e [] f = refl
-below_all R o x y e (z ∷ zs) f =
-    let h : is_less (R x z) ≡ true = ap is_less (o.trans x y z e (less_is _ (and_left _ _ f))) in
-    let ih : list_all (λ w. is_less (R x w)) zs ≡ true = below_all R o x y e zs (and_right (is_less (R y z)) _ f) in
-    rw (h, ih) refl
-
 -- what ties with none may be put in
-pub insert_rises : {X : Type 0} (R : X → X → Ordering) → IsTotalOrder R → (x : X) (xs : List X) → list_any (λ y. is_eq (R x y)) xs ≡ false → rises (λ u v. is_less (R u v)) xs ≡ true
-    → rises (λ u v. is_less (R u v)) (insert_by (λ u v. is_less (R u v)) x xs) ≡ true
-insert_rises R o x [] n e = refl
-insert_rises {X} R o x (y ∷ ys) n e =
-    let ey : list_all (λ v. is_less (R y v)) ys ≡ true = and_left (list_all (λ v. is_less (R y v)) ys) (rises (λ u v. is_less (R u v)) ys) e in
-    let es : rises (λ u v. is_less (R u v)) ys ≡ true = and_right (list_all (λ v. is_less (R y v)) ys) (rises (λ u v. is_less (R u v)) ys) e in
-    elim (is_less (R x y)) as (λ b. is_less (R x y) ≡ b → rises (λ u v. is_less (R u v)) (elim b [ true ↦ x ∷ y ∷ ys | false ↦ y ∷ insert_by (λ u v. is_less (R u v)) x ys ]) ≡ true) [
-      | true ↦ λ p.
-          let h : list_all (λ z. is_less (R x z)) ys ≡ true = below_all R o x y (less_is _ p) ys ey in
-          rw (p, h, ey, es) refl
-      | false ↦ λ p.
-          let q : is_less (R y x) ≡ true = ap is_less (o.antisymm y x) ∙ back (R x y) p (or_left _ _ n) in
-          let h : list_all (λ v. is_less (R y v)) (insert_by (λ u v. is_less (R u v)) x ys) ≡ true = all_insert (λ u v. is_less (R u v)) (λ v. is_less (R y v)) x ys q ey in
-          let ih : rises (λ u v. is_less (R u v)) (insert_by (λ u v. is_less (R u v)) x ys) ≡ true = insert_rises R o x ys (or_right (is_eq (R x y)) _ n) es in
-          rw (h, ih) refl
-    ] refl

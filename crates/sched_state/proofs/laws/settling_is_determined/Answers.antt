@@ -1,5 +1,0 @@
-use Rattle.sched_state.proofs.SettleLemmas.{settle_ends, settle_reached, settle_unique, settle_enough}
-use Rattle.sched_state.proofs.laws.settling_is_determined.Goals as goal
-
-pub returns : goal.returns
-returns c = record { ends = settle_ends; reached = settle_reached; unique = settle_unique; enough = settle_enough }
