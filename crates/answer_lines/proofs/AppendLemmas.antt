@@ -1,8 +1,9 @@
 -- What a writer holds after several writes.
-use Rattle.std.proofs.Common.{◌≡◌, ◌<◌, ℕ, ◌+◌, List, [], ◌∷◌, ◌++◌, length, take, get_or, Option, Some, None, append_assoc, append-nil, sym, ap, ◌∙◌}
+use Rattle.std.proofs.Common.{◌≡◌, ◌<◌, ℕ, ◌+◌, List, [], ◌∷◌, ◌++◌, length, take, get_or, Option, Some, None, append_assoc, append-nil, codes, refl, sym, ap, ◌∙◌}
 use Rattle.std.proofs.lemmas.List.{take_more, flat_map_more}
 use Rattle.std.specs.List.{flat_map}
 use Rattle.std.specs.Io.KnownBytes.{Appends}
+use Rattle.answer_lines.specs.Runs.{after_blank}
 
 -- two writes, one after the other
 pub appends_both : (a b c : Option (List ℕ)) (xs ys : List ℕ) → Appends a b xs → Appends b c ys → Appends a c (xs ++ ys)
@@ -28,3 +29,7 @@ appends_more {X = X} f xs i x a b c inside here h k =
     let more : flat_map f (take i xs) ++ f x ≡ flat_map f (take i xs ++ x ∷ []) = flat_map_more f [] (take i xs) x in
     let next : take (i + 1) xs ≡ take i xs ++ x ∷ [] = take_more xs i x inside ∙ ap (λ (y : X). take i xs ++ y ∷ []) (sym here) in
     appends_same a c (flat_map f (take i xs) ++ f x) (flat_map f (take (i + 1) xs)) (more ∙ ap (flat_map f) (sym next)) (appends_both a b c (flat_map f (take i xs)) (f x) h k)
+
+-- the texts of a try's line, from the right
+pub try_texts : (serial graph logical task number : List ℕ) → codes "try " ++ (serial ++ (after_blank graph ++ (after_blank logical ++ (after_blank task ++ (after_blank number ++ codes "\n"))))) ≡ codes "try " ++ serial ++ after_blank graph ++ after_blank logical ++ after_blank task ++ after_blank number ++ codes "\n"
+try_texts serial graph logical task number = simp append_assoc refl

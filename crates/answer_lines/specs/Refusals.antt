@@ -1,8 +1,9 @@
 -- The lines of refusals.
 use Rattle.std.specs.Prelude.{ℕ, List, ◌++◌, codes}
+use Rattle.std.specs.Fmt.{decimal}
 use Rattle.moment_core.specs.Printing.{text_of}
-use Rattle.sched_core.specs.declared.events.Refusal.{Refusal}
-use Rattle.sched_core.specs.declared.events.Refusal.TheVariants.{GraphFault, DagFault, UnknownPool, TooManyGraphs, GraphDiffers, ClockBack, RecordFull, Memory}
+use Rattle.sched_events.specs.declared.refusals.Refusal.{Refusal}
+use Rattle.sched_events.specs.declared.refusals.Refusal.TheVariants.{GraphFault, DagFault, UnknownPool, TooManyGraphs, GraphDiffers, ClockBack, NotInFlight, OutOfTurn, LanesTooMany, RecordFull, Memory}
 use Rattle.answer_lines.specs.Faults.{graph_fault_text}
 use Rattle.answer_lines.specs.DagFaults.{dag_fault_text}
 
@@ -14,5 +15,8 @@ refusal_text (UnknownPool pool) = codes "refused 3 UnknownPool " ++ pool ++ code
 refusal_text TooManyGraphs = codes "refused 4 TooManyGraphs\n"
 refusal_text GraphDiffers = codes "refused 5 GraphDiffers\n"
 refusal_text (ClockBack moment) = codes "refused 8 ClockBack " ++ text_of moment ++ codes "\n"
+refusal_text (NotInFlight serial) = codes "refused 13 NotInFlight " ++ decimal serial ++ codes "\n"
+refusal_text (OutOfTurn serial) = codes "refused 14 OutOfTurn " ++ decimal serial ++ codes "\n"
+refusal_text LanesTooMany = codes "refused 16 LanesTooMany\n"
 refusal_text RecordFull = codes "refused 17 RecordFull\n"
 refusal_text Memory = codes "memory\n"

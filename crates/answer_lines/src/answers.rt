@@ -5,11 +5,13 @@ ghost use Rattle.std.specs.List.{flat_map};
 ghost use Rattle.answer_lines.specs.Answers.{answer_text, made_line};
 ghost use Rattle.answer_lines.specs.Runs as spec;
 
-use sched_core::{Answer, RunId};
+use crate::jobs::put_jobs;
+use sched_events::{Answer, RunId};
 use sched_state::Kind;
 use std::io::{self, Write};
 
-/// Writes `made DAG RUNID` for each run made, `more` where some are left, and `ok`.
+/// Writes `made DAG RUNID` for each run made, `more` where some are left, `try SERIAL DAG LOGICAL TASK NUMBER` for each try handed out,
+/// and `ok`.
 pub fn put_answer<W: Write>(output: &mut W, answer: &Answer) -> io::Result<()>
     ensures { OnOk result (Appends (W.contents output.old) (W.contents output.new) (answer_text answer.now)) }
 {
@@ -17,6 +19,7 @@ pub fn put_answer<W: Write>(output: &mut W, answer: &Answer) -> io::Result<()>
     if answer.more {
         output.write_all(b"more\n")?;
     }
+    put_jobs(output, answer.jobs.as_slice())?;
     output.write_all(b"ok\n")
 }
 

@@ -5,6 +5,7 @@
 //!
 //! ```text
 //! made one scheduled__2024-02-28T00:00:00+00:00
+//! try 1 one 2024-02-28T00:00:00+00:00 t 1
 //! ok
 //! refused 8 ClockBack 2024-03-01T00:00:00+00:00
 //! usage 1 Words
@@ -14,6 +15,7 @@
 mod answers;
 mod dag_faults;
 mod faults;
+mod jobs;
 mod refusals;
 mod runs;
 #[cfg(test)]

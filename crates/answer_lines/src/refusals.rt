@@ -5,7 +5,7 @@ ghost use Rattle.answer_lines.specs.Refusals as spec;
 
 use crate::dag_faults::put_dag_fault;
 use crate::faults::put_graph_fault;
-use sched_core::Refusal;
+use sched_events::Refusal;
 use std::io::{self, Write};
 
 /// Writes `refused N Name` with what the refusal carries, and `memory` for want of memory.
@@ -30,6 +30,9 @@ pub fn put_refusal<W: Write>(output: &mut W, refusal: &Refusal) -> io::Result<()
         Refusal::TooManyGraphs => output.write_all(b"refused 4 TooManyGraphs\n"),
         Refusal::GraphDiffers => output.write_all(b"refused 5 GraphDiffers\n"),
         Refusal::ClockBack(moment) => writeln!(output, "refused 8 ClockBack {moment}"),
+        Refusal::NotInFlight(serial) => writeln!(output, "refused 13 NotInFlight {serial}"),
+        Refusal::OutOfTurn(serial) => writeln!(output, "refused 14 OutOfTurn {serial}"),
+        Refusal::LanesTooMany => output.write_all(b"refused 16 LanesTooMany\n"),
         Refusal::RecordFull => output.write_all(b"refused 17 RecordFull\n"),
         Refusal::Memory => output.write_all(b"memory\n"),
     }

@@ -1,10 +1,10 @@
 use super::*;
 use cron_timetable::{CronFault, Interval};
 use dag_check::DagFault;
-use graph_file::{GraphFault, Name, Place, Sequence};
+use graph_file::{Action, Bounded, GraphFault, Name, Operator, Place, Sequence};
 use moment_core::{Moment, MomentFault};
-use sched_core::{Answer, Refusal, RunId};
-use sched_state::{Kind, Phase, Run};
+use sched_events::{Answer, Refusal, RunId};
+use sched_state::{Job, Kind, Phase, Run};
 use script_commands::{CommandFault, SourceFault, UsageFault};
 use std::alloc::Global;
 use std::io::{self, ErrorKind, Write};
@@ -33,12 +33,23 @@ fn an_answer_has_its_lines(rt: HostRuntime) -> Result<(), Fail> {
             kind,
         })?;
     }
+    let job = Job {
+        serial: 1,
+        graph: name(alloc, "one")?,
+        logical: moment("2024-01-01")?,
+        task: name(alloc, "t")?,
+        try_number: 1,
+        action: Action::new(Operator::Noop, Sequence::new(Vec::new(alloc))),
+        pool: name(alloc, "default_pool")?,
+        slots: Bounded::new(1),
+    };
     let mut lines = Vec::new(alloc);
     put_answer(
         &mut lines,
         &Answer {
             made: Sequence::new(made),
             more: true,
+            jobs: Sequence::new(vec![in alloc; job]?),
         },
     )?;
     put_answer(
@@ -46,10 +57,11 @@ fn an_answer_has_its_lines(rt: HostRuntime) -> Result<(), Fail> {
         &Answer {
             made: Sequence::new(Vec::new(alloc)),
             more: false,
+            jobs: Sequence::new(Vec::new(alloc)),
         },
     )?;
     let wanted =
-        b"made one scheduled__2024-02-28T00:00:00+00:00\nmade one manual__2024-02-29T00:00:00+00:00\nmade one backfill__2024-03-01T00:00:00+00:00\nmore\nok\nok\n";
+        b"made one scheduled__2024-02-28T00:00:00+00:00\nmade one manual__2024-02-29T00:00:00+00:00\nmade one backfill__2024-03-01T00:00:00+00:00\nmore\ntry 1 one 2024-01-01T00:00:00+00:00 t 1\nok\nok\n";
     assert_eq!(rt; lines.as_slice(), wanted.as_slice());
     Ok(())
 }
@@ -140,6 +152,9 @@ fn faults_have_a_line_each(rt: HostRuntime) -> Result<(), Fail> {
             Refusal::ClockBack(moment("2024-01-02")?),
             "refused 8 ClockBack 2024-01-02T00:00:00+00:00\n",
         ),
+        (Refusal::NotInFlight(7), "refused 13 NotInFlight 7\n"),
+        (Refusal::OutOfTurn(12), "refused 14 OutOfTurn 12\n"),
+        (Refusal::LanesTooMany, "refused 16 LanesTooMany\n"),
         (Refusal::RecordFull, "refused 17 RecordFull\n"),
         (Refusal::Memory, "memory\n"),
     ] {

@@ -8,6 +8,8 @@ mod answers;
 mod events;
 mod laws;
 mod refusals;
+#[cfg(test)]
+mod tests;
 
 pub use answers::{Answer, RunId};
 pub use events::Event;

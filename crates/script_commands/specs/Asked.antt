@@ -3,7 +3,7 @@ use Rattle.std.specs.Prelude.{ℕ, ◌&&◌, if◌then◌else◌, List, [], ◌�
 use Rattle.std.specs.Str.{bytes_eq}
 use Rattle.moment_core.specs.Reading.{read_of}
 use Rattle.moment_core.specs.declared.reading.MomentFault.{MomentFault}
-use Rattle.sched_core.specs.declared.events.Event.TheVariants.{Tick}
+use Rattle.sched_events.specs.declared.events.Event.TheVariants.{Tick}
 use Rattle.script_commands.specs.Values.{values, only}
 use Rattle.script_commands.specs.declared.asked.Asked.{Asked}
 use Rattle.script_commands.specs.declared.asked.Asked.TheVariants.{Nothing, Text, This, Fault}

@@ -3,7 +3,7 @@ use Rattle.std.specs.Prelude.{◌≡◌, ◌⊎◌, ℕ, Bool, not, ◌==◌, �
 use Rattle.std.specs.Str.{bytes_eq, is_utf8}
 use Rattle.text_words.specs.Words.{words}
 use Rattle.script_lines.specs.Lines.{lines_of, line_limit, newline, IsFirstLine}
-use Rattle.sched_core.specs.declared.events.Event.TheVariants.{Load}
+use Rattle.sched_events.specs.declared.events.Event.TheVariants.{Load}
 use Rattle.script_commands.specs.Asked.{asked_by}
 use Rattle.script_commands.specs.declared.asked.Asked.{Asked}
 use Rattle.script_commands.specs.declared.asked.Asked.TheVariants as asks

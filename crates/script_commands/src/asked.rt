@@ -7,7 +7,7 @@ ghost use Rattle.script_commands.specs.Asked.{asked_by};
 use crate::commands::{Command, UsageFault};
 use crate::words::only_value;
 use moment_core::Moment;
-use sched_core::Event;
+use sched_events::Event;
 use text_words::next_word;
 
 /// What a line outside of a graph's text asks for.

@@ -1,6 +1,6 @@
 //! What a script asks for, and why a line is no command.
 use moment_core::MomentFault;
-use sched_core::Event;
+use sched_events::Event;
 
 /// What a script asks for.
 #[derive(Debug, Drop)]

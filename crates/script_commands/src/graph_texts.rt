@@ -11,7 +11,7 @@ ghost use Rattle.script_commands.specs.Gathered.{Gathers};
 
 use crate::commands::{Command, CommandFault, SourceFault, UsageFault};
 use crate::requests::{MOST_LINES, text_of};
-use sched_core::Event;
+use sched_events::Event;
 use sched_state::Text;
 use script_lines::{Found, LineReader};
 use std::alloc::{AllocError, Global};

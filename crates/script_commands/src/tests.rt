@@ -1,5 +1,5 @@
 use super::*;
-use sched_core::Event;
+use sched_events::Event;
 use script_lines::LineReader;
 use std::alloc::{AllocError, Global};
 use std::io::{self, ErrorKind, Read};
@@ -22,6 +22,9 @@ fn told(alloc: Global, request: &Result<Command, CommandFault>) -> Result<String
             format!(in alloc; "load {text}")
         }
         Ok(Command::Step(Event::Tick(moment))) => format!(in alloc; "tick {moment}"),
+        Ok(Command::Step(Event::Report(_, _) | Event::Restart(_))) => {
+            String::from_str(alloc, "of a worker")
+        }
         Ok(Command::ListRuns) => String::from_str(alloc, "list runs"),
         Err(CommandFault::Usage(UsageFault::Words)) => String::from_str(alloc, "Words"),
         Err(CommandFault::Usage(UsageFault::BadMoment(fault))) => {

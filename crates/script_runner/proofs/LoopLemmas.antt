@@ -3,7 +3,7 @@ use Rattle.std.proofs.Common.{◌≡◌, ◌∙◌, ℕ, max, List, [], ◌∷�
 use Rattle.std.proofs.lemmas.Result.{IfOk-at_ok}
 use Rattle.std.specs.Result.{IsErrAnd}
 use Rattle.std.specs.Io.KnownBytes.{Appends}
-use Rattle.sched_state.specs.Schedule.{Schedule}
+use Rattle.sched_model.specs.Schedule.{Schedule}
 use Rattle.script_commands.specs.Commands.{Request, IsNext, IsFirst, IsGiven, commands_in}
 use Rattle.script_runner.specs.Outcomes.{Outcome, IsOutcome}
 use Rattle.script_runner.specs.Runs.{IsRun, IsAnswered, IsScriptRun, then_outcome}

@@ -2,12 +2,12 @@
 use Rattle.std.proofs.Common.{◌≡◌, ℕ, List, Option, Result, Ok, Err, IfOk, refl, sym, ap, subst, inl, inr}
 use Rattle.std.specs.Result.{IsErrAnd}
 use Rattle.std.specs.Io.KnownBytes.{Appends}
-use Rattle.sched_state.specs.Schedule.{Schedule}
-use Rattle.sched_core.specs.Plans.{IsStepped, IsRefusal}
-use Rattle.sched_core.specs.declared.answers.Answer.{Answer}
-use Rattle.sched_core.specs.declared.events.Event.{Event}
-use Rattle.sched_core.specs.declared.events.Refusal.{Refusal}
-use Rattle.sched_core.specs.declared.events.Refusal.TheVariants as refusal
+use Rattle.sched_model.specs.Schedule.{Schedule}
+use Rattle.sched_events.specs.Outcomes.{IsStepped, IsRefusal}
+use Rattle.sched_events.specs.declared.answers.Answer.{Answer}
+use Rattle.sched_events.specs.declared.events.Event.{Event}
+use Rattle.sched_events.specs.declared.refusals.Refusal.{Refusal}
+use Rattle.sched_events.specs.declared.refusals.Refusal.TheVariants as refusal
 use Rattle.script_commands.specs.Commands.{Request, IsGiven}
 use Rattle.script_commands.specs.declared.commands.Command.TheVariants.{Step, ListRuns}
 use Rattle.script_commands.specs.declared.commands.CommandFault.{CommandFault}
@@ -16,7 +16,7 @@ use Rattle.answer_lines.specs.Faults.{fault_text}
 use Rattle.answer_lines.specs.Refusals.{refusal_text}
 use Rattle.answer_lines.specs.Runs.{runs_text}
 use Rattle.sched_state.specs.declared.runs.Run.{Run}
-use Rattle.script_runner.specs.Outcomes.{Outcome, IsOutcome, accepted, refused_for, refusal_status, fault_status}
+use Rattle.script_runner.specs.Outcomes.{Outcome, IsOutcome, accepted_with, refused_for, refusal_status, fault_status}
 use Rattle.script_runner.specs.Runs.{IsAnswered}
 
 -- nothing is said of an error's value
@@ -34,10 +34,10 @@ pub record Comes (r : Request) (a b : Schedule) (shown : List ℕ) (status : ℕ
 
 pub comes-accepted : (e : Event) (a b : Schedule) (given : Answer) → IsStepped a e b given → Comes (Ok (Step e)) a b (answer_text given) 0
 comes-accepted e a b given s = record {
-  outcome = accepted e a;
-  is = inl (s.accepted, refl);
-  schedule = s.after;
-  shows = ap answer_text s.answer;
+  outcome = accepted_with given b;
+  is = inl (b, given, s, refl);
+  schedule = refl;
+  shows = refl;
   has_status = refl;
 }
 

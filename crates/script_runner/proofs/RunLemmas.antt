@@ -1,11 +1,11 @@
 -- What scripts do.
 use Rattle.std.proofs.Common.{◌≡◌, ◌∙◌, max, List, [], ◌∷◌, ◌++◌, Ok, Err, refl, sym, ap, arith, inl, inr}
-use Rattle.sched_state.specs.Schedule.{Schedule}
-use Rattle.sched_core.specs.Steps.{steps}
-use Rattle.sched_core.specs.declared.events.Event.{Event}
-use Rattle.sched_core.specs.declared.events.Refusal.{Refusal}
-use Rattle.sched_core.specs.declared.events.Refusal.TheVariants.{Memory}
-use Rattle.sched_core.proofs.StepLemmas.{steps_parts}
+use Rattle.sched_model.specs.Schedule.{Schedule}
+use Rattle.sched_events.specs.Steps.{steps}
+use Rattle.sched_events.specs.declared.events.Event.{Event}
+use Rattle.sched_events.specs.declared.refusals.Refusal.{Refusal}
+use Rattle.sched_events.specs.declared.refusals.Refusal.TheVariants.{Memory}
+use Rattle.sched_events.proofs.StepLemmas.{steps_parts}
 use Rattle.script_commands.specs.Commands.{Request}
 use Rattle.script_commands.specs.declared.commands.Command.TheVariants.{Step, ListRuns}
 use Rattle.script_commands.specs.declared.commands.CommandFault.{CommandFault}
@@ -36,10 +36,10 @@ not_zero : (r : Refusal) (a : Schedule) (o : Outcome) → o ≡ refused_for r a 
 not_zero r a o h z = some-status r (sym (ap (λ (x : Outcome). x.status) h) ∙ z)
 
 one-step : (e : Event) (a : Schedule) (o : Outcome) → IsEventOutcome e a o → StepsOne (Ok (Step e)) a o
-one-step e a o (inl (free, same)) = record {
+one-step e a o (inl (b, given, stepped, same)) = record {
   events = e ∷ [];
   part = λ rest more p. kept e rest more p;
-  schedule = ap (λ (x : Outcome). x.schedule) same;
+  schedule = ap (λ (x : Outcome). x.schedule) same ∙ stepped.after;
   all = λ z. refl;
 }
 one-step e a o (inr (r, why, same)) = one-refused e a r o same (not_zero r a o same)

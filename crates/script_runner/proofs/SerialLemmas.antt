@@ -2,9 +2,9 @@
 use Rattle.std.proofs.Common.{◌≡◌, ◌∙◌, ℕ, List, [], ◌∷◌, ◌++◌, Option, Result, Ok, Err, OnOk, IfOk, refl, sym, ap, subst, inl, inr, ◌⊎◌, append-nil}
 use Rattle.std.proofs.lemmas.Result.{IfOk-at_ok, IfOk-weaker}
 use Rattle.sched_state.specs.Limits.{ceilings}
-use Rattle.sched_state.specs.Schedule.{Schedule, empty_schedule}
-use Rattle.sched_core.specs.Steps.{steps}
-use Rattle.sched_core.specs.declared.events.Event.{Event}
+use Rattle.sched_model.specs.Schedule.{Schedule, empty_schedule}
+use Rattle.sched_events.specs.Steps.{steps}
+use Rattle.sched_events.specs.declared.events.Event.{Event}
 use Rattle.script_commands.specs.Commands.{Request, commands_in}
 use Rattle.script_commands.specs.declared.commands.Command.TheVariants.{Step, ListRuns}
 use Rattle.script_runner.specs.Runs.{IsPart, IsScriptRun, StepsEvents, events_of}

@@ -1,12 +1,11 @@
 -- What comes of a command.
-use Rattle.std.specs.Prelude.{◌≡◌, ◌⊎◌, ℕ, List, None, Ok, Err}
-use Rattle.sched_state.specs.Schedule.{Schedule}
-use Rattle.sched_core.specs.Events.{refused}
-use Rattle.sched_core.specs.Steps.{step, answer_to}
-use Rattle.sched_core.specs.Plans.{IsRefusal}
-use Rattle.sched_core.specs.declared.events.Event.{Event}
-use Rattle.sched_core.specs.declared.events.Refusal.{Refusal}
-use Rattle.sched_core.specs.declared.events.Refusal.TheVariants as refusal
+use Rattle.std.specs.Prelude.{◌≡◌, ◌⊎◌, ℕ, List, Ok, Err}
+use Rattle.sched_model.specs.Schedule.{Schedule}
+use Rattle.sched_events.specs.Outcomes.{IsStepped, IsRefusal}
+use Rattle.sched_events.specs.declared.answers.Answer.{Answer}
+use Rattle.sched_events.specs.declared.events.Event.{Event}
+use Rattle.sched_events.specs.declared.refusals.Refusal.{Refusal}
+use Rattle.sched_events.specs.declared.refusals.Refusal.TheVariants as refusal
 use Rattle.script_commands.specs.Commands.{Request}
 use Rattle.script_commands.specs.declared.commands.Command.TheVariants.{Step, ListRuns}
 use Rattle.script_commands.specs.declared.commands.CommandFault.{CommandFault}
@@ -33,19 +32,20 @@ fault_status (Usage fault) = 2
 fault_status (Source fault) = 4
 fault_status Memory = 4
 
--- an event that is accepted is stepped, and answered
-abbrev pub accepted : Event → Schedule → Outcome
-accepted e a = record { schedule = step e a; shown = answer_text (answer_to e a); status = 0 }
+-- an event that is accepted leads to a schedule, and is answered
+abbrev pub accepted_with : Answer → Schedule → Outcome
+accepted_with given b = record { schedule = b; shown = answer_text given; status = 0 }
 
 -- one that is refused changes nothing
 abbrev pub refused_for : Refusal → Schedule → Outcome
 refused_for r a = record { schedule = a; shown = refusal_text r; status = refusal_status r }
 
--- what comes of an event: it is accepted where there is no cause against it, and else refused for the first one. Want of memory
+-- what comes of an event: it is stepped where there is no cause against it, and else refused for the first one. Want of memory
 -- can come in the place of both
 abbrev pub IsEventOutcome : Event → Schedule → Outcome → Type 0
 IsEventOutcome e a o =
-    ((refused a e ≡ None) × (o ≡ accepted e a)) ⊎ ((r : Refusal) × IsRefusal a e r × (o ≡ refused_for r a))
+    ((b : Schedule) × (given : Answer) × IsStepped a e b given × (o ≡ accepted_with given b))
+    ⊎ ((r : Refusal) × IsRefusal a e r × (o ≡ refused_for r a))
 
 -- what comes of what a script has in a command's place
 abbrev pub IsOutcome : Request → Schedule → Outcome → Type 0

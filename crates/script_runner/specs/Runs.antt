@@ -1,9 +1,9 @@
 -- What comes of the commands of a script.
 use Rattle.std.specs.Prelude.{◌≡◌, ℕ, max, List, [], ◌∷◌, ◌++◌, Option, Some, Result, Ok, Err, IfOk, OnOk}
 use Rattle.std.specs.Io.KnownBytes.{Appends}
-use Rattle.sched_state.specs.Schedule.{Schedule}
-use Rattle.sched_core.specs.Steps.{steps}
-use Rattle.sched_core.specs.declared.events.Event.{Event}
+use Rattle.sched_model.specs.Schedule.{Schedule}
+use Rattle.sched_events.specs.Steps.{steps}
+use Rattle.sched_events.specs.declared.events.Event.{Event}
 use Rattle.script_commands.specs.Commands.{Request, commands_in}
 use Rattle.script_commands.specs.declared.commands.Command.TheVariants.{Step, ListRuns}
 use Rattle.script_runner.specs.Outcomes.{Outcome, IsOutcome}

@@ -1,9 +1,9 @@
 -- A script from the empty schedule on.
 use Rattle.std.specs.Prelude.{◌≡◌, ℕ, List, Option, Some, Result, Ok, Err}
 use Rattle.sched_state.specs.Limits.{ceilings}
-use Rattle.sched_state.specs.Schedule.{Schedule, empty_schedule}
-use Rattle.sched_core.specs.Steps.{steps}
-use Rattle.sched_core.specs.declared.events.Event.{Event}
+use Rattle.sched_model.specs.Schedule.{Schedule, empty_schedule}
+use Rattle.sched_events.specs.Steps.{steps}
+use Rattle.sched_events.specs.declared.events.Event.{Event}
 use Rattle.script_commands.specs.Commands.{commands_in}
 use Rattle.script_runner.specs.Runs.{IsPart, events_of}
 

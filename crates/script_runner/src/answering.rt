@@ -5,7 +5,8 @@ ghost use Rattle.script_runner.specs.Outcomes as spec;
 ghost use Rattle.script_runner.specs.Runs.{IsAnswered};
 
 use answer_lines::{put_answer, put_fault, put_refusal, put_runs};
-use sched_core::{Event, Refusal, Schedule};
+use sched_core::Schedule;
+use sched_events::{Event, Refusal};
 use script_commands::{Command, CommandFault};
 use std::alloc::Global;
 use std::io::{self, Write};

@@ -1,7 +1,7 @@
 //! Laws of scripts.
 ghost use Rattle.std.specs.Prelude.{List};
-ghost use Rattle.sched_state.specs.Schedule.{Schedule as ScheduleRecord};
-ghost use Rattle.sched_core.specs.Steps.{steps};
+ghost use Rattle.sched_model.specs.Schedule.{Schedule as ScheduleRecord};
+ghost use Rattle.sched_events.specs.Steps.{steps};
 ghost use Rattle.script_commands.specs.Commands.{Request};
 ghost use Rattle.script_runner.specs.Outcomes.{Outcome};
 ghost use Rattle.script_runner.specs.Runs.{IsRun, StepsEvents};

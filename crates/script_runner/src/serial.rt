@@ -12,8 +12,8 @@ use std::io::{self, BufRead, Write};
 
 /// Runs a script from the empty schedule on, within the greatest limits, on one thread; gives the schedule that it leads to, and the status.
 ///
-/// `_lanes` is how many tries may be in flight; nothing is handed out yet, so that it changes nothing. The input is read byte by
-/// byte, which is why it has a buffer. The status is 4 where reading or writing fails, or the output cannot be flushed. The error is
+/// `_lanes` is how many tries may be in flight. It changes nothing yet: the empty schedule has no lanes, and no line restarts it, so that
+/// nothing is handed out. The input is read byte by byte, which is why it has a buffer. The status is 4 where reading or writing fails, or the output cannot be flushed. The error is
 /// want of memory for a line, before anything is read.
 pub fn run_serial<R: BufRead + Drop, W: Write + Drop>(
     alloc: Global,

@@ -1,5 +1,5 @@
 use Rattle.std.proofs.Common.{◌∙◌, ap}
-use Rattle.sched_state.specs.Schedule.{empty_schedule}
+use Rattle.sched_model.specs.Schedule.{empty_schedule}
 use Rattle.script_runner.proofs.SerialLemmas.{serial-run}
 use Rattle.script_runner.proofs.serial.run_serial.Goals as goal
 
