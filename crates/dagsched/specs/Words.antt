@@ -1,23 +1,31 @@
 -- The program's own words.
-use Rattle.std.specs.Prelude.{ℕ, Bool, false, ◌==◌, ◌&&◌, nat_lt, if◌then◌else◌, List, [], ◌∷◌, length, take, drop, codes}
-use Rattle.std.specs.List.{list_all}
+use Rattle.std.specs.Prelude.{◌≡◌, ℕ, ◌≤◌, ◌&&◌, List, [], ◌∷◌, take, drop, codes, Option, Some, None, MatchOption}
 use Rattle.std.specs.Str.{bytes_eq}
+use Rattle.std.specs.Str.Parse.{IsNumeral, digits_value, without_leading_plus}
+use Rattle.graph_file.specs.Lists.{when}
 
--- zeros, and at least one
-abbrev pub are_zeros : List ℕ → Bool
-are_zeros text = nat_lt 0 (length text) && list_all (λ b. b == 48) text
+-- the most lanes
+abbrev pub most_lanes : ℕ
+most_lanes = 64
 
--- a number that is 0: zeros, a `+` before them or not
-abbrev pub is_zero : List ℕ → Bool
-is_zero [] = false
-is_zero (x ∷ xs) = if x == 43 then are_zeros xs else are_zeros (x ∷ xs)
+-- the text of the number of lanes, where the words are `run`, `run --lanes N` or `run --lanes=N`: 4 where they say none
+abbrev pub lanes_text : List (List ℕ) → Option (List ℕ)
+lanes_text (command ∷ []) = when (bytes_eq command (codes "run")) (codes "4")
+lanes_text (command ∷ lanes ∷ []) = when (bytes_eq command (codes "run") && bytes_eq (take 8 lanes) (codes "--lanes=")) (drop 8 lanes)
+lanes_text (command ∷ lanes ∷ number ∷ []) = when (bytes_eq command (codes "run") && bytes_eq lanes (codes "--lanes")) number
+lanes_text _ = None
 
--- `--lanes=0`
-abbrev pub assigns_no_lanes : List ℕ → Bool
-assigns_no_lanes word = bytes_eq (take 8 word) (codes "--lanes=") && is_zero (drop 8 word)
+-- the text is this number of lanes, at most 64: digits, a `+` before them or not
+pub record IsLanes (text : List ℕ) (lanes : ℕ) : Type 0 where
+  pub numeral : IsNumeral 10 (without_leading_plus text)
+  pub is : lanes ≡ digits_value 10 (without_leading_plus text)
+  pub few : lanes ≤ most_lanes
 
--- `run --lanes 0` or `run --lanes=0`
-abbrev pub asks_for_run : List (List ℕ) → Bool
-asks_for_run (command ∷ lanes ∷ []) = bytes_eq command (codes "run") && assigns_no_lanes lanes
-asks_for_run (command ∷ lanes ∷ number ∷ []) = bytes_eq command (codes "run") && (bytes_eq lanes (codes "--lanes") && is_zero number)
-asks_for_run _ = false
+-- the number that the text is, or none where it is none
+abbrev pub AreLanes : List ℕ → Option ℕ → Type 0
+AreLanes text lanes = MatchOption lanes ((n : ℕ) → IsLanes text n → ⊥) (IsLanes text)
+
+-- the number of lanes with which the words ask for a script, or none where they don't
+abbrev pub AsksFor : Option (List ℕ) → Option ℕ → Type 0
+AsksFor None lanes = lanes ≡ None
+AsksFor (Some text) lanes = AreLanes text lanes

@@ -1,4 +1,6 @@
-//! The program: `dagsched run --lanes 0` reads a script from standard input and prints the answer of each command.
+//! The program: `dagsched run --lanes N` reads a script from standard input and prints the answer of each command.
+//!
+//! `N` is the most tries that may be in flight, from 0 to 64; 4 where it is left out.
 //!
 //! The status is 0 where all is accepted, 1 where a command is refused, 2 for usage, 4 for any other fault, and the greatest of these.
 //! A usage fault of the program's own words goes to standard error.
@@ -8,12 +10,13 @@
 mod tests;
 mod words;
 
+use sched_events::Refusal;
 use script_runner::run_serial;
 use std::alloc::{AllocError, Global};
 use std::env;
 use std::io::{self, BufReader, BufWriter, ErrorKind};
 use std::process::ExitCode;
-use words::asks_for_run;
+use words::asked_lanes;
 
 fn main(rt: HostRuntime) -> ExitCode {
     ExitCode::from(status(&rt))
@@ -21,31 +24,28 @@ fn main(rt: HostRuntime) -> ExitCode {
 
 // Does what the program's words ask for, and answers its status.
 fn status(rt: &HostRuntime) -> u8 {
-    match asks_to_run(rt) {
-        Ok(true) => match run(rt) {
-            Ok(status) => status,
-            Err(_) => out_of_memory(rt),
-        },
-        Ok(false) => usage(rt),
+    match lanes(rt) {
+        Ok(Some(lanes)) => run(rt, lanes).unwrap_or_else(|_| out_of_memory(rt)),
+        Ok(None) => usage(rt),
         Err(e) if e.kind() == ErrorKind::OutOfMemory => out_of_memory(rt),
         Err(_) => usage(rt),
     }
 }
 
-// Whether the program's words ask for a script; an error where they can't be had.
-fn asks_to_run(rt: &HostRuntime) -> io::Result<bool> {
+// The number of lanes with which the program's words ask for a script; an error where the words can't be had.
+fn lanes(rt: &HostRuntime) -> io::Result<Option<u32>> {
     let mut words = env::args(rt)?;
     let _program = words.next();
     let words = words.collect::<Vec<String>>(rt.alloc())?;
-    Ok(asks_for_run(words.as_slice()))
+    Ok(asked_lanes(words.as_slice()))
 }
 
-// Runs the script of standard input.
-fn run(rt: &HostRuntime) -> io::Result<u8> {
+// Runs the script of standard input. So many lanes are never too many: the error is want of memory.
+fn run(rt: &HostRuntime, lanes: u32) -> Result<u8, Refusal> {
     let alloc = rt.alloc();
     let input = BufReader::new(alloc, rt.stdin())?;
     let output = BufWriter::new(alloc, rt.stdout())?;
-    let (_schedule, status) = run_serial(alloc, 0, input, output)?;
+    let (_schedule, status) = run_serial(alloc, lanes, input, output)?;
     Ok(status)
 }
 
@@ -55,6 +55,6 @@ fn out_of_memory(rt: &HostRuntime) -> u8 {
 }
 
 fn usage(rt: &HostRuntime) -> u8 {
-    let _ = eprintln!(rt; "usage 1 Words\nUsage: dagsched run --lanes 0 < SCRIPT");
+    let _ = eprintln!(rt; "usage 1 Words\nUsage: dagsched run [--lanes N] < SCRIPT");
     2
 }

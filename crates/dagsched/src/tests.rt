@@ -1,40 +1,37 @@
 use super::*;
 use std::test::Fail;
 
-// Whether the words, with blanks between them, ask for a script.
-fn asks(alloc: Global, words: &str) -> Result<bool, AllocError> {
+// The lanes with which the words, with blanks between them, ask for a script.
+fn asked(alloc: Global, words: &str) -> Result<Option<u32>, AllocError> {
     let mut all = Vec::new(alloc);
     for word in words.split(' ') {
         all.push(String::from_str(alloc, word)?)?;
     }
-    Ok(asks_for_run(all.as_slice()))
+    Ok(asked_lanes(all.as_slice()))
 }
 
 #[test]
 fn the_words_of_a_script(rt: HostRuntime) -> Result<(), Fail> {
     let alloc = rt.alloc();
-    for words in [
-        "run --lanes 0",
-        "run --lanes=0",
-        "run --lanes +0",
-        "run --lanes 000",
+    for (words, lanes) in [
+        ("run", Some(4)),
+        ("run --lanes 0", Some(0)),
+        ("run --lanes=64", Some(64)),
+        ("run --lanes +5", Some(5)),
+        ("run --lanes 007", Some(7)),
+        ("", None),
+        ("run --lanes", None),
+        ("run --lanes 65", None),
+        ("run --lanes=", None),
+        ("run --lanes -0", None),
+        ("run --lanes 4294967296", None),
+        ("run --lanes 0 0", None),
+        ("list runs", None),
+        ("--lanes 0 run", None),
+        ("run --lane 0", None),
+        ("Run --lanes 0", None),
     ] {
-        assert!(rt; asks(alloc, words)?, "{words}");
-    }
-    for words in [
-        "",
-        "run",
-        "run --lanes",
-        "run --lanes 1",
-        "run --lanes=",
-        "run --lanes -0",
-        "run --lanes 0 0",
-        "list runs",
-        "--lanes 0 run",
-        "run --lane 0",
-        "Run --lanes 0",
-    ] {
-        assert!(rt; !asks(alloc, words)?, "{words}");
+        assert_eq!(rt; asked(alloc, words)?, lanes, "{words}");
     }
     Ok(())
 }

@@ -1,51 +1,39 @@
 //! The program's own words.
-ghost use Rattle.std.specs.Prelude.{◌≡◌, ◌==◌, ◌&&◌, length, map, nat_lt, string_bytes};
-ghost use Rattle.std.specs.List.{list_all};
+ghost use Rattle.std.specs.Prelude.{◌≡◌, MatchOption, Some, None, map, string_bytes};
 ghost use Rattle.dagsched.specs.Words as spec;
+ghost use Rattle.dagsched.specs.Words.{AsksFor, AreLanes};
 
-// Whether the words are `run --lanes 0`. Until tries are handed out no other number of lanes is taken.
-pub(crate) fn asks_for_run(words: &[String]) -> bool
-    ensures { result ≡ spec.asks_for_run (map string_bytes words.now) }
+// The most lanes.
+const MOST_LANES: u32 = 64;
+
+// The number of lanes with which the words ask for a script: `run`, `run --lanes N` or `run --lanes=N`.
+pub(crate) fn asked_lanes(words: &[String]) -> Option<u32>
+    ensures { AsksFor (spec.lanes_text (map string_bytes words.now)) result }
 {
-    match words.len() {
-        2 => words[0].as_str() == "run" && assigns_no_lanes(words[1].as_bytes()),
-        3 => {
-            words[0].as_str() == "run"
-                && words[1].as_str() == "--lanes"
-                && is_zero(words[2].as_bytes())
-        }
-        _ => false,
+    lanes_of(lanes_text(words)?)
+}
+
+// The text of that number: 4 where the words say none.
+fn lanes_text(words: &[String]) -> Option<&str>
+    ensures { MatchOption result (spec.lanes_text (map string_bytes words.now) ≡ None) (λ text. spec.lanes_text (map string_bytes words.now) ≡ Some text.now) }
+{
+    let (command, rest) = words.split_first()?;
+    if command.as_str() != "run" {
+        return None;
+    }
+    match rest.len() {
+        0 => Some("4"),
+        1 => rest[0].as_str().strip_prefix("--lanes="),
+        2 if rest[0].as_str() == "--lanes" => Some(rest[1].as_str()),
+        _ => None,
     }
 }
 
-// Whether the word is `--lanes=0`.
-fn assigns_no_lanes(word: &[u8]) -> bool
-    ensures { result ≡ spec.assigns_no_lanes word.now }
+// The number of lanes that a text is.
+fn lanes_of(text: &str) -> Option<u32>
+    ensures { AreLanes text.now result }
 {
-    match word.strip_prefix(b"--lanes=".as_slice()) {
-        Some(number) => is_zero(number),
-        None => false,
-    }
-}
-
-// Whether the text is a number that is 0: zeros, a `+` before them or not.
-fn is_zero(text: &[u8]) -> bool
-    ensures { result ≡ spec.is_zero text.now }
-{
-    match text.split_first() {
-        Some((first, digits)) if *first == b'+' => are_zeros(digits),
-        _ => are_zeros(text),
-    }
-}
-
-fn are_zeros(text: &[u8]) -> bool
-    ensures { result ≡ spec.are_zeros text.now }
-{
-    !text.is_empty() && has_zeros_alone(text)
-}
-
-fn has_zeros_alone(text: &[u8]) -> bool
-    ensures { result ≡ list_all (λ b. b == 48) text.now }
-{
-    text.iter().all(|byte| *byte == b'0')
+    text.parse::<u32>()
+        .ok()
+        .filter(|lanes| *lanes <= MOST_LANES)
 }

@@ -3,8 +3,9 @@ use Rattle.std.proofs.Common.{◌≡◌, ◌∙◌, ℕ, List, [], ◌∷◌, �
 use Rattle.std.proofs.lemmas.Result.{IfOk-at_ok, IfOk-weaker}
 use Rattle.sched_state.specs.Limits.{ceilings}
 use Rattle.sched_model.specs.Schedule.{Schedule, empty_schedule}
-use Rattle.sched_events.specs.Steps.{steps}
+use Rattle.sched_events.specs.Steps.{step, steps}
 use Rattle.sched_events.specs.declared.events.Event.{Event}
+use Rattle.sched_events.specs.declared.events.Event.TheVariants.{Restart}
 use Rattle.script_commands.specs.Commands.{Request, commands_in}
 use Rattle.script_commands.specs.declared.commands.Command.TheVariants.{Step, ListRuns}
 use Rattle.script_runner.specs.Runs.{IsPart, IsScriptRun, StepsEvents, events_of}
@@ -52,14 +53,14 @@ named-by commands rest events known result status n part all read ended told (in
   all = λ z. cc;
 }
 
--- the schedule of a script from the empty one on
-pub serial-run : {E F T : Type 0} (bytes : Option (List ℕ)) (a b : Schedule) (old new : Option (List ℕ)) (result : Result ℕ E) (flushed : Result T F) (status : ℕ) → IsScriptRun bytes a b old new result → a ≡ empty_schedule ceilings → status ≡ status_of result flushed → IsSerialRun bytes b status
-serial-run bytes a b old new result flushed status r empty told =
+-- the schedule of a script that begins with a restart of the empty one
+pub serial-run : {E F T : Type 0} (bytes : Option (List ℕ)) (lanes : ℕ) (a b : Schedule) (old new : Option (List ℕ)) (result : Result ℕ E) (flushed : Result T F) (status : ℕ) → IsScriptRun bytes a b old new result → a ≡ step (Restart lanes) (empty_schedule ceilings) → status ≡ status_of result flushed → IsSerialRun bytes lanes b status
+serial-run bytes lanes a b old new result flushed status r begun told =
     let ended : IsStatus result status = subst (λ (n : ℕ). IsStatus result n) (sym told) (is_status result flushed) in
     let s : StepsEvents r.commands a r.outcome = script_steps r.commands a r.outcome r.run in
     record {
       events = s.events;
-      schedule = r.schedule ∙ (s.schedule ∙ ap (steps s.events) empty);
+      schedule = r.schedule ∙ (s.schedule ∙ ap (steps s.events) begun);
       named = λ known e.
           let at = r.read known e in
           named-by r.commands at.0 s.events known result status r.outcome.status s.part s.all at.1 at.2

@@ -1,9 +1,10 @@
 -- A script from the empty schedule on.
-use Rattle.std.specs.Prelude.{◌≡◌, ℕ, List, Option, Some, Result, Ok, Err}
+use Rattle.std.specs.Prelude.{◌≡◌, ℕ, List, ◌∷◌, Option, Some, Result, Ok, Err}
 use Rattle.sched_state.specs.Limits.{ceilings}
 use Rattle.sched_model.specs.Schedule.{Schedule, empty_schedule}
 use Rattle.sched_events.specs.Steps.{steps}
 use Rattle.sched_events.specs.declared.events.Event.{Event}
+use Rattle.sched_events.specs.declared.events.Event.TheVariants.{Restart}
 use Rattle.script_commands.specs.Commands.{commands_in}
 use Rattle.script_runner.specs.Runs.{IsPart, events_of}
 
@@ -12,10 +13,11 @@ pub record AreNamed (events : List Event) (bytes : List ℕ) (status : ℕ) : Ty
   pub part : IsPart events (events_of (commands_in bytes))
   pub all : status ≡ 0 → events ≡ events_of (commands_in bytes)
 
--- the schedule is that after events, from the empty one on; where the bytes are known their lines name the events
-pub record IsSerialRun (bytes : Option (List ℕ)) (b : Schedule) (status : ℕ) : Type 0 where
+-- the schedule is that after a restart with so many lanes and then events, from the empty one on; where the bytes are known their
+-- lines name the events
+pub record IsSerialRun (bytes : Option (List ℕ)) (lanes : ℕ) (b : Schedule) (status : ℕ) : Type 0 where
   pub events : List Event
-  pub schedule : b ≡ steps events (empty_schedule ceilings)
+  pub schedule : b ≡ steps (Restart lanes ∷ events) (empty_schedule ceilings)
   pub named : (known : List ℕ) → bytes ≡ Some known → AreNamed events known status
 
 -- the status of a script that ended so, and whose output was flushed so: its own, or 4 where one of them failed

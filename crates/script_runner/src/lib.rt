@@ -1,7 +1,8 @@
 //! Scripts: lines become commands, commands change a schedule, and each is answered by its lines.
 //!
 //! [`run_script`] does the commands of an input in their order, on one thread: an accepted event is its step, a refused one changes nothing,
-//! and what is no command is answered by its fault; the script goes on after each. [`run_serial`] does so from the empty schedule on.
+//! and what is no command is answered by its fault; the script goes on after each. [`run_serial`] does so from a schedule on that
+//! is empty but for its lanes.
 //! A status says how a script went, the greatest of its answers': 0 accepted, 1 refused, 2 no command, 4 another fault.
 //!
 //! ```text

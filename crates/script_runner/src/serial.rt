@@ -1,30 +1,38 @@
-//! A script from the empty schedule on.
-ghost use Rattle.std.specs.Prelude.{◌≡◌, IfOk};
+//! A script from a schedule on that is empty but for its lanes.
+ghost use Rattle.std.specs.Prelude.{◌≡◌, IfOk, IfErr};
+ghost use Rattle.sched_state.specs.Limits.{ceilings};
+ghost use Rattle.sched_model.specs.Schedule.{empty_schedule};
+ghost use Rattle.sched_events.specs.Outcomes.{IsRefusal};
+ghost use Rattle.sched_events.specs.declared.events.Event.TheVariants.{Restart};
 ghost use Rattle.script_runner.specs.Serial as spec;
 ghost use Rattle.script_runner.specs.Serial.{IsSerialRun};
 
 use crate::running::run_script;
 use sched_core::Schedule;
+use sched_events::{Event, Refusal};
 use sched_state::Limits;
 use script_lines::LineReader;
-use std::alloc::{AllocError, Global};
+use std::alloc::Global;
 use std::io::{self, BufRead, Write};
 
-/// Runs a script from the empty schedule on, within the greatest limits, on one thread; gives the schedule that it leads to, and the status.
+/// Runs a script on a schedule that is empty but for its lanes, within the greatest limits and on one thread; gives the schedule that it
+/// leads to, and the status.
 ///
-/// `_lanes` is how many tries may be in flight. It changes nothing yet: the empty schedule has no lanes, and no line restarts it, so that
-/// nothing is handed out. The input is read byte by byte, which is why it has a buffer. The status is 4 where reading or writing fails, or the output cannot be flushed. The error is
-/// want of memory for a line, before anything is read.
+/// `lanes` is the most tries that may be in flight, at most 64; with none nothing is handed out. The input is read byte by byte, which
+/// is why it has a buffer. The status is 4 where reading or writing fails, or the output cannot be flushed. The error comes before
+/// anything is read: there are too many lanes, or memory ran out.
 pub fn run_serial<R: BufRead + Drop, W: Write + Drop>(
     alloc: Global,
-    _lanes: u32,
+    lanes: u32,
     mut input: R,
     mut output: W,
-) -> Result<(Schedule, u8), AllocError>
-    ensures { IfOk result (λ end. IsSerialRun (R.Read.remaining input) end.0.content end.1) }
+) -> Result<(Schedule, u8), Refusal>
+    ensures run { IfOk result (λ end. IsSerialRun (R.Read.remaining input) lanes end.0.content end.1) }
+    ensures refused { IfErr result (IsRefusal (empty_schedule ceilings) (Restart lanes)) }
 {
     let mut lines = LineReader::new(alloc)?;
     let mut schedule = Schedule::new(alloc, Limits::full());
+    let _answer = schedule.step(alloc, &Event::Restart(lanes))?;
     let ended = run_script(alloc, &mut schedule, &mut lines, &mut input, &mut output);
     let status = status_of(ended, output.flush());
     Ok((schedule, status))

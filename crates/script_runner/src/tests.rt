@@ -1,5 +1,6 @@
 use super::*;
 use moment_core::Moment;
+use sched_events::Refusal;
 use std::alloc::Global;
 use std::io::{self, BufReader, ErrorKind, Read, Write};
 use std::process::Abort;
@@ -12,7 +13,7 @@ fn graph(alloc: Global, schedule: &str, start: &str, more: &str) -> Result<Strin
     )?)
 }
 
-// Asserts what a script writes, and its status; gives the number of runs.
+// Asserts what a script without lanes writes, and its status; gives the number of runs.
 pub fn assert_script(
     rt: &impl Abort,
     alloc: Global,
@@ -20,8 +21,20 @@ pub fn assert_script(
     wanted: &str,
     status: u8,
 ) -> Result<usize, Fail> {
+    assert_script_in(rt, alloc, 0, script, wanted, status)
+}
+
+// The same of a script with so many lanes.
+fn assert_script_in(
+    rt: &impl Abort,
+    alloc: Global,
+    lanes: u32,
+    script: &[u8],
+    wanted: &str,
+    status: u8,
+) -> Result<usize, Fail> {
     let mut output = Vec::new(alloc);
-    let (schedule, ended) = run_serial(alloc, 0, script, &mut output)?;
+    let (schedule, ended) = run_serial(alloc, lanes, script, &mut output).map_err(|_| "refused")?;
     let output = String::from_utf8(output).map_err(|_| "no text")?;
     if output.as_str().contains("memory\n") {
         return Err(Fail::from("out of memory"));
@@ -42,6 +55,20 @@ fn two_days_have_their_runs(rt: HostRuntime) -> Result<(), Fail> {
         "ok\nmade one scheduled__2024-02-28T00:00:00+00:00\nok\nmade one scheduled__2024-02-29T00:00:00+00:00\nok\none scheduled__2024-02-28T00:00:00+00:00 2024-02-28T00:00:00+00:00 2024-02-29T00:00:00+00:00 running\none scheduled__2024-02-29T00:00:00+00:00 2024-02-29T00:00:00+00:00 2024-03-01T00:00:00+00:00 running\nok\n";
     let runs = assert_script(&rt, alloc, script.as_bytes(), wanted, 0)?;
     assert_eq!(rt; runs, 2);
+    Ok(())
+}
+
+#[test]
+fn a_lane_takes_one_try(rt: HostRuntime) -> Result<(), Fail> {
+    let alloc = rt.alloc();
+    let load = graph(alloc, "@daily", "2024-01-01", "")?;
+    let script = format!(in alloc; "{load}tick 2024-01-03\n")?;
+    let wanted =
+        "ok\nmade one scheduled__2024-01-01T00:00:00+00:00\nmade one scheduled__2024-01-02T00:00:00+00:00\ntry 1 one 2024-01-01T00:00:00+00:00 t 1\nok\n";
+    assert_script_in(&rt, alloc, 1, script.as_bytes(), wanted, 0)?;
+    let mut output = Vec::new(alloc);
+    let refused = run_serial(alloc, 65, b"".as_slice(), &mut output).err();
+    assert!(rt; matches!(refused, Some(Refusal::LanesTooMany)));
     Ok(())
 }
 
@@ -146,7 +173,7 @@ fn a_failed_read_or_write_ends_the_script(rt: HostRuntime) -> Result<(), Fail> {
     for calls in 0..33 {
         let input = BufReader::with_capacity(alloc, 1, Failing { text, calls })?;
         let mut output = Vec::new(alloc);
-        let (schedule, status) = run_serial(alloc, 0, input, &mut output)?;
+        let (schedule, status) = run_serial(alloc, 0, input, &mut output).map_err(|_| "refused")?;
         assert_eq!(rt; status, 4, "at {calls}");
         let is_done = calls >= 16;
         assert_eq!(rt; schedule.now() > Moment::at(0), is_done, "at {calls}");
@@ -156,10 +183,10 @@ fn a_failed_read_or_write_ends_the_script(rt: HostRuntime) -> Result<(), Fail> {
         text: b"",
         calls: 1_000,
     };
-    let (_schedule, status) = run_serial(alloc, 0, text, &mut writer)?;
+    let (_schedule, status) = run_serial(alloc, 0, text, &mut writer).map_err(|_| "refused")?;
     assert_eq!(rt; status, 1);
     for calls in 0..1_000usize.saturating_sub(writer.calls) {
-        let (schedule, status) = run_serial(alloc, 0, text, Failing { text: b"", calls })?;
+        let (schedule, status) = run_serial(alloc, 0, text, Failing { text: b"", calls }).map_err(|_| "refused")?;
         assert_eq!(rt; status, 4, "at {calls}");
         assert_eq!(rt; schedule.now(), Moment::at(1_704_153_600), "at {calls}");
     }
