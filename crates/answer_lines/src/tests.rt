@@ -8,6 +8,7 @@ use sched_state::{Job, Kind, Phase, Run};
 use script_commands::{CommandFault, SourceFault, UsageFault};
 use std::alloc::Global;
 use std::io::{self, ErrorKind, Write};
+use std::process::Abort;
 use std::test::Fail;
 
 fn moment(text: &str) -> Result<Moment, Fail> {
@@ -97,59 +98,30 @@ fn runs_have_a_row_each(rt: HostRuntime) -> Result<(), Fail> {
     Ok(())
 }
 
+// Asserts the line of a refusal.
+fn assert_refusal(
+    rt: &impl Abort,
+    alloc: Global,
+    refusal: &Refusal,
+    wanted: &str,
+) -> Result<(), Fail> {
+    let mut lines = Vec::new(alloc);
+    put_refusal(&mut lines, refusal)?;
+    assert_eq!(rt; lines.as_slice(), wanted.as_bytes());
+    Ok(())
+}
+
 #[test]
-fn faults_have_a_line_each(rt: HostRuntime) -> Result<(), Fail> {
+fn refusals_have_a_line_each(rt: HostRuntime) -> Result<(), Fail> {
     let alloc = rt.alloc();
-    let mut names = Vec::new(alloc);
-    for task in ["a", "b"] {
-        names.push(name(alloc, task)?)?;
-    }
-    let cycle = Sequence::new(names);
-    for (refusal, line) in [
-        (
-            Refusal::GraphFault(GraphFault::NotToml),
-            "refused 1 GraphFault 1 NotToml\n",
-        ),
-        (
-            Refusal::GraphFault(GraphFault::UnknownKey(Place::Top)),
-            "refused 1 GraphFault 2 UnknownKey top\n",
-        ),
-        (
-            Refusal::GraphFault(GraphFault::BadValue(Place::Task(12))),
-            "refused 1 GraphFault 6 BadValue task 12\n",
-        ),
-        (
-            Refusal::GraphFault(GraphFault::Cron(CronFault::NeverFires)),
-            "refused 1 GraphFault 7 Cron 6 NeverFires\n",
-        ),
-        (
-            Refusal::GraphFault(GraphFault::NoTask),
-            "refused 1 GraphFault 8 NoTask\n",
-        ),
-        (
-            Refusal::DagFault(DagFault::DoubleTask(1)),
-            "refused 2 DagFault 1 DoubleTask 1\n",
-        ),
-        (
-            Refusal::DagFault(DagFault::UnknownUpstream(20)),
-            "refused 2 DagFault 2 UnknownUpstream 20\n",
-        ),
-        (
-            Refusal::DagFault(DagFault::DoubleEdge(1)),
-            "refused 2 DagFault 3 DoubleEdge 1\n",
-        ),
-        (
-            Refusal::DagFault(DagFault::Cycle(cycle)),
-            "refused 2 DagFault 4 Cycle a b\n",
-        ),
-        (
-            Refusal::UnknownPool(name(alloc, "x")?),
-            "refused 3 UnknownPool x\n",
-        ),
+    let pool = Refusal::UnknownPool(name(alloc, "x")?);
+    assert_refusal(&rt, alloc, &pool, "refused 3 UnknownPool x\n")?;
+    let back = moment("2024-01-02")?;
+    for (refusal, wanted) in [
         (Refusal::TooManyGraphs, "refused 4 TooManyGraphs\n"),
         (Refusal::GraphDiffers, "refused 5 GraphDiffers\n"),
         (
-            Refusal::ClockBack(moment("2024-01-02")?),
+            Refusal::ClockBack(back),
             "refused 8 ClockBack 2024-01-02T00:00:00+00:00\n",
         ),
         (Refusal::NotInFlight(7), "refused 13 NotInFlight 7\n"),
@@ -158,10 +130,43 @@ fn faults_have_a_line_each(rt: HostRuntime) -> Result<(), Fail> {
         (Refusal::RecordFull, "refused 17 RecordFull\n"),
         (Refusal::Memory, "memory\n"),
     ] {
-        let mut lines = Vec::new(alloc);
-        put_refusal(&mut lines, &refusal)?;
-        assert_eq!(rt; lines.as_slice(), line.as_bytes());
+        assert_refusal(&rt, alloc, &refusal, wanted)?;
     }
+    Ok(())
+}
+
+#[test]
+fn faults_of_graphs_are_shown(rt: HostRuntime) -> Result<(), Fail> {
+    let alloc = rt.alloc();
+    for (fault, wanted) in [
+        (GraphFault::NotToml, "1 NotToml"),
+        (GraphFault::UnknownKey(Place::Top), "2 UnknownKey top"),
+        (GraphFault::BadValue(Place::Task(12)), "6 BadValue task 12"),
+        (
+            GraphFault::Cron(CronFault::NeverFires),
+            "7 Cron 6 NeverFires",
+        ),
+        (GraphFault::NoTask, "8 NoTask"),
+    ] {
+        let line = format!(in alloc; "refused 1 GraphFault {wanted}\n")?;
+        assert_refusal(&rt, alloc, &Refusal::GraphFault(fault), line.as_str())?;
+    }
+    let names = vec![in alloc; name(alloc, "a")?, name(alloc, "b")?]?;
+    for (fault, wanted) in [
+        (DagFault::DoubleTask(1), "1 DoubleTask 1"),
+        (DagFault::UnknownUpstream(20), "2 UnknownUpstream 20"),
+        (DagFault::DoubleEdge(1), "3 DoubleEdge 1"),
+        (DagFault::Cycle(Sequence::new(names)), "4 Cycle a b"),
+    ] {
+        let line = format!(in alloc; "refused 2 DagFault {wanted}\n")?;
+        assert_refusal(&rt, alloc, &Refusal::DagFault(fault), line.as_str())?;
+    }
+    Ok(())
+}
+
+#[test]
+fn lines_that_are_no_command_have_a_line(rt: HostRuntime) -> Result<(), Fail> {
+    let alloc = rt.alloc();
     for (fault, line) in [
         (CommandFault::Usage(UsageFault::Words), "usage 1 Words\n"),
         (
