@@ -4,3 +4,4 @@ pub mod TakeInLemmas
 pub mod LoadingLemmas
 pub mod PlanLemmas
 pub mod FindLemmas
+pub mod ViewLemmas
