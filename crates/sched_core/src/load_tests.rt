@@ -109,7 +109,12 @@ fn the_first_cause_is_answered(rt: HostRuntime) -> Result<(), Fail> {
             Some(Refusal::TooManyGraphs)
         )
     );
-    let unpooled = file(alloc, "one", DAILY, task(alloc, "t", "pool = \"x\"")?.as_str())?;
+    let unpooled = file(
+        alloc,
+        "one",
+        DAILY,
+        task(alloc, "t", "pool = \"x\"")?.as_str(),
+    )?;
     assert!(rt;
         matches!(
             refusal(alloc, &mut schedule, &unpooled),

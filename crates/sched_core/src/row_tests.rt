@@ -4,6 +4,7 @@ use graph_file::Name;
 use instance_machine::{Outcome, Stage};
 use sched_state::Limits;
 use std::alloc::{AllocError, Global};
+use std::fmt;
 use std::process::Abort;
 use std::test::Fail;
 
@@ -22,9 +23,13 @@ const BELOW: &str =
     "[[task]]\ntask_id = \"r\"\noperator = \"noop\"\n[[task]]\ntask_id = \"a\"\noperator = \"noop\"\nupstream = [\"r\"]\ntrigger_rule = \"all_skipped\"\n[[task]]\ntask_id = \"b\"\noperator = \"noop\"\nupstream = [\"r\"]\n[[task]]\ntask_id = \"c\"\noperator = \"noop\"\nupstream = [\"a\", \"b\"]\n";
 
 const STARTED: Stage = Stage::Started;
+
 const SUCCESS: Stage = Stage::Ended(Outcome::Success);
+
 const SKIPPED: Stage = Stage::Ended(Outcome::Skipped);
+
 const FAILED: Stage = Stage::Ended(Outcome::Failed);
+
 const LOST: Stage = Stage::Ended(Outcome::Lost);
 
 // A schedule of the graph "one" with these tasks, over so many lanes.
@@ -289,10 +294,7 @@ fn a_restart_loses_what_is_in_flight(rt: HostRuntime) -> Result<(), Fail> {
                 "1:t | Running t=queued Running t=scheduled",
             ),
             (Event::Restart(0), "| Failed t=failed Running t=scheduled"),
-            (
-                Event::Restart(2),
-                "2:t | Failed t=failed Running t=queued",
-            ),
+            (Event::Restart(2), "2:t | Failed t=failed Running t=queued"),
         ],
     )?;
     assert_eq!(rt; schedule.in_flight(), 1);
@@ -300,7 +302,7 @@ fn a_restart_loses_what_is_in_flight(rt: HostRuntime) -> Result<(), Fail> {
 }
 
 // So many tasks. The text is written again where memory ran out.
-fn many_tasks(alloc: Global, count: u32) -> Result<String, Fail> {
+fn many_tasks(alloc: Global, count: u32) -> Result<String, fmt::Error> {
     let mut text = String::new(alloc);
     for number in 0..count {
         write!(

@@ -3,6 +3,7 @@ use super::*;
 use moment_core::Moment;
 use sched_state::{Run, Text};
 use std::alloc::{AllocError, Global};
+use std::fmt;
 use std::process::Abort;
 use std::test::Fail;
 
@@ -67,7 +68,7 @@ pub fn refusal(rt: &impl Abort, alloc: Global, schedule: &mut Schedule, event: &
 }
 
 // Writes the phase of a run, and each of its tasks with the state of its instance.
-fn write_run(text: &mut String, schedule: &Schedule, run: &Run) -> Result<(), Fail> {
+fn write_run(text: &mut String, schedule: &Schedule, run: &Run) -> Result<(), fmt::Error> {
     let phase = run.phase;
     write!(text, " {phase:?}")?;
     let Some(graph) = schedule.graph_of(&run.graph) else {
@@ -88,7 +89,7 @@ fn written(
     alloc: Global,
     schedule: &Schedule,
     answered: &Result<Answer, Refusal>,
-) -> Result<String, Fail> {
+) -> Result<String, fmt::Error> {
     let mut text = String::new(alloc);
     match answered {
         Err(refusal) => write!(text, "{refusal:?} |")?,
@@ -117,6 +118,6 @@ pub fn told(
     let answered = step(rt, alloc, schedule, event);
     match written(alloc, schedule, &answered) {
         Ok(text) => Ok(text),
-        Err(_) => written(alloc, schedule, &answered),
+        Err(_) => Ok(written(alloc, schedule, &answered)?),
     }
 }
