@@ -1,5 +1,5 @@
 //! What a schedule shows of its task instances. No view takes memory.
-ghost use Rattle.std.specs.Prelude.{◌≡◌, ◌+◌, ◌≤◌, find, count_by};
+ghost use Rattle.std.specs.Prelude.{◌≡◌, ◌+◌, ◌≤◌, find, sum_by, count_by, slice_get};
 ghost use Rattle.std.specs.Option.{option_copied};
 ghost use Rattle.sched_model.specs.Handout.{last_serial};
 ghost use Rattle.sched_model.specs.Schedule.{is_at};
@@ -17,12 +17,7 @@ impl Schedule {
     pub fn in_flight(&self) -> usize
         ensures { result ≡ in_flight self.now.content }
     {
-        let runs = self.runs.as_slice();
-        let mut count = 0;
-        for run in runs {
-            count += open_in(run);
-        }
-        count
+        open_in_all(self.runs.as_slice())
     }
 
     /// The instance of a task in the run of a graph with this logical date: none where there is no such run, or no such task.
@@ -31,7 +26,7 @@ impl Schedule {
     {
         let run = run_at(self.runs.as_slice(), graph, logical)?;
         let place = self.graph_of(graph)?.dag.place(task)?;
-        run.instances.as_slice().get(place)
+        instance_at(run.instances.as_slice(), place)
     }
 }
 
@@ -41,6 +36,25 @@ fn run_at<'a>(runs: &'a [Run], graph: &Name, logical: Moment) -> Option<&'a Run>
 {
     runs.iter()
         .find(|run| run.graph == *graph && run.logical == logical)
+}
+
+// The instance at a place.
+fn instance_at(instances: &[Instance], place: usize) -> Option<&Instance>
+    ensures { option_copied result ≡ slice_get instances.now place }
+{
+    instances.get(place)
+}
+
+// How many tries of the runs are without an end.
+fn open_in_all(runs: &[Run]) -> usize
+    requires { sum_by open_in runs.now ≤ last_serial + 1 }
+    ensures { result ≡ sum_by open_in runs.now }
+{
+    let mut count = 0;
+    for run in runs {
+        count += open_in(run);
+    }
+    count
 }
 
 // How many tries of a run are without an end.
