@@ -5,3 +5,4 @@ pub mod LoadingLemmas
 pub mod PlanLemmas
 pub mod FindLemmas
 pub mod ViewLemmas
+pub mod RowLemmas

@@ -11,6 +11,7 @@ mod ordering;
 mod planning;
 #[cfg(test)]
 mod row_tests;
+mod rows;
 #[cfg(test)]
 mod run_tests;
 mod schedules;
@@ -20,4 +21,5 @@ mod views;
 
 pub use changes::Change;
 pub use sched_events::{Answer, Event, Refusal, RunId};
+pub use rows::{InstanceRow, Instances};
 pub use schedules::Schedule;
