@@ -1,5 +1,5 @@
 -- A search through lists of lists.
-use Rattle.std.proofs.Common.{◌≡◌, ◌∙◌, refl, sym, ap, ℕ, zero, suc, ◌+◌, ◌<◌, ◌≤◌, List, [], ◌∷◌, ◌++◌, Bool, true, false, cond, find, flat_map, take, length, get_or, Option, Some, None, arith}
+use Rattle.std.proofs.Common.{◌≡◌, ◌∙◌, refl, sym, ap, ℕ, zero, suc, ◌+◌, ◌<◌, List, [], ◌∷◌, ◌++◌, Bool, true, false, cond, find, flat_map, take, length, get_or, Option, Some, None, arith}
 
 find_first : {Y : Type 0} (p : Y → Bool) (xs ys : List Y) (t : Y) → find p xs ≡ Some t → find p (xs ++ ys) ≡ Some t
 find_first {Y} p [] ys t e = absurd (let c : ◌≡◌ {A = Option Y} None (Some t) = e in cc)

@@ -1,5 +1,5 @@
 -- A graph among those that stand by id: how it is found, replaced and put in, and that no run is of one that is not there.
-use Rattle.std.proofs.Common.{◌≡◌, refl, sym, ap, ◌∙◌, ℕ, zero, suc, List, [], ◌∷◌, Bool, true, false, cond, ◌&&◌, map, find, is_some, Option, Some, None, slice_get, slice_set, true≢false}
+use Rattle.std.proofs.Common.{◌≡◌, refl, sym, ap, ◌∙◌, ℕ, zero, suc, List, [], ◌∷◌, true, false, cond, map, find, is_some, Option, Some, None, slice_get, slice_set, true≢false}
 use Rattle.std.specs.List.{list_any, list_all}
 use Rattle.std.proofs.lemmas.Map.Text.{is_eq-slice_cmp}
 use Rattle.dag_check.specs.Graphs.{Dag}

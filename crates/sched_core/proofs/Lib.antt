@@ -6,3 +6,4 @@ pub mod PlanLemmas
 pub mod FindLemmas
 pub mod ViewLemmas
 pub mod RowLemmas
+pub mod FinishLemmas

@@ -1,5 +1,5 @@
 -- Which events are refused, and what is planned for one that is not.
-use Rattle.std.proofs.Common.{◌≡◌, refl, sym, ap, subst, ◌∙◌, ℕ, ◌-◌, ◌≤◌, List, [], ◌∷◌, Bool, true, false, not, ◌&&◌, is_none, is_some, length, map, flat_map, nat_le, nat_lt, Option, Some, None, option_map, option_and_then, Ok, true≢false, get_or, slice_get, arith}
+use Rattle.std.proofs.Common.{◌≡◌, refl, sym, ap, subst, ◌∙◌, ℕ, ◌-◌, ◌≤◌, List, [], ◌∷◌, Bool, true, false, not, ◌&&◌, ◌==◌, find, is_none, is_some, length, map, flat_map, nat_le, nat_lt, Option, Some, None, option_map, option_and_then, Ok, true≢false, get_or, slice_get, arith}
 use Rattle.std.specs.List.{list_any, range_with_len}
 use Rattle.std.proofs.lemmas.Bool.{le-leb}
 use Rattle.std.proofs.lemmas.Option.{slice_get-get_or}
@@ -11,6 +11,8 @@ use Rattle.dag_check.specs.Graphs.{Dag, dag_of}
 use Rattle.dag_check.specs.Faults.{first_fault}
 use Rattle.dag_check.specs.declared.faults.DagFault.{DagFault}
 use Rattle.dag_check.proofs.FirstLemmas.{faultless}
+use Rattle.std.proofs.lemmas.List.{length-map}
+use Rattle.instance_machine.specs.Instances.{Held as Instance}
 use Rattle.instance_machine.specs.Reports.{report_try}
 use Rattle.instance_machine.specs.declared.tries.Stage.{Stage}
 use Rattle.instance_machine.specs.declared.tries.Try.{Try}
@@ -19,11 +21,12 @@ use Rattle.sched_state.specs.declared.graphs.Graph.{Graph}
 use Rattle.sched_state.specs.declared.runs.Run.{Run}
 use Rattle.sched_state.proofs.SoundLemmas.{find_any}
 use Rattle.sched_model.specs.Schedule.{Schedule, graph_named, has_runs}
+use Rattle.sched_model.specs.States.{is_open}
 use Rattle.sched_model.specs.Settle.{settle}
 use Rattle.sched_model.specs.Handout.{hand_out}
 use Rattle.sched_model.specs.Jobs.{job_at, handed}
-use Rattle.sched_model.specs.NamedRuns.{Named, named_by_tick, queued_run, add_runs}
-use Rattle.sched_model.specs.Changes.{load_graph}
+use Rattle.sched_model.specs.NamedRuns.{Named, named_by_tick, queued_run, insert_runs, add_runs}
+use Rattle.sched_model.specs.Changes.{load_graph, set_now, report, restart}
 use Rattle.sched_model.specs.Causes.{open_try, has_too_many_graphs, is_full_with}
 use Rattle.sched_model.specs.Sound.{IsSound, Says, AllSay}
 use Rattle.sched_laws.proofs.SettleLemmas.{settle_still}
@@ -217,11 +220,11 @@ draft_planned e a b made more c accepted is made_is more_is planned =
     subst (IsPlanned a e) (sym planned) (record { accepted = accepted; before = refl; after = after; answer = answer })
 
 -- the tick's causes
-two_none : (b c : Bool) {x y : Refusal} → b ≡ false → c ≡ false → first_some (when b x ∷ when c y ∷ []) ≡ None
-two_none b c e f = rw (e, f) refl
+two_none : (b c : Bool) (x y : Refusal) → b ≡ false → c ≡ false → first_some (when b x ∷ when c y ∷ []) ≡ None
+two_none b c x y e f = rw (e, f) refl
 
 pub tick_accepted : (a : Schedule) (t : ℕ) → nat_lt t a.now ≡ false → is_full_with a (named_by_tick a t) ≡ false → refused a (Tick t) ≡ None
-tick_accepted a t back full = two_none (nat_lt t a.now) (is_full_with a (named_by_tick a t)) back full
+tick_accepted a t back full = two_none (nat_lt t a.now) (is_full_with a (named_by_tick a t)) (refusal.ClockBack a.now) refusal.RecordFull back full
 
 pub tick_back : (a : Schedule) (t : ℕ) → nat_lt t a.now ≡ true → refused a (Tick t) ≡ Some (refusal.ClockBack a.now)
 tick_back a t back = ap (λ b. first_some (when b (refusal.ClockBack a.now) ∷ when (is_full_with a (named_by_tick a t)) refusal.RecordFull ∷ [])) back
@@ -250,3 +253,36 @@ pub in_turn : (a : Schedule) (serial : ℕ) (stage : Stage) (t : Try) → Some t
 in_turn a serial stage t there turn =
     ap (λ (o : Option Try). first_some (when (is_none o) (refusal.NotInFlight serial) ∷ when (not (is_none o) && is_none (option_and_then (report_try stage a.now) o)) (refusal.OutOfTurn serial) ∷ [])) (sym there)
     ∙ ap (λ b. first_some (when b (refusal.OutOfTurn serial) ∷ [])) (is_none-not (report_try stage a.now t) ∙ ap not turn)
+
+-- ---- what the drafts of events are
+pub tick_draft : (a d e b : Schedule) (t : ℕ) (rs : List Run) → d ≡ a → e ≡ set_now t d → rs ≡ map (queued_run d) (named_by_tick d t) → b ≡ record e { runs = insert_runs rs e.runs }
+    → b ≡ add_runs (named_by (Tick t) a) (change_by (Tick t) a)
+tick_draft a d e b t rs draft clock named added =
+    added
+    ∙ (ap (λ (s : Schedule). record s { runs = insert_runs rs s.runs }) clock
+    ∙ (ap (λ (ns : List Run). record (set_now t d) { runs = insert_runs ns d.runs }) named
+    ∙ ap (λ (s : Schedule). add_runs (named_by_tick s t) (set_now t s)) draft))
+
+pub report_draft : (a d b : Schedule) (serial : ℕ) (stage : Stage) → d ≡ a → b ≡ report serial stage d → b ≡ add_runs (named_by (Report serial stage) a) (change_by (Report serial stage) a)
+report_draft a d b serial stage draft is = is ∙ ap (report serial stage) draft
+
+pub restart_draft : (a d b : Schedule) (lanes : ℕ) → d ≡ a → b ≡ restart lanes d → b ≡ add_runs (named_by (Restart lanes) a) (change_by (Restart lanes) a)
+restart_draft a d b lanes draft is = is ∙ ap (restart lanes) draft
+
+-- the restart's cause
+pub restart_accepted : (a : Schedule) (lanes : ℕ) → nat_lt a.limits.lanes lanes ≡ false → refused a (Restart lanes) ≡ None
+restart_accepted a lanes few = ap (λ b. when b refusal.LanesTooMany) few
+
+-- the ids of the runs that a tick names, and how many they are
+pub tick_ids : (a d : Schedule) (t : ℕ) (rs : List Run) (ids : List RunId) → d ≡ a → rs ≡ map (queued_run d) (named_by_tick d t) → ids ≡ map run_id rs → ids ≡ map id_of (named_by (Tick t) a)
+tick_ids a d t rs ids draft named is =
+    is ∙ (ap (map run_id) named ∙ (ap (λ (s : Schedule). map run_id (map (queued_run s) (named_by_tick s t))) draft ∙ ids_named a (named_by_tick a t)))
+
+pub tick_length : (a d : Schedule) (t : ℕ) (rs : List Run) → d ≡ a → rs ≡ map (queued_run d) (named_by_tick d t) → length rs ≡ length (named_by_tick a t)
+tick_length a d t rs draft named = ap length named ∙ (length-map (named_by_tick d t) (queued_run d) ∙ ap (λ (s : Schedule). length (named_by_tick s t)) draft)
+
+-- the try that is found among the runs
+pub found_try : (a : Schedule) (serial : ℕ) (rs : List Run) (o : Option Try) → rs ≡ a.runs
+    → o ≡ find (λ (t : Try). is_open t && t.serial == serial) (flat_map (λ (r : Run). flat_map (λ (i : Instance). i.tries) r.instances) rs) → o ≡ open_try a serial
+found_try a serial rs o runs found =
+    found ∙ ap (λ (qs : List Run). find (λ (t : Try). is_open t && t.serial == serial) (flat_map (λ (r : Run). flat_map (λ (i : Instance). i.tries) r.instances) qs)) runs

@@ -6,15 +6,12 @@ use Rattle.graph_file.specs.declared.graph_specs.GraphSpec.{GraphSpec}
 use Rattle.dag_check.specs.Graphs.{Dag, IsGraphOf}
 use Rattle.dag_check.specs.Faults.{Stands, first_fault, without_names}
 use Rattle.dag_check.specs.declared.faults.DagFault.{DagFault}
-use Rattle.dag_check.specs.declared.faults.DagFault.TheVariants.{DoubleTask, UnknownUpstream, DoubleEdge, Cycle, Memory}
 use Rattle.sched_model.specs.Sound.{Says}
 use Rattle.sched_events.specs.Causes.{exceeds, unknown_pool}
 use Rattle.std.specs.List.{list_any}
-use Rattle.sched_state.specs.Limits.{Bounds}
 use Rattle.sched_state.specs.Lists.{same}
 use Rattle.sched_model.specs.Schedule.{Schedule}
 use Rattle.sched_state.specs.declared.graphs.Graph.{Graph}
-use Rattle.sched_state.specs.declared.runs.Run.{Run}
 use Rattle.sched_events.specs.declared.refusals.Refusal.{Refusal}
 use Rattle.sched_events.specs.declared.refusals.Refusal.TheVariants as refusal
 

@@ -1,5 +1,6 @@
 //! Tries, found by their serials.
 ghost use Rattle.std.specs.Prelude.{◌≡◌, ℕ, ◌&&◌, ◌==◌, find, flat_map, is_some};
+ghost use Rattle.std.specs.Option.{option_copied};
 ghost use Rattle.instance_machine.specs.Instances.{Held};
 ghost use Rattle.instance_machine.specs.Reports.{report_try};
 ghost use Rattle.sched_state.specs.declared.runs.Run.{Run as RunRecord};
@@ -16,13 +17,10 @@ fn is_open_as(one: &Try, serial: u64) -> bool
 }
 
 // The try without an end that has this serial, among these.
-fn open_among(tries: &[Try], serial: u64) -> Option<Try>
-    ensures { result ≡ find (λ t. is_open t && t.serial == serial) tries.now }
+fn open_among(tries: &[Try], serial: u64) -> Option<&Try>
+    ensures { option_copied result ≡ find (λ t. is_open t && t.serial == serial) tries.now }
 {
-    tries
-        .iter()
-        .find(|one| is_open_as(one, serial))
-        .copied()
+    tries.iter().find(|one| is_open_as(one, serial))
 }
 
 // The same, among the tries of these instances.
@@ -31,7 +29,7 @@ fn open_in(instances: &[Instance], serial: u64) -> Option<Try>
 {
     for instance in instances {
         if let Some(found) = open_among(instance.tries(), serial) {
-            return Some(found);
+            return Some(*found);
         }
     }
     None

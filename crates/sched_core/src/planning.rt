@@ -82,9 +82,9 @@ impl Schedule {
         made: Sequence<RunId>,
         more: bool,
     ) -> Result<Change, AllocError>
-        requires sound { IsSound draft.entry }
-        requires over { IsOver self.now.content draft.entry }
-        requires kept { IsKept (hand_out (settle draft.entry)) }
+        requires sound { IsSound draft }
+        requires over { IsOver self.now.content draft }
+        requires kept { IsKept (hand_out (settle draft)) }
         ensures { IfOk result (λ change. change ≡ record {
           before = self.now.content;
           after = hand_out (settle draft.entry);
@@ -112,7 +112,7 @@ impl Schedule {
         ensures accepted { IfOk result (IsPlanned self.now.content (Tick moment)) }
         ensures refused { IfErr result (IsRefusal self.now.content (Tick moment)) }
     {
-        if moment < self.clock {
+        if moment.secs() < self.clock.secs() {
             return Err(Refusal::ClockBack(self.clock));
         }
         let mut draft = self.draft(alloc)?;

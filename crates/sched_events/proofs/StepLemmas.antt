@@ -35,7 +35,7 @@ use Rattle.sched_events.specs.declared.events.Event.TheVariants.{Load, Tick, Rep
 use Rattle.sched_events.proofs.AcceptLemmas.{change_kept, still_new, tick_room}
 
 -- ---- graphs stay
-repeat_keeps : {X Y : Type 0} (h : X → Y) (f : X → Option X) → ((x y : X) → f x ≡ Some y → h y ≡ h x) → (n : ℕ) (x : X) → h (repeat n f x) ≡ h x
+pub repeat_keeps : {X Y : Type 0} (h : X → Y) (f : X → Option X) → ((x y : X) → f x ≡ Some y → h y ≡ h x) → (n : ℕ) (x : X) → h (repeat n f x) ≡ h x
 repeat_keeps h f keeps zero x = refl
 repeat_keeps h f keeps (suc n) x = elim (f x) as (λ o. f x ≡ o → h (repeat (suc n) f x) ≡ h x) [
   | Some y ↦ λ e. rw (e, repeat) (repeat_keeps h f keeps n y ∙ keeps x y e)

@@ -1,6 +1,5 @@
 use Rattle.std.proofs.Common.{◌≡◌, ◌&&◌, ◌==◌, find, flat_map, take, None}
 use Rattle.instance_machine.specs.Instances.{Held}
-use Rattle.sched_state.specs.declared.runs.Run.{Run}
 use Rattle.sched_model.specs.States.{is_open}
 use Rattle.sched_core.proofs.finding.open_in.Given as goal
 

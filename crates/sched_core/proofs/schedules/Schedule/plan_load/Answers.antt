@@ -1,5 +1,5 @@
 use Rattle.sched_model.specs.Schedule.{default_pool}
-use Rattle.std.proofs.Common.{[], ◌∷◌, refl, ◌≡◌, ◌∙◌, true, false, List, length, nat_le, ap, sym, subst, arith, inr, None, Some}
+use Rattle.std.proofs.Common.{[], ◌∷◌, ◌≡◌, ◌∙◌, true, false, List, length, nat_le, ap, sym, subst, arith, inr, None, Some}
 use Rattle.std.specs.List.{list_any}
 use Rattle.std.proofs.lemmas.Bool.Decides.{nat_tests}
 use Rattle.graph_file.specs.declared.graph_specs.GraphSpec.{GraphSpec}

@@ -1,0 +1,24 @@
+use Rattle.std.proofs.Common.{◌≡◌, ◌∙◌, ap, subst, nat_lt, false, arith}
+use Rattle.std.proofs.lemmas.Bool.Decides.{nat_tests}
+use Rattle.sched_model.specs.Schedule.{Schedule}
+use Rattle.sched_events.specs.Kept.{IsKept}
+use Rattle.sched_events.specs.declared.events.Event.TheVariants.{Restart}
+use Rattle.sched_core.specs.Changes.{Held}
+use Rattle.sched_core.proofs.PlanLemmas.{restart_accepted, restart_draft, draft_sound, draft_kept}
+use Rattle.sched_core.proofs.schedules.Schedule.plan_restart.Goals as goal
+
+pub finished-requires-clause-sound : goal.finished-requires-clause-sound
+finished-requires-clause-sound c =
+    let a : Schedule = c.args.self.now.content in
+    let lanes : c.lanes.result ≡ a.limits.lanes = c.lanes.ensures ∙ ap (λ (h : Held). h.content.limits.lanes) c.self.view_is in
+    let few : nat_lt a.limits.lanes c.args.lanes ≡ false = grind (arith, nat_tests, lanes, c.if-lanes.false) in
+    draft_sound (Restart c.args.lanes) a c.restart.new.self tt (restart_accepted a c.args.lanes few) (subst (λ (h : Held). IsKept h.content) c.self.view_is c.self.invariant)
+    (restart_draft a c.in_ok-draft.draft c.restart.new.self c.args.lanes c.in_ok-draft.ensures c.restart.ensures)
+
+pub finished-requires-clause-kept : goal.finished-requires-clause-kept
+finished-requires-clause-kept c =
+    let a : Schedule = c.args.self.now.content in
+    let lanes : c.lanes.result ≡ a.limits.lanes = c.lanes.ensures ∙ ap (λ (h : Held). h.content.limits.lanes) c.self.view_is in
+    let few : nat_lt a.limits.lanes c.args.lanes ≡ false = grind (arith, nat_tests, lanes, c.if-lanes.false) in
+    draft_kept (Restart c.args.lanes) a c.restart.new.self tt (restart_accepted a c.args.lanes few) (subst (λ (h : Held). IsKept h.content) c.self.view_is c.self.invariant)
+    (restart_draft a c.in_ok-draft.draft c.restart.new.self c.args.lanes c.in_ok-draft.ensures c.restart.ensures)

@@ -1,0 +1,65 @@
+use Rattle.std.proofs.Common.{◌≡◌, ◌∙◌, ap, subst, ℕ, length, map, nat_lt, true, false, None, arith}
+use Rattle.std.proofs.lemmas.Bool.Decides.{nat_tests}
+use Rattle.sched_model.specs.Schedule.{Schedule}
+use Rattle.sched_model.specs.NamedRuns.{named_by_tick, leaves_more, add_runs}
+use Rattle.sched_model.specs.Causes.{is_full_with}
+use Rattle.sched_model.specs.Sound.{is_moment}
+use Rattle.sched_events.specs.Causes.{refused}
+use Rattle.sched_events.specs.Events.{named_by, change_by}
+use Rattle.sched_events.specs.Kept.{IsKept}
+use Rattle.sched_events.specs.declared.events.Event.TheVariants.{Tick}
+use Rattle.sched_core.specs.Changes.{Held}
+use Rattle.sched_core.specs.Plans.{run_id}
+use Rattle.sched_core.proofs.PlanLemmas.{tick_accepted, tick_draft, tick_ids, tick_length, draft_sound, draft_kept, draft_planned}
+use Rattle.sched_core.proofs.schedules.Schedule.plan_tick.Goals as goal
+
+pub finished-requires-clause-sound : goal.finished-requires-clause-sound
+finished-requires-clause-sound c =
+    let a : Schedule = c.args.self.now.content in
+    let t : ℕ = c.args.moment in
+    let now : c.self.inside.clock ≡ a.now = ap (λ (h : Held). h.content.now) c.self.view_is in
+    let back : nat_lt t a.now ≡ false = grind (arith, nat_tests, c.secs.ensures.value, c.secs-2.ensures.value, now, c.if-secs.false) in
+    let limit : c.self.inside.limits.runs ≡ a.limits.runs = ap (λ (h : Held). h.content.limits.runs) c.self.view_is in
+    let long : length c.self.inside.runs.items ≡ length a.runs = ap (λ (h : Held). length h.content.runs) c.self.view_is in
+    let more : length c.in_ok-named.named.runs.items ≡ length (named_by_tick a t) = tick_length a c.in_ok-draft.draft t c.in_ok-named.named.runs.items c.in_ok-draft.ensures c.in_ok-named.ensures.runs in
+    let full : is_full_with a (named_by_tick a t) ≡ false = grind (arith, nat_tests, c.runs.ensures, c.len.ensures, c.len-2.ensures, limit, long, more, c.if-runs-len.false) in
+    let accepted : refused a (Tick t) ≡ None = tick_accepted a t back full in
+    let dated : is_moment t ≡ true = grind (arith, nat_tests, c.secs.ensures.value, c.secs.ensures.bound) in
+    let is : c.add.new.draft ≡ add_runs (named_by (Tick t) a) (change_by (Tick t) a) =
+    tick_draft a c.in_ok-draft.draft c.set_clock.new.self c.add.new.draft t c.in_ok-named.named.runs.items c.in_ok-draft.ensures c.set_clock.ensures c.in_ok-named.ensures.runs c.in_ok-add.ensures in
+    draft_sound (Tick t) a c.add.new.draft dated accepted (subst (λ (h : Held). IsKept h.content) c.self.view_is c.self.invariant) is
+
+pub finished-requires-clause-kept : goal.finished-requires-clause-kept
+finished-requires-clause-kept c =
+    let a : Schedule = c.args.self.now.content in
+    let t : ℕ = c.args.moment in
+    let now : c.self.inside.clock ≡ a.now = ap (λ (h : Held). h.content.now) c.self.view_is in
+    let back : nat_lt t a.now ≡ false = grind (arith, nat_tests, c.secs.ensures.value, c.secs-2.ensures.value, now, c.if-secs.false) in
+    let limit : c.self.inside.limits.runs ≡ a.limits.runs = ap (λ (h : Held). h.content.limits.runs) c.self.view_is in
+    let long : length c.self.inside.runs.items ≡ length a.runs = ap (λ (h : Held). length h.content.runs) c.self.view_is in
+    let more : length c.in_ok-named.named.runs.items ≡ length (named_by_tick a t) = tick_length a c.in_ok-draft.draft t c.in_ok-named.named.runs.items c.in_ok-draft.ensures c.in_ok-named.ensures.runs in
+    let full : is_full_with a (named_by_tick a t) ≡ false = grind (arith, nat_tests, c.runs.ensures, c.len.ensures, c.len-2.ensures, limit, long, more, c.if-runs-len.false) in
+    let accepted : refused a (Tick t) ≡ None = tick_accepted a t back full in
+    let dated : is_moment t ≡ true = grind (arith, nat_tests, c.secs.ensures.value, c.secs.ensures.bound) in
+    let is : c.add.new.draft ≡ add_runs (named_by (Tick t) a) (change_by (Tick t) a) =
+    tick_draft a c.in_ok-draft.draft c.set_clock.new.self c.add.new.draft t c.in_ok-named.named.runs.items c.in_ok-draft.ensures c.set_clock.ensures c.in_ok-named.ensures.runs c.in_ok-add.ensures in
+    draft_kept (Tick t) a c.add.new.draft dated accepted (subst (λ (h : Held). IsKept h.content) c.self.view_is c.self.invariant) is
+
+pub returns-clause-accepted : goal.returns-clause-accepted
+returns-clause-accepted c =
+    let a : Schedule = c.args.self.now.content in
+    let t : ℕ = c.args.moment in
+    let now : c.self.inside.clock ≡ a.now = ap (λ (h : Held). h.content.now) c.self.view_is in
+    let back : nat_lt t a.now ≡ false = grind (arith, nat_tests, c.secs.ensures.value, c.secs-2.ensures.value, now, c.if-secs.false) in
+    let limit : c.self.inside.limits.runs ≡ a.limits.runs = ap (λ (h : Held). h.content.limits.runs) c.self.view_is in
+    let long : length c.self.inside.runs.items ≡ length a.runs = ap (λ (h : Held). length h.content.runs) c.self.view_is in
+    let more : length c.in_ok-named.named.runs.items ≡ length (named_by_tick a t) = tick_length a c.in_ok-draft.draft t c.in_ok-named.named.runs.items c.in_ok-draft.ensures c.in_ok-named.ensures.runs in
+    let full : is_full_with a (named_by_tick a t) ≡ false = grind (arith, nat_tests, c.runs.ensures, c.len.ensures, c.len-2.ensures, limit, long, more, c.if-runs-len.false) in
+    let accepted : refused a (Tick t) ≡ None = tick_accepted a t back full in
+    let is : c.add.new.draft ≡ add_runs (named_by (Tick t) a) (change_by (Tick t) a) =
+    tick_draft a c.in_ok-draft.draft c.set_clock.new.self c.add.new.draft t c.in_ok-named.named.runs.items c.in_ok-draft.ensures c.set_clock.ensures c.in_ok-named.ensures.runs c.in_ok-add.ensures in
+    draft_planned (Tick t) a c.add.new.draft c.in_ok-made.made c.in_ok-named.named.more c.in_ok-finished.field-0 accepted is
+    (tick_ids a c.in_ok-draft.draft t c.in_ok-named.named.runs.items c.in_ok-made.made c.in_ok-draft.ensures c.in_ok-named.ensures.runs
+    (c.in_ok-made.ensures ∙ ap (map run_id) c.deref.ensures.value))
+    (c.in_ok-named.ensures.more ∙ ap (λ (s : Schedule). leaves_more s t) c.in_ok-draft.ensures) c.in_ok-finished.ensures
+
