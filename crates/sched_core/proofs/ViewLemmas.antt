@@ -1,5 +1,5 @@
 -- Open tries, counted run by run; and an instance beside its task.
-use Rattle.std.proofs.Common.{◌≡◌, ◌∙◌, refl, sym, ap, ℕ, zero, suc, ◌+◌, ◌<◌, ◌≤◌, List, [], ◌∷◌, ◌++◌, Bool, true, false, cond, ◌&&◌, length, map, filter, flat_map, sum_by, count_by, find, Option, Some, None, option_map, option_and_then, unwrap_or, slice_get, nat_lt, nat_le, leb-true, arith, length-append}
+use Rattle.std.proofs.Common.{◌≡◌, ◌∙◌, refl, sym, ap, ℕ, suc, ◌+◌, ◌<◌, ◌≤◌, List, [], ◌∷◌, ◌++◌, Bool, true, false, cond, length, filter, flat_map, sum_by, count_by, find, Option, Some, None, option_map, option_and_then, unwrap_or, slice_get, nat_le, leb-true, arith, length-append}
 use Rattle.std.specs.List.{zip, list_all, position, position_from}
 use Rattle.std.proofs.lemmas.Iterator.Adapters.{position_from-zero}
 use Rattle.std.proofs.lemmas.Bool.{ltb-true}
@@ -17,7 +17,7 @@ use Rattle.sched_model.specs.Lists.{all_pairs}
 use Rattle.sched_model.specs.Schedule.{Schedule, dag_among, dag_named, graph_named, no_dag, tasks_of, is_at}
 use Rattle.sched_state.specs.Lists.{same}
 use Rattle.sched_state.proofs.SoundLemmas.{same_is}
-use Rattle.sched_model.specs.States.{is_open, open_of, open_tries, in_flight}
+use Rattle.sched_model.specs.States.{is_open, open_of, in_flight}
 use Rattle.sched_model.specs.Causes.{tries_of}
 use Rattle.sched_model.specs.Handout.{last_serial}
 use Rattle.sched_model.specs.Sound.{IsSound, is_sound_in, is_sound_run, serials_of, is_used}

@@ -7,6 +7,7 @@ use std::alloc::{AllocError, Global};
 use std::fmt;
 use std::process::Abort;
 use std::test::Fail;
+use trigger_rules::State;
 
 // A graph that runs each day from 2024-01-01 on.
 const DAILY: &str = "schedule = \"@daily\"\nstart_date = \"2024-01-01\"";
@@ -298,6 +299,30 @@ fn a_restart_loses_what_is_in_flight(rt: HostRuntime) -> Result<(), Fail> {
         ],
     )?;
     assert_eq!(rt; schedule.in_flight(), 1);
+    Ok(())
+}
+
+// Two tasks of which the one that stands first by name comes after the other.
+#[test]
+fn rows_come_by_date_and_task(rt: HostRuntime) -> Result<(), Fail> {
+    let alloc = rt.alloc();
+    let tasks =
+        "[[task]]\ntask_id = \"z\"\noperator = \"noop\"\n[[task]]\ntask_id = \"a\"\noperator = \"noop\"\nupstream = [\"z\"]\n";
+    let mut schedule = with_graph(&rt, alloc, tasks, 1)?;
+    accepted(&rt, alloc, &mut schedule, &tick(&rt, "2024-01-03"));
+    let mut rows = schedule.instances();
+    for (day, task, state, tries) in [
+        ("2024-01-01", "a", State::None, 0),
+        ("2024-01-01", "z", State::Queued, 1),
+        ("2024-01-02", "a", State::None, 0),
+        ("2024-01-02", "z", State::Scheduled, 0),
+    ] {
+        let row = rows.next().ok_or("no row")?;
+        assert_eq!(rt; (row.graph.as_str(), row.task.as_str()), ("one", task));
+        assert_eq!(rt; (row.logical, row.state), (moment(&rt, day), state));
+        assert_eq!(rt; row.tries, tries, "{day} {task}");
+    }
+    assert!(rt; rows.next().is_none());
     Ok(())
 }
 

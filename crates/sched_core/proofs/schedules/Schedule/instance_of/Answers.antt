@@ -1,12 +1,10 @@
-use Rattle.std.proofs.Common.{◌≡◌, ◌∙◌, [], ◌∷◌, List, ℕ, Option, Some, None, sym, ap, find, slice_get}
+use Rattle.std.proofs.Common.{◌≡◌, ◌∙◌, [], ◌∷◌, List, Some, None, sym, ap, find, slice_get}
 use Rattle.std.specs.Option.{option_copied}
 use Rattle.instance_machine.specs.Instances.{Held as Instance}
-use Rattle.sched_state.specs.declared.graphs.Graph.{Graph}
-use Rattle.sched_state.specs.declared.runs.Run.{Run}
 use Rattle.sched_model.specs.Schedule.{Schedule, default_pool, is_at, graph_named}
 use Rattle.sched_core.specs.Changes.{Held}
 use Rattle.sched_core.specs.Views.{instance_of}
-use Rattle.sched_core.proofs.ViewLemmas.{no_run, no_graph, at_place}
+use Rattle.sched_core.proofs.ViewLemmas.{no_graph, at_place}
 use Rattle.sched_core.proofs.schedules.Schedule.instance_of.Goals as goal
 
 pub returns-in_err-graph_of : goal.returns-in_err-graph_of
