@@ -4,4 +4,6 @@ pub mod TakeInLemmas
 pub mod LoadingLemmas
 pub mod PlanLemmas
 pub mod FindLemmas
+pub mod ViewLemmas
+pub mod RowLemmas
 pub mod FinishLemmas

@@ -3,12 +3,23 @@
 
 mod changes;
 mod finding;
+#[cfg(test)]
+mod load_tests;
 mod loading;
 mod lookups;
 mod ordering;
 mod planning;
+#[cfg(test)]
+mod row_tests;
+mod rows;
+#[cfg(test)]
+mod run_tests;
 mod schedules;
+#[cfg(test)]
+mod stepping;
+mod views;
 
 pub use changes::Change;
+pub use rows::{InstanceRow, Instances};
 pub use sched_events::{Answer, Event, Refusal, RunId};
 pub use schedules::Schedule;

@@ -1,0 +1,189 @@
+use super::*;
+use crate::stepping::{accepted, file, moment, refusal, tick};
+use graph_file::{GraphFault, Place};
+use instance_machine::{Outcome, Stage};
+use moment_core::Moment;
+use sched_state::{Kind, Limits, Phase};
+use std::alloc::{AllocError, Global};
+use std::process::Abort;
+use std::test::Fail;
+
+const TASK: &str = "[[task]]\ntask_id = \"t\"\noperator = \"noop\"\n";
+
+// The file of a graph of one task. The keys are written again where memory ran out.
+fn graph(
+    alloc: Global,
+    id: &str,
+    schedule: &str,
+    start: &str,
+    more: &str,
+) -> Result<Event, AllocError> {
+    let written = || format!(in alloc;
+        "schedule = \"{schedule}\"\nstart_date = \"{start}\"\n{more}"
+    );
+    let keys = written().or_else(|_| written())?;
+    file(alloc, id, keys.as_str(), TASK)
+}
+
+// How many runs a step makes, and whether it leaves some. No lanes, no tries.
+fn made(rt: &impl Abort, alloc: Global, schedule: &mut Schedule, event: &Event) -> (usize, bool) {
+    let answer = accepted(rt, alloc, schedule, event);
+    assert_eq!(rt; answer.jobs.len(), 0);
+    (answer.made.len(), answer.more)
+}
+
+#[test]
+fn a_day_gets_its_run_when_it_is_over(rt: HostRuntime) -> Result<(), Fail> {
+    let alloc = rt.alloc();
+    let mut schedule = Schedule::new(alloc, Limits::full());
+    let load = graph(alloc, "one", "@daily", "2024-02-28", "")?;
+    assert_eq!(rt; made(&rt, alloc, &mut schedule, &load), (0, false));
+    for (text, wanted) in [
+        ("2024-02-29T23:59:59Z", (1, false)),
+        ("2024-03-01", (1, false)),
+        ("2024-03-01", (0, false)),
+    ] {
+        let day = tick(&rt, text);
+        assert_eq!(rt; made(&rt, alloc, &mut schedule, &day), wanted, "{text}");
+    }
+    let runs = schedule.runs();
+    assert_eq!(rt; runs.len(), 2);
+    assert_eq!(rt; runs[0].graph.as_str(), "one");
+    assert_eq!(rt; runs[0].logical, moment(&rt, "2024-02-28"));
+    assert_eq!(rt; runs[0].interval.end, moment(&rt, "2024-02-29"));
+    assert_eq!(rt; runs[0].kind, Kind::Scheduled);
+    assert_eq!(rt; runs[0].phase, Phase::Running);
+    assert_eq!(rt; runs[0].instances.len(), 1);
+    assert_eq!(rt; runs[1].logical, moment(&rt, "2024-02-29"));
+    assert_eq!(rt; schedule.now(), moment(&rt, "2024-03-01"));
+    assert_eq!(rt; schedule.in_flight(), 0);
+    Ok(())
+}
+
+#[test]
+fn a_tick_makes_ten_runs_of_a_graph(rt: HostRuntime) -> Result<(), Fail> {
+    let alloc = rt.alloc();
+    let day = tick(&rt, "2024-01-02T01:00:00Z");
+    let mut schedule = Schedule::new(alloc, Limits::full());
+    let hourly = graph(alloc, "one", "@hourly", "2024-01-01", "")?;
+    accepted(&rt, alloc, &mut schedule, &hourly);
+    for wanted in [(10, true), (10, true), (5, false)] {
+        assert_eq!(rt; made(&rt, alloc, &mut schedule, &day), wanted);
+    }
+    let mut latest = Schedule::new(alloc, Limits::full());
+    let last = graph(alloc, "one", "@hourly", "2024-01-01", "catchup = false")?;
+    accepted(&rt, alloc, &mut latest, &last);
+    assert_eq!(rt; made(&rt, alloc, &mut latest, &day), (1, false));
+    let dates = latest.runs().iter().map(|run| run.logical);
+    assert!(rt; dates.eq([moment(&rt, "2024-01-02")]));
+    let mut ended = Schedule::new(alloc, Limits::full());
+    let end = "end_date = \"2024-01-01T01:00:00Z\"";
+    let short = graph(alloc, "one", "@hourly", "2024-01-01", end)?;
+    accepted(&rt, alloc, &mut ended, &short);
+    assert_eq!(rt; made(&rt, alloc, &mut ended, &day), (2, false));
+    Ok(())
+}
+
+#[test]
+fn once_is_once(rt: HostRuntime) -> Result<(), Fail> {
+    let alloc = rt.alloc();
+    let mut schedule = Schedule::new(alloc, Limits::full());
+    let once = graph(alloc, "one", "@once", "2024-01-01", "")?;
+    accepted(&rt, alloc, &mut schedule, &once);
+    for (text, wanted) in [
+        ("2023-12-31T23:59:59Z", (0, false)),
+        ("2024-01-01", (1, false)),
+        ("2024-01-01", (0, false)),
+    ] {
+        let day = tick(&rt, text);
+        assert_eq!(rt; made(&rt, alloc, &mut schedule, &day), wanted, "{text}");
+    }
+    let runs = schedule.runs();
+    assert_eq!(rt; runs.len(), 1);
+    assert_eq!(rt; runs[0].interval.end, moment(&rt, "2024-01-01"));
+    Ok(())
+}
+
+#[test]
+fn a_refusal_changes_nothing(rt: HostRuntime) -> Result<(), Fail> {
+    let alloc = rt.alloc();
+    let limits = Limits::new(1, 1, 1, 1, 2, 0).ok_or("limits")?;
+    let mut schedule = Schedule::new(alloc, limits);
+    let bad = graph(alloc, "one", "@daliy", "2024-01-01", "")?;
+    let cron = refusal(&rt, alloc, &mut schedule, &bad);
+    assert!(rt; matches!(cron, Refusal::GraphFault(GraphFault::Cron(_))));
+    let unknown = graph(alloc, "one", "@daily", "2024-01-01", "color = 1")?;
+    let key = refusal(&rt, alloc, &mut schedule, &unknown);
+    assert!(rt; matches!(key, Refusal::GraphFault(GraphFault::UnknownKey(Place::Top))));
+    let load = graph(alloc, "one", "@daily", "2024-01-01", "")?;
+    assert_eq!(rt; made(&rt, alloc, &mut schedule, &load), (0, false));
+    let second = graph(alloc, "two", "@daily", "2024-01-01", "")?;
+    let many = refusal(&rt, alloc, &mut schedule, &second);
+    assert!(rt; matches!(many, Refusal::TooManyGraphs));
+    let full = refusal(&rt, alloc, &mut schedule, &tick(&rt, "2024-01-04"));
+    assert!(rt; matches!(full, Refusal::RecordFull));
+    assert_eq!(rt; schedule.now(), Moment::at(0));
+    let day = tick(&rt, "2024-01-03");
+    assert_eq!(rt; made(&rt, alloc, &mut schedule, &day), (2, false));
+    let back = refusal(&rt, alloc, &mut schedule, &tick(&rt, "2024-01-02"));
+    let Refusal::ClockBack(seen) = back else {
+        return Err(Fail::from("another refusal"));
+    };
+    assert_eq!(rt; seen, moment(&rt, "2024-01-03"));
+    let other = graph(alloc, "one", "@hourly", "2024-01-01", "")?;
+    let differs = refusal(&rt, alloc, &mut schedule, &other);
+    assert!(rt; matches!(differs, Refusal::GraphDiffers));
+    assert_eq!(rt; made(&rt, alloc, &mut schedule, &load), (0, false));
+    assert_eq!(rt; schedule.runs().len(), 2);
+    Ok(())
+}
+
+#[test]
+fn a_graph_without_runs_is_replaced(rt: HostRuntime) -> Result<(), Fail> {
+    let alloc = rt.alloc();
+    let mut schedule = Schedule::new(alloc, Limits::full());
+    for load in [
+        graph(alloc, "b", "None", "2024-01-01", "")?,
+        graph(alloc, "b", "@daily", "2024-01-01", "max_active_runs = 1")?,
+        graph(alloc, "a", "@daily", "2024-01-02", "")?,
+    ] {
+        accepted(&rt, alloc, &mut schedule, &load);
+    }
+    let answer = accepted(&rt, alloc, &mut schedule, &tick(&rt, "2024-01-03"));
+    let copy = answer.copy(alloc).or_else(|_| answer.copy(alloc))?;
+    let ids = copy.made.as_slice();
+    assert_eq!(rt; ids.len(), 3);
+    for (id, (graph, day)) in ids.iter().zip([
+        ("a", "2024-01-02"),
+        ("b", "2024-01-01"),
+        ("b", "2024-01-02"),
+    ]) {
+        assert_eq!(rt; id.graph.as_str(), graph);
+        assert_eq!(rt; id.logical, moment(&rt, day));
+    }
+    let runs = schedule.runs();
+    assert_eq!(rt; runs.len(), 3);
+    assert_eq!(rt; runs[1].phase, Phase::Running);
+    assert_eq!(rt; runs[2].phase, Phase::Queued);
+    Ok(())
+}
+
+#[test]
+fn a_copy_of_an_event_is_equal(rt: HostRuntime) -> Result<(), Fail> {
+    let alloc = rt.alloc();
+    let load = graph(alloc, "one", "@daily", "2024-01-01", "")?;
+    match (&load, load.copy(alloc).or_else(|_| load.copy(alloc))?) {
+        (Event::Load(text), Event::Load(copied)) => {
+            assert_eq!(rt; copied.as_str(), text.as_str());
+        }
+        _ => panic!(rt; "no text"),
+    }
+    let Event::Tick(copied) = tick(&rt, "2024-01-02").copy(alloc)? else {
+        panic!(rt; "no moment")
+    };
+    assert_eq!(rt; copied, moment(&rt, "2024-01-02"));
+    let failed = Event::Report(7, Stage::Ended(Outcome::Failed)).copy(alloc)?;
+    assert!(rt; matches!(failed, Event::Report(7, Stage::Ended(Outcome::Failed))));
+    assert!(rt; matches!(Event::Restart(3).copy(alloc)?, Event::Restart(3)));
+    Ok(())
+}

@@ -1,0 +1,123 @@
+//! What the tests of events share.
+use super::*;
+use moment_core::Moment;
+use sched_state::{Run, Text};
+use std::alloc::{AllocError, Global};
+use std::fmt;
+use std::process::Abort;
+use std::test::Fail;
+
+pub fn moment(rt: &impl Abort, text: &str) -> Moment {
+    match Moment::read(text) {
+        Ok(moment) => moment,
+        Err(_) => panic!(rt; "no moment: {text}"),
+    }
+}
+
+pub fn tick(rt: &impl Abort, text: &str) -> Event {
+    Event::Tick(moment(rt, text))
+}
+
+// The file of a graph with this id, these keys and these tasks. The text is written again where memory ran out.
+pub fn file(alloc: Global, id: &str, keys: &str, tasks: &str) -> Result<Event, AllocError> {
+    let written = || format!(in alloc; "dag_id = \"{id}\"\n{keys}\n{tasks}");
+    let text = written().or_else(|_| written())?;
+    Ok(Event::Load(Text::from_string(text)))
+}
+
+// What a refused event must leave as it was, as far as it is told here.
+fn seen(schedule: &Schedule) -> (Moment, u32, u64, usize, usize) {
+    (
+        schedule.now(),
+        schedule.lanes(),
+        schedule.next_serial(),
+        schedule.runs().len(),
+        schedule.in_flight(),
+    )
+}
+
+// One step. Where memory ran out the schedule is as before, and the event is asked for again.
+pub fn step(
+    rt: &impl Abort,
+    alloc: Global,
+    schedule: &mut Schedule,
+    event: &Event,
+) -> Result<Answer, Refusal> {
+    let before = seen(schedule);
+    match schedule.step(alloc, event) {
+        Err(Refusal::Memory) => {
+            assert_eq!(rt; seen(schedule), before);
+            schedule.step(alloc, event)
+        }
+        answered => answered,
+    }
+}
+
+pub fn accepted(rt: &impl Abort, alloc: Global, schedule: &mut Schedule, event: &Event) -> Answer {
+    match step(rt, alloc, schedule, event) {
+        Ok(answer) => answer,
+        Err(refusal) => panic!(rt; "refused: {refusal:?}"),
+    }
+}
+
+pub fn refusal(rt: &impl Abort, alloc: Global, schedule: &mut Schedule, event: &Event) -> Refusal {
+    match step(rt, alloc, schedule, event) {
+        Ok(_) => panic!(rt; "not refused"),
+        Err(refusal) => refusal,
+    }
+}
+
+// Writes the phase of a run, and each of its tasks with the state of its instance.
+fn write_run(text: &mut String, schedule: &Schedule, run: &Run) -> Result<(), fmt::Error> {
+    let phase = run.phase;
+    write!(text, " {phase:?}")?;
+    let Some(graph) = schedule.graph_of(&run.graph) else {
+        return Ok(());
+    };
+    let instances = run.instances.as_slice();
+    for place in 0..graph.dag.len().min(instances.len()) {
+        let task = graph.dag.task(place);
+        let id = task.task_id.as_str();
+        let state = instances[place].state(task).name();
+        write!(text, " {id}={state}")?;
+    }
+    Ok(())
+}
+
+// The refusal, or the tries handed out, and the runs after it.
+fn written(
+    alloc: Global,
+    schedule: &Schedule,
+    answered: &Result<Answer, Refusal>,
+) -> Result<String, fmt::Error> {
+    let mut text = String::new(alloc);
+    match answered {
+        Err(refusal) => write!(text, "{refusal:?} |")?,
+        Ok(answer) => {
+            for job in answer.jobs.as_slice() {
+                let serial = job.serial;
+                let task = job.task.as_str();
+                write!(text, "{serial}:{task} ")?;
+            }
+            write!(text, "|")?;
+        }
+    }
+    for run in schedule.runs() {
+        write_run(&mut text, schedule, run)?;
+    }
+    Ok(text)
+}
+
+// Does the event, and tells what it answers and leaves: `1:t | Running t=queued`.
+pub fn told(
+    rt: &impl Abort,
+    alloc: Global,
+    schedule: &mut Schedule,
+    event: &Event,
+) -> Result<String, Fail> {
+    let answered = step(rt, alloc, schedule, event);
+    match written(alloc, schedule, &answered) {
+        Ok(text) => Ok(text),
+        Err(_) => Ok(written(alloc, schedule, &answered)?),
+    }
+}
