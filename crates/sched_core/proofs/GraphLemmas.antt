@@ -20,10 +20,8 @@ reloaded_other text dag g e = ap (λ b. cond b (record { text = text; dag = dag;
 reloaded_named : (text : List ℕ) (dag : Dag) (g : Graph) → same g.dag.spec.dag_id dag.spec.dag_id ≡ true → reloaded text dag g ≡ record { text = text; dag = dag; paused = g.paused }
 reloaded_named text dag g e = ap (λ b. cond b (record { text = text; dag = dag; paused = g.paused }) g) e
 
-
 pub flip_same : (x y : List ℕ) → same x y ≡ false → same y x ≡ false
 flip_same x y e = not_true _ (λ f. true≢false (sym (same_itself x) ∙ (ap (same x) (sym (same_is y x f)) ∙ e)))
-
 
 pub before_apart : (g h : Graph) → graph_before g h ≡ true → same g.dag.spec.dag_id h.dag.spec.dag_id ≡ false
 before_apart g h e = sym (is_eq-slice_cmp g.dag.spec.dag_id h.dag.spec.dag_id) ∙ less_no_tie (name_cmp g.dag.spec.dag_id h.dag.spec.dag_id) e
@@ -35,7 +33,6 @@ others_stay text dag g e (h ∷ hs) after =
     flip_same dag.spec.dag_id h.dag.spec.dag_id (ap (λ n. same n h.dag.spec.dag_id) (sym (same_is _ _ e)) ∙ before_apart g h (and_left (graph_before g h) _ after)) in
     let rest : map (reloaded text dag) hs ≡ hs = others_stay text dag g e hs (and_right (graph_before g h) _ after) in
     ap (λ k. k ∷ map (reloaded text dag) hs) (reloaded_other text dag h apart) ∙ ap (λ ks. h ∷ ks) rest
-
 
 -- a known graph takes the text in at its place, and all others stay
 pub replaced_at : (text : List ℕ) (dag : Dag) (gs : List Graph) (i : ℕ) (g : Graph) → slice_get gs i ≡ Some g → same g.dag.spec.dag_id dag.spec.dag_id ≡ true → rises graph_before gs ≡ true

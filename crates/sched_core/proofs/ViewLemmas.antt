@@ -16,7 +16,7 @@ use Rattle.sched_state.proofs.OrderLemmas.{and_left, and_right, not_false}
 use Rattle.sched_model.specs.Lists.{all_pairs}
 use Rattle.sched_model.specs.Schedule.{Schedule, dag_among, dag_named, graph_named, no_dag, tasks_of, is_at}
 use Rattle.sched_state.specs.Lists.{same}
-use Rattle.sched_state.proofs.SoundLemmas.{same_is}
+use Rattle.sched_state.proofs.NameLemmas.{same_is}
 use Rattle.sched_model.specs.States.{is_open, open_of, in_flight}
 use Rattle.sched_model.specs.Causes.{tries_of}
 use Rattle.sched_model.specs.Handout.{last_serial}

@@ -36,6 +36,13 @@ fn seen(schedule: &Schedule) -> (Moment, u32, u64, usize, usize) {
     )
 }
 
+// Plans the event, reserves room for it and commits it.
+fn done(alloc: Global, schedule: &mut Schedule, event: &Event) -> Result<Answer, Refusal> {
+    let change = schedule.plan(alloc, event)?;
+    schedule.reserve(&change)?;
+    Ok(schedule.commit(change))
+}
+
 // One step. Where memory ran out the schedule is as before, and the event is asked for again.
 pub fn step(
     rt: &impl Abort,
@@ -44,10 +51,10 @@ pub fn step(
     event: &Event,
 ) -> Result<Answer, Refusal> {
     let before = seen(schedule);
-    match schedule.step(alloc, event) {
+    match done(alloc, schedule, event) {
         Err(Refusal::Memory) => {
             assert_eq!(rt; seen(schedule), before);
-            schedule.step(alloc, event)
+            done(alloc, schedule, event)
         }
         answered => answered,
     }

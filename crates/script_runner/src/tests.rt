@@ -186,7 +186,9 @@ fn a_failed_read_or_write_ends_the_script(rt: HostRuntime) -> Result<(), Fail> {
     let (_schedule, status) = run_serial(alloc, 0, text, &mut writer).map_err(|_| "refused")?;
     assert_eq!(rt; status, 1);
     for calls in 0..1_000usize.saturating_sub(writer.calls) {
-        let (schedule, status) = run_serial(alloc, 0, text, Failing { text: b"", calls }).map_err(|_| "refused")?;
+        let (schedule, status) = run_serial(alloc, 0, text, Failing { text: b"", calls }).map_err(
+            |_| "refused",
+        )?;
         assert_eq!(rt; status, 4, "at {calls}");
         assert_eq!(rt; schedule.now(), Moment::at(1_704_153_600), "at {calls}");
     }

@@ -62,4 +62,3 @@ returns-clause-accepted c =
     (tick_ids a c.in_ok-draft.draft t c.in_ok-named.named.runs.items c.in_ok-made.made c.in_ok-draft.ensures c.in_ok-named.ensures.runs
     (c.in_ok-made.ensures ∙ ap (map run_id) c.deref.ensures.value))
     (c.in_ok-named.ensures.more ∙ ap (λ (s : Schedule). leaves_more s t) c.in_ok-draft.ensures) c.in_ok-finished.ensures
-
