@@ -1,8 +1,7 @@
 -- The program's own words.
-use Rattle.std.specs.Prelude.{◌≡◌, ℕ, ◌≤◌, ◌&&◌, List, [], ◌∷◌, take, drop, codes, Option, Some, None, MatchOption}
+use Rattle.std.specs.Prelude.{◌≡◌, ℕ, ◌≤◌, ◌&&◌, if◌then◌else◌, List, [], ◌∷◌, take, drop, codes, Option, Some, None, MatchOption}
 use Rattle.std.specs.Str.{bytes_eq}
 use Rattle.std.specs.Str.Parse.{IsNumeral, digits_value, without_leading_plus}
-use Rattle.graph_file.specs.Lists.{when}
 
 -- the most lanes
 abbrev pub most_lanes : ℕ
@@ -10,9 +9,9 @@ most_lanes = 64
 
 -- the text of the number of lanes, where the words are `run`, `run --lanes N` or `run --lanes=N`: 4 where they say none
 abbrev pub lanes_text : List (List ℕ) → Option (List ℕ)
-lanes_text (command ∷ []) = when (bytes_eq command (codes "run")) (codes "4")
-lanes_text (command ∷ lanes ∷ []) = when (bytes_eq command (codes "run") && bytes_eq (take 8 lanes) (codes "--lanes=")) (drop 8 lanes)
-lanes_text (command ∷ lanes ∷ number ∷ []) = when (bytes_eq command (codes "run") && bytes_eq lanes (codes "--lanes")) number
+lanes_text (command ∷ []) = if bytes_eq command (codes "run") then Some (codes "4") else None
+lanes_text (command ∷ lanes ∷ []) = if bytes_eq command (codes "run") && bytes_eq (take 8 lanes) (codes "--lanes=") then Some (drop 8 lanes) else None
+lanes_text (command ∷ lanes ∷ number ∷ []) = if bytes_eq command (codes "run") && bytes_eq lanes (codes "--lanes") then Some number else None
 lanes_text _ = None
 
 -- the text is this number of lanes, at most 64: digits, a `+` before them or not

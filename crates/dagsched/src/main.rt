@@ -10,7 +10,6 @@
 mod tests;
 mod words;
 
-use sched_events::Refusal;
 use script_runner::run_serial;
 use std::alloc::{AllocError, Global};
 use std::env;
@@ -41,11 +40,13 @@ fn lanes(rt: &HostRuntime) -> io::Result<Option<u32>> {
 }
 
 // Runs the script of standard input. So many lanes are never too many: the error is want of memory.
-fn run(rt: &HostRuntime, lanes: u32) -> Result<u8, Refusal> {
+fn run(rt: &HostRuntime, lanes: u32) -> io::Result<u8> {
     let alloc = rt.alloc();
     let input = BufReader::new(alloc, rt.stdin())?;
     let output = BufWriter::new(alloc, rt.stdout())?;
-    let (_schedule, status) = run_serial(alloc, lanes, input, output)?;
+    let (_schedule, status) = run_serial(alloc, lanes, input, output).map_err(
+        |_| ErrorKind::OutOfMemory,
+    )?;
     Ok(status)
 }
 
