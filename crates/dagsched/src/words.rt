@@ -1,5 +1,6 @@
 //! The program's own words.
-ghost use Rattle.std.specs.Prelude.{◌≡◌, MatchOption, Some, None, map, string_bytes};
+ghost use Rattle.std.specs.Prelude.{◌≡◌, MatchOption, Some, None, true, false, take, drop, codes, map, string_bytes};
+ghost use Rattle.std.specs.Str.{bytes_eq};
 ghost use Rattle.dagsched.specs.Words as spec;
 ghost use Rattle.dagsched.specs.Words.{AsksFor, AreLanes};
 
@@ -23,10 +24,17 @@ fn lanes_text(words: &[String]) -> Option<&str>
     }
     match rest.len() {
         0 => Some("4"),
-        1 => rest[0].as_str().strip_prefix("--lanes="),
+        1 => assigned(rest[0].as_str()),
         2 if rest[0].as_str() == "--lanes" => Some(rest[1].as_str()),
         _ => None,
     }
+}
+
+// What is assigned by `--lanes=N`.
+fn assigned(word: &str) -> Option<&str>
+    ensures { MatchOption result (bytes_eq (take 8 word.now) (codes "--lanes=") ≡ false) (λ text. (bytes_eq (take 8 word.now) (codes "--lanes=") ≡ true) × (text.now ≡ drop 8 word.now)) }
+{
+    word.strip_prefix("--lanes=")
 }
 
 // The number of lanes that a text is.
