@@ -6,16 +6,11 @@
 //! A usage fault of the program's own words goes to standard error.
 #![tactic(auto)]
 
-#[cfg(test)]
-mod tests;
-mod words;
-
+use program_words::asked_lanes;
 use script_runner::run_serial;
-use std::alloc::{AllocError, Global};
 use std::env;
 use std::io::{self, BufReader, BufWriter, ErrorKind};
 use std::process::ExitCode;
-use words::asked_lanes;
 
 fn main(rt: HostRuntime) -> ExitCode {
     ExitCode::from(status(&rt))

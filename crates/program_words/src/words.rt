@@ -1,14 +1,16 @@
-//! The program's own words.
+//! What the program's words ask for.
 ghost use Rattle.std.specs.Prelude.{◌≡◌, MatchOption, Some, None, true, false, take, drop, codes, map, string_bytes};
 ghost use Rattle.std.specs.Str.{bytes_eq};
-ghost use Rattle.dagsched.specs.Words as spec;
-ghost use Rattle.dagsched.specs.Words.{AsksFor, AreLanes};
+ghost use Rattle.program_words.specs.Words as spec;
+ghost use Rattle.program_words.specs.Words.{AsksFor, AreLanes};
 
 // The most lanes.
 const MOST_LANES: u32 = 64;
 
-// The number of lanes with which the words ask for a script: `run`, `run --lanes N` or `run --lanes=N`.
-pub(crate) fn asked_lanes(words: &[String]) -> Option<u32>
+/// The number of lanes with which the words after the program's name ask for a script: `run`, `run --lanes N` or `run --lanes=N`.
+///
+/// It is 0 to 64, in digits with a `+` before them or not, and 4 where the words say none. None where they ask for anything else.
+pub fn asked_lanes(words: &[String]) -> Option<u32>
     ensures { AsksFor (spec.lanes_text (map string_bytes words.now)) result }
 {
     lanes_of(lanes_text(words)?)

@@ -1,4 +1,5 @@
 use super::*;
+use std::alloc::{AllocError, Global};
 use std::test::Fail;
 
 // The lanes with which the words, with blanks between them, ask for a script.
