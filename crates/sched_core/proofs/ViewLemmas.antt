@@ -22,7 +22,8 @@ use Rattle.sched_model.specs.Causes.{tries_of}
 use Rattle.sched_model.specs.Handout.{last_serial}
 use Rattle.sched_model.specs.Sound.{IsSound, is_sound_in, is_sound_run, serials_of, is_used}
 use Rattle.sched_laws.proofs.UpstreamLemmas.{short}
-use Rattle.sched_core.specs.Views.{open_in, instance_in, instance_of}
+use Rattle.sched_core.specs.Views.{instance_in, instance_of}
+use Rattle.sched_core.specs.Inside.{open_in}
 
 -- ---- how many
 open_count : (t : TaskSpec) (i : Held) → length (open_of (t, i)) ≡ count_by is_open i.tries

@@ -1,5 +1,5 @@
 -- What the core's own functions say of each other.
-use Rattle.std.specs.Prelude.{◌≡◌, ℕ, ◌<◌, ◌≤◌, Bool, true, false, List, length, take, Option, MatchOption, Some, None, slice_get, Ok, Err, ◌⊎◌}
+use Rattle.std.specs.Prelude.{◌≡◌, ℕ, ◌<◌, ◌≤◌, Bool, true, false, cond, List, [], ◌∷◌, length, take, sum_by, count_by, Option, MatchOption, Some, None, slice_get, Ok, Err, ◌⊎◌}
 use Rattle.graph_file.specs.Graphs.{graph_of}
 use Rattle.graph_file.specs.declared.faults.GraphFault.{GraphFault}
 use Rattle.graph_file.specs.declared.graph_specs.GraphSpec.{GraphSpec}
@@ -9,11 +9,16 @@ use Rattle.dag_check.specs.declared.faults.DagFault.{DagFault}
 use Rattle.sched_model.specs.Sound.{Says}
 use Rattle.sched_events.specs.Causes.{exceeds, unknown_pool}
 use Rattle.std.specs.List.{list_any}
+use Rattle.instance_machine.specs.Instances.{Held}
 use Rattle.sched_state.specs.Lists.{same}
-use Rattle.sched_model.specs.Schedule.{Schedule}
 use Rattle.sched_state.specs.declared.graphs.Graph.{Graph}
+use Rattle.sched_state.specs.declared.runs.Run.{Run}
+use Rattle.sched_model.specs.Schedule.{Schedule}
+use Rattle.sched_model.specs.States.{is_open}
+use Rattle.sched_events.specs.Rows.{Row}
 use Rattle.sched_events.specs.declared.refusals.Refusal.{Refusal}
 use Rattle.sched_events.specs.declared.refusals.Refusal.TheVariants as refusal
+use Rattle.sched_core.specs.Views.{row_before, follows}
 
 -- a graph of this id stands at the place
 pub record StandsAt (id : List ℕ) (graphs : List Graph) (place : ℕ) : Type 0 where
@@ -64,3 +69,21 @@ pub record IsOver (a b : Schedule) : Type 0 where
   pub limits : b.limits ≡ a.limits
   pub graphs : b.graphs ≡ a.graphs
   pub pools : b.pools ≡ a.pools
+
+-- how many tries of a run are without an end
+abbrev pub open_in : Run → ℕ
+open_in r = sum_by (λ (i : Held). count_by is_open i.tries) r.instances
+
+-- ---- the search for the next row
+-- the first of two
+abbrev pub put_first : Row → Option Row → Row
+put_first w None = w
+put_first w (Some v) = cond (row_before w v) w v
+
+-- the row, where it comes after the task, or the first that was chosen of those after it
+abbrev pub sooner : Option (List ℕ) → Row → Option Row → Option Row
+sooner last w o = cond (follows last w) (Some (put_first w o)) o
+
+abbrev pub first_after : Option (List ℕ) → List Row → Option Row
+first_after last [] = None
+first_after last (w ∷ ws) = sooner last w (first_after last ws)

@@ -1,5 +1,5 @@
 pub mod Changes
 pub mod Effects
 pub mod Plans
-pub mod Inside
 pub mod Views
+pub mod Inside

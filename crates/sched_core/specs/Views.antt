@@ -1,15 +1,14 @@
 -- What a schedule shows of its task instances.
-use Rattle.std.specs.Prelude.{ℕ, Bool, true, cond, List, [], ◌∷◌, ◌++◌, length, map, filter, flat_map, sum_by, count_by, find, Option, Some, None, option_map, option_and_then}
+use Rattle.std.specs.Prelude.{ℕ, Bool, true, List, [], ◌∷◌, ◌++◌, length, map, filter, flat_map, find, Option, Some, None, option_map, option_and_then}
 use Rattle.graph_file.specs.declared.task_specs.TaskSpec.{TaskSpec}
 use Rattle.instance_machine.specs.Instances.{Held}
 use Rattle.instance_machine.specs.States.{state_of}
-use Rattle.trigger_rules.specs.declared.states.State.{State}
 use Rattle.sched_state.specs.Lists.{same, name_cmp, is_less}
 use Rattle.sched_state.specs.declared.runs.Run.{Run}
 use Rattle.sched_model.specs.Schedule.{Schedule, is_at}
-use Rattle.sched_model.specs.States.{is_open}
 use Rattle.sched_model.specs.Clearing.{pairs_of}
 use Rattle.sched_model.specs.Tables.{sort_by}
+use Rattle.sched_events.specs.Rows.{Row}
 
 -- the instance of a task in a run
 abbrev pub instance_in : Schedule → List ℕ → Run → Option Held
@@ -19,21 +18,10 @@ instance_in a task r = option_map (λ (e : TaskSpec × Held). e.1) (find (λ (e 
 abbrev pub instance_of : Schedule → List ℕ → ℕ → List ℕ → Option Held
 instance_of a graph date task = option_and_then (instance_in a task) (find (is_at graph date) a.runs)
 
--- how many tries of a run are without an end
-abbrev pub open_in : Run → ℕ
-open_in r = sum_by (λ (i : Held). count_by is_open i.tries) r.instances
-
 -- ---- rows
--- a task instance, as it is shown
-pub record Row : Type 0 where
-  pub graph : List ℕ
-  pub logical : ℕ
-  pub task : List ℕ
-  pub state : State
-  pub tries : ℕ
-
+-- the row of an instance, with its task
 abbrev pub row_of : Run → TaskSpec × Held → Row
-row_of r e = record { graph = r.graph; logical = r.logical; task = e.0.task_id; state = state_of e.0 e.1; tries = length e.1.tries }
+row_of r e = record { graph = r.graph; logical = r.logical; kind = r.kind; task = e.0.task_id; state = state_of e.0 e.1; tries = length e.1.tries }
 
 abbrev pub row_before : Row → Row → Bool
 row_before v w = is_less (name_cmp v.task w.task)
@@ -50,19 +38,6 @@ all_rows a = flat_map (rows_of a) a.runs
 abbrev pub follows : Option (List ℕ) → Row → Bool
 follows None w = true
 follows (Some id) w = is_less (name_cmp id w.task)
-
--- the first of two
-abbrev pub put_first : Row → Option Row → Row
-put_first w None = w
-put_first w (Some v) = cond (row_before w v) w v
-
--- the row, where it comes after the task, or the first that was chosen of those after it
-abbrev pub sooner : Option (List ℕ) → Row → Option Row → Option Row
-sooner last w o = cond (follows last w) (Some (put_first w o)) o
-
-abbrev pub first_after : Option (List ℕ) → List Row → Option Row
-first_after last [] = None
-first_after last (w ∷ ws) = sooner last w (first_after last ws)
 
 -- what is left to show: of the first of these runs what comes after a task, if there is one, and all of the others
 abbrev pub rows_left : Schedule → List Run → Option (List ℕ) → List Row

@@ -20,6 +20,6 @@ mod stepping;
 mod views;
 
 pub use changes::Change;
-pub use rows::{InstanceRow, Instances};
-pub use sched_events::{Answer, Event, Refusal, RunId};
+pub use rows::Instances;
+pub use sched_events::{Answer, Event, InstanceRow, Refusal, RunId};
 pub use schedules::Schedule;

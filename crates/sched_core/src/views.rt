@@ -4,7 +4,8 @@ ghost use Rattle.std.specs.Option.{option_copied};
 ghost use Rattle.sched_model.specs.Handout.{last_serial};
 ghost use Rattle.sched_model.specs.Schedule.{is_at};
 ghost use Rattle.sched_model.specs.States.{is_open, in_flight};
-ghost use Rattle.sched_core.specs.Views.{instance_of, open_in};
+ghost use Rattle.sched_core.specs.Views.{instance_of};
+ghost use Rattle.sched_core.specs.Inside.{open_in};
 
 use crate::schedules::Schedule;
 use graph_file::Name;

@@ -3,3 +3,4 @@ pub mod Causes
 pub mod Steps
 pub mod Kept
 pub mod Outcomes
+pub mod Rows

@@ -1,4 +1,5 @@
-//! What comes to a schedule, and what it makes of it: events, why they are refused, what they answer, and the step of each.
+//! What comes to a schedule, and what it makes of it: events, why they are refused, what they answer, and the step of each; and how
+//! task instances are shown.
 //!
 //! The definitions stand in `specs/`: the causes against an event, its step and its answer. The laws are about them alone. What plans
 //! and does events is `sched_core`.
@@ -8,6 +9,7 @@ mod answers;
 mod events;
 mod laws;
 mod refusals;
+mod rows;
 #[cfg(test)]
 mod tests;
 
@@ -18,3 +20,4 @@ pub use laws::{
     steps_add_the_named_runs, steps_keep_the_schedule, the_same_text_changes_nothing,
 };
 pub use refusals::Refusal;
+pub use rows::InstanceRow;

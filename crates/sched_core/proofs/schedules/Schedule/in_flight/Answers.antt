@@ -4,7 +4,7 @@ use Rattle.sched_model.specs.Schedule.{Schedule, default_pool}
 use Rattle.sched_model.specs.Handout.{last_serial}
 use Rattle.sched_model.specs.States.{in_flight}
 use Rattle.sched_core.specs.Changes.{Held}
-use Rattle.sched_core.specs.Views.{open_in}
+use Rattle.sched_core.specs.Inside.{open_in}
 use Rattle.sched_core.proofs.ViewLemmas.{flight_is, flight_small}
 use Rattle.sched_core.proofs.schedules.Schedule.in_flight.Goals as goal
 

@@ -1,0 +1,30 @@
+//! Task instances as rows.
+use graph_file::Name;
+use moment_core::Moment;
+use sched_state::Kind;
+use std::marker::Model;
+use trigger_rules::State;
+
+/// A task instance, as it is shown.
+#[derive(Drop)]
+pub struct InstanceRow<'a> {
+    /// The graph's id.
+    pub graph: &'a Name,
+    /// The logical date of its run.
+    pub logical: Moment,
+    /// How its run came to be.
+    pub kind: Kind,
+    /// The task's id.
+    pub task: &'a Name,
+    pub state: State,
+    /// How many tries were handed out to it.
+    pub tries: usize,
+}
+
+impl<'a> Model for InstanceRow<'a> {
+    ghost use Rattle.sched_events.specs.Rows.{Row};
+
+    ghost Value = { Row };
+
+    ghost view = { λ w. record { graph = w.graph.now; logical = w.logical; kind = w.kind; task = w.task.now; state = w.state; tries = w.tries } };
+}
