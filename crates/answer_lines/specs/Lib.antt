@@ -1,4 +1,5 @@
 pub mod Runs
+pub mod Tasks
 pub mod Jobs
 pub mod Answers
 pub mod Faults

@@ -1,5 +1,5 @@
 //! The lines of an answer.
-ghost use Rattle.std.specs.Prelude.{◌≡◌, OnOk};
+ghost use Rattle.std.specs.Prelude.{◌≡◌, OnOk, codes};
 ghost use Rattle.std.specs.Io.KnownBytes.{Appends};
 ghost use Rattle.std.specs.List.{flat_map};
 ghost use Rattle.answer_lines.specs.Answers.{answer_text, made_line};
@@ -20,6 +20,13 @@ pub fn put_answer<W: Write>(output: &mut W, answer: &Answer) -> io::Result<()>
         output.write_all(b"more\n")?;
     }
     put_jobs(output, answer.jobs.as_slice())?;
+    put_ok(output)
+}
+
+/// Writes `ok`, which ends an answer and the rows of a list.
+pub fn put_ok<W: Write>(output: &mut W) -> io::Result<()>
+    ensures { OnOk result (Appends (W.contents output.old) (W.contents output.new) (codes "ok\n")) }
+{
     output.write_all(b"ok\n")
 }
 

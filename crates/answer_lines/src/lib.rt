@@ -7,6 +7,8 @@
 //! made one scheduled__2024-02-28T00:00:00+00:00
 //! try 1 one 2024-02-28T00:00:00+00:00 t 1
 //! ok
+//! one scheduled__2024-02-28T00:00:00+00:00 t queued 1
+//! ok
 //! refused 8 ClockBack 2024-03-01T00:00:00+00:00
 //! usage 1 Words
 //! ```
@@ -18,10 +20,12 @@ mod faults;
 mod jobs;
 mod refusals;
 mod runs;
+mod tasks;
 #[cfg(test)]
 mod tests;
 
-pub use answers::put_answer;
+pub use answers::{put_answer, put_ok};
 pub use faults::put_fault;
 pub use refusals::put_refusal;
 pub use runs::put_runs;
+pub use tasks::put_task;

@@ -5,7 +5,7 @@ ghost use Rattle.std.specs.Io.KnownBytes.{Appends};
 ghost use Rattle.answer_lines.specs.Runs as spec;
 ghost use Rattle.answer_lines.specs.Runs.{runs_text, run_line};
 
-use crate::answers::prefix;
+use crate::answers::{prefix, put_ok};
 use sched_state::{Phase, Run};
 use std::io::{self, Write};
 
@@ -14,7 +14,7 @@ pub fn put_runs<W: Write>(output: &mut W, runs: &[Run]) -> io::Result<()>
     ensures { OnOk result (Appends (W.contents output.old) (W.contents output.new) (runs_text runs.now)) }
 {
     put_rows(output, runs)?;
-    output.write_all(b"ok\n")
+    put_ok(output)
 }
 
 // Writes a row for each run.

@@ -3,13 +3,14 @@ use cron_timetable::{CronFault, Interval};
 use dag_check::DagFault;
 use graph_file::{Action, Bounded, GraphFault, Name, Operator, Place, Sequence};
 use moment_core::{Moment, MomentFault};
-use sched_events::{Answer, Refusal, RunId};
+use sched_events::{Answer, InstanceRow, Refusal, RunId};
 use sched_state::{Job, Kind, Phase, Run};
 use script_commands::{CommandFault, SourceFault, UsageFault};
 use std::alloc::Global;
 use std::io::{self, ErrorKind, Write};
 use std::process::Abort;
 use std::test::Fail;
+use trigger_rules::State;
 
 fn moment(text: &str) -> Result<Moment, Fail> {
     Ok(Moment::read(text).ok().ok_or("no moment")?)
@@ -95,6 +96,48 @@ fn runs_have_a_row_each(rt: HostRuntime) -> Result<(), Fail> {
     }
     wanted.extend_from_slice(b"ok\n")?;
     assert_eq!(rt; lines.as_slice(), wanted.as_slice());
+    Ok(())
+}
+
+#[test]
+fn tasks_have_a_row_each(rt: HostRuntime) -> Result<(), Fail> {
+    let alloc = rt.alloc();
+    let graph = name(alloc, "one")?;
+    let task = name(alloc, "t")?;
+    let logical = moment("2024-01-01")?;
+    for (kind, state, tries, wanted) in [
+        (
+            Kind::Scheduled,
+            State::Queued,
+            1,
+            "scheduled__2024-01-01T00:00:00+00:00 t queued 1",
+        ),
+        (
+            Kind::Manual,
+            State::UpForRetry,
+            2,
+            "manual__2024-01-01T00:00:00+00:00 t up_for_retry 2",
+        ),
+        (
+            Kind::Backfill,
+            State::UpstreamFailed,
+            0,
+            "backfill__2024-01-01T00:00:00+00:00 t upstream_failed 0",
+        ),
+    ] {
+        let row = InstanceRow {
+            graph: &graph,
+            logical,
+            kind,
+            task: &task,
+            state,
+            tries,
+        };
+        let mut line = Vec::new(alloc);
+        put_task(&mut line, &row)?;
+        let wanted = format!(in alloc; "one {wanted}\n")?;
+        assert_eq!(rt; line.as_slice(), wanted.as_bytes());
+    }
     Ok(())
 }
 

@@ -7,7 +7,7 @@ use Rattle.sched_events.specs.declared.events.Event.TheVariants.{Tick}
 use Rattle.script_commands.specs.Values.{values, only}
 use Rattle.script_commands.specs.declared.asked.Asked.{Asked}
 use Rattle.script_commands.specs.declared.asked.Asked.TheVariants.{Nothing, Text, This, Fault}
-use Rattle.script_commands.specs.declared.commands.Command.TheVariants.{Step, ListRuns}
+use Rattle.script_commands.specs.declared.commands.Command.TheVariants.{Step, ListRuns, ListTasks}
 use Rattle.script_commands.specs.declared.commands.UsageFault.TheVariants.{Words, BadMoment}
 
 -- a moment, or why a word is none
@@ -19,12 +19,19 @@ at_reading (Err fault) = Fault (BadMoment fault)
 abbrev pub at_moment : List ℕ → Asked
 at_moment value = if bytes_eq value (codes "now") then Fault Words else at_reading (read_of value)
 
--- a name and its value: `tick MOMENT`, `load inline`, `list runs`
+-- `list runs`, `list tasks`
+abbrev pub listed : List ℕ → Asked
+listed value =
+    if bytes_eq value (codes "runs") then This ListRuns
+    else (if bytes_eq value (codes "tasks") then This ListTasks
+    else Fault Words)
+
+-- a name and its value: `tick MOMENT`, `load inline`, `list ROWS`
 abbrev pub with_value : List ℕ → List ℕ → Asked
 with_value name value =
     if bytes_eq name (codes "tick") then at_moment value
     else (if bytes_eq name (codes "load") && bytes_eq value (codes "inline") then Text
-    else (if bytes_eq name (codes "list") && bytes_eq value (codes "runs") then This ListRuns
+    else (if bytes_eq name (codes "list") then listed value
     else Fault Words))
 
 abbrev pub with_values : List ℕ → Option (List ℕ) → Asked

@@ -51,8 +51,21 @@ fn with_value(name: &[u8], value: &[u8]) -> Asked
     if name == b"load".as_slice() && value == b"inline".as_slice() {
         return Asked::Text;
     }
-    if name == b"list".as_slice() && value == b"runs".as_slice() {
+    if name == b"list".as_slice() {
+        return listed(value);
+    }
+    Asked::Fault(UsageFault::Words)
+}
+
+// What `list` asks for.
+fn listed(value: &[u8]) -> Asked
+    ensures { result ≡ spec.listed value.now }
+{
+    if value == b"runs".as_slice() {
         return Asked::This(Command::ListRuns);
+    }
+    if value == b"tasks".as_slice() {
+        return Asked::This(Command::ListTasks);
     }
     Asked::Fault(UsageFault::Words)
 }

@@ -9,6 +9,8 @@ pub enum Command {
     Step(Event),
     /// `list runs`: the runs are shown, by graph id and logical date.
     ListRuns,
+    /// `list tasks`: the task instances are shown, by graph id, logical date and task id.
+    ListTasks,
 }
 
 /// Why a line is no command.

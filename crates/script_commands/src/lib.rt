@@ -12,6 +12,7 @@
 //! .
 //! tick 2024-01-02
 //! list runs
+//! list tasks
 //! ```
 #![tactic(auto)]
 

@@ -26,6 +26,7 @@ fn told(alloc: Global, request: &Result<Command, CommandFault>) -> Result<String
             String::from_str(alloc, "of a worker")
         }
         Ok(Command::ListRuns) => String::from_str(alloc, "list runs"),
+        Ok(Command::ListTasks) => String::from_str(alloc, "list tasks"),
         Err(CommandFault::Usage(UsageFault::Words)) => String::from_str(alloc, "Words"),
         Err(CommandFault::Usage(UsageFault::BadMoment(fault))) => {
             format!(in alloc; "BadMoment {fault:?}")
@@ -79,7 +80,9 @@ fn words_are_commands(rt: HostRuntime) -> Result<(), Fail> {
         ("tick", "Words"),
         ("tick 2024-02-29 2024-03-01", "Words"),
         ("list runs\r", "Words"),
-        ("list tasks", "Words"),
+        ("list tasks", "list tasks"),
+        ("list task", "Words"),
+        ("list pools", "Words"),
         ("list", "Words"),
         ("List runs", "Words"),
         ("load graph.toml", "Words"),

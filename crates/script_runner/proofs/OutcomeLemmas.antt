@@ -8,13 +8,15 @@ use Rattle.sched_events.specs.declared.answers.Answer.{Answer}
 use Rattle.sched_events.specs.declared.events.Event.{Event}
 use Rattle.sched_events.specs.declared.refusals.Refusal.{Refusal}
 use Rattle.sched_events.specs.declared.refusals.Refusal.TheVariants as refusal
+use Rattle.sched_core.specs.Views.{all_rows}
 use Rattle.script_commands.specs.Commands.{Request, IsGiven}
-use Rattle.script_commands.specs.declared.commands.Command.TheVariants.{Step, ListRuns}
+use Rattle.script_commands.specs.declared.commands.Command.TheVariants.{Step, ListRuns, ListTasks}
 use Rattle.script_commands.specs.declared.commands.CommandFault.{CommandFault}
 use Rattle.answer_lines.specs.Answers.{answer_text}
 use Rattle.answer_lines.specs.Faults.{fault_text}
 use Rattle.answer_lines.specs.Refusals.{refusal_text}
 use Rattle.answer_lines.specs.Runs.{runs_text}
+use Rattle.answer_lines.specs.Tasks.{tasks_text}
 use Rattle.sched_state.specs.declared.runs.Run.{Run}
 use Rattle.script_runner.specs.Outcomes.{Outcome, IsOutcome, accepted_with, refused_for, refusal_status, fault_status}
 use Rattle.script_runner.specs.Runs.{IsAnswered}
@@ -72,6 +74,15 @@ comes-listed r a runs e same = record {
   is = subst (λ (x : Request). IsOutcome x a (record { schedule = a; shown = runs_text a.runs; status = 0 })) (sym e) refl;
   schedule = refl;
   shows = ap runs_text same;
+  has_status = refl;
+}
+
+pub comes-tasks : (r : Request) (a : Schedule) → r ≡ Ok ListTasks → Comes r a a (tasks_text (all_rows a)) 0
+comes-tasks r a e = record {
+  outcome = record { schedule = a; shown = tasks_text (all_rows a); status = 0 };
+  is = subst (λ (x : Request). IsOutcome x a (record { schedule = a; shown = tasks_text (all_rows a); status = 0 })) (sym e) refl;
+  schedule = refl;
+  shows = refl;
   has_status = refl;
 }
 

@@ -1,5 +1,5 @@
 -- What scripts do.
-use Rattle.std.proofs.Common.{◌≡◌, ◌∙◌, max, List, [], ◌∷◌, ◌++◌, Ok, Err, refl, sym, ap, arith, inl, inr}
+use Rattle.std.proofs.Common.{◌≡◌, ◌∙◌, max, List, [], ◌∷◌, ◌++◌, Ok, Err, refl, sym, ap, subst, arith, inl, inr}
 use Rattle.sched_model.specs.Schedule.{Schedule}
 use Rattle.sched_events.specs.Steps.{steps}
 use Rattle.sched_events.specs.declared.events.Event.{Event}
@@ -7,8 +7,7 @@ use Rattle.sched_events.specs.declared.refusals.Refusal.{Refusal}
 use Rattle.sched_events.specs.declared.refusals.Refusal.TheVariants.{Memory}
 use Rattle.sched_events.proofs.StepLemmas.{steps_parts}
 use Rattle.script_commands.specs.Commands.{Request}
-use Rattle.script_commands.specs.declared.commands.Command.TheVariants.{Step, ListRuns}
-use Rattle.script_commands.specs.declared.commands.CommandFault.{CommandFault}
+use Rattle.script_commands.specs.declared.commands.Command.TheVariants.{Step, ListRuns, ListTasks}
 use Rattle.script_runner.specs.Outcomes.{Outcome, IsOutcome, IsEventOutcome, refused_for, refusal_status}
 use Rattle.script_runner.specs.Runs.{IsRun, IsPart, StepsEvents, event_of, events_of, then_outcome}
 use Rattle.script_runner.specs.Runs.IsPart.{none, kept, left}
@@ -44,16 +43,20 @@ one-step e a o (inl (b, given, stepped, same)) = record {
 }
 one-step e a o (inr (r, why, same)) = one-refused e a r o same (not_zero r a o same)
 
-one-list : (a : Schedule) (o : Outcome) → IsOutcome (Ok ListRuns) a o → StepsOne (Ok ListRuns) a o
-one-list a o same = record { events = []; part = λ rest more p. p; schedule = ap (λ (x : Outcome). x.schedule) same; all = λ z. refl }
-
-one-fault : (fault : CommandFault) (a : Schedule) (o : Outcome) → IsOutcome (Err fault) a o → StepsOne (Err fault) a o
-one-fault fault a o same = record { events = []; part = λ rest more p. p; schedule = ap (λ (x : Outcome). x.schedule) same; all = λ z. refl }
+-- what is no event steps none
+no-event : (r : Request) (a : Schedule) (o : Outcome) → event_of r ≡ [] → o.schedule ≡ a → StepsOne r a o
+no-event r a o empty same = record {
+  events = [];
+  part = λ rest more p. subst (λ (es : List Event). IsPart rest (es ++ more)) (sym empty) p;
+  schedule = same;
+  all = λ z. sym empty;
+}
 
 one : (r : Request) (a : Schedule) (o : Outcome) → IsOutcome r a o → StepsOne r a o
 one (Ok (Step e)) a o h = one-step e a o h
-one (Ok ListRuns) a o h = one-list a o h
-one (Err fault) a o h = one-fault fault a o h
+one (Ok ListRuns) a o h = no-event (Ok ListRuns) a o refl (ap (λ (x : Outcome). x.schedule) h)
+one (Ok ListTasks) a o h = no-event (Ok ListTasks) a o refl (ap (λ (x : Outcome). x.schedule) h)
+one (Err fault) a o h = no-event (Err fault) a o refl (ap (λ (x : Outcome). x.schedule) h)
 
 joined : (r : Request) (rs : List Request) (a : Schedule) (first rest o : Outcome) → StepsOne r a first → StepsEvents rs first.schedule rest → o ≡ then_outcome first rest → StepsEvents (r ∷ rs) a o
 joined r rs a first rest o f s e = record {

@@ -4,6 +4,7 @@ ghost use Rattle.script_commands.specs.declared.commands.Command.TheVariants.{St
 ghost use Rattle.script_runner.specs.Outcomes as spec;
 ghost use Rattle.script_runner.specs.Runs.{IsAnswered};
 
+use crate::listing::put_tasks;
 use answer_lines::{put_answer, put_fault, put_refusal, put_runs};
 use sched_core::Schedule;
 use sched_events::{Event, Refusal};
@@ -24,6 +25,10 @@ pub(crate) fn answer<W: Write>(
         Ok(Command::Step(event)) => step(alloc, schedule, &event, output),
         Ok(Command::ListRuns) => {
             put_runs(output, schedule.runs())?;
+            Ok(0)
+        }
+        Ok(Command::ListTasks) => {
+            put_tasks(output, schedule)?;
             Ok(0)
         }
         Err(fault) => {

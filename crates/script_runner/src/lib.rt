@@ -13,7 +13,10 @@
 mod answering;
 #[cfg(test)]
 mod graph_tests;
+#[cfg(test)]
+mod instance_tests;
 mod laws;
+mod listing;
 mod running;
 mod serial;
 #[cfg(test)]

@@ -6,7 +6,7 @@ use std::process::Abort;
 use std::test::Fail;
 
 // A graph of one task, as a script loads it.
-fn graph(alloc: Global, schedule: &str, start: &str, more: &str) -> Result<String, Fail> {
+pub fn graph(alloc: Global, schedule: &str, start: &str, more: &str) -> Result<String, Fail> {
     Ok(format!(in alloc;
         "load inline\ndag_id = \"one\"\nschedule = \"{schedule}\"\nstart_date = \"{start}\"\n{more}\n[[task]]\ntask_id = \"t\"\noperator = \"noop\"\n.\n"
     )?)
@@ -24,7 +24,7 @@ pub fn assert_script(
 }
 
 // The same of a script with so many lanes.
-fn assert_script_in(
+pub fn assert_script_in(
     rt: &impl Abort,
     alloc: Global,
     lanes: u32,
@@ -54,19 +54,6 @@ fn two_days_have_their_runs(rt: HostRuntime) -> Result<(), Fail> {
         "ok\nmade one scheduled__2024-02-28T00:00:00+00:00\nok\nmade one scheduled__2024-02-29T00:00:00+00:00\nok\none scheduled__2024-02-28T00:00:00+00:00 2024-02-28T00:00:00+00:00 2024-02-29T00:00:00+00:00 running\none scheduled__2024-02-29T00:00:00+00:00 2024-02-29T00:00:00+00:00 2024-03-01T00:00:00+00:00 running\nok\n";
     let runs = assert_script(&rt, alloc, script.as_bytes(), wanted, 0)?;
     assert_eq!(rt; runs, 2);
-    Ok(())
-}
-
-#[test]
-fn a_lane_takes_one_try(rt: HostRuntime) -> Result<(), Fail> {
-    let alloc = rt.alloc();
-    let load = graph(alloc, "@daily", "2024-01-01", "")?;
-    let script = format!(in alloc; "{load}tick 2024-01-03\n")?;
-    let wanted =
-        "ok\nmade one scheduled__2024-01-01T00:00:00+00:00\nmade one scheduled__2024-01-02T00:00:00+00:00\ntry 1 one 2024-01-01T00:00:00+00:00 t 1\nok\n";
-    assert_script_in(&rt, alloc, 1, script.as_bytes(), wanted, 0)?;
-    let mut output = Vec::new(alloc);
-    assert!(rt; run_serial(alloc, 65, b"".as_slice(), &mut output).is_err());
     Ok(())
 }
 
