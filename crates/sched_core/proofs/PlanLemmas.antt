@@ -159,6 +159,7 @@ no_jobs a b e =
     ap (λ (n : ℕ). flat_map (job_at b) (range_with_len a.next n)) none
 
 pub load_step : (a : Schedule) (text : List ℕ) (dag : Dag) → Says text dag → step (Load text) a ≡ hand_out (settle (load_graph text dag a))
+unfolding step
 load_step a text dag said =
     ap (λ r. hand_out (settle (load_result text r a))) said.read
     ∙ (ap (λ (o : Option DagFault). let b : Schedule = elim o [ None ↦ load_graph text (dag_of dag.spec) a | Some f ↦ a ] in hand_out (settle b)) (faultless dag.spec dag said.checked)
@@ -207,10 +208,12 @@ pub draft_sound : (e : Event) (a b : Schedule) → IsDated e → refused a e ≡
 draft_sound e a b dated accepted kept is = subst IsSound (sym is) (added_sound e a dated accepted kept (change_kept e a dated accepted kept).0)
 
 pub draft_kept : (e : Event) (a b : Schedule) → IsDated e → refused a e ≡ None → IsKept a → b ≡ add_runs (named_by e a) (change_by e a) → IsKept (hand_out (settle b))
+unfolding step
 draft_kept e a b dated accepted kept is = subst (λ (c : Schedule). IsKept (hand_out (settle c))) (sym is) (step_kept e a dated accepted kept)
 
 pub draft_planned : (e : Event) (a b : Schedule) (made : List RunId) (more : Bool) (c : Planned) → refused a e ≡ None → b ≡ add_runs (named_by e a) (change_by e a) → made ≡ map id_of (named_by e a)
     → more ≡ leaves_more_by e a → c ≡ record { before = a; after = hand_out (settle b); answer = record { made = made; more = more; jobs = handed a (hand_out (settle b)) } } → IsPlanned a e c
+unfolding step
 draft_planned e a b made more c accepted is made_is more_is planned =
     let after : hand_out (settle b) ≡ step e a = ap (λ (s : Schedule). hand_out (settle s)) is in
     let answer : ◌≡◌ {A = Answer} (record { made = made; more = more; jobs = handed a (hand_out (settle b)) }) (answer_to e a) =

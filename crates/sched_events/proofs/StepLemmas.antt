@@ -56,9 +56,11 @@ out_graphs a = repeat_keeps (λ (c : Schedule). c.graphs) hand_one hand_graphs (
 
 -- ---- what follows an own change
 pub step_settled : (e : Event) (a : Schedule) → move (step e a) ≡ None
+unfolding step
 step_settled e a = let b : Schedule = add_runs (named_by e a) (change_by e a) in out_still (settle b) (settle_ends b)
 
 pub step_handed : (e : Event) (a : Schedule) → hand_one (step e a) ≡ None
+unfolding step
 step_handed e a = hand_ends (settle (add_runs (named_by e a) (change_by e a)))
 
 -- a sound schedule with graphs that are said, advanced
@@ -78,6 +80,7 @@ added_sound (Report serial stage) a dated accepted kept s = s
 added_sound (Restart lanes) a dated accepted kept s = s
 
 pub step_kept : (e : Event) (a : Schedule) → IsDated e → refused a e ≡ None → IsKept a → IsKept (step e a)
+unfolding step
 step_kept e a dated accepted kept =
     let c = change_kept e a dated accepted kept in
     finished_kept (add_runs (named_by e a) (change_by e a)) (added_sound e a dated accepted kept c.0) c.1
@@ -97,6 +100,7 @@ change_dates (Report serial stage) a id date = tries_keys (reported_try serial s
 change_dates (Restart lanes) a id date = tries_keys (lost_try a.now) a id date
 
 pub step_dates : (e : Event) (a : Schedule) (id : List ℕ) (date : ℕ) → has_run_at (step e a) id date ≡ (list_any (is_for id date) (named_by e a) || has_run_at a id date)
+unfolding step
 step_dates e a id date = advance_keys (named_by e a) (change_by e a) id date ∙ ap (λ b. list_any (is_for id date) (named_by e a) || b) (change_dates e a id date)
 
 -- ---- lists of events
@@ -134,6 +138,7 @@ found_says id (h ∷ hs) g said found =
     ] found
 
 pub same_text : (a : Schedule) (text : List ℕ) (spec : GraphSpec) (g : Graph) → IsKept a → graph_of text ≡ Ok spec → graph_named a spec.dag_id ≡ Some g → same g.text text ≡ true → step (Load text) a ≡ a
+unfolding step
 same_text a text spec g kept read found alike =
     let says : Says g.text g.dag = found_says spec.dag_id a.graphs g kept.said found in
     let is : g.text ≡ text = same_is g.text text alike in

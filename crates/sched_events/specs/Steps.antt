@@ -11,7 +11,7 @@ use Rattle.sched_events.specs.declared.answers.Answer.{Answer}
 use Rattle.sched_events.specs.declared.events.Event.{Event}
 
 -- the schedule after an accepted event: its own change, with the runs that it names, settled, and handed out
-abbrev pub step : Event → Schedule → Schedule
+unfoldable pub step : Event → Schedule → Schedule
 step e a = advance (named_by e a) (change_by e a)
 
 -- a list of events, one after another

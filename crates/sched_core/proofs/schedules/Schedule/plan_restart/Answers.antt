@@ -1,10 +1,10 @@
-use Rattle.std.proofs.Common.{◌≡◌, ◌∙◌, ap, subst, nat_lt, false, arith}
+use Rattle.std.proofs.Common.{◌≡◌, ◌∙◌, refl, ap, subst, nat_lt, false, arith}
 use Rattle.std.proofs.lemmas.Bool.Decides.{nat_tests}
 use Rattle.sched_model.specs.Schedule.{Schedule}
 use Rattle.sched_events.specs.Kept.{IsKept}
 use Rattle.sched_events.specs.declared.events.Event.TheVariants.{Restart}
 use Rattle.sched_core.specs.Changes.{Held}
-use Rattle.sched_core.proofs.PlanLemmas.{restart_accepted, restart_draft, draft_sound, draft_kept}
+use Rattle.sched_core.proofs.PlanLemmas.{restart_accepted, restart_draft, draft_sound, draft_kept, draft_planned}
 use Rattle.sched_core.proofs.schedules.Schedule.plan_restart.Goals as goal
 
 pub finished-requires-clause-sound : goal.finished-requires-clause-sound
@@ -22,3 +22,11 @@ finished-requires-clause-kept c =
     let few : nat_lt a.limits.lanes c.args.lanes ≡ false = grind (arith, nat_tests, lanes, c.if-lanes.false) in
     draft_kept (Restart c.args.lanes) a c.restart.new.self tt (restart_accepted a c.args.lanes few) (subst (λ (h : Held). IsKept h.content) c.self.view_is c.self.invariant)
     (restart_draft a c.in_ok-draft.draft c.restart.new.self c.args.lanes c.in_ok-draft.ensures c.restart.ensures)
+
+pub returns-clause-accepted : goal.returns-clause-accepted
+returns-clause-accepted c =
+    let a : Schedule = c.args.self.now.content in
+    let lanes : c.lanes.result ≡ a.limits.lanes = c.lanes.ensures ∙ ap (λ (h : Held). h.content.limits.lanes) c.self.view_is in
+    let few : nat_lt a.limits.lanes c.args.lanes ≡ false = grind (arith, nat_tests, lanes, c.if-lanes.false) in
+    draft_planned (Restart c.args.lanes) a c.restart.new.self c.new-made.result false c.in_ok-finished.field-0 (restart_accepted a c.args.lanes few)
+    (restart_draft a c.in_ok-draft.draft c.restart.new.self c.args.lanes c.in_ok-draft.ensures c.restart.ensures) (c.new-made.ensures ∙ c.new.ensures.items) refl c.in_ok-finished.ensures
