@@ -1,2 +1,3 @@
 pub mod AtLemmas
+pub mod GraphLemmas
 pub mod JobLemmas

@@ -1,13 +1,26 @@
--- Changes of one run or one instance, and where a run is put.
-use Rattle.std.specs.Prelude.{◌≡◌, ℕ, ◌+◌, ◌≤◌, true, false, List, length, take, Some, option_map, unwrap_or, slice_get}
+-- Changes of one graph, one run or one instance, and where a run is put.
+use Rattle.std.specs.Prelude.{◌≡◌, ℕ, ◌+◌, ◌≤◌, Bool, true, false, List, length, map, take, Option, Some, None, option_map, unwrap_or, slice_get}
 use Rattle.std.specs.List.{list_any}
 use Rattle.trigger_rules.specs.declared.verdicts.Verdict.{Verdict}
 use Rattle.instance_machine.specs.Instances.{Held}
+use Rattle.sched_state.specs.Lists.{same}
+use Rattle.sched_state.specs.declared.graphs.Graph.{Graph}
 use Rattle.sched_state.specs.declared.runs.Run.{Run}
 use Rattle.sched_state.specs.declared.runs.Phase.{Phase}
 use Rattle.sched_model.specs.Lists.{at}
 use Rattle.sched_model.specs.Schedule.{Schedule, run_before}
+use Rattle.sched_model.specs.Changes.{pause_graph}
 use Rattle.sched_model.specs.Handout.{in_instance, with_try, new_try}
+
+-- this is the id that is named
+abbrev pub is_named : Option (List ℕ) → List ℕ → Bool
+is_named None id = false
+is_named (Some named) id = same id named
+
+-- the graphs, of which the one with this id, if one is named, is not paused
+abbrev pub with_unpaused : Option (List ℕ) → List Graph → List Graph
+with_unpaused None gs = gs
+with_unpaused (Some id) gs = map (pause_graph id false) gs
 
 abbrev pub in_phase : Phase → Run → Run
 in_phase ph r = record r { phase = ph }

@@ -4,10 +4,10 @@ ghost use Rattle.std.specs.Option.{option_copied};
 ghost use Rattle.trigger_rules.specs.declared.verdicts.Verdict.TheVariants.{Wait};
 ghost use Rattle.sched_state.specs.Lists.{insert_by};
 ghost use Rattle.sched_model.specs.Lists.{at};
-ghost use Rattle.sched_model.specs.Schedule.{graph_named, default_pool, run_before};
+ghost use Rattle.sched_model.specs.Schedule.{default_pool, run_before};
 ghost use Rattle.sched_model.specs.Changes.{set_now, report, restart};
 ghost use Rattle.sched_model.specs.Handout.{in_instance, last_serial};
-ghost use Rattle.sched_draft.specs.Parts.{decided_as, in_phase, instances_at, handed_at};
+ghost use Rattle.sched_draft.specs.Parts.{decided_as, in_phase, instances_at, handed_at, with_unpaused};
 
 use crate::ordering::position_for;
 use crate::reporting::{lose_in_runs, report_in_runs};
@@ -19,11 +19,13 @@ use std::alloc::AllocError;
 use std::marker::Model;
 use trigger_rules::Verdict;
 
-/// A schedule that is being made. Its graphs are those of a schedule that is there, the rest is its own.
+/// A schedule that is being made. Its graphs are those of a schedule that is there, of which one may be unpaused; the rest is its own.
 #[derive(Drop)]
 pub struct Draft<'a> {
     limits: Limits,
-    graphs: &'a [Graph],
+    pub(crate) graphs: &'a [Graph],
+    // The graph with this id is not paused, whatever it says.
+    pub(crate) unpaused: Option<&'a Name>,
     clock: Moment,
     lanes: u32,
     next: u64,
@@ -32,13 +34,15 @@ pub struct Draft<'a> {
 
 impl<'a> Model for Draft<'a> {
     ghost use Rattle.std.specs.Prelude.{[], ◌∷◌};
+    ghost use Rattle.std.specs.Option.{option_copied};
     ghost use Rattle.sched_model.specs.Schedule.{Schedule, default_pool};
+    ghost use Rattle.sched_draft.specs.Parts.{with_unpaused};
 
     ghost Value = { Schedule };
 
     ghost view = { λ d. record {
       limits = d.limits;
-      graphs = d.graphs.now;
+      graphs = with_unpaused (option_copied d.unpaused) d.graphs.now;
       pools = default_pool ∷ [];
       now = d.clock;
       lanes = d.lanes;
@@ -48,41 +52,27 @@ impl<'a> Model for Draft<'a> {
 }
 
 impl<'a> Draft<'a> {
-    /// A draft of these parts.
+    /// A draft of these parts, in which the graph with the id `unpaused` is not paused.
     pub fn new(
         limits: Limits,
         graphs: &'a [Graph],
+        unpaused: Option<&'a Name>,
         clock: Moment,
         lanes: u32,
         next: u64,
         runs: Vec<Run>,
     ) -> Draft<'a>
-        ensures { result ≡ record { limits = limits; graphs = graphs.now; pools = default_pool ∷ []; now = clock; lanes = lanes; next = next; runs = runs.items } }
+        ensures { result ≡ record { limits = limits; graphs = with_unpaused (option_copied unpaused.entry) graphs.now; pools = default_pool ∷ []; now = clock; lanes = lanes; next = next; runs = runs.items } }
     {
         Draft {
             limits,
             graphs,
+            unpaused,
             clock,
             lanes,
             next,
             runs,
         }
-    }
-
-    /// The graphs, by id.
-    pub fn graphs(&self) -> &[Graph]
-        ensures { result.now ≡ self.now.graphs }
-    {
-        self.graphs
-    }
-
-    /// The graph with this id.
-    pub fn graph(&self, id: &Name) -> Option<&Graph>
-        ensures { option_copied result ≡ graph_named self.now id.now }
-    {
-        self.graphs
-            .iter()
-            .find(|graph| graph.dag.spec().dag_id == *id)
     }
 
     /// The last moment that it has seen.

@@ -5,6 +5,7 @@
 #![tactic(auto)]
 
 mod drafts;
+mod graphs;
 mod jobs;
 mod ordering;
 mod reporting;

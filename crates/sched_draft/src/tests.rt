@@ -48,6 +48,7 @@ fn jobs_come_by_serial(rt: HostRuntime) -> Result<(), Fail> {
     let mut draft = Draft::new(
         Limits::full(),
         &graphs,
+        None,
         Moment::at(0),
         4,
         4,
@@ -89,7 +90,7 @@ fn reports_and_restarts_change_tries(rt: HostRuntime) -> Result<(), Fail> {
     let alloc = rt.alloc();
     let graphs = [graph(alloc)?];
     let runs = vec![in alloc; run(alloc, "2024-01-01", 1)?]?;
-    let mut draft = Draft::new(Limits::full(), &graphs, Moment::at(0), 4, 2, runs);
+    let mut draft = Draft::new(Limits::full(), &graphs, None, Moment::at(0), 4, 2, runs);
     for (serial, stage, after) in [
         (2, Stage::Started, State::Queued),
         (1, Stage::Ended(Outcome::Success), State::Queued),
@@ -108,5 +109,24 @@ fn reports_and_restarts_change_tries(rt: HostRuntime) -> Result<(), Fail> {
     assert_eq!(rt; draft.lanes(), 1);
     draft.report(1, Stage::Ended(Outcome::Success));
     assert_eq!(rt; state(&graphs[0], &draft), Some(State::Failed));
+    Ok(())
+}
+
+// The file's graph is paused, unless the draft has it unpaused.
+#[test]
+fn the_graph_that_is_named_is_unpaused(rt: HostRuntime) -> Result<(), Fail> {
+    let alloc = rt.alloc();
+    let graphs = [Graph {
+        paused: true,
+        ..graph(alloc)?
+    }];
+    let id = Name::read(alloc, "g")?;
+    let other = Name::read(alloc, "h")?;
+    for (unpaused, paused) in [(None, true), (Some(&other), true), (Some(&id), false)] {
+        let runs = Vec::new(alloc);
+        let draft = Draft::new(Limits::full(), &graphs, unpaused, Moment::at(0), 0, 1, runs);
+        assert_eq!(rt; draft.is_paused(&id), paused);
+        assert!(rt; !draft.is_paused(&other));
+    }
     Ok(())
 }

@@ -1,9 +1,9 @@
 //! The best of the offers.
-ghost use Rattle.std.specs.Prelude.{◌≡◌, ◌<◌, ◌&&◌, IfSome, Some, length, nat_le, nat_lt, option_and_then, slice_get, flat_map};
+ghost use Rattle.std.specs.Prelude.{◌≡◌, ◌<◌, ◌&&◌, Some, length, nat_le, nat_lt, slice_get, flat_map};
 ghost use Rattle.std.specs.List.{enumerate_from, zip};
 ghost use Rattle.sched_state.specs.Lists.{same};
 ghost use Rattle.sched_model.specs.Handout.{last_serial};
-ghost use Rattle.sched_model.specs.Schedule.{graph_among, dag_named, default_pool};
+ghost use Rattle.sched_model.specs.Schedule.{dag_named, default_pool};
 ghost use Rattle.sched_model.specs.Handout as model;
 ghost use Rattle.sched_handout.specs.Rooms.{room_in};
 ghost use Rattle.sched_handout.specs.Choices as choices;
@@ -14,9 +14,8 @@ use crate::counting::{Room, is_default_pool, room_in};
 use crate::offering::offer_at;
 use crate::ranking::{Offer, better};
 use dag_check::Graph as Dag;
-use graph_file::Name;
 use sched_draft::Draft;
-use sched_state::{Graph, Phase, Run};
+use sched_state::{Phase, Run};
 
 // The greatest serial.
 const LAST_SERIAL: u64 = 1 << 62;
@@ -88,19 +87,6 @@ fn choose_in_run<'d>(
     best
 }
 
-// The position of the graph with this id.
-fn position_of(graphs: &[Graph], id: &Name) -> Option<usize>
-    ensures position { option_and_then (slice_get graphs.now) result ≡ graph_among graphs.now id.now }
-    ensures within { IfSome result (λ position. position < length graphs.now) }
-{
-    for (position, graph) in graphs.iter().enumerate() {
-        if graph.dag.spec().dag_id == *id {
-            return Some(position);
-        }
-    }
-    None
-}
-
 // The best of the offers of the run at a position, and of what was chosen after them.
 fn choose_at<'d>(
     draft: &'d Draft<'_>,
@@ -118,22 +104,14 @@ fn choose_at<'d>(
     if !matches!(run.phase, Phase::Running) {
         return best;
     }
-    let Some(index) = position_of(draft.graphs(), &run.graph) else {
+    let Some(index) = draft.position_of(&run.graph) else {
         return best;
     };
-    let graph = &draft.graphs()[index];
-    if graph.paused {
+    if draft.is_paused_at(index) {
         return best;
     }
-    choose_in_run(
-        draft,
-        room,
-        position,
-        run,
-        &graph.dag,
-        &weights[index],
-        best,
-    )
+    let dag = draft.dag_at(index);
+    choose_in_run(draft, room, position, run, dag, &weights[index], best)
 }
 
 /// The first in rank of the offers that fit.

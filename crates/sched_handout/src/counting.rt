@@ -36,8 +36,8 @@ pub fn room_in(draft: &Draft<'_>) -> Room
     };
     let runs = draft.runs();
     for run in runs {
-        if let Some(graph) = draft.graph(&run.graph) {
-            room = left_by_run(room, &graph.dag, run);
+        if let Some(dag) = draft.dag(&run.graph) {
+            room = left_by_run(room, dag, run);
         }
     }
     room

@@ -19,7 +19,7 @@ pub fn hand_out(alloc: Global, draft: &mut Draft<'_>) -> Result<(), AllocError>
     if !has_lane(draft, room_in(draft)) {
         return Ok(());
     }
-    let weights = weigh_graphs(alloc, draft.graphs())?;
+    let weights = weigh_graphs(alloc, draft)?;
     'hands: loop {
         if !hand_one(draft, &weights)? {
             return Ok(());

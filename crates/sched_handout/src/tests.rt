@@ -75,7 +75,7 @@ fn handed_out<'a>(
     lanes: u32,
     runs: Vec<Run>,
 ) -> Result<Draft<'a>, Fail> {
-    let mut draft = Draft::new(Limits::full(), graphs, moment(1_000)?, lanes, 2, runs);
+    let mut draft = Draft::new(Limits::full(), graphs, None, moment(1_000)?, lanes, 2, runs);
     match hand_out(alloc, &mut draft) {
         Ok(()) => Ok(draft),
         Err(_) => {
@@ -111,8 +111,8 @@ fn written(alloc: Global, draft: &Draft<'_>) -> Result<String, Fail> {
     let mut text = String::new(alloc);
     for serial in 2..draft.next_serial() {
         for run in draft.runs() {
-            if let Some(graph) = draft.graph(&run.graph) {
-                write_run(&mut text, &graph.dag, run, serial)?;
+            if let Some(dag) = draft.dag(&run.graph) {
+                write_run(&mut text, dag, run, serial)?;
             }
         }
     }

@@ -4,16 +4,17 @@ ghost use Rattle.sched_handout.specs.Weighing.{WeighTasks, WeighGraphs};
 
 use dag_check::Graph as Dag;
 use priority_weights::effective;
-use sched_state::Graph;
+use sched_draft::Draft;
 use std::alloc::{AllocError, Global};
 
 /// The effective weights of the graphs' tasks, by position and place.
-pub fn weigh_graphs(alloc: Global, graphs: &[Graph]) -> Result<Vec<Vec<u64>>, AllocError>
-    ensures { IfOk result (λ rows. WeighGraphs graphs.now rows.items) }
+pub fn weigh_graphs(alloc: Global, draft: &Draft<'_>) -> Result<Vec<Vec<u64>>, AllocError>
+    ensures { IfOk result (λ rows. WeighGraphs draft.now.graphs rows.items) }
 {
-    let mut rows = Vec::with_capacity(alloc, graphs.len())?;
-    for graph in graphs {
-        let weights = weigh_tasks(alloc, &graph.dag)?;
+    let count = draft.graph_count();
+    let mut rows = Vec::with_capacity(alloc, count)?;
+    for position in 0..count {
+        let weights = weigh_tasks(alloc, draft.dag_at(position))?;
         rows.push(weights)?;
     }
     Ok(rows)

@@ -1,6 +1,9 @@
 -- What is planned for a graph is what the definition names.
-use Rattle.std.proofs.Common.{◌≡◌, ◌∙◌, refl, sym, ap, ℕ, zero, suc, ◌+◌, ◌<◌, get_or, List, [], ◌∷◌, ◌++◌, Bool, true, false, not, filter, find, map, take, length, replicate, slice_get, nat_lt, Option, Some, None, option_map, unwrap_or, arith}
-use Rattle.std.specs.List.{list_all}
+use Rattle.std.proofs.Common.{◌≡◌, ◌∙◌, refl, sym, ap, ℕ, zero, suc, ◌+◌, ◌<◌, List, [], ◌∷◌, ◌++◌, Bool, true, false, not, filter, find, map, take, length, replicate, slice_get, nat_lt, Option, Some, None, option_map, unwrap_or, subst, ◌||◌, flat_map, arith}
+use Rattle.std.specs.List.{list_all, list_any}
+use Rattle.std.proofs.lemmas.Grind.{flat_map-append}
+use Rattle.std.proofs.lemmas.List.{map-append, append-nil}
+use Rattle.std.proofs.lemmas.List.Folds.{list_any-append}
 use Rattle.cron_timetable.specs.declared.timetables.Interval.{Interval}
 use Rattle.graph_file.specs.declared.graph_specs.GraphSpec.{GraphSpec}
 use Rattle.dag_check.specs.Graphs.{Dag}
@@ -20,12 +23,6 @@ use Rattle.sched_laws.proofs.LoadLemmas.{before_apart}
 use Rattle.sched_laws.proofs.ListLemmas.{all_get}
 use Rattle.sched_naming.specs.NewRuns.{scheduled_run}
 
--- what is read at a place stands there
-pub read_at : {X : Type 0} (xs : List X) (i : ℕ) (x d : X) → i < length xs → x ≡ get_or xs i d → slice_get xs i ≡ Some x
-read_at [] i x d inside e = absurd (omega arith)
-read_at (y ∷ xs) zero x d inside e = ap (λ z. Some z) (sym e)
-read_at (y ∷ xs) (suc i) x d inside e = read_at xs i x d (omega arith) e
-
 -- ---- a graph is found by its id
 found : (gs : List Graph) (n : ℕ) (g : Graph) → rises graph_before gs ≡ true → slice_get gs n ≡ Some g → graph_among gs g.dag.spec.dag_id ≡ Some g
 found [] n g up there = absurd (let c : ◌≡◌ {A = Option Graph} None (Some g) = there in cc)
@@ -39,7 +36,7 @@ found (h ∷ hs) (suc n) g up there =
     let apart : same h.dag.spec.dag_id g.dag.spec.dag_id ≡ false = before_apart h g before in
     rw (apart, find) (found hs n g (and_right (list_all (graph_before h) hs) _ up) there)
 
-pub found_dag : (a : Schedule) (n : ℕ) (g : Graph) → rises graph_before a.graphs ≡ true → slice_get a.graphs n ≡ Some g → dag_named a g.dag.spec.dag_id ≡ g.dag
+found_dag : (a : Schedule) (n : ℕ) (g : Graph) → rises graph_before a.graphs ≡ true → slice_get a.graphs n ≡ Some g → dag_named a g.dag.spec.dag_id ≡ g.dag
 found_dag a n g up there = ap (λ (o : Option Graph). unwrap_or (option_map (λ (k : Graph). k.dag) o) no_dag) (found a.graphs n g up there)
 
 -- ---- its runs
@@ -60,7 +57,7 @@ queued_is a g e (i ∷ is) =
     ap (λ (k : Dag). record (scheduled_run g i) { instances = replicate (length k.tasks) new_instance }) (sym e) in
     ap (λ r. r ∷ map (scheduled_run g) is) one ∙ ap (λ rs. queued_run a (run_from Scheduled g.spec.dag_id i) ∷ rs) (queued_is a g e is)
 
-pub named_is : (a : Schedule) (t : ℕ) (g : Graph) (dates : List ℕ) (intervals : List Interval) (more : Bool) → dag_named a g.dag.spec.dag_id ≡ g.dag → g.paused ≡ false
+named_is : (a : Schedule) (t : ℕ) (g : Graph) (dates : List ℕ) (intervals : List Interval) (more : Bool) → dag_named a g.dag.spec.dag_id ≡ g.dag → g.paused ≡ false
     → ((d : ℕ) → has_date dates d ≡ has_date (dates_of a g.dag.spec.dag_id) d) → IsFirst (wanted_intervals g.dag.spec t dates) 10 intervals more
     → (map (scheduled_run g.dag) intervals ≡ map (queued_run a) (named_of a t g)) × (more ≡ leaves_some a t g)
 named_is a t g dates intervals more found_ open_ alike first =
@@ -69,12 +66,76 @@ named_is a t g dates intervals more found_ open_ alike first =
       first.others ∙ ap (λ is. nat_lt 10 (length is)) wanted,
     )
 
-pub named_none : (a : Schedule) (t : ℕ) (g : Graph) → g.paused ≡ true → ([] ≡ map (queued_run a) (named_of a t g)) × (false ≡ leaves_some a t g)
+named_none : (a : Schedule) (t : ℕ) (g : Graph) → g.paused ≡ true → ([] ≡ map (queued_run a) (named_of a t g)) × (false ≡ leaves_some a t g)
 named_none a t g e =
     let none : wanted_by a t g ≡ [] = ap (λ (b : Bool). let chosen : List Interval = elim b [ true ↦ [] | false ↦ wanted_intervals g.dag.spec t (dates_of a g.dag.spec.dag_id) ] in chosen) e in (
       sym (ap (λ is. map (queued_run a) (map (run_from Scheduled g.dag.spec.dag_id) (take 10 is))) none),
       sym (ap (λ is. nat_lt 10 (length is)) none),
     )
+
+-- ---- the graph at a position, by its tasks and its pause
+pub named_there : (a : Schedule) (t n : ℕ) (g : Graph) (dag : Dag) (dates : List ℕ) (intervals : List Interval) (more : Bool) → rises graph_before a.graphs ≡ true
+    → slice_get a.graphs n ≡ Some g → option_map (λ (k : Graph). k.dag) (slice_get a.graphs n) ≡ Some dag → option_map (λ (k : Graph). k.paused) (slice_get a.graphs n) ≡ Some false
+    → ((d : ℕ) → has_date dates d ≡ has_date (dates_of a dag.spec.dag_id) d) → IsFirst (wanted_intervals dag.spec t dates) 10 intervals more
+    → (map (scheduled_run dag) intervals ≡ map (queued_run a) (named_of a t g)) × (more ≡ leaves_some a t g)
+named_there a t n g dag dates intervals more up there tasks open_ alike first =
+    let c : ◌≡◌ {A = Option Dag} (Some g.dag) (Some dag) = sym (ap (option_map (λ (k : Graph). k.dag)) there) ∙ tasks in
+    let d : ◌≡◌ {A = Option Bool} (Some g.paused) (Some false) = sym (ap (option_map (λ (k : Graph). k.paused)) there) ∙ open_ in
+    let is : dag ≡ g.dag = cc in
+    let unpaused_ : g.paused ≡ false = cc in (
+      (ap (λ (k : Dag). map (scheduled_run k) intervals) is)
+          ∙ (named_is a t g dates intervals more (found_dag a n g up there) unpaused_
+          (subst (λ (k : Dag). (e : ℕ) → has_date dates e ≡ has_date (dates_of a k.spec.dag_id) e) is alike)
+          (subst (λ (k : Dag). IsFirst (wanted_intervals k.spec t dates) 10 intervals more) is first)).0,
+      (named_is a t g dates intervals more (found_dag a n g up there) unpaused_
+          (subst (λ (k : Dag). (e : ℕ) → has_date dates e ≡ has_date (dates_of a k.spec.dag_id) e) is alike)
+          (subst (λ (k : Dag). IsFirst (wanted_intervals k.spec t dates) 10 intervals more) is first)).1,
+    )
+
+pub paused_there : (a : Schedule) (t n : ℕ) (g : Graph) → slice_get a.graphs n ≡ Some g → option_map (λ (k : Graph). k.paused) (slice_get a.graphs n) ≡ Some true
+    → ([] ≡ map (queued_run a) (named_of a t g)) × (false ≡ leaves_some a t g)
+paused_there a t n g there closed =
+    let d : ◌≡◌ {A = Option Bool} (Some g.paused) (Some true) = sym (ap (option_map (λ (k : Graph). k.paused)) there) ∙ closed in
+    named_none a t g cc
+
+-- ---- one more graph
+or_false : (b : Bool) → (b || false) ≡ b
+or_false true = refl
+or_false false = refl
+
+take_more : {X : Type 0} (xs : List X) (n : ℕ) (x : X) → slice_get xs n ≡ Some x → take (n + 1) xs ≡ take n xs ++ x ∷ []
+take_more {X} [] n x there = absurd (let c : ◌≡◌ {A = Option X} None (Some x) = there in cc)
+take_more {X} (y ∷ xs) zero x there = let c : ◌≡◌ {A = Option X} (Some y) (Some x) = there in let is : y ≡ x = cc in ap (λ z. z ∷ []) is
+take_more (y ∷ xs) (suc n) x there = let e : suc n + 1 ≡ suc (n + 1) = omega arith in rw e (ap (λ zs. y ∷ zs) (take_more xs n x there))
+
+one_more : {X Y : Type 0} (f : X → List Y) (xs : List X) (n : ℕ) (x : X) → slice_get xs n ≡ Some x → flat_map f (take (n + 1) xs) ≡ flat_map f (take n xs) ++ f x
+one_more f xs n x there =
+    ap (flat_map f) (take_more xs n x there) ∙ (flat_map-append f (take n xs) (x ∷ []) ∙ ap (λ zs. flat_map f (take n xs) ++ zs) (append-nil (f x)))
+
+pub named_more : (a : Schedule) (t n : ℕ) (g : Graph) (before here after : List Run) → slice_get a.graphs n ≡ Some g → before ≡ map (queued_run a) (flat_map (named_of a t) (take n a.graphs))
+    → here ≡ map (queued_run a) (named_of a t g) → after ≡ before ++ here → after ≡ map (queued_run a) (flat_map (named_of a t) (take (n + 1) a.graphs))
+named_more a t n g before here after there old new is =
+    is ∙ (ap (λ rs. rs ++ here) old ∙ (ap (λ rs. map (queued_run a) (flat_map (named_of a t) (take n a.graphs)) ++ rs) new
+    ∙ (sym (map-append (queued_run a) (flat_map (named_of a t) (take n a.graphs)) (named_of a t g)) ∙ ap (map (queued_run a)) (sym (one_more (named_of a t) a.graphs n g there)))))
+
+pub left_more : (a : Schedule) (t n : ℕ) (g : Graph) (before here after : Bool) → slice_get a.graphs n ≡ Some g → before ≡ list_any (leaves_some a t) (take n a.graphs)
+    → here ≡ leaves_some a t g → after ≡ (before || here) → after ≡ list_any (leaves_some a t) (take (n + 1) a.graphs)
+left_more a t n g before here after there old new is =
+    is ∙ (ap (λ b. b || here) old ∙ (ap (λ b. list_any (leaves_some a t) (take n a.graphs) || b) (new ∙ sym (or_false (leaves_some a t g)))
+    ∙ (sym (list_any-append (leaves_some a t) (take n a.graphs) (g ∷ [])) ∙ ap (list_any (leaves_some a t)) (sym (take_more a.graphs n g there)))))
+
+pub or_taken : (b c : Bool) → b ≡ true → b ≡ (b || c)
+or_taken true c e = refl
+or_taken false c e = absurd (let f : ◌≡◌ {A = Bool} false true = e in cc)
+
+pub or_passed : (b c : Bool) → b ≡ false → c ≡ (b || c)
+or_passed true c e = absurd (let f : ◌≡◌ {A = Bool} true false = e in cc)
+or_passed false c e = refl
+
+pub element_at : {X : Type 0} (xs : List X) (i : ℕ) → i < length xs → (x : X) × (slice_get xs i ≡ Some x)
+element_at [] i b = absurd (omega arith)
+element_at (x ∷ xs) zero b = (x, refl)
+element_at (x ∷ xs) (suc i) b = element_at xs i (omega arith)
 
 -- ---- one more instance, and one more run
 pub replicate_more : {X : Type 0} (n : ℕ) (x : X) → replicate n x ++ x ∷ [] ≡ replicate (n + 1) x

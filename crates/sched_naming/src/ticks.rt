@@ -1,16 +1,17 @@
 //! The runs that a tick names.
-ghost use Rattle.std.specs.Prelude.{◌≡◌, ℕ, IfOk, map, true};
+ghost use Rattle.std.specs.Prelude.{◌≡◌, ◌<◌, ℕ, IfOk, Some, length, map, slice_get, true};
 ghost use Rattle.run_planner.specs.Index.{has_date};
 ghost use Rattle.sched_model.specs.Lists.{rises};
-ghost use Rattle.sched_model.specs.Schedule.{graph_before, dag_named, dates_of};
+ghost use Rattle.sched_model.specs.Schedule.{graph_before, dates_of};
 ghost use Rattle.sched_model.specs.NamedRuns.{named_of, named_by_tick, leaves_some, leaves_more, queued_run};
+ghost use Rattle.sched_state.specs.declared.graphs.Graph as states;
 
 use crate::new_runs::scheduled_runs;
 use graph_file::Name;
 use moment_core::Moment;
 use run_planner::{RunIndex, due};
 use sched_draft::Draft;
-use sched_state::{Graph, Run};
+use sched_state::Run;
 use std::alloc::{AllocError, Global};
 
 // The most runs of one graph that one tick makes.
@@ -39,25 +40,28 @@ fn dates_of(alloc: Global, draft: &Draft<'_>, id: &Name) -> Result<RunIndex, All
     Ok(index)
 }
 
-// The runs of one graph that a tick names, beside those that are there.
-fn named_of(
+// The runs that a tick names of the graph at a position, beside those that are there.
+fn named_at(
     alloc: Global,
     draft: &Draft<'_>,
-    graph: &Graph,
+    position: usize,
     moment: Moment,
 ) -> Result<Named, AllocError>
-    requires { dag_named draft.now graph.now.dag.spec.dag_id ≡ graph.now.dag }
-    ensures { IfOk result (λ named. (named.runs.items ≡ map (queued_run draft.now) (named_of draft.now moment graph.now)) × (named.more ≡ leaves_some draft.now moment graph.now)) }
+    requires within { position < length draft.now.graphs }
+    requires order { rises graph_before draft.now.graphs ≡ true }
+    ensures { IfOk result (λ named. (g : states.Graph) → slice_get draft.now.graphs position ≡ Some g
+        → (named.runs.items ≡ map (queued_run draft.now) (named_of draft.now moment g)) × (named.more ≡ leaves_some draft.now moment g)) }
 {
-    if graph.paused {
+    if draft.is_paused_at(position) {
         return Ok(Named {
             runs: Vec::new(alloc),
             more: false,
         });
     }
-    let index = dates_of(alloc, draft, &graph.dag.spec().dag_id)?;
-    let planned = due(alloc, &graph.dag, moment, &index, RUNS_PER_TICK)?;
-    let runs = scheduled_runs(alloc, &graph.dag, &planned.intervals)?;
+    let dag = draft.dag_at(position);
+    let index = dates_of(alloc, draft, &dag.spec().dag_id)?;
+    let planned = due(alloc, dag, moment, &index, RUNS_PER_TICK)?;
+    let runs = scheduled_runs(alloc, dag, &planned.intervals)?;
     Ok(Named {
         runs,
         more: planned.more,
@@ -76,8 +80,8 @@ pub fn named_by_tick(alloc: Global, draft: &Draft<'_>, moment: Moment) -> Result
         runs: Vec::new(alloc),
         more: false,
     };
-    for graph in draft.graphs() {
-        let mut next = named_of(alloc, draft, graph, moment)?;
+    for position in 0..draft.graph_count() {
+        let mut next = named_at(alloc, draft, position, moment)?;
         named.runs.append(&mut next.runs)?;
         named.more = named.more || next.more;
     }

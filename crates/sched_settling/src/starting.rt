@@ -30,11 +30,14 @@ fn can_start(draft: &Draft<'_>, run: &Run) -> bool
     if !matches!(run.phase, Phase::Queued) {
         return false;
     }
-    match draft.graph(&run.graph) {
-        Some(graph) if !graph.paused => {
-            active_runs(draft.runs(), &run.graph) < graph.dag.spec().max_active_runs.get() as usize
+    if draft.is_paused(&run.graph) {
+        return false;
+    }
+    match draft.dag(&run.graph) {
+        Some(dag) => {
+            active_runs(draft.runs(), &run.graph) < dag.spec().max_active_runs.get() as usize
         }
-        _ => false,
+        None => false,
     }
 }
 

@@ -12,10 +12,7 @@ use trigger_rules::State;
 pub fn dag_of<'a>(draft: &'a Draft<'_>, run: &Run) -> Option<&'a Dag>
     ensures { MatchOption result (dag_named draft.now run.now.graph ≡ no_dag) (λ dag. dag_named draft.now run.now.graph ≡ dag.now) }
 {
-    match draft.graph(&run.graph) {
-        Some(graph) => Some(&graph.dag),
-        None => None,
-    }
+    draft.dag(&run.graph)
 }
 
 // The state of the instance at a place: none where there is no such task or instance.

@@ -78,7 +78,7 @@ fn run(alloc: Global, day: &str, phase: Phase, ended: &[Option<Outcome>]) -> Res
 }
 
 fn draft(graphs: &[Graph], runs: Vec<Run>) -> Draft<'_> {
-    Draft::new(Limits::full(), graphs, Moment::at(0), 4, 2, runs)
+    Draft::new(Limits::full(), graphs, None, Moment::at(0), 4, 2, runs)
 }
 
 // What the instance at a place of a run was decided to.

@@ -1,0 +1,78 @@
+-- What a draft shows of its graphs is what stands in them, but for the pause of one.
+use Rattle.std.proofs.Common.{◌≡◌, ◌∙◌, refl, sym, ap, ℕ, zero, suc, ◌<◌, List, [], ◌∷◌, length, drop, map, Bool, true, false, cond, not, ◌&&◌, Option, Some, None, option_map, option_and_then, slice_get, find, arith}
+use Rattle.std.proofs.lemmas.Option.{slice_get-map}
+use Rattle.dag_check.specs.Graphs.{Dag}
+use Rattle.sched_state.specs.Lists.{same}
+use Rattle.sched_state.specs.declared.graphs.Graph.{Graph}
+use Rattle.sched_model.specs.Schedule.{graph_among}
+use Rattle.sched_model.specs.Changes.{pause_graph}
+use Rattle.sched_draft.specs.Parts.{is_named, with_unpaused}
+
+-- ---- what is found
+drop_suc : {X : Type 0} (xs : List X) (i : ℕ) (x : X) → slice_get xs i ≡ Some x → drop i xs ≡ x ∷ drop (suc i) xs
+drop_suc {X} [] i x e = absurd (let c : ◌≡◌ {A = Option X} None (Some x) = e in cc)
+drop_suc {X} (y ∷ xs) zero x e = let c : ◌≡◌ {A = Option X} (Some y) (Some x) = e in let r : y ≡ x = cc in ap (λ z. z ∷ xs) r
+drop_suc (y ∷ xs) (suc i) x e = drop_suc xs i x e
+
+-- an element that passes is what is found from it on
+pub find_hit : {X : Type 0} (p : X → Bool) (xs : List X) (i : ℕ) (x : X) → slice_get xs i ≡ Some x → p x ≡ true → find p (drop i xs) ≡ Some x
+find_hit p xs i x e f = rw (drop_suc xs i x e, f) refl
+
+pub element_at : {X : Type 0} (xs : List X) (i : ℕ) → i < length xs → (x : X) × (slice_get xs i ≡ Some x)
+element_at [] i b = absurd (omega arith)
+element_at (x ∷ xs) zero b = (x, refl)
+element_at (x ∷ xs) (suc i) b = element_at xs i (omega arith)
+
+-- ---- a graph with another pause
+unpause : List ℕ → Graph → Graph
+unpause id g = pause_graph id false g
+
+keeps_dag : (id : List ℕ) (g : Graph) → (unpause id g).dag ≡ g.dag
+unfolding unpause
+keeps_dag id g = elim (same g.dag.spec.dag_id id) as (λ b. (cond b (record g { paused = false }) g).dag ≡ g.dag) [ true ↦ refl | false ↦ refl ]
+
+keeps_pause : (id : List ℕ) (g : Graph) → (unpause id g).paused ≡ (g.paused && not (same g.dag.spec.dag_id id))
+unfolding unpause
+keeps_pause id g = elim (same g.dag.spec.dag_id id) as (λ b. (cond b (record g { paused = false }) g).paused ≡ (g.paused && not b)) [
+  | true ↦ elim g.paused as (λ p. false ≡ (p && false)) [ true ↦ refl | false ↦ refl ]
+  | false ↦ elim g.paused as (λ p. p ≡ (p && true)) [ true ↦ refl | false ↦ refl ]
+]
+
+found : (id other : List ℕ) (gs : List Graph) → graph_among (map (unpause id) gs) other ≡ option_map (unpause id) (graph_among gs other)
+found id other [] = refl
+found id other (g ∷ gs) =
+    let e : same (unpause id g).dag.spec.dag_id other ≡ same g.dag.spec.dag_id other = ap (λ (d : Dag). same d.spec.dag_id other) (keeps_dag id g) in
+    rw e (elim (same g.dag.spec.dag_id other) as (λ b. cond b (Some (unpause id g)) (graph_among (map (unpause id) gs) other) ≡ option_map (unpause id) (cond b (Some g) (graph_among gs other))) [
+      | true ↦ refl
+      | false ↦ found id other gs
+    ])
+
+-- ---- beside the graphs that a draft was made of
+length_map : {X Y : Type 0} (f : X → Y) (xs : List X) → length (map f xs) ≡ length xs
+length_map f [] = refl
+length_map f (x ∷ xs) = ap suc (length_map f xs)
+
+pub count_is : (u : Option (List ℕ)) (gs : List Graph) → length (with_unpaused u gs) ≡ length gs
+count_is None gs = refl
+count_is (Some id) gs = length_map (pause_graph id false) gs
+
+pub position_is : (u : Option (List ℕ)) (gs : List Graph) (id : List ℕ) (o : Option ℕ) → option_and_then (slice_get gs) o ≡ graph_among gs id
+    → option_and_then (slice_get (with_unpaused u gs)) o ≡ graph_among (with_unpaused u gs) id
+unfolding unpause
+position_is None gs id o e = e
+position_is (Some other) gs id None e = ap (option_map (unpause other)) e ∙ sym (found other id gs)
+position_is (Some other) gs id (Some n) e = slice_get-map (unpause other) gs n ∙ (ap (option_map (unpause other)) e ∙ sym (found other id gs))
+
+pub dag_is : (u : Option (List ℕ)) (gs : List Graph) (n : ℕ) (g : Graph) → slice_get gs n ≡ Some g → option_map (λ (k : Graph). k.dag) (slice_get (with_unpaused u gs) n) ≡ Some g.dag
+unfolding unpause
+dag_is None gs n g e = ap (option_map (λ (k : Graph). k.dag)) e
+dag_is (Some id) gs n g e =
+    ap (option_map (λ (k : Graph). k.dag)) (slice_get-map (unpause id) gs n ∙ ap (option_map (unpause id)) e) ∙ ap (λ d. Some d) (keeps_dag id g)
+
+pub pause_is : (u : Option (List ℕ)) (gs : List Graph) (n : ℕ) (g : Graph) → slice_get gs n ≡ Some g
+    → option_map (λ (k : Graph). k.paused) (slice_get (with_unpaused u gs) n) ≡ Some (g.paused && not (is_named u g.dag.spec.dag_id))
+unfolding unpause
+pause_is None gs n g e =
+    ap (option_map (λ (k : Graph). k.paused)) e ∙ ap (λ b. Some b) (elim g.paused as (λ p. p ≡ (p && true)) [ true ↦ refl | false ↦ refl ])
+pause_is (Some id) gs n g e =
+    ap (option_map (λ (k : Graph). k.paused)) (slice_get-map (unpause id) gs n ∙ ap (option_map (unpause id)) e) ∙ ap (λ b. Some b) (keeps_pause id g)
