@@ -21,6 +21,7 @@ pub mod PassLemmas
 pub mod NewRunLemmas
 pub mod DecisionLemmas
 pub mod TextLemmas
+pub mod AlikeLemmas
 pub mod LoadLemmas
 pub mod UpstreamLemmas
 pub mod SaidLemmas
