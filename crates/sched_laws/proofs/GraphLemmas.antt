@@ -108,7 +108,7 @@ chosen_dag : (b p : Bool) (g : Graph) → (cond b (record g { paused = p }) g).d
 chosen_dag true p g = refl
 chosen_dag false p g = refl
 
-paused_dag : (id : List ℕ) (p : Bool) (g : Graph) → (pause_graph id p g).dag ≡ g.dag
+pub paused_dag : (id : List ℕ) (p : Bool) (g : Graph) → (pause_graph id p g).dag ≡ g.dag
 paused_dag id p g = chosen_dag (same g.dag.spec.dag_id id) p g
 
 pub find_under : (f : Graph → Graph) → ((g : Graph) → (f g).dag ≡ g.dag) → (id : List ℕ) (gs : List Graph) → graph_among (map f gs) id ≡ option_map f (graph_among gs id)
@@ -124,7 +124,7 @@ some_under : (f : Graph → Graph) (o : Option Graph) → is_some (option_map f 
 some_under f None = refl
 some_under f (Some g) = refl
 
-dag_under : (f : Graph → Graph) → ((g : Graph) → (f g).dag ≡ g.dag) → (o : Option Graph) → unwrap_or (option_map (λ (g : Graph). g.dag) (option_map f o)) no_dag ≡ unwrap_or (option_map (λ (g : Graph). g.dag) o) no_dag
+pub dag_under : (f : Graph → Graph) → ((g : Graph) → (f g).dag ≡ g.dag) → (o : Option Graph) → unwrap_or (option_map (λ (g : Graph). g.dag) (option_map f o)) no_dag ≡ unwrap_or (option_map (λ (g : Graph). g.dag) o) no_dag
 dag_under f k None = refl
 dag_under f k (Some g) = k g
 

@@ -21,7 +21,9 @@ pub mod PassLemmas
 pub mod NewRunLemmas
 pub mod DecisionLemmas
 pub mod TextLemmas
+pub mod AlikeLemmas
 pub mod LoadLemmas
+pub mod PauseLemmas
 pub mod UpstreamLemmas
 pub mod SaidLemmas
 pub mod NamedLemmas

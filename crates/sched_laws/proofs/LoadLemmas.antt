@@ -1,32 +1,28 @@
 -- A text that takes in a graph without runs enables no move and no hand-out, and the text that a graph has already changes nothing.
-use Rattle.std.proofs.Common.{◌≡◌, refl, sym, ap, subst, ◌∙◌, ℕ, ◌+◌, List, [], ◌∷◌, ◌++◌, Bool, true, false, cond, not, ◌&&◌, ◌||◌, map, filter, flat_map, length, sum_by, Option, Some, None, option_map, unwrap_or, is_some, slice_get, nat_lt, nat_le, Result, Ok}
-use Rattle.std.specs.List.{list_any, list_all, zip, enumerate_from}
+use Rattle.std.proofs.Common.{◌≡◌, refl, sym, ap, subst, ◌∙◌, ℕ, ◌+◌, List, [], ◌∷◌, ◌++◌, true, false, cond, ◌||◌, map, flat_map, Option, Some, None, option_map, unwrap_or, is_some, Result, Ok}
+use Rattle.std.specs.List.{list_any, list_all, enumerate_from}
 use Rattle.std.proofs.lemmas.Map.Text.{is_eq-slice_cmp}
 use Rattle.graph_file.specs.declared.faults.GraphFault.{GraphFault}
 use Rattle.graph_file.specs.declared.graph_specs.GraphSpec.{GraphSpec}
 use Rattle.graph_file.specs.declared.task_specs.TaskSpec.{TaskSpec}
-use Rattle.dag_check.specs.Graphs.{Dag, dag_of, ups}
-use Rattle.trigger_rules.specs.Rules.{rule_verdict}
-use Rattle.trigger_rules.specs.declared.verdicts.Verdict.{Verdict}
-use Rattle.priority_weights.specs.Weights.{effective_weight}
-use Rattle.instance_machine.specs.Instances.{Held}
-use Rattle.instance_machine.specs.States.{state_of}
+use Rattle.dag_check.specs.Graphs.{Dag, dag_of}
 use Rattle.instance_machine.specs.declared.tries.Try.{Try}
 use Rattle.sched_state.specs.Lists.{same, name_cmp, insert_by}
 use Rattle.sched_state.specs.declared.graphs.Graph.{Graph}
 use Rattle.sched_state.proofs.OrderLemmas.{and_left, and_right, or_left, or_right, less_no_tie}
 use Rattle.sched_state.proofs.NameLemmas.{same_is}
-use Rattle.sched_model.specs.Lists.{rises, zip_with, best_by}
-use Rattle.sched_model.specs.Schedule.{Schedule, graph_among, graph_named, dag_among, no_dag, has_runs, graph_before, is_running, is_queued, size_of}
+use Rattle.sched_model.specs.Lists.{rises}
+use Rattle.sched_model.specs.Schedule.{Schedule, graph_among, graph_named, dag_among, no_dag, has_runs, graph_before}
 use Rattle.sched_state.specs.declared.runs.Run.{Run}
-use Rattle.sched_model.specs.States.{open_of, open_tries, slots_in}
-use Rattle.sched_model.specs.Settle.{move, is_undecided, decides}
-use Rattle.sched_model.specs.Handout.{Offer, offers, offers_in, is_ready, ranks_before, best_offer, hand, hand_one, last_serial}
+use Rattle.sched_model.specs.States.{open_tries}
+use Rattle.sched_model.specs.Settle.{move}
+use Rattle.sched_model.specs.Handout.{Offer, offers, offers_in, best_offer, hand, hand_one}
 use Rattle.sched_model.specs.Changes.{reloaded, new_graph, with_graph, load_graph}
 use Rattle.sched_model.specs.Sound.{IsSound, Says, AllSay}
-use Rattle.sched_laws.specs.Seen.{Sight, seen_past, seen_at, seen, sight_of, can_decide, can_decide_in, can_start_seen, can_finish, can_move, has_verdict, any_from, tasks_among, seen_active}
+use Rattle.sched_laws.specs.Seen.{Sight, sight_of, can_decide_in, can_start_seen, can_finish, can_move}
 use Rattle.sched_laws.proofs.GraphLemmas.{find_loaded, flip_same, reloaded_other}
 use Rattle.sched_laws.proofs.SeenLemmas.{move_seen, none_from}
+use Rattle.sched_laws.proofs.AlikeLemmas.{AllDags, same_sights, deciding_alike, open_alike, start_by, offers_by, best_with, map_none}
 
 -- ---- runs whose graphs are found as before
 abbrev AllFound : List Graph → List Graph → List Run → Type 0
@@ -44,54 +40,12 @@ found_after text dag gs (r ∷ rs) e = (
 dag_found : (gs hs : List Graph) (id : List ℕ) → graph_among hs id ≡ graph_among gs id → dag_among hs id ≡ dag_among gs id
 dag_found gs hs id e = ap (λ (o : Option Graph). unwrap_or (option_map (λ (g : Graph). g.dag) o) no_dag) e
 
+-- where the graphs are found as before, so are their tasks and edges
+dags_found : (gs hs : List Graph) (rs : List Run) → AllFound gs hs rs → AllDags gs hs rs
+dags_found gs hs [] f = tt
+dags_found gs hs (r ∷ rs) f = (dag_found gs hs r.graph f.0, dags_found gs hs rs f.1)
+
 -- ---- moves
-sight_by : Run → Dag → Sight
-sight_by r d = record {
-  graph = r.graph;
-  logical = r.logical;
-  phase = r.phase;
-  undecided = map is_undecided r.instances;
-  states = map seen (zip_with state_of d.tasks r.instances);
-}
-
-same_sights : (gs hs : List Graph) (rs : List Run) → AllFound gs hs rs → map (sight_of hs) rs ≡ map (sight_of gs) rs
-unfolding sight_by
-same_sights gs hs [] f = refl
-same_sights gs hs (r ∷ rs) f =
-    ap (λ v. v ∷ map (sight_of hs) rs) (ap (sight_by r) (dag_found gs hs r.graph f.0))
-    ∙ ap (λ vs. sight_of gs r ∷ vs) (same_sights gs hs rs f.1)
-
-abbrev verdict_by : List Sight → Sight → ℕ → TaskSpec → Dag → Option Verdict
-verdict_by vs v p t d = decides (seen_past vs v t p) (rule_verdict t.trigger_rule (map (seen_at v) (ups d p)))
-
-verdict_alike : (gs hs : List Graph) (vs : List Sight) (v : Sight) (p : ℕ) (o : Option TaskSpec) → dag_among hs v.graph ≡ dag_among gs v.graph → has_verdict hs vs v p o ≡ has_verdict gs vs v p o
-verdict_alike gs hs vs v p None e = refl
-verdict_alike gs hs vs v p (Some t) e = ap (λ (d : Dag). is_some (verdict_by vs v p t d)) e
-
-decide_alike : (gs hs : List Graph) (vs : List Sight) (v : Sight) → dag_among hs v.graph ≡ dag_among gs v.graph → (p : ℕ) (b : Bool) → can_decide hs vs v p b ≡ can_decide gs vs v p b
-decide_alike gs hs vs v e p b =
-    ap (λ (d : Dag). b && has_verdict hs vs v p (slice_get d.tasks p)) e
-    ∙ ap (λ c. b && c) (verdict_alike gs hs vs v p (slice_get (tasks_among gs v.graph) p) e)
-
-any_alike : {X : Type 0} (f g : ℕ → X → Bool) → ((i : ℕ) (x : X) → f i x ≡ g i x) → (i : ℕ) (xs : List X) → any_from f i xs ≡ any_from g i xs
-any_alike f g h i [] = refl
-any_alike f g h i (x ∷ xs) = rw (h i x, any_alike f g h (i + 1) xs) refl
-
-deciding_alike : (gs hs : List Graph) (vs : List Sight) (rs : List Run) → AllFound gs hs rs → list_any (can_decide_in hs vs) (map (sight_of gs) rs) ≡ list_any (can_decide_in gs vs) (map (sight_of gs) rs)
-deciding_alike gs hs vs [] f = refl
-deciding_alike gs hs vs (r ∷ rs) f =
-    let v : Sight = sight_of gs r in
-    let here : can_decide_in hs vs v ≡ can_decide_in gs vs v =
-    ap (λ b. is_running r.phase && b) (any_alike (can_decide hs vs v) (can_decide gs vs v) (decide_alike gs hs vs v (dag_found gs hs r.graph f.0)) 0 v.undecided) in
-    ap (λ b. b || list_any (can_decide_in hs vs) (map (sight_of gs) rs)) here
-    ∙ ap (λ b. can_decide_in gs vs v || b) (deciding_alike gs hs vs rs f.1)
-
-abbrev start_by : List Sight → Sight → Option Graph → Bool
-start_by vs v o =
-    is_queued v.phase
-    && (not (unwrap_or (option_map (λ (g : Graph). g.paused) o) false)
-    && nat_lt (seen_active vs v.graph) (unwrap_or (option_map (λ (g : Graph). g.dag) o) no_dag).spec.max_active_runs)
-
 starting_alike : (gs hs : List Graph) (vs : List Sight) (rs : List Run) → AllFound gs hs rs → list_any (can_start_seen hs vs) (map (sight_of gs) rs) ≡ list_any (can_start_seen gs vs) (map (sight_of gs) rs)
 starting_alike gs hs vs [] f = refl
 starting_alike gs hs vs (r ∷ rs) f =
@@ -102,8 +56,8 @@ starting_alike gs hs vs (r ∷ rs) f =
 moves_alike : (gs hs : List Graph) (rs : List Run) → AllFound gs hs rs → can_move hs (map (sight_of hs) rs) ≡ can_move gs (map (sight_of gs) rs)
 moves_alike gs hs rs f =
     let vs : List Sight = map (sight_of gs) rs in
-    ap (can_move hs) (same_sights gs hs rs f)
-    ∙ ap (λ b. b || (list_any can_finish vs || list_any (can_start_seen hs vs) vs)) (deciding_alike gs hs vs rs f)
+    ap (can_move hs) (same_sights gs hs rs (dags_found gs hs rs f))
+    ∙ ap (λ b. b || (list_any can_finish vs || list_any (can_start_seen hs vs) vs)) (deciding_alike gs hs vs rs (dags_found gs hs rs f))
     ∙ ap (λ b. list_any (can_decide_in gs vs) vs || (list_any can_finish vs || b)) (starting_alike gs hs vs rs f)
 
 pub load_still : (text : List ℕ) (dag : Dag) (a : Schedule) → has_runs a dag.spec.dag_id ≡ false → move a ≡ None → move (load_graph text dag a) ≡ None
@@ -114,34 +68,6 @@ load_still text dag a none still =
     ∙ sym (move_seen a) ∙ ap is_some still)
 
 -- ---- hand-outs
-open_alike : (a : Schedule) (hs : List Graph) (rs : List Run) → AllFound a.graphs hs rs
-    → flat_map (λ (r : Run). flat_map open_of (zip (dag_among hs r.graph).tasks r.instances)) rs ≡ flat_map (λ (r : Run). flat_map open_of (zip (dag_among a.graphs r.graph).tasks r.instances)) rs
-open_alike a hs [] f = refl
-open_alike a hs (r ∷ rs) f =
-    ap (λ (d : Dag). flat_map open_of (zip d.tasks r.instances) ++ flat_map (λ (q : Run). flat_map open_of (zip (dag_among hs q.graph).tasks q.instances)) rs) (dag_found a.graphs hs r.graph f.0)
-    ∙ ap (λ us. flat_map open_of (zip (dag_among a.graphs r.graph).tasks r.instances) ++ us) (open_alike a hs rs f.1)
-
-abbrev offer_by : ℕ → Run → Dag → ℕ → TaskSpec → Offer
-offer_by n r d p t = record {
-  run = n;
-  place = p;
-  weight = effective_weight d p;
-  logical = r.logical;
-  graph = r.graph;
-  task = t.task_id;
-  pool = t.pool;
-  slots = t.pool_slots;
-}
-
-abbrev offered_by : ℕ → ℕ → Run → Dag → ℕ × (TaskSpec × Held) → List Offer
-offered_by now n r d e = elim (is_ready now e.1.0 e.1.1) [ true ↦ offer_by n r d e.0 e.1.0 ∷ [] | false ↦ [] ]
-
-abbrev offers_by : ℕ → ℕ → Run → Option Graph → List Offer
-offers_by now n r o = elim (is_running r.phase && not (unwrap_or (option_map (λ (g : Graph). g.paused) o) false)) [
-  | true ↦ flat_map (offered_by now n r (unwrap_or (option_map (λ (g : Graph). g.dag) o) no_dag)) (enumerate_from 0 (zip (unwrap_or (option_map (λ (g : Graph). g.dag) o) no_dag).tasks r.instances))
-  | false ↦ []
-]
-
 with_graphs : Schedule → List Graph → Schedule
 with_graphs a hs = record a { graphs = hs }
 
@@ -152,20 +78,11 @@ offers_alike a hs n (r ∷ rs) f =
     ap (λ (o : Option Graph). offers_by a.now n r o ++ flat_map (offers_in (with_graphs a hs)) (enumerate_from (n + 1) rs)) f.0
     ∙ ap (λ (os : List Offer). offers_by a.now n r (graph_among a.graphs r.graph) ++ os) (offers_alike a hs (n + 1) rs f.1)
 
--- the first in rank of the offers that fit beside these tries
-abbrev best_with : Schedule → List (TaskSpec × Try) → List Offer → Option Offer
-best_with a ts os =
-    best_by ranks_before (filter (λ (o : Offer). nat_le (sum_by (slots_in o.pool) ts + o.slots) (size_of a o.pool) && (nat_lt (length ts) a.lanes && nat_le a.next last_serial)) os)
-
 best_alike : (a : Schedule) (hs : List Graph) → AllFound a.graphs hs a.runs → best_offer (with_graphs a hs) ≡ best_offer a
 unfolding with_graphs
 best_alike a hs f =
-    ap (λ (ts : List (TaskSpec × Try)). best_with a ts (offers (with_graphs a hs))) (open_alike a hs a.runs f)
+    ap (λ (ts : List (TaskSpec × Try)). best_with a ts (offers (with_graphs a hs))) (open_alike a.graphs hs a.runs (dags_found a.graphs hs a.runs f))
     ∙ ap (best_with a (open_tries a)) (offers_alike a hs 0 a.runs f)
-
-map_none : {A B : Type 0} (f : A → B) (o : Option A) → option_map f o ≡ None → o ≡ None
-map_none f None e = refl
-map_none {A} {B} f (Some x) e = absurd (let c : ◌≡◌ {A = Option B} (Some (f x)) None = e in cc)
 
 pub load_no_hand : (text : List ℕ) (dag : Dag) (a : Schedule) → has_runs a dag.spec.dag_id ≡ false → hand_one a ≡ None → hand_one (load_graph text dag a) ≡ None
 unfolding with_graphs

@@ -3,7 +3,8 @@
 //! Nothing here runs: the functions are empty, and their contracts are the laws. `settling` and `hand_outs` say that what follows an
 //! event is determined and leaves nothing undone, `sound` that it leaves a sound schedule, with each serial and each key once.
 //! `loading` and `naming` are about what comes in: a text that takes in a graph without runs leaves nothing to do, what it says
-//! is sound within the limits, and the runs that a tick names are new.
+//! is sound within the limits, and the runs that a tick names are new. `pausing` says that a pause enables nothing
+//! and changes no run.
 //! `decisions` and `stages` say what a faster way to the same schedule may rely on: which decisions look at which instances, and in
 //! which order moves may be made. Easy to get wrong: decisions in another order may lead to another schedule.
 #![tactic(auto)]
@@ -12,6 +13,7 @@ mod decisions;
 mod hand_outs;
 mod loading;
 mod naming;
+mod pausing;
 mod settling;
 mod sound;
 mod stages;
@@ -26,6 +28,7 @@ pub use hand_outs::{
 };
 pub use loading::{loading_is_quiet, said_graphs_are_sound, upstreams_are_few};
 pub use naming::named_runs_are_new;
+pub use pausing::{pausing_changes_no_run, pausing_is_quiet, the_same_pause_is_none};
 pub use settling::{moves_see_what_is_seen, settling_goes_by_moves, settling_is_determined};
 pub use sound::{
     a_date_has_one_run, advancing_keeps_soundness, graphs_stay_said, own_changes_keep_soundness,
