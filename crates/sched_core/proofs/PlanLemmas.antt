@@ -1,6 +1,7 @@
 -- Which events are refused, and what is planned for one that is not.
-use Rattle.std.proofs.Common.{◌≡◌, refl, sym, ap, subst, ◌∙◌, ℕ, ◌-◌, ◌≤◌, List, [], ◌∷◌, Bool, true, false, not, ◌&&◌, ◌==◌, find, is_none, is_some, length, map, flat_map, nat_le, nat_lt, Option, Some, None, option_map, option_and_then, Ok, true≢false, get_or, slice_get, arith}
+use Rattle.std.proofs.Common.{◌≡◌, refl, sym, ap, subst, ◌∙◌, ℕ, ◌-◌, ◌≤◌, List, [], ◌∷◌, Bool, true, false, not, ◌&&◌, ◌==◌, find, is_none, is_some, length, map, flat_map, nat_le, nat_lt, Option, Some, None, option_map, option_and_then, Ok, true≢false, get_or, slice_get, Bor, arith}
 use Rattle.std.specs.List.{list_any, range_with_len}
+use Rattle.std.specs.Option.{option_copied}
 use Rattle.std.proofs.lemmas.Bool.{le-leb}
 use Rattle.std.proofs.lemmas.Option.{slice_get-get_or}
 use Rattle.graph_file.specs.Graphs.{graph_of}
@@ -20,13 +21,13 @@ use Rattle.sched_state.specs.Lists.{same}
 use Rattle.sched_state.specs.declared.graphs.Graph.{Graph}
 use Rattle.sched_state.specs.declared.runs.Run.{Run}
 use Rattle.sched_state.proofs.NameLemmas.{find_any}
-use Rattle.sched_model.specs.Schedule.{Schedule, graph_named, has_runs}
+use Rattle.sched_model.specs.Schedule.{Schedule, graph_among, graph_named, has_runs}
 use Rattle.sched_model.specs.States.{is_open}
 use Rattle.sched_model.specs.Settle.{settle}
 use Rattle.sched_model.specs.Handout.{hand_out}
 use Rattle.sched_model.specs.Jobs.{job_at, handed}
 use Rattle.sched_model.specs.NamedRuns.{Named, named_by_tick, queued_run, insert_runs, add_runs}
-use Rattle.sched_model.specs.Changes.{load_graph, set_now, report, restart}
+use Rattle.sched_model.specs.Changes.{load_graph, set_now, set_paused, report, restart}
 use Rattle.sched_model.specs.Causes.{open_try, has_too_many_graphs, is_full_with}
 use Rattle.sched_model.specs.Sound.{IsSound, Says, AllSay}
 use Rattle.sched_laws.proofs.SettleLemmas.{settle_still}
@@ -39,11 +40,11 @@ use Rattle.sched_events.specs.Kept.{IsKept}
 use Rattle.sched_events.specs.declared.answers.Answer.{Answer}
 use Rattle.sched_events.specs.declared.answers.RunId.{RunId}
 use Rattle.sched_events.specs.declared.events.Event.{Event}
-use Rattle.sched_events.specs.declared.events.Event.TheVariants.{Load, Tick, Report, Restart}
+use Rattle.sched_events.specs.declared.events.Event.TheVariants.{Load, Tick, Pause, Unpause, Report, Restart}
 use Rattle.sched_events.specs.declared.refusals.Refusal.{Refusal}
 use Rattle.sched_events.specs.declared.refusals.Refusal.TheVariants as refusal
 use Rattle.sched_events.proofs.AcceptLemmas.{change_kept}
-use Rattle.sched_events.proofs.StepLemmas.{added_sound, step_kept}
+use Rattle.sched_events.proofs.StepLemmas.{added_sound, step_kept, pause_step}
 use Rattle.sched_core.specs.Changes.{Planned}
 use Rattle.sched_core.specs.Plans.{IsPlanned, no_runs, run_id}
 use Rattle.sched_core.specs.Inside.{StandsAt, IsTaken}
@@ -257,6 +258,41 @@ in_turn a serial stage t there turn =
     ap (λ (o : Option Try). first_some (when (is_none o) (refusal.NotInFlight serial) ∷ when (not (is_none o) && is_none (option_and_then (report_try stage a.now) o)) (refusal.OutOfTurn serial) ∷ [])) (sym there)
     ∙ ap (λ b. first_some (when b (refusal.OutOfTurn serial) ∷ [])) (is_none-not (report_try stage a.now t) ∙ ap not turn)
 
+-- ---- pauses
+-- the causes against both
+pub pause_unknown : (a : Schedule) (id : List ℕ) → is_none (graph_named a id) ≡ true → when (is_none (graph_named a id)) refusal.UnknownGraph ≡ Some refusal.UnknownGraph
+pause_unknown a id e = ap (λ b. when b refusal.UnknownGraph) e
+
+pub pause_accepted : (a : Schedule) (id : List ℕ) → is_none (graph_named a id) ≡ false → when (is_none (graph_named a id)) refusal.UnknownGraph ≡ None
+pause_accepted a id e = ap (λ b. when b refusal.UnknownGraph) e
+
+none_copied : {X : Type 0} (o : Option (Bor X)) → is_none (option_copied o) ≡ is_none o
+none_copied None = refl
+none_copied (Some x) = refl
+
+twice : (b : Bool) → not (not b) ≡ b
+twice true = refl
+twice false = refl
+
+-- whether the graph that was looked up is there
+pub looked_up : (a : Schedule) (gs : List Graph) (id : List ℕ) (o : Option (Bor Graph)) (b : Bool) → gs ≡ a.graphs → option_copied o ≡ graph_among gs id → is_some o ≡ not b
+    → is_none (graph_named a id) ≡ b
+looked_up a gs id o b same_graphs looked is =
+    ap (λ (ks : List Graph). is_none (graph_among ks id)) (sym same_graphs) ∙ (ap is_none (sym looked) ∙ (none_copied o ∙ (ap not is ∙ twice b)))
+
+pub pause_kept : (a : Schedule) (id : List ℕ) → IsKept a → is_none (graph_named a id) ≡ false → IsKept (set_paused id true a)
+pause_kept a id kept there = subst IsKept (pause_step id a kept) (step_kept (Pause id) a tt (pause_accepted a id there) kept)
+
+pub planned_pause : (a : Schedule) (id : List ℕ) → IsKept a → is_none (graph_named a id) ≡ false → IsPlanned a (Pause id) (record { before = a; after = set_paused id true a; answer = no_runs })
+planned_pause a id kept there =
+    let is : step (Pause id) a ≡ set_paused id true a = pause_step id a kept in
+    record {
+      accepted = pause_accepted a id there;
+      before = refl;
+      after = sym is;
+      answer = ap (λ js. record no_runs { jobs = js }) (sym (ap (handed a) is ∙ no_jobs a (set_paused id true a) refl));
+    }
+
 -- ---- what the drafts of events are
 pub tick_draft : (a d e b : Schedule) (t : ℕ) (rs : List Run) → d ≡ a → e ≡ set_now t d → rs ≡ map (queued_run d) (named_by_tick d t) → b ≡ record e { runs = insert_runs rs e.runs }
     → b ≡ add_runs (named_by (Tick t) a) (change_by (Tick t) a)
@@ -268,6 +304,9 @@ tick_draft a d e b t rs draft clock named added =
 
 pub report_draft : (a d b : Schedule) (serial : ℕ) (stage : Stage) → d ≡ a → b ≡ report serial stage d → b ≡ add_runs (named_by (Report serial stage) a) (change_by (Report serial stage) a)
 report_draft a d b serial stage draft is = is ∙ ap (report serial stage) draft
+
+pub unpause_draft : (a d : Schedule) (id : List ℕ) → d ≡ set_paused id false a → d ≡ add_runs (named_by (Unpause id) a) (change_by (Unpause id) a)
+unpause_draft a d id is = is
 
 pub restart_draft : (a d b : Schedule) (lanes : ℕ) → d ≡ a → b ≡ restart lanes d → b ≡ add_runs (named_by (Restart lanes) a) (change_by (Restart lanes) a)
 restart_draft a d b lanes draft is = is ∙ ap (restart lanes) draft

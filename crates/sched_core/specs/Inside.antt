@@ -7,6 +7,7 @@ use Rattle.dag_check.specs.Graphs.{Dag, IsGraphOf}
 use Rattle.dag_check.specs.Faults.{Stands, first_fault, without_names}
 use Rattle.dag_check.specs.declared.faults.DagFault.{DagFault}
 use Rattle.sched_model.specs.Sound.{Says}
+use Rattle.sched_draft.specs.Parts.{with_unpaused}
 use Rattle.sched_events.specs.Causes.{exceeds, unknown_pool}
 use Rattle.std.specs.List.{list_any}
 use Rattle.instance_machine.specs.Instances.{Held}
@@ -64,10 +65,10 @@ IsCheckFault spec r = (r ≡ refusal.Memory) ⊎ ((fault : DagFault) × (r ≡ r
 abbrev pub IsReadFault : List ℕ → Refusal → Type 0
 IsReadFault text r = (r ≡ refusal.Memory) ⊎ ((fault : GraphFault) × (r ≡ refusal.GraphFault fault) × (graph_of text ≡ Err fault))
 
--- the draft is over the same graphs, pools and limits
-pub record IsOver (a b : Schedule) : Type 0 where
+-- the draft is over the same pools and limits, and over the same graphs, of which one may be paused no more
+pub record IsOver (unpaused : Option (List ℕ)) (a b : Schedule) : Type 0 where
   pub limits : b.limits ≡ a.limits
-  pub graphs : b.graphs ≡ a.graphs
+  pub graphs : b.graphs ≡ with_unpaused unpaused a.graphs
   pub pools : b.pools ≡ a.pools
 
 -- how many tries of a run are without an end

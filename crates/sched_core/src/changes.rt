@@ -2,6 +2,7 @@
 
 use crate::schedules::Schedule;
 use dag_check::Graph as Dag;
+use graph_file::Name;
 use moment_core::Moment;
 use sched_events::Answer;
 use sched_state::{Run, Text};
@@ -15,13 +16,17 @@ pub enum Effect {
     Nothing,
     // A text is taken in, which says this graph.
     Load(Text, Dag),
-    // All but the graphs is this.
+    // The graph with this id is paused.
+    Pause(Name),
+    // All but the graphs is this, and of them one may be paused no more.
     Next(Next),
 }
 
 // What an event leaves, but for the graphs.
 #[derive(Drop)]
 pub struct Next {
+    // The id of the graph that is paused no more.
+    pub unpaused: Option<Name>,
     pub clock: Moment,
     pub lanes: u32,
     // The serial of the next try.

@@ -8,6 +8,9 @@ mod load_tests;
 mod loading;
 mod lookups;
 mod ordering;
+#[cfg(test)]
+mod pause_tests;
+mod pausing;
 mod planning;
 #[cfg(test)]
 mod row_tests;

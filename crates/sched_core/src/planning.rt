@@ -1,20 +1,23 @@
 //! Planning an event: refused for its first cause, or a change that does exactly its step.
 ghost use Rattle.std.specs.Prelude.{◌≡◌, IfOk, IfErr, map};
+ghost use Rattle.std.specs.Option.{option_copied};
+ghost use Rattle.sched_draft.specs.Parts.{with_unpaused};
 ghost use Rattle.sched_model.specs.Settle.{settle};
 ghost use Rattle.sched_model.specs.Handout.{hand_out};
 ghost use Rattle.sched_model.specs.Jobs.{handed};
 ghost use Rattle.sched_model.specs.Sound.{IsSound};
 ghost use Rattle.sched_events.specs.Kept.{IsKept};
 ghost use Rattle.sched_events.specs.Outcomes.{IsRefusal};
-ghost use Rattle.sched_events.specs.declared.events.Event.TheVariants.{Tick, Report, Restart};
+ghost use Rattle.sched_events.specs.declared.events.Event.TheVariants.{Tick, Pause, Unpause, Report, Restart};
 ghost use Rattle.sched_core.specs.Plans.{IsPlanned, no_runs, run_id};
 ghost use Rattle.sched_core.specs.Effects.{applied};
 ghost use Rattle.sched_core.specs.Inside.{IsOver};
 
 use crate::changes::{Change, Effect, Next};
 use crate::finding::{open_try, takes};
+use crate::lookups::graph_named;
 use crate::schedules::Schedule;
-use graph_file::Sequence;
+use graph_file::{Name, Sequence};
 use instance_machine::Stage;
 use moment_core::Moment;
 use sched_draft::Draft;
@@ -38,6 +41,8 @@ impl Schedule {
         match event {
             Event::Load(text) => self.plan_load(alloc, text),
             Event::Tick(moment) => self.plan_tick(alloc, *moment),
+            Event::Pause(id) => self.plan_pause(alloc, id),
+            Event::Unpause(id) => self.plan_unpause(alloc, id),
             Event::Report(serial, stage) => self.plan_report(alloc, *serial, *stage),
             Event::Restart(lanes) => self.plan_restart(alloc, *lanes),
         }
@@ -59,14 +64,19 @@ impl Schedule {
         }
     }
 
-    // The schedule as a draft.
-    fn draft(&self, alloc: Global) -> Result<Draft<'_>, AllocError>
-        ensures { IfOk result (λ draft. draft ≡ self.now.content) }
+    // The schedule as a draft, in which the graph with the id `unpaused` is not paused.
+    fn draft<'d>(
+        &'d self,
+        alloc: Global,
+        unpaused: Option<&'d Name>,
+    ) -> Result<Draft<'d>, AllocError>
+        ensures { IfOk result (λ draft. draft ≡ record self.now.content { graphs = with_unpaused (option_copied unpaused.entry) self.now.content.graphs }) }
     {
         let runs = copied(alloc, &self.runs)?;
         Ok(Draft::new(
             self.limits,
             &self.graphs,
+            unpaused,
             self.clock,
             self.lanes,
             self.next,
@@ -74,16 +84,17 @@ impl Schedule {
         ))
     }
 
-    // The change that ends in this draft, settled and handed out.
+    // The change that ends in this draft, settled and handed out. In it the graph with the id `unpaused` is paused no more.
     fn finished(
         &self,
         alloc: Global,
         draft: Draft<'_>,
+        unpaused: Option<Name>,
         made: Sequence<RunId>,
         more: bool,
     ) -> Result<Change, AllocError>
         requires sound { IsSound draft }
-        requires over { IsOver self.now.content draft }
+        requires over { IsOver unpaused self.now.content draft }
         requires kept { IsKept (hand_out (settle draft)) }
         ensures { IfOk result (λ change. change ≡ record {
           before = self.now.content;
@@ -96,6 +107,7 @@ impl Schedule {
         hand_out(alloc, &mut draft)?;
         let jobs = draft.jobs_from(alloc, self.next)?;
         let next = Next {
+            unpaused,
             clock: draft.clock(),
             lanes: draft.lanes(),
             serial: draft.next_serial(),
@@ -115,7 +127,7 @@ impl Schedule {
         if moment.secs() < self.clock.secs() {
             return Err(Refusal::ClockBack(self.clock));
         }
-        let mut draft = self.draft(alloc)?;
+        let mut draft = self.draft(alloc, None)?;
         let named = named_by_tick(alloc, &draft, moment)?;
         if (self.limits.runs() as usize) < self.runs.len() + named.runs.len() {
             return Err(Refusal::RecordFull);
@@ -123,7 +135,31 @@ impl Schedule {
         let made = ids_of(alloc, &named.runs)?;
         draft.set_clock(moment);
         add(&mut draft, named.runs)?;
-        Ok(self.finished(alloc, draft, made, named.more)?)
+        Ok(self.finished(alloc, draft, None, made, named.more)?)
+    }
+
+    fn plan_pause(&self, alloc: Global, id: &Name) -> Result<Change, Refusal>
+        ensures accepted { IfOk result (IsPlanned self.now.content (Pause id.now)) }
+        ensures refused { IfErr result (IsRefusal self.now.content (Pause id.now)) }
+    {
+        if graph_named(self.graphs.as_slice(), id).is_none() {
+            return Err(Refusal::UnknownGraph);
+        }
+        let id = id.copy(alloc)?;
+        Ok(self.quiet_change(alloc, Effect::Pause(id)))
+    }
+
+    fn plan_unpause(&self, alloc: Global, id: &Name) -> Result<Change, Refusal>
+        ensures accepted { IfOk result (IsPlanned self.now.content (Unpause id.now)) }
+        ensures refused { IfErr result (IsRefusal self.now.content (Unpause id.now)) }
+    {
+        if graph_named(self.graphs.as_slice(), id).is_none() {
+            return Err(Refusal::UnknownGraph);
+        }
+        let draft = self.draft(alloc, Some(id))?;
+        let unpaused = id.copy(alloc)?;
+        let made = Sequence::new(Vec::new(alloc));
+        Ok(self.finished(alloc, draft, Some(unpaused), made, false)?)
     }
 
     fn plan_report(&self, alloc: Global, serial: u64, stage: Stage) -> Result<Change, Refusal>
@@ -136,10 +172,10 @@ impl Schedule {
         if !takes(&one, stage) {
             return Err(Refusal::OutOfTurn(serial));
         }
-        let mut draft = self.draft(alloc)?;
+        let mut draft = self.draft(alloc, None)?;
         draft.report(serial, stage);
         let made = Sequence::new(Vec::new(alloc));
-        Ok(self.finished(alloc, draft, made, false)?)
+        Ok(self.finished(alloc, draft, None, made, false)?)
     }
 
     fn plan_restart(&self, alloc: Global, lanes: u32) -> Result<Change, Refusal>
@@ -149,10 +185,10 @@ impl Schedule {
         if self.limits.lanes() < lanes {
             return Err(Refusal::LanesTooMany);
         }
-        let mut draft = self.draft(alloc)?;
+        let mut draft = self.draft(alloc, None)?;
         draft.restart(lanes);
         let made = Sequence::new(Vec::new(alloc));
-        Ok(self.finished(alloc, draft, made, false)?)
+        Ok(self.finished(alloc, draft, None, made, false)?)
     }
 }
 

@@ -14,6 +14,7 @@ ghost use Rattle.sched_core.specs.Changes.{HasRoom};
 use crate::changes::{Change, Effect};
 use crate::lookups::{graph_named, place_of};
 use crate::ordering::place_for_graph;
+use crate::pausing::{set_paused, unpause};
 use dag_check::Graph as Dag;
 use graph_file::Name;
 use moment_core::Moment;
@@ -110,7 +111,7 @@ impl Schedule {
     {
         match &change.effect {
             Effect::Load(_, _) => self.graphs.reserve(1),
-            Effect::Nothing | Effect::Next(_) => Ok(()),
+            Effect::Nothing | Effect::Pause(_) | Effect::Next(_) => Ok(()),
         }
     }
 
@@ -129,7 +130,9 @@ impl Schedule {
         match effect {
             Effect::Nothing => {}
             Effect::Load(text, dag) => take_in(&mut self.graphs, text, dag),
+            Effect::Pause(id) => set_paused(&mut self.graphs, &id, true),
             Effect::Next(next) => {
+                unpause(&mut self.graphs, &next.unpaused);
                 self.clock = next.clock;
                 self.lanes = next.lanes;
                 self.next = next.serial;

@@ -20,16 +20,16 @@ use Rattle.sched_model.specs.Changes.{load_graph, set_now}
 use Rattle.sched_model.specs.Causes.{has_too_many_graphs, is_full_with}
 use Rattle.sched_model.specs.NamedRuns.{Named, is_for, named_by_tick}
 use Rattle.sched_model.specs.Sound.{IsSound, Says, AllSay, is_sound_run, is_new, are_new}
-use Rattle.sched_laws.proofs.GraphLemmas.{load_sound}
+use Rattle.sched_laws.proofs.GraphLemmas.{load_sound, pause_sound}
 use Rattle.sched_laws.proofs.LoadLemmas.{load_again}
 use Rattle.sched_laws.proofs.SaidLemmas.{said_sound}
 use Rattle.sched_laws.proofs.SoundLemmas.{clock_sound, report_sound, restart_sound}
-use Rattle.sched_laws.proofs.TextLemmas.{load_says}
+use Rattle.sched_laws.proofs.TextLemmas.{load_says, pause_says}
 use Rattle.sched_events.specs.Events.{change_by, load_result, IsDated}
 use Rattle.sched_events.specs.Causes.{exceeds, edge_count, unknown_pool, differs, refused, refused_text}
 use Rattle.sched_events.specs.Kept.{IsKept}
 use Rattle.sched_events.specs.declared.events.Event.{Event}
-use Rattle.sched_events.specs.declared.events.Event.TheVariants.{Load, Tick, Report, Restart}
+use Rattle.sched_events.specs.declared.events.Event.TheVariants.{Load, Tick, Pause, Unpause, Report, Restart}
 use Rattle.sched_events.specs.declared.refusals.Refusal.{Refusal}
 use Rattle.sched_events.specs.declared.refusals.Refusal.TheVariants as refusal
 
@@ -127,6 +127,8 @@ read_kept a text (Ok spec) read e kept =
 pub change_kept : (e : Event) (a : Schedule) → IsDated e → refused a e ≡ None → IsKept a → IsSound (change_by e a) × AllSay (change_by e a).graphs
 change_kept (Load text) a dated accepted kept = read_kept a text (graph_of text) refl accepted kept
 change_kept (Tick t) a dated accepted kept = (clock_sound t a dated kept.sound, kept.said)
+change_kept (Pause id) a dated accepted kept = (pause_sound id true a kept.sound, pause_says id true a kept.said)
+change_kept (Unpause id) a dated accepted kept = (pause_sound id false a kept.sound, pause_says id false a kept.said)
 change_kept (Report serial stage) a dated accepted kept = (report_sound serial stage a kept.sound, kept.said)
 change_kept (Restart lanes) a dated accepted kept = (restart_sound lanes a (within refusal.LanesTooMany _ accepted) kept.sound, kept.said)
 

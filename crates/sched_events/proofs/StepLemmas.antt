@@ -15,7 +15,7 @@ use Rattle.sched_model.specs.Schedule.{Schedule, graph_named, has_run_at}
 use Rattle.sched_model.specs.Settle.{move, move_runs, with_runs, moves_left, settle}
 use Rattle.sched_model.specs.Handout.{hand, hand_one, best_offer, serials_left, hand_out}
 use Rattle.sched_model.specs.NamedRuns.{is_for, add_runs}
-use Rattle.sched_model.specs.Changes.{load_graph}
+use Rattle.sched_model.specs.Changes.{load_graph, set_paused}
 use Rattle.sched_model.specs.Sound.{IsSound, Says, AllSay}
 use Rattle.sched_laws.proofs.SettleLemmas.{settle_ends, settle_still, map_some}
 use Rattle.sched_laws.proofs.HandLemmas.{out_still}
@@ -26,12 +26,13 @@ use Rattle.sched_laws.proofs.KeyLemmas.{advance_keys, tries_keys}
 use Rattle.sched_state.proofs.NameLemmas.{same_is}
 use Rattle.sched_laws.proofs.LoadLemmas.{load_again}
 use Rattle.sched_laws.proofs.NamedLemmas.{named_new}
+use Rattle.sched_laws.proofs.PauseLemmas.{pause_still, pause_no_hand, pause_again}
 use Rattle.sched_events.specs.Events.{named_by, change_by, load_result, IsDated}
 use Rattle.sched_events.specs.Causes.{refused}
 use Rattle.sched_events.specs.Steps.{step, steps, named_along, AreAccepted}
 use Rattle.sched_events.specs.Kept.{IsKept}
 use Rattle.sched_events.specs.declared.events.Event.{Event}
-use Rattle.sched_events.specs.declared.events.Event.TheVariants.{Load, Tick, Report, Restart}
+use Rattle.sched_events.specs.declared.events.Event.TheVariants.{Load, Tick, Pause, Unpause, Report, Restart}
 use Rattle.sched_events.proofs.AcceptLemmas.{change_kept, still_new, tick_room}
 
 -- ---- graphs stay
@@ -76,6 +77,8 @@ finished_kept b sound said = record {
 pub added_sound : (e : Event) (a : Schedule) → IsDated e → refused a e ≡ None → IsKept a → IsSound (change_by e a) → IsSound (add_runs (named_by e a) (change_by e a))
 added_sound (Load text) a dated accepted kept s = s
 added_sound (Tick t) a dated accepted kept s = add_sound (named_by (Tick t) a) (change_by (Tick t) a) (still_new a t (named_by (Tick t) a) ∙ named_new a t kept.sound dated) (tick_room a t accepted) s
+added_sound (Pause id) a dated accepted kept s = s
+added_sound (Unpause id) a dated accepted kept s = s
 added_sound (Report serial stage) a dated accepted kept s = s
 added_sound (Restart lanes) a dated accepted kept s = s
 
@@ -96,6 +99,8 @@ loaded_dates text (Err fault) a id date = refl
 change_dates : (e : Event) (a : Schedule) (id : List ℕ) (date : ℕ) → has_run_at (change_by e a) id date ≡ has_run_at a id date
 change_dates (Load text) a id date = loaded_dates text (graph_of text) a id date
 change_dates (Tick t) a id date = refl
+change_dates (Pause name) a id date = refl
+change_dates (Unpause name) a id date = refl
 change_dates (Report serial stage) a id date = tries_keys (reported_try serial stage a.now) a id date
 change_dates (Restart lanes) a id date = tries_keys (lost_try a.now) a id date
 
@@ -126,6 +131,26 @@ steps_dates (e ∷ es) a id date =
     ∙ (ap (λ b. list_any (is_for id date) later || b) (step_dates e a id date)
     ∙ (or-regroup (list_any (is_for id date) later) (list_any (is_for id date) (named_by e a)) (has_run_at a id date)
     ∙ ap (λ b. b || has_run_at a id date) (sym (list_any-append (is_for id date) (named_by e a) later))))
+
+-- ---- pauses
+-- a pause leaves nothing to do
+pub pause_step : (id : List ℕ) (a : Schedule) → IsKept a → step (Pause id) a ≡ set_paused id true a
+unfolding step
+pause_step id a kept =
+    let b : Schedule = set_paused id true a in
+    ap hand_out (settle_still b (pause_still id a kept.settled)) ∙ hand_still b (pause_no_hand id a kept.handed)
+
+-- a change that is none is followed by nothing
+still_step : (a b : Schedule) → IsKept a → b ≡ a → hand_out (settle b) ≡ a
+still_step a b kept is = ap (λ (c : Schedule). hand_out (settle c)) is ∙ (ap hand_out (settle_still a kept.settled) ∙ hand_still a kept.handed)
+
+pub same_pause : (id : List ℕ) (a : Schedule) (g : Graph) → IsKept a → graph_named a id ≡ Some g → g.paused ≡ true → step (Pause id) a ≡ a
+unfolding step
+same_pause id a g kept found is = still_step a (set_paused id true a) kept (pause_again id true a g kept.sound.graphs_by_id found is)
+
+pub same_unpause : (id : List ℕ) (a : Schedule) (g : Graph) → IsKept a → graph_named a id ≡ Some g → g.paused ≡ false → step (Unpause id) a ≡ a
+unfolding step
+same_unpause id a g kept found is = still_step a (set_paused id false a) kept (pause_again id false a g kept.sound.graphs_by_id found is)
 
 -- ---- the same text again
 -- a graph that is found is what its text says

@@ -12,9 +12,9 @@ use Rattle.sched_state.specs.Lists.{same}
 use Rattle.sched_state.specs.declared.graphs.Graph.{Graph}
 use Rattle.sched_model.specs.Schedule.{Schedule, graph_named, has_pool, has_runs}
 use Rattle.sched_model.specs.NamedRuns.{named_by_tick}
-use Rattle.sched_model.specs.Causes.{is_not_in_flight, is_out_of_turn, has_too_many_graphs, has_too_many_lanes, is_full_with}
+use Rattle.sched_model.specs.Causes.{is_not_in_flight, is_out_of_turn, is_unknown_graph, has_too_many_graphs, has_too_many_lanes, is_full_with}
 use Rattle.sched_events.specs.declared.events.Event.{Event}
-use Rattle.sched_events.specs.declared.events.Event.TheVariants.{Load, Tick, Report, Restart}
+use Rattle.sched_events.specs.declared.events.Event.TheVariants.{Load, Tick, Pause, Unpause, Report, Restart}
 use Rattle.sched_events.specs.declared.refusals.Refusal.{Refusal}
 use Rattle.sched_events.specs.declared.refusals.Refusal.TheVariants as refusal
 
@@ -49,5 +49,7 @@ refused_text a text (Ok spec) = first_some (
 abbrev pub refused : Schedule → Event → Option Refusal
 refused a (Load text) = refused_text a text (graph_of text)
 refused a (Tick t) = first_some (when (nat_lt t a.now) (refusal.ClockBack a.now) ∷ when (is_full_with a (named_by_tick a t)) refusal.RecordFull ∷ [])
+refused a (Pause id) = when (is_unknown_graph a id) refusal.UnknownGraph
+refused a (Unpause id) = when (is_unknown_graph a id) refusal.UnknownGraph
 refused a (Report serial stage) = first_some (when (is_not_in_flight a serial) (refusal.NotInFlight serial) ∷ when (is_out_of_turn a serial stage) (refusal.OutOfTurn serial) ∷ [])
 refused a (Restart lanes) = when (has_too_many_lanes a lanes) refusal.LanesTooMany

@@ -1,5 +1,5 @@
 -- What an event does: the runs that it names, and its own change.
-use Rattle.std.specs.Prelude.{ℕ, Bool, false, List, [], Some, None, Result, Ok, Err, IsTrue}
+use Rattle.std.specs.Prelude.{ℕ, Bool, true, false, List, [], Some, None, Result, Ok, Err, IsTrue}
 use Rattle.graph_file.specs.Graphs.{graph_of}
 use Rattle.graph_file.specs.declared.faults.GraphFault.{GraphFault}
 use Rattle.graph_file.specs.declared.graph_specs.GraphSpec.{GraphSpec}
@@ -7,15 +7,17 @@ use Rattle.dag_check.specs.Graphs.{dag_of}
 use Rattle.dag_check.specs.Faults.{first_fault}
 use Rattle.sched_model.specs.Schedule.{Schedule}
 use Rattle.sched_model.specs.NamedRuns.{Named, named_by_tick, leaves_more}
-use Rattle.sched_model.specs.Changes.{load_graph, set_now, report, restart}
+use Rattle.sched_model.specs.Changes.{load_graph, set_now, set_paused, report, restart}
 use Rattle.sched_model.specs.Sound.{is_moment}
 use Rattle.sched_events.specs.declared.events.Event.{Event}
-use Rattle.sched_events.specs.declared.events.Event.TheVariants.{Load, Tick, Report, Restart}
+use Rattle.sched_events.specs.declared.events.Event.TheVariants.{Load, Tick, Pause, Unpause, Report, Restart}
 
 -- the runs that an event names
 abbrev pub named_by : Event → Schedule → List Named
 named_by (Load text) a = []
 named_by (Tick t) a = named_by_tick a t
+named_by (Pause id) a = []
+named_by (Unpause id) a = []
 named_by (Report serial stage) a = []
 named_by (Restart lanes) a = []
 
@@ -23,6 +25,8 @@ named_by (Restart lanes) a = []
 abbrev pub leaves_more_by : Event → Schedule → Bool
 leaves_more_by (Load text) a = false
 leaves_more_by (Tick t) a = leaves_more a t
+leaves_more_by (Pause id) a = false
+leaves_more_by (Unpause id) a = false
 leaves_more_by (Report serial stage) a = false
 leaves_more_by (Restart lanes) a = false
 
@@ -35,6 +39,8 @@ load_result text (Err fault) a = a
 abbrev pub change_by : Event → Schedule → Schedule
 change_by (Load text) a = load_result text (graph_of text) a
 change_by (Tick t) a = set_now t a
+change_by (Pause id) a = set_paused id true a
+change_by (Unpause id) a = set_paused id false a
 change_by (Report serial stage) a = report serial stage a
 change_by (Restart lanes) a = restart lanes a
 
@@ -42,5 +48,7 @@ change_by (Restart lanes) a = restart lanes a
 abbrev pub IsDated : Event → Type 0
 IsDated (Load text) = Unit {0}
 IsDated (Tick t) = IsTrue (is_moment t)
+IsDated (Pause id) = Unit {0}
+IsDated (Unpause id) = Unit {0}
 IsDated (Report serial stage) = Unit {0}
 IsDated (Restart lanes) = Unit {0}

@@ -35,6 +35,7 @@ unnamed (refusal.DagFault fault) = refusal.DagFault (without_names fault)
 unnamed (refusal.UnknownPool pool) = refusal.UnknownPool pool
 unnamed refusal.TooManyGraphs = refusal.TooManyGraphs
 unnamed refusal.GraphDiffers = refusal.GraphDiffers
+unnamed refusal.UnknownGraph = refusal.UnknownGraph
 unnamed (refusal.ClockBack moment) = refusal.ClockBack moment
 unnamed (refusal.NotInFlight serial) = refusal.NotInFlight serial
 unnamed (refusal.OutOfTurn serial) = refusal.OutOfTurn serial

@@ -1,6 +1,7 @@
 //! What comes to a schedule.
 ghost use Rattle.std.specs.Prelude.{◌≡◌, IfOk};
 
+use graph_file::Name;
 use instance_machine::Stage;
 use moment_core::Moment;
 use sched_state::Text;
@@ -13,6 +14,11 @@ pub enum Event {
     Load(Text),
     /// The clock has reached this moment (Airflow 2, "Scheduler").
     Tick(Moment),
+    /// The graph with this id is paused: no run of it is made by its timetable or started, and no try of it is handed out; tries that run
+    /// go on (Airflow 2, "DAGs": pausing).
+    Pause(Name),
+    /// It is paused no more.
+    Unpause(Name),
     /// A worker reports of the try with this serial.
     Report(u64, Stage),
     /// The scheduler was restarted, with so many lanes: tries without an end are lost (Airflow 2, "Tasks": zombie tasks).
@@ -27,6 +33,8 @@ impl Event {
         match self {
             Event::Load(text) => Ok(Event::Load(text.copy(alloc)?)),
             Event::Tick(moment) => Ok(Event::Tick(*moment)),
+            Event::Pause(id) => Ok(Event::Pause(id.copy(alloc)?)),
+            Event::Unpause(id) => Ok(Event::Unpause(id.copy(alloc)?)),
             Event::Report(serial, stage) => Ok(Event::Report(*serial, *stage)),
             Event::Restart(lanes) => Ok(Event::Restart(*lanes)),
         }

@@ -1,5 +1,5 @@
 //! Laws of the steps.
-ghost use Rattle.std.specs.Prelude.{◌≡◌, ℕ, ◌||◌, ◌++◌, List, None, Some, Ok, IsTrue};
+ghost use Rattle.std.specs.Prelude.{◌≡◌, ℕ, ◌||◌, ◌++◌, List, None, Some, Ok, IsTrue, true, false};
 ghost use Rattle.std.specs.List.{list_any};
 ghost use Rattle.graph_file.specs.Graphs.{graph_of};
 ghost use Rattle.graph_file.specs.declared.graph_specs.GraphSpec.{GraphSpec};
@@ -9,12 +9,13 @@ ghost use Rattle.sched_model.specs.Schedule.{Schedule, graph_named, has_run_at};
 ghost use Rattle.sched_model.specs.Settle.{move};
 ghost use Rattle.sched_model.specs.Handout.{hand_one};
 ghost use Rattle.sched_model.specs.NamedRuns.{is_for};
+ghost use Rattle.sched_model.specs.Changes.{set_paused};
 ghost use Rattle.sched_events.specs.Events.{named_by, IsDated};
 ghost use Rattle.sched_events.specs.Causes.{refused};
 ghost use Rattle.sched_events.specs.Steps.{step, steps, named_along, AreAccepted};
 ghost use Rattle.sched_events.specs.Kept.{IsKept};
 ghost use Rattle.sched_events.specs.declared.events.Event.{Event};
-ghost use Rattle.sched_events.specs.declared.events.Event.TheVariants.{Load};
+ghost use Rattle.sched_events.specs.declared.events.Event.TheVariants.{Load, Pause, Unpause};
 
 /// After each step neither a move nor a hand-out is possible, and the step of an accepted event keeps a schedule: it stays sound, and
 /// each graph is what its text says.
@@ -28,6 +29,13 @@ pub fn steps_keep_the_schedule()
 pub fn steps_add_the_named_runs()
     ensures { (e : Event) (a : Schedule) (id : List ℕ) (date : ℕ) →
         has_run_at (step e a) id date ≡ (list_any (is_for id date) (named_by e a) || has_run_at a id date) }
+{}
+
+/// A pause changes that graph alone, no run and no try; and the pause that a graph has already changes nothing.
+pub fn pauses_change_one_graph()
+    ensures pause { (id : List ℕ) (a : Schedule) → IsKept a → step (Pause id) a ≡ set_paused id true a }
+    ensures paused { (id : List ℕ) (a : Schedule) (g : Graph) → IsKept a → graph_named a id ≡ Some g → g.paused ≡ true → step (Pause id) a ≡ a }
+    ensures unpaused { (id : List ℕ) (a : Schedule) (g : Graph) → IsKept a → graph_named a id ≡ Some g → g.paused ≡ false → step (Unpause id) a ≡ a }
 {}
 
 /// The text that a graph has already changes nothing.

@@ -17,7 +17,8 @@ pub use answers::{Answer, RunId};
 pub use events::Event;
 pub use laws::{
     lists_of_steps_add_their_runs, lists_of_steps_go_in_parts, lists_of_steps_keep_the_schedule,
-    steps_add_the_named_runs, steps_keep_the_schedule, the_same_text_changes_nothing,
+    pauses_change_one_graph, steps_add_the_named_runs, steps_keep_the_schedule,
+    the_same_text_changes_nothing,
 };
 pub use refusals::Refusal;
 pub use rows::InstanceRow;

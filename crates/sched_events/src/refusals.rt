@@ -17,6 +17,8 @@ pub enum Refusal {
     TooManyGraphs,
     /// The graph has another text, and has runs.
     GraphDiffers,
+    /// There is no graph with this id.
+    UnknownGraph,
     /// The moment lies before this one, which the schedule has seen.
     ClockBack(Moment),
     /// No try without an end has this serial.

@@ -18,6 +18,14 @@ fn told(alloc: Global, event: &Event) -> Result<String, Fail> {
             format!(in alloc; "load {text}")?
         }
         Event::Tick(moment) => format!(in alloc; "tick {moment}")?,
+        Event::Pause(id) => {
+            let id = id.as_str();
+            format!(in alloc; "pause {id}")?
+        }
+        Event::Unpause(id) => {
+            let id = id.as_str();
+            format!(in alloc; "unpause {id}")?
+        }
         Event::Report(serial, stage) => format!(in alloc; "{serial} {stage:?}")?,
         Event::Restart(lanes) => format!(in alloc; "restart {lanes}")?,
     })
@@ -34,6 +42,8 @@ fn events_are_copied(rt: HostRuntime) -> Result<(), Fail> {
             Event::Report(3, Stage::Ended(Outcome::Failed)),
             "3 Ended(Failed)",
         ),
+        (Event::Pause(name(alloc, "g")?), "pause g"),
+        (Event::Unpause(name(alloc, "h")?), "unpause h"),
         (Event::Restart(4), "restart 4"),
     ] {
         let copy = event.copy(alloc)?;

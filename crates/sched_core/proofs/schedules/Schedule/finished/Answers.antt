@@ -1,4 +1,4 @@
-use Rattle.std.proofs.Common.{◌≡◌, ◌∙◌, ◌-◌, sym, ap, subst, flat_map}
+use Rattle.std.proofs.Common.{◌≡◌, ◌∙◌, ◌-◌, sym, ap, subst, flat_map, List, Option, ℕ}
 use Rattle.std.specs.List.{range_with_len}
 use Rattle.sched_model.specs.Schedule.{Schedule}
 use Rattle.sched_model.specs.Settle.{settle}
@@ -6,6 +6,7 @@ use Rattle.sched_model.specs.Handout.{hand_out}
 use Rattle.sched_model.specs.Jobs.{job_at, handed}
 use Rattle.sched_laws.proofs.SweepLemmas.{sound_ordered}
 use Rattle.sched_events.specs.Kept.{IsKept}
+use Rattle.sched_draft.specs.Parts.{with_unpaused}
 use Rattle.sched_core.specs.Changes.{Held, Planned}
 use Rattle.sched_core.proofs.FinishLemmas.{finished_is}
 use Rattle.sched_core.proofs.schedules.Schedule.finished.Goals as goal
@@ -16,25 +17,27 @@ settle-requires c = sound_ordered c.args.draft c.requires.sound
 pub invariant_of-result : goal.invariant_of-result
 invariant_of-result c =
     let a : Schedule = c.args.self.now.content in
+    let u : Option (List ℕ) = c.args.unpaused in
     let d : Schedule = c.hand_out.new.draft in
     let end : d ≡ hand_out (settle c.args.draft) = c.in_ok-hand_out.ensures ∙ ap hand_out c.settle.ensures in
-    let is = finished_is a c.args.draft d c.clock.result c.lanes.result c.next_serial.result c.into_runs.result.items c.requires.over end c.clock.ensures c.lanes.ensures c.next_serial.ensures c.into_runs.ensures in
-    subst (λ (h : Held). IsKept (record h.content { now = c.clock.result; lanes = c.lanes.result; next = c.next_serial.result; runs = c.into_runs.result.items })) (sym c.of.ensures)
+    let is = finished_is u a c.args.draft d c.clock.result c.lanes.result c.next_serial.result c.into_runs.result.items c.requires.over end c.clock.ensures c.lanes.ensures c.next_serial.ensures c.into_runs.ensures in
+    subst (λ (h : Held). IsKept (record h.content { graphs = with_unpaused u h.content.graphs; now = c.clock.result; lanes = c.lanes.result; next = c.next_serial.result; runs = c.into_runs.result.items })) (sym c.of.ensures)
     (subst IsKept (sym is) c.requires.kept)
 
 pub returns : goal.returns
 returns c =
     let a : Schedule = c.args.self.now.content in
+    let u : Option (List ℕ) = c.args.unpaused in
     let d : Schedule = c.hand_out.new.draft in
     let e : Schedule = hand_out (settle c.args.draft) in
     let end : d ≡ e = c.in_ok-hand_out.ensures ∙ ap hand_out c.settle.ensures in
-    let is = finished_is a c.args.draft d c.clock.result c.lanes.result c.next_serial.result c.into_runs.result.items c.requires.over end c.clock.ensures c.lanes.ensures c.next_serial.ensures c.into_runs.ensures in
+    let is = finished_is u a c.args.draft d c.clock.result c.lanes.result c.next_serial.result c.into_runs.result.items c.requires.over end c.clock.ensures c.lanes.ensures c.next_serial.ensures c.into_runs.ensures in
     let jobs : c.in_ok-jobs.jobs ≡ handed a e =
     c.in_ok-jobs.ensures
     ∙ (ap (λ (h : Held). flat_map (job_at d) (range_with_len h.content.next (d.next - h.content.next))) c.self.view_is ∙ ap (handed a) end) in
     ap (λ (h : Held). let p : Planned = record {
       before = h.content;
-      after = record h.content { now = c.clock.result; lanes = c.lanes.result; next = c.next_serial.result; runs = c.into_runs.result.items };
+      after = record h.content { graphs = with_unpaused u h.content.graphs; now = c.clock.result; lanes = c.lanes.result; next = c.next_serial.result; runs = c.into_runs.result.items };
       answer = record { made = c.args.made; more = c.args.more; jobs = c.in_ok-jobs.jobs };
     } in p) c.of.ensures
     ∙ (ap (λ (s : Schedule). let p : Planned = record { before = a; after = s; answer = record { made = c.args.made; more = c.args.more; jobs = c.in_ok-jobs.jobs } } in p) is

@@ -1,0 +1,34 @@
+//! Pausing a graph, and letting it go on.
+ghost use Rattle.std.specs.Prelude.{◌≡◌, map};
+ghost use Rattle.sched_model.specs.Changes.{pause_graph};
+ghost use Rattle.sched_draft.specs.Parts.{with_unpaused};
+
+use graph_file::Name;
+use sched_state::Graph;
+
+// The graph is paused, or no more, if it has this id.
+fn set_paused_if(graph: &mut Graph, id: &Name, paused: bool)
+    ensures { graph.new ≡ pause_graph id.now paused graph.old }
+{
+    if graph.dag.spec().dag_id == *id {
+        graph.paused = paused;
+    }
+}
+
+// The graph with this id is paused, or no more.
+pub fn set_paused(graphs: &mut Vec<Graph>, id: &Name, paused: bool)
+    ensures { graphs.new.items ≡ map (pause_graph id.now paused) graphs.old.items }
+{
+    for place in 0..graphs.len() {
+        set_paused_if(&mut graphs[place], id, paused);
+    }
+}
+
+// The graph that is named, if one is, is paused no more.
+pub fn unpause(graphs: &mut Vec<Graph>, named: &Option<Name>)
+    ensures { graphs.new.items ≡ with_unpaused named.now graphs.old.items }
+{
+    if let Some(id) = named {
+        set_paused(graphs, id, false);
+    }
+}
