@@ -10,7 +10,7 @@ use Rattle.graph_file.specs.declared.faults.Place.TheVariants.{Top, Task}
 use Rattle.graph_file.specs.declared.faults.GraphFault.{GraphFault}
 use Rattle.graph_file.specs.declared.faults.GraphFault.TheVariants as graph
 use Rattle.script_commands.specs.declared.commands.UsageFault.{UsageFault}
-use Rattle.script_commands.specs.declared.commands.UsageFault.TheVariants.{Words, BadMoment, BadLine}
+use Rattle.script_commands.specs.declared.commands.UsageFault.TheVariants.{Words, BadName, BadMoment, BadLine}
 use Rattle.script_commands.specs.declared.commands.SourceFault.{SourceFault}
 use Rattle.script_commands.specs.declared.commands.SourceFault.TheVariants.{NoEnd}
 use Rattle.script_commands.specs.declared.commands.CommandFault.{CommandFault}
@@ -52,6 +52,7 @@ graph_fault_text graph.Memory = codes "10 Memory"
 -- the line of a word that does not fit
 abbrev pub usage_text : UsageFault → List ℕ
 usage_text Words = codes "usage 1 Words\n"
+usage_text BadName = codes "usage 2 BadName\n"
 usage_text (BadMoment fault) = codes "usage 3 BadMoment " ++ moment_fault_text fault ++ codes "\n"
 usage_text BadLine = codes "usage 5 BadLine\n"
 

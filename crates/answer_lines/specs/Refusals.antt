@@ -3,7 +3,7 @@ use Rattle.std.specs.Prelude.{ℕ, List, ◌++◌, codes}
 use Rattle.std.specs.Fmt.{decimal}
 use Rattle.moment_core.specs.Printing.{text_of}
 use Rattle.sched_events.specs.declared.refusals.Refusal.{Refusal}
-use Rattle.sched_events.specs.declared.refusals.Refusal.TheVariants.{GraphFault, DagFault, UnknownPool, TooManyGraphs, GraphDiffers, ClockBack, NotInFlight, OutOfTurn, LanesTooMany, RecordFull, Memory}
+use Rattle.sched_events.specs.declared.refusals.Refusal.TheVariants.{GraphFault, DagFault, UnknownPool, TooManyGraphs, GraphDiffers, UnknownGraph, ClockBack, NotInFlight, OutOfTurn, LanesTooMany, RecordFull, Memory}
 use Rattle.answer_lines.specs.Faults.{graph_fault_text}
 use Rattle.answer_lines.specs.DagFaults.{dag_fault_text}
 
@@ -14,6 +14,7 @@ refusal_text (DagFault fault) = codes "refused 2 DagFault " ++ dag_fault_text fa
 refusal_text (UnknownPool pool) = codes "refused 3 UnknownPool " ++ pool ++ codes "\n"
 refusal_text TooManyGraphs = codes "refused 4 TooManyGraphs\n"
 refusal_text GraphDiffers = codes "refused 5 GraphDiffers\n"
+refusal_text UnknownGraph = codes "refused 6 UnknownGraph\n"
 refusal_text (ClockBack moment) = codes "refused 8 ClockBack " ++ text_of moment ++ codes "\n"
 refusal_text (NotInFlight serial) = codes "refused 13 NotInFlight " ++ decimal serial ++ codes "\n"
 refusal_text (OutOfTurn serial) = codes "refused 14 OutOfTurn " ++ decimal serial ++ codes "\n"

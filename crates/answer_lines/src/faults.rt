@@ -25,6 +25,7 @@ fn put_usage_fault<W: Write>(output: &mut W, fault: UsageFault) -> io::Result<()
 {
     match fault {
         UsageFault::Words => output.write_all(b"usage 1 Words\n"),
+        UsageFault::BadName => output.write_all(b"usage 2 BadName\n"),
         UsageFault::BadMoment(fault) => {
             let name = moment_fault_name(fault);
             writeln!(output, "usage 3 BadMoment {name}")

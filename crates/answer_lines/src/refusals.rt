@@ -29,6 +29,7 @@ pub fn put_refusal<W: Write>(output: &mut W, refusal: &Refusal) -> io::Result<()
         }
         Refusal::TooManyGraphs => output.write_all(b"refused 4 TooManyGraphs\n"),
         Refusal::GraphDiffers => output.write_all(b"refused 5 GraphDiffers\n"),
+        Refusal::UnknownGraph => output.write_all(b"refused 6 UnknownGraph\n"),
         Refusal::ClockBack(moment) => writeln!(output, "refused 8 ClockBack {moment}"),
         Refusal::NotInFlight(serial) => writeln!(output, "refused 13 NotInFlight {serial}"),
         Refusal::OutOfTurn(serial) => writeln!(output, "refused 14 OutOfTurn {serial}"),

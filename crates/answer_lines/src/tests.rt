@@ -163,6 +163,7 @@ fn refusals_have_a_line_each(rt: HostRuntime) -> Result<(), Fail> {
     for (refusal, wanted) in [
         (Refusal::TooManyGraphs, "refused 4 TooManyGraphs\n"),
         (Refusal::GraphDiffers, "refused 5 GraphDiffers\n"),
+        (Refusal::UnknownGraph, "refused 6 UnknownGraph\n"),
         (
             Refusal::ClockBack(back),
             "refused 8 ClockBack 2024-01-02T00:00:00+00:00\n",
@@ -212,6 +213,10 @@ fn lines_that_are_no_command_have_a_line(rt: HostRuntime) -> Result<(), Fail> {
     let alloc = rt.alloc();
     for (fault, line) in [
         (CommandFault::Usage(UsageFault::Words), "usage 1 Words\n"),
+        (
+            CommandFault::Usage(UsageFault::BadName),
+            "usage 2 BadName\n",
+        ),
         (
             CommandFault::Usage(UsageFault::BadMoment(MomentFault::NoSuchDate)),
             "usage 3 BadMoment 2 NoSuchDate\n",

@@ -1,3 +1,4 @@
 pub mod AskLemmas
 pub mod TextLemmas
 pub mod RequestLemmas
+pub mod NameLemmas

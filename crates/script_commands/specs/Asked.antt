@@ -1,14 +1,17 @@
 -- What a line asks for.
-use Rattle.std.specs.Prelude.{ℕ, ◌&&◌, if◌then◌else◌, List, [], ◌∷◌, codes, Option, Some, None, Result, Ok, Err}
+use Rattle.std.specs.Prelude.{◌≡◌, ℕ, Bool, true, false, ◌&&◌, if◌then◌else◌, List, [], ◌∷◌, codes, Option, Some, None, Result, Ok, Err}
 use Rattle.std.specs.Str.{bytes_eq}
+use Rattle.graph_file.specs.Names.{is_name}
 use Rattle.moment_core.specs.Reading.{read_of}
 use Rattle.moment_core.specs.declared.reading.MomentFault.{MomentFault}
-use Rattle.sched_events.specs.declared.events.Event.TheVariants.{Tick}
+use Rattle.sched_events.specs.declared.events.Event.{Event}
+use Rattle.sched_events.specs.declared.events.Event.TheVariants.{Load, Tick, Pause, Unpause}
 use Rattle.script_commands.specs.Values.{values, only}
 use Rattle.script_commands.specs.declared.asked.Asked.{Asked}
 use Rattle.script_commands.specs.declared.asked.Asked.TheVariants.{Nothing, Text, This, Fault}
+use Rattle.script_commands.specs.declared.commands.Command.{Command}
 use Rattle.script_commands.specs.declared.commands.Command.TheVariants.{Step, ListRuns, ListTasks}
-use Rattle.script_commands.specs.declared.commands.UsageFault.TheVariants.{Words, BadMoment}
+use Rattle.script_commands.specs.declared.commands.UsageFault.TheVariants.{Words, BadName, BadMoment}
 
 -- a moment, or why a word is none
 abbrev pub at_reading : Result ℕ MomentFault → Asked
@@ -26,13 +29,24 @@ listed value =
     else (if bytes_eq value (codes "tasks") then This ListTasks
     else Fault Words)
 
+-- the event of a graph, where the word names one
+abbrev pub of_graph : (List ℕ → Event) → List ℕ → Asked
+of_graph event value = if is_name value then This (Step (event value)) else Fault BadName
+
 -- a name and its value: `tick MOMENT`, `load inline`, `list ROWS`
-abbrev pub with_value : List ℕ → List ℕ → Asked
-with_value name value =
+abbrev pub without_name : List ℕ → List ℕ → Asked
+without_name name value =
     if bytes_eq name (codes "tick") then at_moment value
     else (if bytes_eq name (codes "load") && bytes_eq value (codes "inline") then Text
     else (if bytes_eq name (codes "list") then listed value
     else Fault Words))
+
+-- the same, and `pause DAG`, `unpause DAG`
+abbrev pub with_value : List ℕ → List ℕ → Asked
+with_value name value =
+    if bytes_eq name (codes "pause") then of_graph Pause value
+    else (if bytes_eq name (codes "unpause") then of_graph Unpause value
+    else without_name name value)
 
 abbrev pub with_values : List ℕ → Option (List ℕ) → Asked
 with_values name (Some value) = with_value name value
@@ -42,3 +56,19 @@ with_values name None = Fault Words
 abbrev pub asked_by : List (List ℕ) → Asked
 asked_by [] = Nothing
 asked_by (name ∷ args) = with_values name (only (values args))
+
+-- a command that holds a text or a name, for which memory can run out
+abbrev pub wants_memory : Command → Bool
+wants_memory (Step (Load text)) = true
+wants_memory (Step (Pause id)) = true
+wants_memory (Step (Unpause id)) = true
+wants_memory _ = false
+
+abbrev pub can_lack : Asked → Bool
+can_lack (This command) = wants_memory command
+can_lack _ = false
+
+-- what is wanted is given, or there was no memory for it
+abbrev pub IsReadAs : {E : Type 0} → Asked → Result Asked E → Type 0
+IsReadAs wanted (Ok asked) = asked ≡ wanted
+IsReadAs wanted (Err lack) = can_lack wanted ≡ true

@@ -1,10 +1,10 @@
 -- The commands of a script.
-use Rattle.std.specs.Prelude.{◌≡◌, ◌⊎◌, ℕ, Bool, not, ◌==◌, ◌&&◌, ◌||◌, nat_lt, if◌then◌else◌, List, [], ◌∷◌, ◌++◌, length, slice_index, codes, Option, Some, None, MatchOption, option_map, Result, Ok, Err}
+use Rattle.std.specs.Prelude.{◌≡◌, ◌⊎◌, ℕ, Bool, true, not, ◌==◌, ◌&&◌, ◌||◌, nat_lt, if◌then◌else◌, List, [], ◌∷◌, ◌++◌, length, slice_index, codes, Option, Some, None, MatchOption, option_map, Result, Ok, Err}
 use Rattle.std.specs.Str.{bytes_eq, is_utf8}
 use Rattle.text_words.specs.Words.{words}
 use Rattle.script_lines.specs.Lines.{lines_of, line_limit, newline, IsFirstLine}
 use Rattle.sched_events.specs.declared.events.Event.TheVariants.{Load}
-use Rattle.script_commands.specs.Asked.{asked_by}
+use Rattle.script_commands.specs.Asked.{asked_by, wants_memory, IsReadAs}
 use Rattle.script_commands.specs.declared.asked.Asked.{Asked}
 use Rattle.script_commands.specs.declared.asked.Asked.TheVariants as asks
 use Rattle.script_commands.specs.declared.commands.Command.{Command}
@@ -78,13 +78,13 @@ unfoldable pub commands_in : List ℕ → List Request
 commands_in bytes = commands_from Outside (lines_of bytes)
 
 -- what the next line of bytes asks for, or their end
-abbrev pub IsAsked : List ℕ → Option Asked → Option (List ℕ) → Type 0
+abbrev pub IsAsked : {E : Type 0} → List ℕ → Option (Result Asked E) → Option (List ℕ) → Type 0
 IsAsked bytes next rest = MatchOption next ((bytes ≡ []) × (rest ≡ Some []))
-    (λ asked. (line : List ℕ) × IsFirstLine bytes line rest × (asked ≡ asked_of line))
+    (λ asked. (line : List ℕ) × IsFirstLine bytes line rest × IsReadAs (asked_of line) asked)
 
--- want of memory can come in the place of a graph's text, and of nothing else
+-- want of memory can come in the place of a command that holds a text or a name, and of nothing else
 abbrev pub IsGiven : Request → Request → Type 0
-IsGiven wanted given = (given ≡ wanted) ⊎ ((given ≡ Err Memory) × ((text : List ℕ) × (wanted ≡ Ok (Step (Load text)))))
+IsGiven wanted given = (given ≡ wanted) ⊎ ((given ≡ Err Memory) × ((command : Command) × (wanted ≡ Ok command) × (wants_memory command ≡ true)))
 
 -- of these commands the first is given; the others are those of the bytes that are left
 pub record IsFirst (commands : List Request) (given : Request) (rest : Option (List ℕ)) : Type 0 where

@@ -2,12 +2,14 @@
 ghost use Rattle.std.specs.Prelude.{◌≡◌};
 ghost use Rattle.text_words.specs.Words.{words};
 ghost use Rattle.script_commands.specs.Asked as spec;
-ghost use Rattle.script_commands.specs.Asked.{asked_by};
+ghost use Rattle.script_commands.specs.Asked.{IsReadAs, asked_by};
 
 use crate::commands::{Command, UsageFault};
+use crate::graph_names::{to_pause, to_unpause};
 use crate::words::only_value;
 use moment_core::Moment;
 use sched_events::Event;
+use std::alloc::{AllocError, Global};
 use text_words::next_word;
 
 /// What a line outside of a graph's text asks for.
@@ -27,23 +29,36 @@ impl Asked {
     /// What the words of a line ask for.
     ///
     /// Words stand between blanks; there are no quotes. As with other command lines a word `--` ends the options, so that what
-    /// follows it is a value even where it begins with `-`; no command has an option yet.
-    pub fn by(line: &[u8]) -> Asked
-        ensures { result ≡ asked_by (words line.now) }
+    /// follows it is a value even where it begins with `-`; no command has an option yet. Only for a name memory is wanted.
+    pub fn by(alloc: Global, line: &[u8]) -> Result<Asked, AllocError>
+        ensures { IsReadAs (asked_by (words line.now)) result }
     {
         let Some((name, rest)) = next_word(line) else {
-            return Asked::Nothing;
+            return Ok(Asked::Nothing);
         };
         match only_value(rest) {
-            Some(value) => with_value(name, value),
-            None => Asked::Fault(UsageFault::Words),
+            Some(value) => with_value(alloc, name, value),
+            None => Ok(Asked::Fault(UsageFault::Words)),
         }
     }
 }
 
 // What a command's name and its one value ask for.
-fn with_value(name: &[u8], value: &[u8]) -> Asked
-    ensures { result ≡ spec.with_value name.now value.now }
+fn with_value(alloc: Global, name: &[u8], value: &[u8]) -> Result<Asked, AllocError>
+    ensures { IsReadAs (spec.with_value name.now value.now) result }
+{
+    if name == b"pause".as_slice() {
+        return to_pause(alloc, value);
+    }
+    if name == b"unpause".as_slice() {
+        return to_unpause(alloc, value);
+    }
+    Ok(without_name(name, value))
+}
+
+// The same, of a command whose value is no name.
+fn without_name(name: &[u8], value: &[u8]) -> Asked
+    ensures { result ≡ spec.without_name name.now value.now }
 {
     if name == b"tick".as_slice() {
         return at_moment(value);

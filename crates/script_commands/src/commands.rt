@@ -5,7 +5,7 @@ use sched_events::Event;
 /// What a script asks for.
 #[derive(Debug, Drop)]
 pub enum Command {
-    /// `load inline` with its text, or `tick MOMENT`: an event for the schedule.
+    /// `load inline` with its text, `tick MOMENT`, `pause DAG` or `unpause DAG`: an event for the schedule.
     Step(Event),
     /// `list runs`: the runs are shown, by graph id and logical date.
     ListRuns,
@@ -18,6 +18,8 @@ pub enum Command {
 pub enum UsageFault {
     /// There is no such command, or it has too few words, too many or others.
     Words,
+    /// A word that should be the name of a graph is no name.
+    BadName,
     /// A word that should be a moment is none.
     BadMoment(MomentFault),
     /// The line, or a line of the graph's text, is longer than 65,536 bytes or is not UTF-8.
@@ -36,6 +38,6 @@ pub enum SourceFault {
 pub enum CommandFault {
     Usage(UsageFault),
     Source(SourceFault),
-    /// Memory ran out while a graph's text was read.
+    /// Memory ran out for a graph's text, or for a name.
     Memory,
 }

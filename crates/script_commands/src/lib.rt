@@ -2,7 +2,7 @@
 //!
 //! A script is read line by line. [`Asked::by`] says what one line asks for, and [`next_command`] reads the next command of an
 //! input: a line of its own, or a graph's text that stands between `load inline` and a line that is `.` alone. A line that is no command is
-//! answered by its fault, and reading goes on after it. Lines are read in bounded memory; only the text of a graph wants more.
+//! answered by its fault, and reading goes on after it. Lines are read in bounded memory; only the text of a graph and a name want more.
 //!
 //! ```text
 //! # the nightly load
@@ -11,6 +11,7 @@
 //! ..
 //! .
 //! tick 2024-01-02
+//! pause nightly
 //! list runs
 //! list tasks
 //! ```
@@ -18,6 +19,7 @@
 
 mod asked;
 mod commands;
+mod graph_names;
 mod graph_texts;
 mod requests;
 #[cfg(test)]

@@ -5,6 +5,7 @@ ghost use Rattle.std.specs.Prelude.{◌≡◌, ℕ, ◌<◌, ◌≤◌, true, fa
 ghost use Rattle.std.specs.List.{list_all};
 ghost use Rattle.text_words.specs.Words.{is_blank as is_blank_byte, words};
 ghost use Rattle.script_lines.specs.Lines.{line_limit};
+ghost use Rattle.script_commands.specs.Asked.{IsReadAs};
 ghost use Rattle.script_commands.specs.Commands as spec;
 ghost use Rattle.script_commands.specs.Commands.{IsNext, IsAsked, is_bad};
 
@@ -12,7 +13,7 @@ use crate::asked::Asked;
 use crate::commands::{Command, CommandFault, UsageFault};
 use crate::graph_texts::read_text;
 use script_lines::{Found, LineReader};
-use std::alloc::Global;
+use std::alloc::{AllocError, Global};
 use std::io::{self, ErrorKind, Read};
 use std::str;
 use text_words::next_word;
@@ -24,7 +25,8 @@ pub(crate) const MOST_LINES: u64 = 1 << 40;
 ///
 /// Lines that begin with `#` and lines of blanks alone are passed over. After `load inline` the lines up to one that is `.` alone are
 /// the graph's text, each with a newline; no line of it is passed over, and where one is too long or not UTF-8 the answer is
-/// `BadLine`, at the end of the text. Where memory runs out for a text that is good, the answer is `Memory`, at its end. `lines` holds
+/// `BadLine`, at the end of the text. Where memory runs out for a text that is good, the answer is `Memory`, at its end, and for a name
+/// in the place of its command. `lines` holds
 /// the line that was read last. An error is the reader's; then a part of the script may be lost.
 pub fn next_command<R: Read>(
     alloc: Global,
@@ -35,40 +37,45 @@ pub fn next_command<R: Read>(
         → IsNext bytes next (R.remaining input.new)) }
 {
     for _line in 0..MOST_LINES {
-        match next_asked(lines, input)? {
+        match next_asked(alloc, lines, input)? {
             None => return Ok(None),
-            Some(Asked::Nothing) => {}
-            Some(Asked::Text) => return Ok(Some(read_text(alloc, lines, input)?)),
-            Some(Asked::This(command)) => return Ok(Some(Ok(command))),
-            Some(Asked::Fault(fault)) => return Ok(Some(Err(CommandFault::Usage(fault)))),
+            Some(Ok(Asked::Nothing)) => {}
+            Some(Ok(Asked::Text)) => return Ok(Some(read_text(alloc, lines, input)?)),
+            Some(Ok(Asked::This(command))) => return Ok(Some(Ok(command))),
+            Some(Ok(Asked::Fault(fault))) => return Ok(Some(Err(CommandFault::Usage(fault)))),
+            Some(Err(_)) => return Ok(Some(Err(CommandFault::Memory))),
         }
     }
     Err(io::Error::from(ErrorKind::Other))
 }
 
 // Reads the next line, and what it asks for.
-fn next_asked<R: Read>(lines: &mut LineReader, input: &mut R) -> io::Result<Option<Asked>>
+fn next_asked<R: Read>(
+    alloc: Global,
+    lines: &mut LineReader,
+    input: &mut R,
+) -> io::Result<Option<Result<Asked, AllocError>>>
     ensures { IfOk result (λ asked. (bytes : List ℕ) → R.remaining input.old ≡ Some bytes
         → IsAsked bytes asked (R.remaining input.new)) }
 {
     match lines.read(input)? {
-        Found::Line => Ok(Some(asked_of(lines.line()))),
-        Found::LongLine { is_blank } => Ok(Some(asked_of_long(lines.line(), is_blank))),
+        Found::Line => Ok(Some(asked_of(alloc, lines.line()))),
+        Found::LongLine { is_blank } => Ok(Some(Ok(asked_of_long(lines.line(), is_blank)))),
         Found::End => Ok(None),
     }
 }
 
 // What a line asks for that is not too long.
-fn asked_of(line: &[u8]) -> Asked
+fn asked_of(alloc: Global, line: &[u8]) -> Result<Asked, AllocError>
     requires { length line.now ≤ line_limit }
-    ensures { result ≡ spec.asked_of line.now }
+    ensures { IsReadAs (spec.asked_of line.now) result }
 {
     if is_skipped(line) {
-        return Asked::Nothing;
+        return Ok(Asked::Nothing);
     }
     match text_of(line) {
-        Some(_) => Asked::by(line),
-        None => Asked::Fault(UsageFault::BadLine),
+        Some(_) => Asked::by(alloc, line),
+        None => Ok(Asked::Fault(UsageFault::BadLine)),
     }
 }
 

@@ -22,12 +22,21 @@ fn told(alloc: Global, request: &Result<Command, CommandFault>) -> Result<String
             format!(in alloc; "load {text}")
         }
         Ok(Command::Step(Event::Tick(moment))) => format!(in alloc; "tick {moment}"),
+        Ok(Command::Step(Event::Pause(id))) => {
+            let id = id.as_str();
+            format!(in alloc; "pause {id}")
+        }
+        Ok(Command::Step(Event::Unpause(id))) => {
+            let id = id.as_str();
+            format!(in alloc; "unpause {id}")
+        }
         Ok(Command::Step(Event::Report(_, _) | Event::Restart(_))) => {
             String::from_str(alloc, "of a worker")
         }
         Ok(Command::ListRuns) => String::from_str(alloc, "list runs"),
         Ok(Command::ListTasks) => String::from_str(alloc, "list tasks"),
         Err(CommandFault::Usage(UsageFault::Words)) => String::from_str(alloc, "Words"),
+        Err(CommandFault::Usage(UsageFault::BadName)) => String::from_str(alloc, "BadName"),
         Err(CommandFault::Usage(UsageFault::BadMoment(fault))) => {
             format!(in alloc; "BadMoment {fault:?}")
         }
@@ -88,6 +97,25 @@ fn words_are_commands(rt: HostRuntime) -> Result<(), Fail> {
         ("load graph.toml", "Words"),
         ("\"list\" runs", "Words"),
         ("help", "Words"),
+    ] {
+        assert_commands(&rt, alloc, &mut line.as_bytes(), &[wanted])?;
+    }
+    Ok(())
+}
+
+#[test]
+fn words_name_graphs(rt: HostRuntime) -> Result<(), Fail> {
+    let alloc = rt.alloc();
+    for (line, wanted) in [
+        ("pause nightly_load.2", "pause nightly_load.2"),
+        (" unpause\tg ", "unpause g"),
+        ("pause -- -g", "pause -g"),
+        ("pause -g", "Words"),
+        ("pause g!", "BadName"),
+        ("unpause \u{e9}", "BadName"),
+        ("pause", "Words"),
+        ("pause g h", "Words"),
+        ("Pause g", "Words"),
     ] {
         assert_commands(&rt, alloc, &mut line.as_bytes(), &[wanted])?;
     }

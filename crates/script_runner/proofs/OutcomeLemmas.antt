@@ -1,5 +1,5 @@
 -- What comes of one command, and how it is answered.
-use Rattle.std.proofs.Common.{◌≡◌, ℕ, List, Option, Result, Ok, Err, IfOk, refl, sym, ap, subst, inl, inr}
+use Rattle.std.proofs.Common.{◌≡◌, ℕ, List, Option, Result, Ok, Err, IfOk, refl, sym, ap, subst, inl, inr, ◌∙◌, true, true≢false}
 use Rattle.std.specs.Result.{IsErrAnd}
 use Rattle.std.specs.Io.KnownBytes.{Appends}
 use Rattle.sched_model.specs.Schedule.{Schedule}
@@ -9,7 +9,9 @@ use Rattle.sched_events.specs.declared.events.Event.{Event}
 use Rattle.sched_events.specs.declared.refusals.Refusal.{Refusal}
 use Rattle.sched_events.specs.declared.refusals.Refusal.TheVariants as refusal
 use Rattle.sched_core.specs.Views.{all_rows}
+use Rattle.script_commands.specs.Asked.{wants_memory}
 use Rattle.script_commands.specs.Commands.{Request, IsGiven}
+use Rattle.script_commands.specs.declared.commands.Command.{Command}
 use Rattle.script_commands.specs.declared.commands.Command.TheVariants.{Step, ListRuns, ListTasks}
 use Rattle.script_commands.specs.declared.commands.CommandFault.{CommandFault}
 use Rattle.answer_lines.specs.Answers.{answer_text}
@@ -62,11 +64,18 @@ answered r a b shown n old new result c h = record {
       (subst (λ (bytes : List ℕ). IfOk result (λ status. (status ≡ n) × Appends old new bytes)) c.shows h);
 }
 
+-- a command for which memory can run out is an event
+lacking : (command : Command) → wants_memory command ≡ true → (e : Event) × (command ≡ Step e)
+lacking (Step e) h = (e, refl)
+lacking ListRuns h = absurd (true≢false (sym h))
+lacking ListTasks h = absurd (true≢false (sym h))
+
 -- what is given for a command has an outcome of that command
 pub outcome-given : (wanted given : Request) (a : Schedule) (o : Outcome) → IsGiven wanted given → IsOutcome given a o → IsOutcome wanted a o
 outcome-given wanted given a o (inl same) h = subst (λ (r : Request). IsOutcome r a o) same h
-outcome-given wanted given a o (inr (memory, (text, load))) h =
-    subst (λ (r : Request). IsOutcome r a o) (sym load) (inr (refusal.Memory, inl refl, subst (λ (r : Request). IsOutcome r a o) memory h))
+outcome-given wanted given a o (inr (memory, (command, is, lacks))) h =
+    let event = lacking command lacks in
+    subst (λ (r : Request). IsOutcome r a o) (sym (is ∙ ap (λ (c : Command). let r : Request = Ok c in r) event.1)) (inr (refusal.Memory, inl refl, subst (λ (r : Request). IsOutcome r a o) memory h))
 
 pub comes-listed : (r : Request) (a : Schedule) (runs : List Run) → r ≡ Ok ListRuns → runs ≡ a.runs → Comes r a a (runs_text runs) 0
 comes-listed r a runs e same = record {

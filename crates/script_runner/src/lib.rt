@@ -17,6 +17,8 @@ mod graph_tests;
 mod instance_tests;
 mod laws;
 mod listing;
+#[cfg(test)]
+mod pause_tests;
 mod running;
 mod serial;
 #[cfg(test)]

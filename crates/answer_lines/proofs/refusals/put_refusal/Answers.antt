@@ -18,6 +18,9 @@ returns-in-TooManyGraphs g c = rw c.in-TooManyGraphs.is c.write_all-in-TooManyGr
 pub returns-in-GraphDiffers : goal.returns-in-GraphDiffers
 returns-in-GraphDiffers g c = rw c.in-GraphDiffers.is c.write_all-in-GraphDiffers.ensures.bytes
 
+pub returns-in-UnknownGraph : goal.returns-in-UnknownGraph
+returns-in-UnknownGraph g c = rw c.in-UnknownGraph.is c.write_all-in-UnknownGraph.ensures.bytes
+
 pub returns-in-ClockBack : goal.returns-in-ClockBack
 returns-in-ClockBack g c = rw c.in-ClockBack.is (simp append_assoc (let h = simp append_assoc at c.writeln-in-ClockBack.ensures.bytes in h))
 

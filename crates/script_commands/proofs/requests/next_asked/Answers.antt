@@ -1,11 +1,12 @@
-use Rattle.std.proofs.Common.{◌∙◌, ap}
+use Rattle.std.proofs.Common.{List, ℕ, subst, ◌∙◌, ap}
+use Rattle.script_commands.specs.Asked.{IsReadAs}
 use Rattle.script_commands.specs.Commands.{asked_of}
 use Rattle.script_commands.proofs.requests.next_asked.Goals as goal
 
 pub returns-in-Line : goal.returns-in-Line
 returns-in-Line g c = λ bytes known.
     let next = rw c.in-Line.is at (c.in_ok-read.ensures.next bytes known) in
-    (c.read.new.self, next.0, c.asked_of.ensures ∙ ap asked_of c.line.ensures.value)
+    (c.read.new.self, next.0, subst (λ (l : List ℕ). IsReadAs (asked_of l) c.asked_of.result) c.line.ensures.value c.asked_of.ensures)
 
 pub returns-in-LongLine : goal.returns-in-LongLine
 returns-in-LongLine g c = λ bytes known.
