@@ -20,9 +20,8 @@ fn name(alloc: Global, text: &str) -> Result<Name, Fail> {
     Ok(Name::read(alloc, text).ok().ok_or("no name")?)
 }
 
-#[test]
-fn an_answer_has_its_lines(rt: HostRuntime) -> Result<(), Fail> {
-    let alloc = rt.alloc();
+// A run of each kind.
+fn made(alloc: Global) -> Result<Sequence<RunId>, Fail> {
     let mut made = Vec::new(alloc);
     for (kind, logical) in [
         (Kind::Scheduled, "2024-02-28"),
@@ -35,7 +34,11 @@ fn an_answer_has_its_lines(rt: HostRuntime) -> Result<(), Fail> {
             kind,
         })?;
     }
-    let job = Job {
+    Ok(Sequence::new(made))
+}
+
+fn job(alloc: Global) -> Result<Job, Fail> {
+    Ok(Job {
         serial: 1,
         graph: name(alloc, "one")?,
         logical: moment("2024-01-01")?,
@@ -44,24 +47,32 @@ fn an_answer_has_its_lines(rt: HostRuntime) -> Result<(), Fail> {
         action: Action::new(Operator::Noop, Sequence::new(Vec::new(alloc))),
         pool: name(alloc, "default_pool")?,
         slots: Bounded::new(1),
-    };
+    })
+}
+
+// An answer with each kind of line.
+fn complete(alloc: Global) -> Result<Answer, Fail> {
+    Ok(Answer {
+        made: made(alloc)?,
+        more: true,
+        jobs: Sequence::new(vec![in alloc; job(alloc)?]?),
+    })
+}
+
+fn empty(alloc: Global) -> Answer {
+    Answer {
+        made: Sequence::new(Vec::new(alloc)),
+        more: false,
+        jobs: Sequence::new(Vec::new(alloc)),
+    }
+}
+
+#[test]
+fn an_answer_has_its_lines(rt: HostRuntime) -> Result<(), Fail> {
+    let alloc = rt.alloc();
     let mut lines = Vec::new(alloc);
-    put_answer(
-        &mut lines,
-        &Answer {
-            made: Sequence::new(made),
-            more: true,
-            jobs: Sequence::new(vec![in alloc; job]?),
-        },
-    )?;
-    put_answer(
-        &mut lines,
-        &Answer {
-            made: Sequence::new(Vec::new(alloc)),
-            more: false,
-            jobs: Sequence::new(Vec::new(alloc)),
-        },
-    )?;
+    put_answer(&mut lines, &complete(alloc)?)?;
+    put_answer(&mut lines, &empty(alloc))?;
     let wanted =
         b"made one scheduled__2024-02-28T00:00:00+00:00\nmade one manual__2024-02-29T00:00:00+00:00\nmade one backfill__2024-03-01T00:00:00+00:00\nmore\ntry 1 one 2024-01-01T00:00:00+00:00 t 1\nok\nok\n";
     assert_eq!(rt; lines.as_slice(), wanted.as_slice());
@@ -195,6 +206,12 @@ fn faults_of_graphs_are_shown(rt: HostRuntime) -> Result<(), Fail> {
         let line = format!(in alloc; "refused 1 GraphFault {wanted}\n")?;
         assert_refusal(&rt, alloc, &Refusal::GraphFault(fault), line.as_str())?;
     }
+    Ok(())
+}
+
+#[test]
+fn faults_of_edges_are_shown(rt: HostRuntime) -> Result<(), Fail> {
+    let alloc = rt.alloc();
     let names = vec![in alloc; name(alloc, "a")?, name(alloc, "b")?]?;
     for (fault, wanted) in [
         (DagFault::DoubleTask(1), "1 DoubleTask 1"),

@@ -1,12 +1,16 @@
 use super::*;
 use graph_file::{GraphSpec, Name, read_graph};
 use std::alloc::{AllocError, Global};
+use std::process::Abort;
 use std::test::Fail;
 
 const TOP: &str = "dag_id = \"graph\"
 schedule = \"None\"
 start_date = \"2024-01-01\"
 ";
+
+// The tasks a, c, b and d by place.
+const DIAMOND: &str = "d c b, c a, b a, a";
 
 // Adds a task to a file, written as its name and then those of its upstreams.
 fn add_task(file: &mut String, row: &str) -> Result<(), AllocError> {
@@ -31,13 +35,29 @@ fn spec(alloc: Global, rows: &str) -> Result<GraphSpec, Fail> {
     Ok(read_graph(alloc, file.as_str())?)
 }
 
-// The graph of tasks that are known to be one.
-fn graph(alloc: Global, rows: &str) -> Result<Graph, Fail> {
-    let spec = spec(alloc, rows)?;
+// The graph of a spec that is known to be one.
+fn accepted(alloc: Global, spec: GraphSpec) -> Result<Graph, Fail> {
     match check(alloc, spec) {
         Ok(graph) => Ok(graph),
         Err(_) => Err(Fail::from("no graph")),
     }
+}
+
+// The graph of tasks that are known to be one.
+fn graph(alloc: Global, rows: &str) -> Result<Graph, Fail> {
+    accepted(alloc, spec(alloc, rows)?)
+}
+
+// The places that a place reaches.
+fn reached(
+    rt: &impl Abort,
+    alloc: Global,
+    graph: &Graph,
+    place: usize,
+    direction: Direction,
+) -> Result<Vec<usize>, AllocError> {
+    assert!(rt; place < graph.len());
+    graph.reach(alloc, place, direction)
 }
 
 // Adds the names of tasks, each after a blank.
@@ -132,27 +152,48 @@ fn a_refused_file_comes_back(rt: HostRuntime) -> Result<(), Fail> {
 }
 
 #[test]
-fn a_diamond_by_place(rt: HostRuntime) -> Result<(), Fail> {
-    let graph = graph(rt.alloc(), "d c b, c a, b a, a")?;
+fn places_of_a_diamond(rt: HostRuntime) -> Result<(), Fail> {
+    let graph = graph(rt.alloc(), DIAMOND)?;
     assert_eq!(rt; graph.len(), 4);
-    for (place, name) in ["a", "c", "b", "d"].into_iter().enumerate() {
+    let rows = [
+        ("a", Some(0)),
+        ("c", Some(1)),
+        ("b", Some(2)),
+        ("d", Some(3)),
+        ("e", None),
+    ];
+    for (name, wanted) in rows {
         let name = Name::read(rt.alloc(), name)?;
-        assert_eq!(rt; graph.place(&name), Some(place));
+        assert_eq!(rt; graph.place(&name), wanted);
     }
-    let name = Name::read(rt.alloc(), "e")?;
-    assert_eq!(rt; graph.place(&name), None);
+    Ok(())
+}
+
+#[test]
+fn edges_of_a_diamond(rt: HostRuntime) -> Result<(), Fail> {
+    let graph = graph(rt.alloc(), DIAMOND)?;
+    assert_eq!(rt; graph.len(), 4);
     assert_eq!(rt; graph.upstreams(0), [].as_slice());
     assert_eq!(rt; graph.upstreams(3), [1, 2].as_slice());
     assert_eq!(rt; graph.downstreams(0), [1, 2].as_slice());
     assert_eq!(rt; graph.downstreams(3), [].as_slice());
     assert!(rt; graph.is_leaf(3));
     assert!(rt; !graph.is_leaf(1));
-    let reached = graph.reach(rt.alloc(), 0, Direction::Downstream)?;
-    assert_eq!(rt; reached.as_slice(), [1, 2, 3].as_slice());
-    let reached = graph.reach(rt.alloc(), 3, Direction::Upstream)?;
-    assert_eq!(rt; reached.as_slice(), [0, 1, 2].as_slice());
-    let reached = graph.reach(rt.alloc(), 2, Direction::Upstream)?;
-    assert_eq!(rt; reached.as_slice(), [0].as_slice());
+    Ok(())
+}
+
+#[test]
+fn reach_in_a_diamond(rt: HostRuntime) -> Result<(), Fail> {
+    let graph = graph(rt.alloc(), DIAMOND)?;
+    let rows = [
+        (0, Direction::Downstream, [1, 2, 3].as_slice()),
+        (3, Direction::Upstream, [0, 1, 2].as_slice()),
+        (2, Direction::Upstream, [0].as_slice()),
+    ];
+    for (place, direction, wanted) in rows {
+        let places = reached(&rt, rt.alloc(), &graph, place, direction)?;
+        assert_eq!(rt; places.as_slice(), wanted, "{place} {direction:?}");
+    }
     Ok(())
 }
 
@@ -209,25 +250,37 @@ fn layers(alloc: Global) -> Result<String, AllocError> {
     Ok(file)
 }
 
-#[test]
-fn large_graphs(rt: HostRuntime) -> Result<(), Fail> {
-    let files = [
-        (chain(rt.alloc())?, 255, 1, "t255"),
-        (layers(rt.alloc())?, 240, 16, "t0"),
-    ];
-    for (file, reached, downstreams, first) in files {
-        let spec = read_graph(rt.alloc(), file.as_str())?;
-        let Ok(graph) = check(rt.alloc(), spec) else {
-            return Err(Fail::from("no graph"));
-        };
-        assert_eq!(rt; graph.len(), 256);
-        assert_eq!(rt; graph.task(0).task_id.as_str(), first);
-        assert_eq!(rt; graph.downstreams(0).len(), downstreams);
-        let places = graph.reach(rt.alloc(), 0, Direction::Downstream)?;
-        assert_eq!(rt; places.len(), reached);
-        let places = graph.reach(rt.alloc(), 255, Direction::Upstream)?;
-        assert_eq!(rt; places.len(), reached);
-        assert!(rt; graph.is_leaf(255));
-    }
+// Asserts that a graph has 256 tasks, which stands first, how many come right after it, and that nothing follows the last.
+fn assert_shape(rt: &impl Abort, graph: &Graph, first: &str, downstreams: usize) {
+    assert_eq!(rt; graph.len(), 256);
+    assert_eq!(rt; graph.task(0).task_id.as_str(), first);
+    assert_eq!(rt; graph.downstreams(0).len(), downstreams);
+    assert!(rt; graph.is_leaf(255));
+}
+
+// Asserts that the first task reaches so many, and that the last one is reached by as many.
+fn assert_ends(rt: &impl Abort, alloc: Global, graph: &Graph, count: usize) -> Result<(), Fail> {
+    let below = reached(rt, alloc, graph, 0, Direction::Downstream)?;
+    assert_eq!(rt; below.len(), count);
+    let above = reached(rt, alloc, graph, 255, Direction::Upstream)?;
+    assert_eq!(rt; above.len(), count);
     Ok(())
+}
+
+#[test]
+fn a_long_chain(rt: HostRuntime) -> Result<(), Fail> {
+    let alloc = rt.alloc();
+    let file = chain(alloc)?;
+    let graph = accepted(alloc, read_graph(alloc, file.as_str())?)?;
+    assert_shape(&rt, &graph, "t255", 1);
+    assert_ends(&rt, alloc, &graph, 255)
+}
+
+#[test]
+fn wide_layers(rt: HostRuntime) -> Result<(), Fail> {
+    let alloc = rt.alloc();
+    let file = layers(alloc)?;
+    let graph = accepted(alloc, read_graph(alloc, file.as_str())?)?;
+    assert_shape(&rt, &graph, "t0", 16);
+    assert_ends(&rt, alloc, &graph, 240)
 }

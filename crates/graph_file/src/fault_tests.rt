@@ -1,10 +1,11 @@
 use super::GraphFault::{BadName, BadValue, MissingKey, TooMany, UnknownKey, WrongType};
 use super::Place::{Task, Top};
-use super::task_tests::tasks;
+use super::task_tests::fault;
 use super::tests::{ID, NOT_CRON, REST, answer, refuses};
 use super::*;
 use cron_timetable::CronFault;
 use std::alloc::{AllocError, Global};
+use std::process::Abort;
 use std::test::Fail;
 
 // What each operator makes of these arguments.
@@ -38,12 +39,8 @@ fn reads_arguments_by_operator(rt: HostRuntime) -> Result<(), Fail> {
         let text = format!(in rt.alloc();
             "[[task]]\ntask_id = \"t\"\noperator = \"{operator}\"\n{line}"
         )?;
-        let read = tasks(rt.alloc(), text.as_str());
-        if taken {
-            assert!(rt; read.is_ok(), "{text}");
-        } else {
-            assert_eq!(rt; read.err(), Some(BadValue(Task(0))), "{text}");
-        }
+        let wanted = if taken { None } else { Some(BadValue(Task(0))) };
+        assert_eq!(rt; fault(rt.alloc(), text.as_str()), wanted, "{text}");
     }
     Ok(())
 }
@@ -79,16 +76,12 @@ fn reads_arguments_up_to_their_bounds(rt: HostRuntime) -> Result<(), Fail> {
     ];
     for (operator, count, bytes, taken) in rows {
         let text = call(rt.alloc(), operator, count, bytes)?;
-        let read = tasks(rt.alloc(), text.as_str());
-        if taken {
-            assert!(rt; read.is_ok(), "{count} of {bytes} bytes");
-        } else {
-            assert_eq!(rt;
-                read.err(),
-                Some(BadValue(Task(0))),
-                "{count} of {bytes} bytes"
-            );
-        }
+        let wanted = if taken { None } else { Some(BadValue(Task(0))) };
+        assert_eq!(rt;
+            fault(rt.alloc(), text.as_str()),
+            wanted,
+            "{count} of {bytes} bytes"
+        );
     }
     Ok(())
 }
@@ -118,14 +111,15 @@ fn reads_graphs_up_to_their_bounds(rt: HostRuntime) -> Result<(), Fail> {
         (256, 16, 16, None),
         (256, 17, 16, Some(TooMany)),
     ];
-    for (count, rest, upstreams, fault) in rows {
+    for (count, rest, upstreams, wanted) in rows {
         let text = fan(rt.alloc(), count, rest, upstreams)?;
-        assert_eq!(rt;
-            tasks(rt.alloc(), text.as_str()).err(),
-            fault,
-            "{count} tasks"
-        );
+        assert_eq!(rt; fault(rt.alloc(), text.as_str()), wanted, "{count} tasks");
     }
+    Ok(())
+}
+
+#[test]
+fn answers_a_refused_schedule_before_too_many_tasks(rt: HostRuntime) -> Result<(), Fail> {
     let many = fan(rt.alloc(), 257, 0, 0)?;
     let cron = GraphFault::Cron(CronFault::FieldCount);
     refuses(&rt, rt.alloc(), ID, NOT_CRON, many.as_str(), cron)?;
@@ -164,24 +158,44 @@ const FAULTS: [(&str, &str); 5] = [
     ),
 ];
 
+// Asserts the fault of a file with this head and a task.
+fn refuses_head(
+    rt: &impl Abort,
+    alloc: Global,
+    head: &str,
+    task: &str,
+    fault: GraphFault,
+) -> Result<(), AllocError> {
+    let text = format!(in alloc; "task = [{task}]")?;
+    refuses(rt, alloc, head, REST, text.as_str(), fault)
+}
+
+// Asserts the fault of a file with two tasks.
+fn refuses_tasks(
+    rt: &impl Abort,
+    alloc: Global,
+    first: &str,
+    second: &str,
+    fault: GraphFault,
+) -> Result<(), AllocError> {
+    let text = format!(in alloc; "task = [{first}, {second}]")?;
+    refuses(rt, alloc, ID, REST, text.as_str(), fault)
+}
+
 // Of two faults the one of the first class is answered, wherever it stands; within a class the first place.
 #[test]
 fn answers_the_first_class_at_its_first_place(rt: HostRuntime) -> Result<(), Fail> {
     for (i, (head, task)) in FAULTS.iter().enumerate() {
         for (j, (other_head, other_task)) in FAULTS.iter().enumerate() {
             if i <= j {
-                let alone = format!(in rt.alloc(); "task = [{task}]")?;
-                let other = format!(in rt.alloc(); "task = [{other_task}]")?;
-                let before = format!(in rt.alloc(); "task = [{task}, {other_task}]")?;
-                let after = format!(in rt.alloc(); "task = [{other_task}, {task}]")?;
                 let top = fault_at(i, Top);
                 let first = fault_at(i, Task(0));
                 let second = fault_at(i, if i == j { Task(0) } else { Task(1) });
                 let low = if i == j { top } else { first };
-                refuses(&rt, rt.alloc(), head, REST, other.as_str(), top)?;
-                refuses(&rt, rt.alloc(), other_head, REST, alone.as_str(), low)?;
-                refuses(&rt, rt.alloc(), ID, REST, before.as_str(), first)?;
-                refuses(&rt, rt.alloc(), ID, REST, after.as_str(), second)?;
+                refuses_head(&rt, rt.alloc(), head, other_task, top)?;
+                refuses_head(&rt, rt.alloc(), other_head, task, low)?;
+                refuses_tasks(&rt, rt.alloc(), task, other_task, first)?;
+                refuses_tasks(&rt, rt.alloc(), other_task, task, second)?;
             }
         }
     }

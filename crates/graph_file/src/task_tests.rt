@@ -3,6 +3,7 @@ use super::Place::Task;
 use super::tests::{ID, REST, answer, file};
 use super::*;
 use std::alloc::{AllocError, Global};
+use std::process::Abort;
 use std::test::Fail;
 
 const WHOLE: &str = "dag_id = \"one\"
@@ -35,6 +36,11 @@ pub(crate) fn tasks(alloc: Global, text: &str) -> Result<Vec<TaskSpec>, GraphFau
     }
 }
 
+// The fault of a file with these tasks.
+pub(crate) fn fault(alloc: Global, text: &str) -> Option<GraphFault> {
+    tasks(alloc, text).err()
+}
+
 // A task with one line more.
 fn task(alloc: Global, line: &str) -> Result<String, AllocError> {
     file(
@@ -57,7 +63,7 @@ fn one(alloc: Global, line: &str) -> Result<TaskSpec, GraphFault> {
 }
 
 #[test]
-fn reads_each_key_of_a_task(rt: HostRuntime) -> Result<(), Fail> {
+fn reads_each_task(rt: HostRuntime) -> Result<(), Fail> {
     let read = answer(rt.alloc(), WHOLE)?.tasks.into_vec();
     assert_eq!(rt; read.len(), 2);
     assert_eq!(rt; read[0].action.operator(), Operator::Exit);
@@ -66,22 +72,35 @@ fn reads_each_key_of_a_task(rt: HostRuntime) -> Result<(), Fail> {
     for (argument, status) in read[0].action.argv().iter().zip(statuses) {
         assert_eq!(rt; read_status(argument.as_str()), status);
     }
-    let task = &read[1];
-    assert_eq!(rt; task.task_id.as_str(), "second");
-    assert_eq!(rt; task.action.operator(), Operator::Command);
+    Ok(())
+}
+
+// The second task of the file.
+fn second(alloc: Global) -> Result<TaskSpec, Fail> {
+    let mut tasks = answer(alloc, WHOLE)?.tasks.into_vec();
+    Ok(tasks.pop().ok_or("no task")?)
+}
+
+#[test]
+fn reads_the_lists_of_a_task(rt: HostRuntime) -> Result<(), Fail> {
+    let task = second(rt.alloc())?;
     assert_eq!(rt; task.action.argv().len(), 3);
     for (argument, text) in task.action.argv().iter().zip(["cp", "", "größe"]) {
         assert_eq!(rt; argument.as_str(), text);
     }
-    assert_eq!(rt; task.upstream.as_slice().len(), 3);
-    for (name, text) in task
-        .upstream
-        .as_slice()
-        .iter()
-        .zip(["first", "a-b.C_9", "first"])
-    {
+    let names = task.upstream.as_slice();
+    assert_eq!(rt; names.len(), 3);
+    for (name, text) in names.iter().zip(["first", "a-b.C_9", "first"]) {
         assert_eq!(rt; name.as_str(), text);
     }
+    Ok(())
+}
+
+#[test]
+fn reads_the_words_and_numbers_of_a_task(rt: HostRuntime) -> Result<(), Fail> {
+    let task = second(rt.alloc())?;
+    assert_eq!(rt; task.task_id.as_str(), "second");
+    assert_eq!(rt; task.action.operator(), Operator::Command);
     assert_eq!(rt; task.trigger_rule, Rule::AllDone);
     assert_eq!(rt; task.retries.get(), 3);
     assert_eq!(rt; task.retry_delay.get(), 60);
@@ -91,6 +110,21 @@ fn reads_each_key_of_a_task(rt: HostRuntime) -> Result<(), Fail> {
     assert_eq!(rt; task.weight_rule, WeightRule::Absolute);
     assert_eq!(rt; task.depends_on_past, true);
     Ok(())
+}
+
+// Asserts that all that a task may leave out is as if it did.
+fn assert_defaults(rt: &impl Abort, task: &TaskSpec) {
+    assert_eq!(rt; task.action.operator(), Operator::Noop);
+    assert_eq!(rt; task.action.argv().len(), 0);
+    assert_eq!(rt; task.upstream.as_slice().len(), 0);
+    assert_eq!(rt; task.trigger_rule, Rule::AllSuccess);
+    assert_eq!(rt; task.retries.get(), 0);
+    assert_eq!(rt; task.retry_delay.get(), 300);
+    assert_eq!(rt; task.pool.as_str(), "default_pool");
+    assert_eq!(rt; task.pool_slots.get(), 1);
+    assert_eq!(rt; task.priority_weight.get(), 1);
+    assert_eq!(rt; task.weight_rule, WeightRule::Downstream);
+    assert_eq!(rt; task.depends_on_past, false);
 }
 
 // The defaults are those of Airflow 2's `BaseOperator`: an absent key, and the same written out.
@@ -107,18 +141,7 @@ priority_weight = 1
 weight_rule = \"downstream\"
 depends_on_past = false";
     for lines in ["", written] {
-        let task = one(rt.alloc(), lines)?;
-        assert_eq!(rt; task.action.operator(), Operator::Noop);
-        assert_eq!(rt; task.action.argv().len(), 0);
-        assert_eq!(rt; task.upstream.as_slice().len(), 0);
-        assert_eq!(rt; task.trigger_rule, Rule::AllSuccess);
-        assert_eq!(rt; task.retries.get(), 0);
-        assert_eq!(rt; task.retry_delay.get(), 300);
-        assert_eq!(rt; task.pool.as_str(), "default_pool");
-        assert_eq!(rt; task.pool_slots.get(), 1);
-        assert_eq!(rt; task.priority_weight.get(), 1);
-        assert_eq!(rt; task.weight_rule, WeightRule::Downstream);
-        assert_eq!(rt; task.depends_on_past, false);
+        assert_defaults(&rt, &one(rt.alloc(), lines)?);
     }
     Ok(())
 }
@@ -133,6 +156,22 @@ fn number(task: &TaskSpec, key: &str) -> u32 {
     }
 }
 
+// Asserts that a number is read at a key.
+fn assert_read(rt: &impl Abort, alloc: Global, key: &str, value: u32) -> Result<(), Fail> {
+    let line = format!(in alloc; "{key} = {value}")?;
+    let task = one(alloc, line.as_str())?;
+    assert_eq!(rt; number(&task, key), value, "{line}");
+    Ok(())
+}
+
+// Asserts that a number is refused at a key.
+fn assert_refused(rt: &impl Abort, alloc: Global, key: &str, value: i64) -> Result<(), Fail> {
+    let line = format!(in alloc; "{key} = {value}")?;
+    let fault = one(alloc, line.as_str()).err();
+    assert_eq!(rt; fault, Some(BadValue(Task(0))), "{line}");
+    Ok(())
+}
+
 #[test]
 fn reads_numbers_up_to_their_bounds(rt: HostRuntime) -> Result<(), Fail> {
     let rows = [
@@ -142,28 +181,16 @@ fn reads_numbers_up_to_their_bounds(rt: HostRuntime) -> Result<(), Fail> {
         ("priority_weight", 0, 1_000_000),
     ];
     for (key, least, greatest) in rows {
-        for value in [least, greatest] {
-            let line = format!(in rt.alloc(); "{key} = {value}")?;
-            assert_eq!(rt;
-                number(&one(rt.alloc(), line.as_str())?, key),
-                value,
-                "{line}"
-            );
-        }
-        let past = [
+        assert_read(&rt, rt.alloc(), key, least)?;
+        assert_read(&rt, rt.alloc(), key, greatest)?;
+        for value in [
             i64::from(least) - 1,
             i64::from(greatest) + 1,
             4_294_967_296 + i64::from(least),
             i64::MAX,
             i64::MIN,
-        ];
-        for value in past {
-            let line = format!(in rt.alloc(); "{key} = {value}")?;
-            assert_eq!(rt;
-                one(rt.alloc(), line.as_str()).err(),
-                Some(BadValue(Task(0))),
-                "{line}"
-            );
+        ] {
+            assert_refused(&rt, rt.alloc(), key, value)?;
         }
     }
     Ok(())

@@ -60,7 +60,7 @@ fn reads_what_a_file_has(rt: HostRuntime) -> Result<(), Fail> {
     assert_eq!(rt; graph.end_date.map(Moment::secs), Some(1_704_067_200));
     assert_eq!(rt; graph.catchup, false);
     assert_eq!(rt; graph.max_active_runs.get(), 1_000_000);
-    let tasks = graph.tasks.into_vec();
+    let tasks = graph.tasks.as_slice();
     assert_eq!(rt; tasks.len(), 1);
     assert_eq!(rt; tasks[0].task_id.as_str(), "t");
     assert_eq!(rt; tasks[0].action.operator(), Operator::Noop);
@@ -77,6 +77,15 @@ fn fills_in_the_defaults(rt: HostRuntime) -> Result<(), Fail> {
     assert_eq!(rt; graph.max_active_runs.get(), 16);
     assert_eq!(rt; graph.tasks.as_slice().len(), 1);
     Ok(())
+}
+
+// The timetable of a file with this schedule.
+fn timetable(alloc: Global, line: &str) -> Result<Timetable, GraphFault> {
+    let id = "dag_id = \"one\"\nstart_date = \"2024-01-01\"";
+    match file(alloc, id, line, TASK) {
+        Ok(text) => Ok(answer(alloc, text.as_str())?.schedule),
+        Err(_) => Err(GraphFault::Memory),
+    }
 }
 
 // Only a cron text has blanks ignored at its ends.
@@ -105,15 +114,8 @@ fn reads_schedules(rt: HostRuntime) -> Result<(), Fail> {
             Err(GraphFault::Cron(CronFault::NeverFires)),
         ),
     ];
-    for (schedule, timetable) in rows {
-        let text = file(
-            rt.alloc(),
-            "dag_id = \"one\"\nstart_date = \"2024-01-01\"",
-            schedule,
-            TASK,
-        )?;
-        let read = answer(rt.alloc(), text.as_str()).map(|graph| graph.schedule);
-        assert_eq!(rt; read, timetable, "{schedule}");
+    for (line, wanted) in rows {
+        assert_eq!(rt; timetable(rt.alloc(), line), wanted, "{line}");
     }
     Ok(())
 }
@@ -238,10 +240,9 @@ fn answers_classes_without_a_place_last(rt: HostRuntime) -> Result<(), Fail> {
     Ok(())
 }
 
-// Blanks after the file, up to the limit and one past it; past it, what is no TOML is too long first. The shortest file.
-#[test]
-fn reads_files_up_to_the_limit(rt: HostRuntime) -> Result<(), Fail> {
-    let mut text = file(rt.alloc(), ID, REST, TASK)?;
+// A file with as many blanks after it as the limit allows.
+fn longest(alloc: Global) -> Result<String, AllocError> {
+    let mut text = file(alloc, ID, REST, TASK)?;
     let blanks = "                                                                ";
     for _ in 0..16_000 {
         text.push_str(blanks)?;
@@ -249,6 +250,13 @@ fn reads_files_up_to_the_limit(rt: HostRuntime) -> Result<(), Fail> {
     for _ in text.len()..1_048_576 {
         text.push(' ')?;
     }
+    Ok(text)
+}
+
+// Up to the limit and one past it; past it, what is no TOML is too long first. The shortest file.
+#[test]
+fn reads_files_up_to_the_limit(rt: HostRuntime) -> Result<(), Fail> {
+    let mut text = longest(rt.alloc())?;
     assert_eq!(rt; answer(rt.alloc(), text.as_str())?.dag_id.as_str(), "one");
     text.push(' ')?;
     assert_eq!(rt; answer(rt.alloc(), text.as_str()).err(), Some(TooMany));
@@ -258,31 +266,40 @@ fn reads_files_up_to_the_limit(rt: HostRuntime) -> Result<(), Fail> {
     Ok(())
 }
 
+// Why a text is no name.
+fn name_fault(alloc: Global, text: &str) -> Option<NameFault> {
+    Name::read(alloc, text).err()
+}
+
+// Asserts that a text is a name as it stands.
+fn assert_name(rt: &impl Abort, alloc: Global, text: &str) -> Result<(), NameFault> {
+    let name = Name::read(alloc, text)?;
+    assert_eq!(rt; name.as_str(), text);
+    Ok(())
+}
+
 #[test]
 fn reads_names_of_up_to_250_bytes(rt: HostRuntime) -> Result<(), Fail> {
-    let mut text = String::new(rt.alloc());
-    assert_eq!(rt; Name::read(rt.alloc(), "").err(), Some(NameFault::BadName));
+    let alloc = rt.alloc();
+    let mut text = String::new(alloc);
+    assert_eq!(rt; name_fault(alloc, ""), Some(NameFault::BadName));
     for _ in 0..250 {
         text.push('n')?;
     }
-    assert_eq!(rt;
-        Name::read(rt.alloc(), text.as_str())?.as_str(),
-        text.as_str()
-    );
+    assert_name(&rt, alloc, text.as_str())?;
     text.push('n')?;
-    assert_eq!(rt;
-        Name::read(rt.alloc(), text.as_str()).err(),
-        Some(NameFault::BadName)
-    );
+    assert_eq!(rt; name_fault(alloc, text.as_str()), Some(NameFault::BadName));
+    Ok(())
+}
+
+#[test]
+fn reads_names_of_letters_digits_and_three_marks(rt: HostRuntime) -> Result<(), Fail> {
+    let alloc = rt.alloc();
     for byte in ["@", "[", "`", "{", "/", ":", ",", " ", "\u{7f}", "é"] {
-        assert_eq!(rt;
-            Name::read(rt.alloc(), byte).err(),
-            Some(NameFault::BadName),
-            "{byte}"
-        );
+        assert_eq!(rt; name_fault(alloc, byte), Some(NameFault::BadName), "{byte}");
     }
     for byte in ["A", "Z", "a", "z", "0", "9", "_", "-", "."] {
-        assert_eq!(rt; Name::read(rt.alloc(), byte)?.as_str(), byte);
+        assert_name(&rt, alloc, byte)?;
     }
     Ok(())
 }
@@ -290,14 +307,21 @@ fn reads_names_of_up_to_250_bytes(rt: HostRuntime) -> Result<(), Fail> {
 #[test]
 fn compares_names_by_their_bytes(rt: HostRuntime) -> Result<(), Fail> {
     let name = Name::read(rt.alloc(), "a-1")?;
-    let copy = name.copy(rt.alloc())?;
-    assert_eq!(rt; copy, name);
+    assert_eq!(rt; name.copy(rt.alloc())?, name);
     let upper = Name::read(rt.alloc(), "B")?;
     assert_eq!(rt; upper.cmp(&name), Ordering::Less);
     assert_eq!(rt; name.partial_cmp(&upper), Some(Ordering::Greater));
+    Ok(())
+}
+
+#[test]
+fn finds_a_name_by_its_copy(rt: HostRuntime) -> Result<(), Fail> {
+    let name = Name::read(rt.alloc(), "a-1")?;
+    let copy = name.copy(rt.alloc())?;
     let mut counts = HashMap::new(rt.alloc());
     counts.insert(name, 1)?;
     assert_eq!(rt; counts.get(&copy).copied(), Some(1));
+    let upper = Name::read(rt.alloc(), "B")?;
     assert_eq!(rt; counts.get(&upper).copied(), None);
     Ok(())
 }

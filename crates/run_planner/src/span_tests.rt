@@ -1,16 +1,8 @@
 use super::*;
-use crate::tests::{add, assert_intervals, graph, moment};
-use moment_core::Moment;
+use crate::tests::{assert_intervals, graph, index, moment};
 use std::alloc::Global;
 use std::process::Abort;
 use std::test::Fail;
-
-// The dates of a text with blanks between them.
-fn index(alloc: Global, runs: &str) -> Result<RunIndex, Fail> {
-    let mut index = RunIndex::new(alloc);
-    add(&mut index, runs)?;
-    Ok(index)
-}
 
 // What a run by hand would have. The graph's dates, of which the last is before the first, bound nothing.
 fn by_hand(
@@ -82,11 +74,11 @@ fn found(
     runs: &str,
     limit: usize,
 ) -> Result<Backfill, Fail> {
-    let graph = graph(alloc, schedule, ("2024-02-01", ""), true)?;
-    let index = index(alloc, runs)?;
     let low = moment(span.0).ok_or("no moment")?;
     let high = moment(span.1).ok_or("no moment")?;
     let now = moment("2024-01-10").ok_or("no moment")?;
+    let graph = graph(alloc, schedule, ("2024-02-01", ""), true)?;
+    let index = index(alloc, runs)?;
     Ok(backfill(alloc, &graph, low, high, now, &index, limit)?)
 }
 
@@ -125,24 +117,25 @@ fn a_backfill_has_a_limit(rt: HostRuntime) -> Result<(), Fail> {
 }
 
 #[test]
-fn a_backfill_of_once_has_its_start(rt: HostRuntime) -> Result<(), Fail> {
-    let alloc = rt.alloc();
-    let never = found(alloc, "None", ("2024-01-01", "2024-12-31"), "", 10)?;
+fn a_backfill_without_a_schedule_finds_nothing(rt: HostRuntime) -> Result<(), Fail> {
+    let never = found(rt.alloc(), "None", ("2024-01-01", "2024-12-31"), "", 10)?;
     assert!(rt; never.fresh.is_empty());
-    let graph = graph(alloc, "@once", ("2024-02-29", "2024-01-01"), true)?;
+    Ok(())
+}
+
+// What a backfill up to 2024-02-29 finds, of a graph that starts on that day.
+fn found_once(alloc: Global, from: &str, runs: &str) -> Result<Backfill, Fail> {
+    let low = moment(from).ok_or("no moment")?;
     let day = moment("2024-02-29").ok_or("no moment")?;
-    let before = Moment::at(0);
-    let fresh = backfill(alloc, &graph, before, day, day, &index(alloc, "")?, 10)?;
+    let graph = graph(alloc, "@once", ("2024-02-29", "2024-01-01"), true)?;
+    Ok(backfill(alloc, &graph, low, day, day, &index(alloc, runs)?, 10)?)
+}
+
+#[test]
+fn a_backfill_of_once_has_its_start(rt: HostRuntime) -> Result<(), Fail> {
+    let fresh = found_once(rt.alloc(), "1970-01-01", "")?;
     assert_intervals(&rt, &fresh.fresh, "2024-02-29/2024-02-29", "fresh")?;
-    let present = backfill(
-        alloc,
-        &graph,
-        day,
-        day,
-        day,
-        &index(alloc, "2024-02-29")?,
-        10,
-    )?;
+    let present = found_once(rt.alloc(), "2024-02-29", "2024-02-29")?;
     assert!(rt; present.fresh.is_empty());
     assert_eq!(rt; present.present.len(), 1);
     Ok(())

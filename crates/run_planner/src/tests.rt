@@ -48,13 +48,14 @@ pub fn graph(
     }
 }
 
-// Adds the dates of a text with blanks between them.
-pub fn add(index: &mut RunIndex, dates: &str) -> Result<(), Fail> {
+// The dates of a text with blanks between them.
+pub fn index(alloc: Global, dates: &str) -> Result<RunIndex, Fail> {
+    let mut index = RunIndex::new(alloc);
     for text in dates.split_whitespace() {
         index.reserve(1)?;
         index.add(moment(text).ok_or("no moment")?);
     }
-    Ok(())
+    Ok(index)
 }
 
 // Asserts that these are the intervals, each written as `start/end`.
@@ -77,6 +78,20 @@ pub fn assert_intervals(
     }
     assert_eq!(rt; intervals.next().copied(), None, "{row}");
     Ok(())
+}
+
+// The first ten runs that are due of a graph with these runs.
+fn planned(
+    alloc: Global,
+    schedule: &str,
+    dates: (&str, &str),
+    catchup: bool,
+    now: &str,
+    runs: &str,
+) -> Result<Planned, Fail> {
+    let now = moment(now).ok_or("no moment")?;
+    let graph = graph(alloc, schedule, dates, catchup)?;
+    Ok(due(alloc, &graph, now, &index(alloc, runs)?, 10)?)
 }
 
 // By Airflow 2's page 'DAG Runs': a run comes after its interval has ended, and without catchup only the latest comes.
@@ -202,11 +217,7 @@ fn plans_what_is_due(rt: HostRuntime) -> Result<(), Fail> {
         ("None", ("2024-01-01", ""), false, "2024-03-01", "", ""),
     ];
     for (schedule, dates, catchup, now, runs, intervals) in rows {
-        let graph = graph(rt.alloc(), schedule, dates, catchup)?;
-        let mut index = RunIndex::new(rt.alloc());
-        add(&mut index, runs)?;
-        let now_moment = moment(now).ok_or("no moment")?;
-        let planned = due(rt.alloc(), &graph, now_moment, &index, 10)?;
+        let planned = planned(rt.alloc(), schedule, dates, catchup, now, runs)?;
         assert_intervals(&rt, &planned.intervals, intervals, now)?;
         assert!(rt; !planned.more, "{schedule} at {now}");
     }
@@ -216,8 +227,8 @@ fn plans_what_is_due(rt: HostRuntime) -> Result<(), Fail> {
 // Twenty-five hours have ended, and a call plans ten at most.
 #[test]
 fn plans_in_parts(rt: HostRuntime) -> Result<(), Fail> {
-    let graph = graph(rt.alloc(), "@hourly", ("2024-01-01", ""), true)?;
     let now = moment("2024-01-02T01:00:00Z").ok_or("no moment")?;
+    let graph = graph(rt.alloc(), "@hourly", ("2024-01-01", ""), true)?;
     let mut index = RunIndex::new(rt.alloc());
     for (count, more) in [(10, true), (10, true), (5, false), (0, false)] {
         let planned = due(rt.alloc(), &graph, now, &index, 10)?;

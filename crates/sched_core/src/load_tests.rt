@@ -76,11 +76,16 @@ fn a_cycle_is_refused_with_its_tasks(rt: HostRuntime) -> Result<(), Fail> {
     Ok(())
 }
 
-#[test]
-fn the_first_cause_is_answered(rt: HostRuntime) -> Result<(), Fail> {
-    let alloc = rt.alloc();
+// A schedule that may hold one graph of two tasks, and no graph yet.
+fn small(alloc: Global) -> Result<Schedule, Fail> {
     let limits = Limits::new(1, 2, 1, 1, 2, 0).ok_or("limits")?;
-    let mut schedule = Schedule::new(alloc, limits);
+    Ok(Schedule::new(alloc, limits))
+}
+
+#[test]
+fn a_fault_of_the_graph_comes_before_an_unknown_pool(rt: HostRuntime) -> Result<(), Fail> {
+    let alloc = rt.alloc();
+    let mut schedule = small(alloc)?;
     let long = of_two(
         alloc,
         &mut schedule,
@@ -95,6 +100,13 @@ fn the_first_cause_is_answered(rt: HostRuntime) -> Result<(), Fail> {
             Some(Refusal::DagFault(DagFault::UnknownUpstream(0)))
         )
     );
+    Ok(())
+}
+
+#[test]
+fn an_unknown_pool_is_answered_by_its_name(rt: HostRuntime) -> Result<(), Fail> {
+    let alloc = rt.alloc();
+    let mut schedule = small(alloc)?;
     let refused = of_two(alloc, &mut schedule, "", "pool = \"y\"")?;
     let Some(Refusal::UnknownPool(pool)) = refused else {
         return Err(Fail::from("a known pool"));
@@ -102,24 +114,28 @@ fn the_first_cause_is_answered(rt: HostRuntime) -> Result<(), Fail> {
     assert_eq!(rt; pool.as_str(), "y");
     let accepted = of_two(alloc, &mut schedule, "", "pool = \"default_pool\"")?;
     assert!(rt; accepted.is_none());
-    let second = file(alloc, "one", DAILY, task(alloc, "t", "")?.as_str())?;
-    assert!(rt;
-        matches!(
-            refusal(alloc, &mut schedule, &second),
-            Some(Refusal::TooManyGraphs)
-        )
-    );
-    let unpooled = file(
-        alloc,
-        "one",
-        DAILY,
-        task(alloc, "t", "pool = \"x\"")?.as_str(),
-    )?;
-    assert!(rt;
-        matches!(
-            refusal(alloc, &mut schedule, &unpooled),
-            Some(Refusal::UnknownPool(_))
-        )
-    );
+    Ok(())
+}
+
+// The refusal of the graph "one" of a task.
+fn of_one(
+    alloc: Global,
+    schedule: &mut Schedule,
+    more: &str,
+) -> Result<Option<Refusal>, AllocError> {
+    let event = file(alloc, "one", DAILY, task(alloc, "t", more)?.as_str())?;
+    Ok(refusal(alloc, schedule, &event))
+}
+
+#[test]
+fn an_unknown_pool_comes_before_too_many_graphs(rt: HostRuntime) -> Result<(), Fail> {
+    let alloc = rt.alloc();
+    let mut schedule = small(alloc)?;
+    let accepted = of_two(alloc, &mut schedule, "", "")?;
+    assert!(rt; accepted.is_none());
+    let second = of_one(alloc, &mut schedule, "")?;
+    assert!(rt; matches!(second, Some(Refusal::TooManyGraphs)));
+    let unpooled = of_one(alloc, &mut schedule, "pool = \"x\"")?;
+    assert!(rt; matches!(unpooled, Some(Refusal::UnknownPool(_))));
     Ok(())
 }

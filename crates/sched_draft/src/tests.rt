@@ -4,8 +4,9 @@ use dag_check::check;
 use graph_file::{Bounded, Name, Operator, Sequence, read_graph};
 use instance_machine::{Instance, Outcome, Stage};
 use moment_core::Moment;
-use sched_state::{Graph, Kind, Limits, Phase, Run, Text};
+use sched_state::{Graph, Job, Kind, Limits, Phase, Run, Text};
 use std::alloc::Global;
+use std::process::Abort;
 use std::test::Fail;
 use trigger_rules::{State, Verdict};
 
@@ -40,30 +41,40 @@ fn run(alloc: Global, day: &str, serial: u64) -> Result<Run, Fail> {
     })
 }
 
+// A draft of the runs of two days, of which the second has the first try.
+fn of_two_days(alloc: Global, graphs: &[Graph]) -> Result<Draft<'_>, Fail> {
+    let none = Vec::new(alloc);
+    let mut draft = Draft::new(Limits::full(), graphs, None, Moment::at(0), 4, 4, none);
+    draft.insert(run(alloc, "2024-01-02", 2)?)?;
+    draft.insert(run(alloc, "2024-01-01", 3)?.copy(alloc)?)?;
+    Ok(draft)
+}
+
+#[test]
+fn runs_come_by_date(rt: HostRuntime) -> Result<(), Fail> {
+    let graphs = [graph(rt.alloc())?];
+    let draft = of_two_days(rt.alloc(), &graphs)?;
+    let first = draft.runs().first().map(|run| run.logical);
+    assert_eq!(rt; first, Moment::read("2024-01-01").ok());
+    Ok(())
+}
+
 #[test]
 fn jobs_come_by_serial(rt: HostRuntime) -> Result<(), Fail> {
-    let alloc = rt.alloc();
-    let graphs = [graph(alloc)?];
-    let first = run(alloc, "2024-01-01", 3)?;
-    let mut draft = Draft::new(
-        Limits::full(),
-        &graphs,
-        None,
-        Moment::at(0),
-        4,
-        4,
-        Vec::new(alloc),
-    );
-    draft.insert(run(alloc, "2024-01-02", 2)?)?;
-    draft.insert(first.copy(alloc)?)?;
-    assert_eq!(rt;
-        draft.runs().first().map(|run| run.logical),
-        Some(first.logical)
-    );
-    assert_eq!(rt; draft.jobs_from(alloc, 3)?.len(), 1);
-    let jobs = draft.jobs_from(alloc, 1)?;
+    let graphs = [graph(rt.alloc())?];
+    let draft = of_two_days(rt.alloc(), &graphs)?;
+    assert_eq!(rt; draft.jobs_from(rt.alloc(), 3)?.len(), 1);
+    let jobs = draft.jobs_from(rt.alloc(), 1)?;
     assert_eq!(rt; jobs.len(), 2);
-    let job = jobs.as_slice().first().ok_or("no job")?.copy(alloc)?;
+    assert_job(
+        &rt,
+        &jobs.as_slice().first().ok_or("no job")?.copy(rt.alloc())?,
+    );
+    Ok(())
+}
+
+// Asserts that this is the job of the second day.
+fn assert_job(rt: &impl Abort, job: &Job) {
     assert_eq!(rt; (job.serial, job.try_number, job.slots.get()), (2, 1, 2));
     assert_eq!(rt;
         (job.graph.as_str(), job.task.as_str(), job.pool.as_str()),
@@ -74,7 +85,6 @@ fn jobs_come_by_serial(rt: HostRuntime) -> Result<(), Fail> {
         job.action.argv().last().map(|word| word.as_str()),
         Some("done")
     );
-    Ok(())
 }
 
 // The state of the only instance of the first run.

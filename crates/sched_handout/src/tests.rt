@@ -119,6 +119,19 @@ fn written(alloc: Global, draft: &Draft<'_>) -> Result<String, Fail> {
     Ok(text)
 }
 
+// The same, once all is handed out.
+fn told(alloc: Global, graphs: &[Graph], lanes: u32, runs: Vec<Run>) -> Result<String, Fail> {
+    let draft = handed_out(alloc, graphs, lanes, runs)?;
+    written(alloc, &draft)
+}
+
+// The same of a graph of these tasks with one run.
+fn told_of(alloc: Global, tasks: &[(&str, &str)], lanes: u32) -> Result<String, Fail> {
+    let graph = graph(alloc, "g", tasks)?;
+    let runs = vec![in alloc; run(alloc, &graph, 0)?]?;
+    told(alloc, &[graph], lanes, runs)
+}
+
 // By Airflow 2's pages 'Priority Weights' and 'Pools'.
 #[test]
 fn the_first_in_rank_that_fits_gets_a_try(rt: HostRuntime) -> Result<(), Fail> {
@@ -157,15 +170,19 @@ fn the_first_in_rank_that_fits_gets_a_try(rt: HostRuntime) -> Result<(), Fail> {
         ),
     ];
     for (tasks, lanes, wanted) in rows {
-        let graph = graph(alloc, "g", tasks)?;
-        let mut runs = Vec::new(alloc);
-        runs.push(run(alloc, &graph, 0)?)?;
-        let graphs = [graph];
-        let draft = handed_out(alloc, &graphs, lanes, runs)?;
-        let found = written(alloc, &draft)?;
+        let found = told_of(alloc, tasks, lanes)?;
         assert_eq!(rt; found.as_str(), wanted, "{lanes} lanes");
     }
     Ok(())
+}
+
+// Two runs of the first graph, at second 1 and 2, and one of the second at second 1.
+fn three_runs(alloc: Global, first: &Graph, second: &Graph) -> Result<Vec<Run>, Fail> {
+    let mut runs = Vec::new(alloc);
+    for (graph, secs) in [(first, 1), (first, 2), (second, 1)] {
+        runs.push(run(alloc, graph, secs)?)?;
+    }
+    Ok(runs)
 }
 
 #[test]
@@ -174,13 +191,8 @@ fn ties_go_by_date_then_graph_then_task(rt: HostRuntime) -> Result<(), Fail> {
     let tasks = [("b", ""), ("a", "")];
     let first = graph(alloc, "g", &tasks)?;
     let second = graph(alloc, "h", &tasks)?;
-    let mut runs = Vec::new(alloc);
-    runs.push(run(alloc, &first, 1)?)?;
-    runs.push(run(alloc, &first, 2)?)?;
-    runs.push(run(alloc, &second, 1)?)?;
-    let graphs = [first, second];
-    let draft = handed_out(alloc, &graphs, 5, runs)?;
-    let found = written(alloc, &draft)?;
+    let runs = three_runs(alloc, &first, &second)?;
+    let found = told(alloc, &[first, second], 5, runs)?;
     assert_eq!(rt; found.as_str(), "g.1.a g.1.b h.1.a h.1.b g.2.a ");
     Ok(())
 }
@@ -196,24 +208,24 @@ fn failed(alloc: Global, secs: i64) -> Result<Instance, Fail> {
     Ok(instance)
 }
 
+// What is handed out of a graph whose task has this delay, and whose only try failed at this second.
+fn told_after(alloc: Global, end: i64, delay: &str) -> Result<String, Fail> {
+    let more = format!(in alloc; "retries = 1\n{delay}")?;
+    let graph = graph(alloc, "g", &[("a", more.as_str())])?;
+    let instances = vec![in alloc; failed(alloc, end)?]?;
+    let runs = vec![in alloc; run_with(alloc, &graph, 0, instances)?]?;
+    told(alloc, &[graph], 1, runs)
+}
+
 // The clock stands at second 1,000.
 #[test]
 fn a_retry_is_handed_out_at_its_second(rt: HostRuntime) -> Result<(), Fail> {
-    let alloc = rt.alloc();
     for (end, delay, wanted) in [
         (990, "retry_delay = 10", "g.0.a "),
         (990, "retry_delay = 11", ""),
         (991, "retry_delay = 10", ""),
     ] {
-        let more = format!(in alloc; "retries = 1\n{delay}")?;
-        let graph = graph(alloc, "g", &[("a", more.as_str())])?;
-        let mut instances = Vec::new(alloc);
-        instances.push(failed(alloc, end)?)?;
-        let mut runs = Vec::new(alloc);
-        runs.push(run_with(alloc, &graph, 0, instances)?)?;
-        let graphs = [graph];
-        let draft = handed_out(alloc, &graphs, 1, runs)?;
-        let found = written(alloc, &draft)?;
+        let found = told_after(rt.alloc(), end, delay)?;
         assert_eq!(rt; found.as_str(), wanted, "{end} and {delay}");
     }
     Ok(())
