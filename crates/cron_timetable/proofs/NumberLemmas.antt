@@ -1,13 +1,10 @@
 -- Numbers, read digit by digit.
-use Rattle.std.proofs.Common.{◌≡◌, ℕ, ◌+◌, ◌-◌, ◌*◌, ◌<◌, ◌≤◌, ◌&&◌, Bool, true, false, cond, List, [], length, take, get_or, Some, None, refl, ap, arith}
+use Rattle.std.proofs.Common.{◌≡◌, ℕ, ◌+◌, ◌-◌, ◌*◌, ◌<◌, ◌≤◌, true, false, List, [], length, take, get_or, Some, None, refl, arith}
 use Rattle.std.proofs.lemmas.Bool.Decides.{nat_tests}
 use Rattle.std.proofs.lemmas.List.Folds.{list_all_at, list_all_more}
 use Rattle.std.proofs.lemmas.List.Sums.{fold_more}
 use Rattle.std.specs.List.{list_all}
 use Rattle.cron_timetable.specs.Elements.{number_of, decimal, is_digit}
-
-number_none : (b c d : Bool) (n : ℕ) → b && c && d ≡ false → cond (b && c && d) (Some n) None ≡ None
-number_none b c d n off = ap (λ t. cond t (Some n) None) off
 
 pub number_of-empty : (most : ℕ) (bs : List ℕ) → length bs ≡ 0 → number_of most bs ≡ None
 unfolding number_of

@@ -1,5 +1,5 @@
 -- From names to positions, and from positions to places.
-use Rattle.std.proofs.Common.{◌≡◌, ◌∙◌, ℕ, zero, suc, ◌+◌, ◌<◌, ◌≤◌, Bool, true, false, not, cond, ◌==◌, List, [], ◌∷◌, ◌++◌, map, length, get_or, set, take, refl, ap, sym, subst, arith, inl, inr, Vec, Global, get_or-set_same, get_or-set_other, subst₂}
+use Rattle.std.proofs.Common.{◌≡◌, ◌∙◌, ℕ, zero, suc, ◌+◌, ◌<◌, ◌≤◌, Bool, true, false, not, ◌==◌, List, [], ◌∷◌, map, length, get_or, set, take, refl, ap, sym, subst, arith, inl, inr, Vec, Global, get_or-set_same, get_or-set_other, subst₂}
 use Rattle.std.proofs.lemmas.Bool.{cases_lt, cases_Bool, false≢true, or_cases, or_left, or_right, or_parts, eqb-true, ne_eqb, eq-eqb, not-false, not-true, and_parts, and_from}
 use Rattle.std.proofs.lemmas.List.{get_or-map}
 use Rattle.std.proofs.lemmas.List.Folds.{list_any_more}
@@ -7,7 +7,7 @@ use Rattle.std.specs.List.{list_any, position_or_len}
 use Rattle.graph_file.specs.declared.task_specs.TaskSpec.{TaskSpec}
 use Rattle.dag_check.specs.Orders.{is_in, edges_of, AllBelow, place_in, IsPlacement, repeated}
 use Rattle.dag_check.specs.Names.{Name, same, has, ids_of, named_by, repeats, is_unknown, is_double_edge, position_of, rows_of, up_of, NoneBelow, FirstBelow}
-use Rattle.dag_check.specs.Graphs.{passing, placed_rows}
+use Rattle.dag_check.specs.Graphs.{placed_rows}
 use Rattle.dag_check.specs.Reach.{LeadsDown}
 use Rattle.dag_check.proofs.LawLemmas.{upstream-before}
 use Rattle.dag_check.proofs.NameLemmas.{length-map'}
@@ -101,16 +101,6 @@ pub rows-up : (tasks : List TaskSpec) (rows : List (Vec ℕ Global)) → map (λ
 rows-up tasks rows e = ap (λ (xs : List (List ℕ)). λ (i : ℕ). get_or xs i []) e
 
 -- numbers
-
-pub passing-yes : (p : ℕ → Bool) (n : ℕ) → p n ≡ true → passing p (n + 1) ≡ passing p n ++ n ∷ []
-passing-yes p n h = let e : n + 1 ≡ suc n = omega arith in rw e (rw h refl)
-
-pub passing-no : (p : ℕ → Bool) (n : ℕ) → p n ≡ false → passing p (n + 1) ≡ passing p n
-passing-no p n h = let e : n + 1 ≡ suc n = omega arith in rw e (ap (λ b. passing p n ++ (cond b (n ∷ []) [])) h ∙ append-nil (passing p n))
-  where
-    append-nil : (xs : List ℕ) → xs ++ [] ≡ xs
-    append-nil [] = refl
-    append-nil (x ∷ xs) = ap (λ ys. x ∷ ys) (append-nil xs)
 
 pub place-at : (xs : List ℕ) (k : ℕ) → k < length xs → is_in (take k xs) (get_or xs k 0) ≡ false → place_in xs (get_or xs k 0) ≡ k
 place-at [] k below once = absurd (omega arith)

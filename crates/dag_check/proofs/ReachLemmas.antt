@@ -1,9 +1,9 @@
 -- Marks of what a place reaches, one pass down or up.
 use Rattle.std.proofs.Common.{get_or, set, take}
-use Rattle.std.proofs.lemmas.List.Folds.{list_any_more, list_any_at}
+use Rattle.std.proofs.lemmas.List.Folds.{list_any_more}
 use Rattle.std.proofs.Common.{◌≡◌, ℕ, ◌+◌, ◌<◌, ◌≤◌, Bool, true, false, ◌==◌, ◌||◌, ◌⊎◌, List, length, refl, ap, sym, ◌∙◌, arith, inl, inr, subst}
-use Rattle.std.proofs.lemmas.Bool.{cases_lt, eq-eqb, eqb-true, false≢true}
-use Rattle.dag_check.specs.Reach.{IsClosed, IsReach, LeadsDown, LeadsUp}
+use Rattle.std.proofs.lemmas.Bool.{cases_lt, eqb-true, false≢true}
+use Rattle.dag_check.specs.Reach.{IsClosed, LeadsDown, LeadsUp}
 use Rattle.dag_check.specs.Orders.{is_in}
 use Rattle.dag_check.specs.Searches.{marked}
 use Rattle.dag_check.proofs.OrderLemmas.{marked-set}
@@ -24,17 +24,6 @@ pub record IsMarking (next : ℕ → List ℕ) (x i : ℕ) (m : ℕ → Bool) : 
   pub low : (j : ℕ) → m j ≡ true → j < x
   pub done : (j y : ℕ) → i ≤ j → (j == x) || m j ≡ true → is_in (next j) y ≡ true → m y ≡ true
   pub sound : (p : ℕ → Bool) → IsClosed next x p → (j : ℕ) → m j ≡ true → p j ≡ true
-
-pub marking-off : (next : ℕ → List ℕ) (x i : ℕ) (m : ℕ → Bool) → IsMarking next x (i + 1) m → (i == x) || m i ≡ false → IsMarking next x i m
-marking-off next x i m h off = record {
-  low = h.low;
-  done = λ j y from on edge.
-      elim (cases_lt i j) [
-        | inl above ↦ h.done j y (omega arith) on edge
-        | inr same ↦ let e : j ≡ i = omega arith in absurd (false≢true (sym off ∙ subst (λ (k : ℕ). ((k == x) || m k) ≡ true) e on))
-      ];
-  sound = h.sound;
-}
 
 pub marking-on : (next : ℕ → List ℕ) (x i : ℕ) (m m' : ℕ → Bool) → LeadsDown next → i ≤ x → IsMarking next x (i + 1) m → (i == x) || m i ≡ true → ((y : ℕ) → m' y ≡ (m y || is_in (next i) y)) → IsMarking next x i m'
 marking-on next x i m m' down within h on new = record {
@@ -64,24 +53,6 @@ marking-on next x i m m' down within h on new = record {
       ];
 }
 
--- nothing is marked yet
-pub marking-start : (next : ℕ → List ℕ) (x : ℕ) (m : ℕ → Bool) → ((y : ℕ) → m y ≡ false) → IsMarking next x (x + 1) m
-marking-start next x m none = record {
-  low = λ j marked. absurd (false≢true (sym (none j) ∙ marked));
-  done = λ j y from on edge.
-      elim (or-true (j == x) (m j) on) [ inl start ↦ let e = eqb-true j x start in absurd (omega arith) | inr marked ↦ absurd (false≢true (sym (none j) ∙ marked)) ];
-  sound = λ p closed j marked. absurd (false≢true (sym (none j) ∙ marked));
-}
-
-pub marking-end : (next : ℕ → List ℕ) (x : ℕ) (m : ℕ → Bool) → IsMarking next x 0 m → IsReach next x m
-marking-end next x m h = record {
-  closed = record {
-    neighbours = λ y edge. h.done x y (omega arith) (or-left (x == x) (m x) (eq-eqb x x refl)) edge;
-    edges = λ j y marked edge. h.done j y (omega arith) (or-right (j == x) (m j) marked) edge;
-  };
-  smallest = h.sound;
-}
-
 or-assoc : (a b c : Bool) → ((a || b) || c) ≡ (a || (b || c))
 or-assoc true b c = refl
 or-assoc false b c = refl
@@ -92,9 +63,6 @@ marks-more m m₀ places i below inside so_far y =
     ∙ (ap (λ v. v || (get_or places i 0 == y)) (so_far y)
     ∙ (or-assoc (get_or m₀ y false) (is_in (take i places) y) (get_or places i 0 == y)
     ∙ ap (λ v. get_or m₀ y false || v) (sym (list_any_more (λ z. z == y) places i 0 below))))
-
-in-at-own : (places : List ℕ) (i : ℕ) → i < length places → is_in places (get_or places i 0) ≡ true
-in-at-own places i below = list_any_at (λ z. z == get_or places i 0) places i 0 below (eq-eqb _ _ refl)
 
 -- the same where each edge leads up: the places below i are done
 pub record IsMarkingUp (next : ℕ → List ℕ) (x i : ℕ) (m : ℕ → Bool) : Type 0 where
@@ -139,22 +107,4 @@ up-on next x i n m m' up within h on new = record {
               | inr marked' ↦ closed.edges i j (h.sound p closed i marked') edge
             ]
       ];
-}
-
-pub up-start : (next : ℕ → List ℕ) (x : ℕ) (m : ℕ → Bool) → ((y : ℕ) → m y ≡ false) → IsMarkingUp next x x m
-up-start next x m none = record {
-  high = λ j marked. absurd (false≢true (sym (none j) ∙ marked));
-  done = λ j y from on edge.
-      elim (or-true (j == x) (m j) on) [ inl start ↦ let e = eqb-true j x start in absurd (omega arith) | inr marked ↦ absurd (false≢true (sym (none j) ∙ marked)) ];
-  sound = λ p closed j marked. absurd (false≢true (sym (none j) ∙ marked));
-}
-
--- nothing from n on has neighbours
-pub up-end : (next : ℕ → List ℕ) (x n : ℕ) (m : ℕ → Bool) → LeadsUp next n → x < n → IsMarkingUp next x n m → IsReach next x m
-up-end next x n m up inside h = record {
-  closed = record {
-    neighbours = λ y edge. h.done x y inside (or-left (x == x) (m x) (eq-eqb x x refl)) edge;
-    edges = λ j y marked edge. let u = up j y edge in h.done j y (omega arith) (or-right (j == x) (m j) marked) edge;
-  };
-  smallest = h.sound;
 }

@@ -15,16 +15,6 @@ pub record IsWalk (up : ℕ → List ℕ) (m : ℕ → Bool) (n : ℕ) (w : List
   pub inside : at < n
   pub open' : m at ≡ false
 
-pub walk-start : (up : ℕ → List ℕ) (m : ℕ → Bool) (n at : ℕ) → at < n → m at ≡ false → IsWalk up m n [] at
-walk-start up m n at inside off = record {
-  within = λ k h. absurd (omega arith);
-  steps = λ k h. absurd (omega arith);
-  distinct = λ i j h l. absurd (omega arith);
-  next = λ k h. absurd (omega arith);
-  inside = inside;
-  open' = off;
-}
-
 pub walk-more : (up : ℕ → List ℕ) (m : ℕ → Bool) (n : ℕ) (w : List ℕ) (at to : ℕ) → IsWalk up m n w at → is_in w at ≡ false → to < n → m to ≡ false → is_in (up at) to ≡ true → IsWalk up m n (w ++ at ∷ []) to
 walk-more up m n w at to h new inside off edge =
     let long = length-push w at in

@@ -21,10 +21,6 @@ and_right false c e = absurd (true≢false (sym e))
 pub both : (b c : Bool) → b ≡ true → c ≡ true → (b && c) ≡ true
 both b c e f = rw (e, f) refl
 
-all_weaker : {X : Type 0} (p q : X → Bool) → ((x : X) → p x ≡ true → q x ≡ true) → (xs : List X) → list_all p xs ≡ true → list_all q xs ≡ true
-all_weaker p q h [] e = refl
-all_weaker p q h (x ∷ xs) e = both (q x) (list_all q xs) (h x (and_left (p x) _ e)) (all_weaker p q h xs (and_right (p x) _ e))
-
 all_filter : {X : Type 0} (p q : X → Bool) (xs : List X) → list_all q xs ≡ true → list_all q (filter p xs) ≡ true
 all_filter p q [] e = refl
 all_filter p q (x ∷ xs) e =

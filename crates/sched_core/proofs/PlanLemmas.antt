@@ -1,13 +1,11 @@
 -- Which events are refused, and what is planned for one that is not.
-use Rattle.std.proofs.Common.{◌≡◌, refl, sym, ap, subst, ◌∙◌, ℕ, ◌-◌, ◌≤◌, List, [], ◌∷◌, Bool, true, false, not, ◌&&◌, ◌==◌, find, is_none, is_some, length, map, flat_map, nat_le, nat_lt, Option, Some, None, option_map, option_and_then, Ok, true≢false, get_or, slice_get, Bor, arith}
+use Rattle.std.proofs.Common.{◌≡◌, refl, sym, ap, subst, ◌∙◌, ℕ, ◌-◌, ◌≤◌, List, [], ◌∷◌, Bool, true, false, not, ◌&&◌, ◌==◌, find, is_none, is_some, length, map, flat_map, nat_le, nat_lt, Option, Some, None, option_map, option_and_then, true≢false, get_or, slice_get, Bor, arith}
 use Rattle.std.specs.List.{list_any, range_with_len}
 use Rattle.std.specs.Option.{option_copied}
 use Rattle.std.proofs.lemmas.Bool.{le-leb}
 use Rattle.std.proofs.lemmas.Option.{slice_get-get_or}
-use Rattle.graph_file.specs.Graphs.{graph_of}
 use Rattle.graph_file.specs.Lists.{when, first_some, holds_at}
 use Rattle.graph_file.specs.declared.faults.GraphFault.TheVariants.{TooMany}
-use Rattle.graph_file.specs.declared.graph_specs.GraphSpec.{GraphSpec}
 use Rattle.dag_check.specs.Graphs.{Dag, dag_of}
 use Rattle.dag_check.specs.Faults.{first_fault}
 use Rattle.dag_check.specs.declared.faults.DagFault.{DagFault}
@@ -68,18 +66,6 @@ causes a text dag t =
     ∙ (ap (λ b. five b (first_fault dag.spec.tasks) (unknown_pool a dag.spec) more other) t.fits
     ∙ (ap (λ f. five false f (unknown_pool a dag.spec) more other) none
     ∙ ap (λ p. five false None p more other) t.pools))
-
--- the causes that lie in the text, the bounds and the pools
-pub refused_long : (a : Schedule) (text : List ℕ) (spec : GraphSpec) → graph_of text ≡ Ok spec → exceeds a.limits spec ≡ true → refused a (Load text) ≡ Some (refusal.GraphFault TooMany)
-refused_long a text spec said long =
-    ap (refused_text a text) said ∙ ap (λ b. five b (first_fault spec.tasks) (unknown_pool a spec) (has_too_many_graphs a spec.dag_id) (differs a text spec)) long
-
-pub refused_faulty : (a : Schedule) (text : List ℕ) (spec : GraphSpec) (f : DagFault) → graph_of text ≡ Ok spec → exceeds a.limits spec ≡ false → first_fault spec.tasks ≡ Some f
-    → refused a (Load text) ≡ Some (refusal.DagFault f)
-refused_faulty a text spec f said fits first =
-    ap (refused_text a text) said
-    ∙ (ap (λ b. five b (first_fault spec.tasks) (unknown_pool a spec) (has_too_many_graphs a spec.dag_id) (differs a text spec)) fits
-    ∙ ap (λ g. five false g (unknown_pool a spec) (has_too_many_graphs a spec.dag_id) (differs a text spec)) first)
 
 pub refused_pool : (a : Schedule) (text : List ℕ) (dag : Dag) (pool : List ℕ) → Says text dag → exceeds a.limits dag.spec ≡ false → unknown_pool a dag.spec ≡ Some pool
     → refused a (Load text) ≡ Some (refusal.UnknownPool pool)
@@ -229,14 +215,6 @@ two_none b c x y e f = rw (e, f) refl
 
 pub tick_accepted : (a : Schedule) (t : ℕ) → nat_lt t a.now ≡ false → is_full_with a (named_by_tick a t) ≡ false → refused a (Tick t) ≡ None
 tick_accepted a t back full = two_none (nat_lt t a.now) (is_full_with a (named_by_tick a t)) (refusal.ClockBack a.now) refusal.RecordFull back full
-
-pub tick_back : (a : Schedule) (t : ℕ) → nat_lt t a.now ≡ true → refused a (Tick t) ≡ Some (refusal.ClockBack a.now)
-tick_back a t back = ap (λ b. first_some (when b (refusal.ClockBack a.now) ∷ when (is_full_with a (named_by_tick a t)) refusal.RecordFull ∷ [])) back
-
-pub tick_full : (a : Schedule) (t : ℕ) → nat_lt t a.now ≡ false → is_full_with a (named_by_tick a t) ≡ true → refused a (Tick t) ≡ Some refusal.RecordFull
-tick_full a t back full =
-    ap (λ b. first_some (when b (refusal.ClockBack a.now) ∷ when (is_full_with a (named_by_tick a t)) refusal.RecordFull ∷ [])) back
-    ∙ ap (λ b. first_some (when b refusal.RecordFull ∷ [])) full
 
 -- the runs of names are those names
 pub ids_named : (a : Schedule) (ns : List Named) → map run_id (map (queued_run a) ns) ≡ map id_of ns

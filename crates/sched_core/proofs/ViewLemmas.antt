@@ -140,9 +140,6 @@ run_here a id date task r e =
     ∙ (found_beside (λ (t : TaskSpec). same t.task_id task) (tasks_of a r) r.instances
     ∙ ap (λ (n : List ℕ). option_and_then (slice_get r.instances) (position (λ (t : TaskSpec). same t.task_id task) (dag_named a n).tasks)) graph)
 
-pub no_run : (a : Schedule) (id : List ℕ) (date : ℕ) (task : List ℕ) → find (is_at id date) a.runs ≡ None → instance_of a id date task ≡ None
-no_run a id date task e = ap (option_and_then (instance_in a task)) e
-
 pub no_graph : (a : Schedule) (id : List ℕ) (date : ℕ) (task : List ℕ) (r : Run) → find (is_at id date) a.runs ≡ Some r → graph_named a id ≡ None → instance_of a id date task ≡ None
 no_graph a id date task r e f =
     run_here a id date task r e

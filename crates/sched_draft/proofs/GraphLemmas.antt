@@ -1,5 +1,5 @@
 -- What a draft shows of its graphs is what stands in them, but for the pause of one.
-use Rattle.std.proofs.Common.{◌≡◌, ◌∙◌, refl, sym, ap, ℕ, zero, suc, ◌<◌, List, [], ◌∷◌, length, drop, map, Bool, true, false, cond, not, ◌&&◌, Option, Some, None, option_map, option_and_then, slice_get, find, arith}
+use Rattle.std.proofs.Common.{◌≡◌, ◌∙◌, refl, sym, ap, ℕ, suc, List, [], ◌∷◌, length, map, true, false, cond, not, ◌&&◌, Option, Some, None, option_map, option_and_then, slice_get}
 use Rattle.std.proofs.lemmas.Option.{slice_get-map}
 use Rattle.dag_check.specs.Graphs.{Dag}
 use Rattle.sched_state.specs.Lists.{same}
@@ -7,21 +7,6 @@ use Rattle.sched_state.specs.declared.graphs.Graph.{Graph}
 use Rattle.sched_model.specs.Schedule.{graph_among}
 use Rattle.sched_model.specs.Changes.{pause_graph}
 use Rattle.sched_draft.specs.Parts.{is_named, with_unpaused}
-
--- ---- what is found
-drop_suc : {X : Type 0} (xs : List X) (i : ℕ) (x : X) → slice_get xs i ≡ Some x → drop i xs ≡ x ∷ drop (suc i) xs
-drop_suc {X} [] i x e = absurd (let c : ◌≡◌ {A = Option X} None (Some x) = e in cc)
-drop_suc {X} (y ∷ xs) zero x e = let c : ◌≡◌ {A = Option X} (Some y) (Some x) = e in let r : y ≡ x = cc in ap (λ z. z ∷ xs) r
-drop_suc (y ∷ xs) (suc i) x e = drop_suc xs i x e
-
--- an element that passes is what is found from it on
-pub find_hit : {X : Type 0} (p : X → Bool) (xs : List X) (i : ℕ) (x : X) → slice_get xs i ≡ Some x → p x ≡ true → find p (drop i xs) ≡ Some x
-find_hit p xs i x e f = rw (drop_suc xs i x e, f) refl
-
-pub element_at : {X : Type 0} (xs : List X) (i : ℕ) → i < length xs → (x : X) × (slice_get xs i ≡ Some x)
-element_at [] i b = absurd (omega arith)
-element_at (x ∷ xs) zero b = (x, refl)
-element_at (x ∷ xs) (suc i) b = element_at xs i (omega arith)
 
 -- ---- a graph with another pause
 unpause : List ℕ → Graph → Graph

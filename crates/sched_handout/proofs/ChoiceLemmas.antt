@@ -10,7 +10,8 @@ use Rattle.sched_model.specs.Lists.{best_by, better}
 use Rattle.sched_model.specs.Schedule.{Schedule, dag_named}
 use Rattle.sched_model.specs.Handout.{Offer, offers, offers_in, offers_at, offer_of, fits, ranks_before, best_offer, is_ready}
 use Rattle.sched_handout.specs.Choices.{choose, choose_all, offer_if_ready}
-use Rattle.sched_handout.proofs.ListLemmas.{enumerate_at, element_at, zip_at}
+use Rattle.sched_state.proofs.ElementLemmas.{element_at}
+use Rattle.sched_handout.proofs.ListLemmas.{enumerate_at, zip_at}
 
 pub choose_append : (a : Schedule) (os ps : List Offer) (best : Option Offer) → choose_all a (os ++ ps) best ≡ choose_all a os (choose_all a ps best)
 choose_append a [] ps best = refl

@@ -1,14 +1,7 @@
--- Reading one element of a list beside what comes after it.
-use Rattle.std.proofs.Common.{◌≡◌, refl, ap, ℕ, zero, suc, ◌+◌, ◌<◌, ◌≤◌, List, [], ◌∷◌, ◌++◌, length, drop, min, Bool, true, Option, Some, None, slice_get, find, flat_map, arith}
+-- Pairs and numbered elements, one beside those after it.
+use Rattle.std.proofs.Common.{◌≡◌, refl, ℕ, zero, suc, ◌+◌, ◌≤◌, List, [], ◌∷◌, ◌++◌, length, drop, min, Option, Some, None, slice_get, flat_map, arith}
 use Rattle.std.specs.List.{zip, enumerate_from}
-
-drop_suc : {X : Type 0} (xs : List X) (i : ℕ) (x : X) → slice_get xs i ≡ Some x → drop i xs ≡ x ∷ drop (suc i) xs
-drop_suc {X} [] i x e = absurd (let c : ◌≡◌ {A = Option X} None (Some x) = e in cc)
-drop_suc {X} (y ∷ xs) zero x e = let c : ◌≡◌ {A = Option X} (Some y) (Some x) = e in let r : y ≡ x = cc in ap (λ z. z ∷ xs) r
-drop_suc (y ∷ xs) (suc i) x e = drop_suc xs i x e
-
-pub drop_at : {X : Type 0} (xs : List X) (i : ℕ) (x : X) → slice_get xs i ≡ Some x → drop i xs ≡ x ∷ drop (i + 1) xs
-drop_at xs i x e = let n : i + 1 ≡ suc i = omega arith in rw n (drop_suc xs i x e)
+use Rattle.sched_state.proofs.ElementLemmas.{drop_at}
 
 pub drop_over : {X : Type 0} (xs : List X) (i : ℕ) → length xs ≤ i → drop i xs ≡ []
 drop_over [] zero b = refl
@@ -34,16 +27,7 @@ zip_over (x ∷ xs) [] (suc k) b = refl
 zip_over (x ∷ xs) (y ∷ ys) zero b = absurd (omega arith)
 zip_over (x ∷ xs) (y ∷ ys) (suc k) b = zip_over xs ys k (omega arith)
 
--- an element that passes is what is found from it on
-pub find_hit : {X : Type 0} (p : X → Bool) (xs : List X) (i : ℕ) (x : X) → slice_get xs i ≡ Some x → p x ≡ true → find p (drop i xs) ≡ Some x
-find_hit p xs i x e f = rw (drop_at xs i x e, f) refl
-
 -- an element and its number, before those after it
 pub enumerate_at : {X Y : Type 0} (f : ℕ × X → List Y) (xs : List X) (i : ℕ) (x : X) → slice_get xs i ≡ Some x
     → flat_map f (enumerate_from i (drop i xs)) ≡ f (i, x) ++ flat_map f (enumerate_from (i + 1) (drop (i + 1) xs))
 enumerate_at f xs i x e = rw (drop_at xs i x e) refl
-
-pub element_at : {X : Type 0} (xs : List X) (i : ℕ) → i < length xs → (x : X) × (slice_get xs i ≡ Some x)
-element_at [] i b = absurd (omega arith)
-element_at (x ∷ xs) zero b = (x, refl)
-element_at (x ∷ xs) (suc i) b = element_at xs i (omega arith)

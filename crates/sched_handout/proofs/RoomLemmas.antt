@@ -8,7 +8,7 @@ use Rattle.sched_model.specs.Schedule.{default_pool}
 use Rattle.sched_model.specs.States.{slots_in, is_open}
 use Rattle.sched_handout.specs.declared.counting.Room.{Room}
 use Rattle.sched_handout.specs.Rooms.{left_by}
-use Rattle.sched_handout.proofs.ListLemmas.{drop_at}
+use Rattle.sched_state.proofs.ElementLemmas.{drop_at}
 
 room_is : (k l m n : ℕ) → k ≡ l → m ≡ n → ◌≡◌ {A = Room} (record { lanes = k; slots = m }) (record { lanes = l; slots = n })
 room_is k l m n e f = rw (e, f) refl

@@ -75,9 +75,6 @@ pub record Decided (a : Schedule) (n p : ℕ) (j : Held) : Type 0 where
   pub instance_is : slice_get run.instances p ≡ Some instance
   pub decided : decide_instance a run p instance ≡ Some j
 
-guard : Bool → Option Held → Option Held
-guard c o = elim c [ true ↦ o | false ↦ None ]
-
 guard_some : (c : Bool) (o : Option Held) (j : Held) → (◌≡◌ {A = Option Held} (elim c [ true ↦ o | false ↦ None ]) (Some j)) → (c ≡ true) × (o ≡ Some j)
 guard_some true o j e = (refl, e)
 guard_some false o j e = absurd (let n : ◌≡◌ {A = Option Held} None (Some j) = e in cc)

@@ -23,17 +23,9 @@ use Rattle.sched_laws.proofs.SettleLemmas.{map_some, and_then_some}
 abbrev pub with_new : Run → Schedule → Schedule
 with_new x a = record a { runs = insert_by run_before x a.runs }
 
-else_same : {X : Type 0} (o u v : Option X) (x : X) → (u ≡ Some x) ⊎ (u ≡ v) → (or_else o u ≡ Some x) ⊎ (or_else o u ≡ or_else o v)
-else_same None u v x h = h
-else_same (Some y) u v x h = inr refl
-
 else_first : {X : Type 0} (o u w : Option X) (x : X) → (o ≡ Some x) ⊎ (o ≡ w) → (or_else o u ≡ Some x) ⊎ (or_else o u ≡ or_else w u)
 else_first o u w x (inl e) = inl (ap (λ z. or_else z u) e)
 else_first o u w x (inr e) = inr (ap (λ z. or_else z u) e)
-
-when_cases : {X : Type 0} (o : Option X) (b : Bool) (x : X) → (or_else (when b x) o ≡ Some x) ⊎ (or_else (when b x) o ≡ o)
-when_cases o true x = inl refl
-when_cases o false x = inr refl
 
 else_when : {X : Type 0} (o : Option X) (b : Bool) (x : X) → (or_else o (when b x) ≡ Some x) ⊎ (or_else o (when b x) ≡ o)
 else_when None true x = inl refl

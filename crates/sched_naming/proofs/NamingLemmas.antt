@@ -1,5 +1,5 @@
 -- What is planned for a graph is what the definition names.
-use Rattle.std.proofs.Common.{◌≡◌, ◌∙◌, refl, sym, ap, ℕ, zero, suc, ◌+◌, ◌<◌, List, [], ◌∷◌, ◌++◌, Bool, true, false, not, filter, find, map, take, length, replicate, slice_get, nat_lt, Option, Some, None, option_map, unwrap_or, subst, ◌||◌, flat_map, arith}
+use Rattle.std.proofs.Common.{◌≡◌, ◌∙◌, refl, sym, ap, ℕ, zero, suc, ◌+◌, List, [], ◌∷◌, ◌++◌, Bool, true, false, not, filter, find, map, take, length, replicate, slice_get, nat_lt, Option, Some, None, option_map, unwrap_or, subst, ◌||◌, flat_map, arith}
 use Rattle.std.specs.List.{list_all, list_any}
 use Rattle.std.proofs.lemmas.Grind.{flat_map-append}
 use Rattle.std.proofs.lemmas.List.{map-append, append-nil}
@@ -132,16 +132,7 @@ pub or_passed : (b c : Bool) → b ≡ false → c ≡ (b || c)
 or_passed true c e = absurd (let f : ◌≡◌ {A = Bool} true false = e in cc)
 or_passed false c e = refl
 
-pub element_at : {X : Type 0} (xs : List X) (i : ℕ) → i < length xs → (x : X) × (slice_get xs i ≡ Some x)
-element_at [] i b = absurd (omega arith)
-element_at (x ∷ xs) zero b = (x, refl)
-element_at (x ∷ xs) (suc i) b = element_at xs i (omega arith)
-
 -- ---- one more instance, and one more run
-pub replicate_more : {X : Type 0} (n : ℕ) (x : X) → replicate n x ++ x ∷ [] ≡ replicate (n + 1) x
-replicate_more zero x = refl
-replicate_more (suc n) x = let e : suc n + 1 ≡ suc (n + 1) = omega arith in rw e (ap (λ xs. x ∷ xs) (replicate_more n x))
-
 pub insert_last : (ns : List Run) (n : Run) (rs : List Run) → insert_runs (ns ++ n ∷ []) rs ≡ insert_runs ns (insert_by run_before n rs)
 insert_last [] n rs = refl
 insert_last (m ∷ ns) n rs = ap (insert_by run_before m) (insert_last ns n rs)

@@ -77,11 +77,6 @@ past_some a r q g t p looks before is =
     held_back t.depends_on_past _ _ looks
     (ap (λ (h : Dag). opens_gate (Some (state_in h q p))) dag ∙ ap (λ (o : Option Run). opens_gate (option_map (λ (x : Run). state_at a x p) o)) before)
 
--- the past, where there is none
-pub past_none : (a : Schedule) (r : Run) (t : TaskSpec) (p : ℕ) → t.depends_on_past ≡ true → None ≡ last_passing (is_earlier r) a.runs → opens_gate None ≡ past_is_open a r t p
-past_none a r t p looks before =
-    held_back t.depends_on_past _ _ looks (ap (λ (o : Option Run). opens_gate (option_map (λ (x : Run). state_at a x p) o)) before)
-
 -- ---- the verdict
 pub verdict_is : (a : Schedule) (r : Run) (g : Dag) (t : TaskSpec) (p : ℕ) (v : Verdict) (b : Bool) → dag_named a r.graph ≡ g → v ≡ rule_verdict t.trigger_rule (map (state_in g r) (ups g p))
     → b ≡ past_is_open a r t p → decides b v ≡ decided_verdict a r p t

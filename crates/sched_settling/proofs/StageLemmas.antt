@@ -23,7 +23,7 @@ use Rattle.sched_laws.proofs.HandLemmas.{map_at}
 use Rattle.sched_laws.proofs.DecisionLemmas.{one_falls}
 use Rattle.sched_laws.proofs.SweepLemmas.{sweep_all}
 use Rattle.sched_laws.proofs.SettleLemmas.{move_falls, finish_run_falls}
-use Rattle.sched_laws.proofs.StageLemmas.{ordered_ends, move_starts, start_settles, still_settles, started}
+use Rattle.sched_laws.proofs.StageLemmas.{ordered_ends, move_starts, start_settles, started}
 
 -- ---- what the stages leave as it is
 pub record Frame : Type 0 where
@@ -101,9 +101,6 @@ stage_next start w b c s e is =
     let h : IsOrdered b = framed w b (start_frame w b e) s.ordered in
     let n = stage_first b c h is in
     record { settles = s.settles ∙ (start_settles w b s.decided s.ended e ∙ n.settles); decided = n.decided; ended = n.ended; ordered = n.ordered }
-
-pub stage_over : (start w b : Schedule) → IsStaged start w → start_one w ≡ None → b ≡ w → b ≡ settle start
-stage_over start w b s e is = is ∙ (sym (still_settles w s.decided s.ended e) ∙ sym s.settles)
 
 -- ---- it ends
 repeat_low : {X : Type 0} (μ : X → ℕ) (f : X → Option X) → Falls μ f → (n : ℕ) (x : X) → μ (repeat n f x) ≤ μ x

@@ -1,3 +1,4 @@
+pub mod ElementLemmas
 pub mod NameLemmas
 pub mod OrderLemmas
 pub mod RepeatLemmas

@@ -20,10 +20,6 @@ pub record Left (rest : Option (List ℕ)) (commands : List Request) : Type 0 wh
 abbrev pub Asks : List ℕ → Asked → Option (List ℕ) → Type 0
 Asks bytes asked rest = (line : List ℕ) × IsFirstLine bytes line rest × (asked ≡ asked_of line)
 
--- at the beginning all are
-pub left-first : (rest : Option (List ℕ)) (bytes : List ℕ) → rest ≡ Some bytes → Left rest (commands_in bytes)
-left-first rest bytes known = record { left = bytes; known = known; same = refl }
-
 -- what the next line gives, and what those after it give
 pub commands-next : (bytes line left : List ℕ) (asked : Asked) → lines_of bytes ≡ line ∷ lines_of left → asked ≡ asked_of line → commands_in bytes ≡ given_by asked (λ place. commands_from place (lines_of left))
 unfolding commands_in

@@ -26,10 +26,6 @@ pub record Stands (rest : Option (List ℕ)) (g : Gathered) (commands : List Req
   pub gathers : Gathers text g
   pub same : commands ≡ commands_from (Inside text) (lines_of left)
 
--- at the beginning there is no line
-pub stands-first : (rest : Option (List ℕ)) (bytes empty : List ℕ) (g : Gathered) → rest ≡ Some bytes → Gathers (Some []) g → Stands rest g (commands_from (Inside (Some [])) (lines_of bytes))
-stands-first rest bytes empty g known h = record { left = bytes; known = known; text = Some []; gathers = h; same = refl }
-
 next-at : (b : Bool) (x y : List Request) → b ≡ false → cond b x y ≡ y
 next-at true x y h = cc
 next-at false x y h = refl

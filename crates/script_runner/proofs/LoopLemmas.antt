@@ -7,7 +7,7 @@ use Rattle.sched_model.specs.Schedule.{Schedule}
 use Rattle.script_commands.specs.Commands.{Request, IsNext, IsFirst, IsGiven, commands_in}
 use Rattle.script_runner.specs.Outcomes.{Outcome, IsOutcome}
 use Rattle.script_runner.specs.Runs.{IsRun, IsAnswered, IsScriptRun, then_outcome}
-use Rattle.answer_lines.proofs.AppendLemmas.{appends_both, appends_none}
+use Rattle.answer_lines.proofs.AppendLemmas.{appends_both}
 use Rattle.script_runner.proofs.OutcomeLemmas.{at_err, outcome-given}
 
 -- the outcome of no command
@@ -44,18 +44,6 @@ pub record Going (bytes rest : Option (List ℕ)) (a now : Schedule) (old new : 
   pub has_status : status ≡ outcome.status
   pub written : Appends old new outcome.shown
   pub read : (known : List ℕ) → bytes ≡ Some known → (left : List ℕ) × (rest ≡ Some left) × (commands_in known ≡ done ++ commands_in left)
-
--- at the beginning none is done
-pub going-first : (bytes : Option (List ℕ)) (a : Schedule) (old : Option (List ℕ)) → Going bytes bytes a a old old 0
-going-first bytes a old = record {
-  done = [];
-  outcome = quiet a;
-  run = refl;
-  schedule = refl;
-  has_status = refl;
-  written = appends_none old;
-  read = λ known e. (known, e, refl);
-}
 
 -- the command that comes next: what is given for it, and what is left
 record Next (bytes rest : Option (List ℕ)) (done : List Request) (given : Request) : Type 0 where
@@ -107,18 +95,6 @@ run-failed bytes rest rest' a now now' old new new' status given result failed Q
       answered = at_err failed _ Q err;
       read = λ known e. let r = nx.read known e in (commands_in r.0, r.2, at_err failed _ Q err);
     }
-
--- reading failed
-pub run-stopped : {F : Type 0} (bytes rest : Option (List ℕ)) (a now : Schedule) (old new : Option (List ℕ)) (status : ℕ) (failed : Result ℕ F) (Q : F → Type 0)
-    → Going bytes rest a now old new status → IsErrAnd failed Q → IsScriptRun bytes a now old new failed
-run-stopped bytes rest a now old new status failed Q s err = record {
-  commands = s.done;
-  outcome = s.outcome;
-  run = s.run;
-  schedule = s.schedule;
-  answered = at_err failed _ Q err;
-  read = λ known e. let r = s.read known e in (commands_in r.0, r.2, at_err failed _ Q err);
-}
 
 -- all are done
 pub run-ended : {F : Type 0} (bytes rest rest' : Option (List ℕ)) (a now : Schedule) (old new : Option (List ℕ)) (status : ℕ) (result : Result ℕ F)

@@ -167,10 +167,6 @@ success_or_bad-ends : TellsEnd is_success_or_bad
 unfolding TellsEnd
 success_or_bad-ends x h = or-first (is_success x) (is_bad x) (is_skipped x) h
 
-finished-ends : TellsEnd is_finished
-unfolding TellsEnd
-finished-ends x h = h
-
 not-bad : (x : State) → is_success_or_skipped x ≡ true → is_bad x ≡ false
 not-bad state.None h = cc
 not-bad _ h = cc

@@ -3,7 +3,7 @@ use Rattle.std.proofs.lemmas.Option.{slice_get_read}
 use Rattle.graph_file.specs.declared.graph_specs.GraphSpec.{GraphSpec}
 use Rattle.sched_state.specs.Lists.{same}
 use Rattle.sched_state.specs.declared.graphs.Graph.{Graph}
-use Rattle.sched_draft.proofs.GraphLemmas.{find_hit}
+use Rattle.sched_state.proofs.ElementLemmas.{find_hit}
 use Rattle.sched_draft.proofs.graphs.position_in.Goals as goal
 
 pub returns-then-eq-clause-position : goal.returns-then-eq-clause-position

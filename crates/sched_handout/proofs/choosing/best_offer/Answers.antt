@@ -1,6 +1,6 @@
 use Rattle.std.proofs.Common.{◌-◌, None, arith}
 use Rattle.sched_model.specs.Handout.{offers_in}
-use Rattle.sched_handout.proofs.ListLemmas.{element_at}
+use Rattle.sched_state.proofs.ElementLemmas.{element_at}
 use Rattle.sched_handout.proofs.ChoiceLemmas.{choose_before, choose_over}
 use Rattle.sched_handout.proofs.choosing.best_offer.Goals as goal
 

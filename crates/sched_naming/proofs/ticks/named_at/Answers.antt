@@ -1,7 +1,6 @@
-use Rattle.std.proofs.Common.{◌≡◌, ◌∙◌, ℕ, ap, map, subst, sym, Bool, Option, Some, option_map, slice_get}
+use Rattle.std.proofs.Common.{◌≡◌, ◌∙◌, ℕ, ap, map, subst, Bool, Some}
 use Rattle.graph_file.specs.declared.graph_specs.GraphSpec.{GraphSpec}
 use Rattle.run_planner.specs.Index.{has_date}
-use Rattle.sched_state.specs.declared.graphs.Graph.{Graph}
 use Rattle.sched_model.specs.Schedule.{Schedule, dates_of}
 use Rattle.sched_naming.specs.NewRuns.{scheduled_run}
 use Rattle.sched_naming.proofs.NamingLemmas.{named_there, paused_there}

@@ -1,6 +1,7 @@
-use Rattle.std.proofs.Common.{◌≡◌, ◌∙◌, ◌||◌, ℕ, Bool, ap, sym, length, arith}
+use Rattle.std.proofs.Common.{◌∙◌, ℕ, arith}
 use Rattle.sched_model.specs.Schedule.{Schedule}
-use Rattle.sched_naming.proofs.NamingLemmas.{named_more, left_more, or_taken, or_passed, element_at}
+use Rattle.sched_state.proofs.ElementLemmas.{element_at}
+use Rattle.sched_naming.proofs.NamingLemmas.{named_more, left_more, or_taken, or_passed}
 use Rattle.sched_naming.proofs.ticks.named_by_tick.Goals as goal
 use Rattle.sched_naming.proofs.ticks.named_by_tick.Goals.{then-named, else-named}
 

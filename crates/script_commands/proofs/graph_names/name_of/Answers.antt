@@ -1,4 +1,4 @@
-use Rattle.std.proofs.Common.{◌≡◌, ap, sym, Bool}
+use Rattle.std.proofs.Common.{ap, sym, Bool}
 use Rattle.graph_file.specs.Lists.{when}
 use Rattle.script_commands.proofs.NameLemmas.{no_name}
 use Rattle.script_commands.proofs.graph_names.name_of.Goals as goal

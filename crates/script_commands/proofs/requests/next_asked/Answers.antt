@@ -1,4 +1,4 @@
-use Rattle.std.proofs.Common.{List, ℕ, subst, ◌∙◌, ap}
+use Rattle.std.proofs.Common.{List, ℕ, subst, ◌∙◌}
 use Rattle.script_commands.specs.Asked.{IsReadAs}
 use Rattle.script_commands.specs.Commands.{asked_of}
 use Rattle.script_commands.proofs.requests.next_asked.Goals as goal

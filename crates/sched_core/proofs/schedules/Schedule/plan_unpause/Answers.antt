@@ -1,6 +1,5 @@
 use Rattle.std.proofs.Common.{◌≡◌, ◌∙◌, refl, ap, subst, is_none, inr, false, true}
 use Rattle.sched_model.specs.Schedule.{Schedule, graph_named}
-use Rattle.sched_model.specs.Changes.{set_paused}
 use Rattle.sched_events.specs.Kept.{IsKept}
 use Rattle.sched_events.specs.declared.events.Event.TheVariants.{Unpause}
 use Rattle.sched_core.specs.Changes.{Held}

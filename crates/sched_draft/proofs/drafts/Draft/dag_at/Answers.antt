@@ -1,10 +1,11 @@
-use Rattle.std.proofs.Common.{◌≡◌, ◌<◌, ◌∙◌, ℕ, List, Option, Some, ap, sym, length, option_map, slice_get, arith}
+use Rattle.std.proofs.Common.{◌≡◌, ◌∙◌, ℕ, List, Option, Some, ap, sym, length, option_map, slice_get, arith}
 use Rattle.std.specs.Option.{option_copied}
 use Rattle.dag_check.specs.Graphs.{Dag}
 use Rattle.sched_state.specs.declared.graphs.Graph.{Graph}
 use Rattle.sched_model.specs.Schedule.{Schedule}
 use Rattle.sched_draft.specs.Parts.{with_unpaused}
-use Rattle.sched_draft.proofs.GraphLemmas.{count_is, dag_is, element_at}
+use Rattle.sched_state.proofs.ElementLemmas.{element_at}
+use Rattle.sched_draft.proofs.GraphLemmas.{count_is, dag_is}
 use Rattle.sched_draft.proofs.drafts.Draft.dag_at.Goals as goal
 
 pub dag_in-requires : goal.dag_in-requires

@@ -1,9 +1,10 @@
-use Rattle.std.proofs.Common.{◌≡◌, ◌<◌, ◌∙◌, ℕ, Bool, List, Option, Some, ap, sym, length, option_map, slice_get, arith}
+use Rattle.std.proofs.Common.{◌≡◌, ◌∙◌, ℕ, Bool, List, Option, Some, ap, sym, length, option_map, slice_get, arith}
 use Rattle.std.specs.Option.{option_copied}
 use Rattle.sched_state.specs.declared.graphs.Graph.{Graph}
 use Rattle.sched_model.specs.Schedule.{Schedule}
 use Rattle.sched_draft.specs.Parts.{with_unpaused}
-use Rattle.sched_draft.proofs.GraphLemmas.{count_is, pause_is, element_at}
+use Rattle.sched_state.proofs.ElementLemmas.{element_at}
+use Rattle.sched_draft.proofs.GraphLemmas.{count_is, pause_is}
 use Rattle.sched_draft.proofs.drafts.Draft.is_paused_at.Goals as goal
 
 pub is_paused_in-requires : goal.is_paused_in-requires

@@ -3,7 +3,7 @@ use Rattle.std.specs.Option.{option_copied}
 use Rattle.sched_state.specs.declared.graphs.Graph.{Graph}
 use Rattle.sched_model.specs.Schedule.{Schedule, graph_among}
 use Rattle.sched_draft.specs.Parts.{with_unpaused}
-use Rattle.sched_draft.proofs.GraphLemmas.{position_is, count_is}
+use Rattle.sched_draft.proofs.GraphLemmas.{position_is}
 use Rattle.sched_draft.proofs.drafts.Draft.position_of.Goals as goal
 
 pub returns-clause-position : goal.returns-clause-position
