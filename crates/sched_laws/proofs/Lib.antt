@@ -27,3 +27,6 @@ pub mod PauseLemmas
 pub mod UpstreamLemmas
 pub mod SaidLemmas
 pub mod NamedLemmas
+pub mod OccupyingLemmas
+pub mod SlotLemmas
+pub mod ResizeLemmas

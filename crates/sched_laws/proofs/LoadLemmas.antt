@@ -45,6 +45,10 @@ dags_found : (gs hs : List Graph) (rs : List Run) → AllFound gs hs rs → AllD
 dags_found gs hs [] f = tt
 dags_found gs hs (r ∷ rs) f = (dag_found gs hs r.graph f.0, dags_found gs hs rs f.1)
 
+-- ---- open tries
+pub load_open : (text : List ℕ) (dag : Dag) (a : Schedule) → has_runs a dag.spec.dag_id ≡ false → open_tries (load_graph text dag a) ≡ open_tries a
+load_open text dag a none = open_alike a.graphs (with_graph text dag a.graphs) a.runs (dags_found a.graphs (with_graph text dag a.graphs) a.runs (found_after text dag a.graphs a.runs none))
+
 -- ---- moves
 starting_alike : (gs hs : List Graph) (vs : List Sight) (rs : List Run) → AllFound gs hs rs → list_any (can_start_seen hs vs) (map (sight_of gs) rs) ≡ list_any (can_start_seen gs vs) (map (sight_of gs) rs)
 starting_alike gs hs vs [] f = refl

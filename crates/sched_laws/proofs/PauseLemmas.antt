@@ -40,7 +40,7 @@ dags_paused id p gs (r ∷ rs) = (same_dag_paused id p gs r.graph, dags_paused i
 
 -- ---- moves
 -- what passes a stricter test passed before, so where nothing passed nothing does
-any_less : {X : Type 0} (p q : X → Bool) → ((x : X) → p x ≡ false → q x ≡ false) → (xs : List X) → list_any p xs ≡ false → list_any q xs ≡ false
+pub any_less : {X : Type 0} (p q : X → Bool) → ((x : X) → p x ≡ false → q x ≡ false) → (xs : List X) → list_any p xs ≡ false → list_any q xs ≡ false
 any_less p q h [] e = refl
 any_less p q h (x ∷ xs) e = rw (h x (or_left _ _ e), any_less p q h xs (or_right (p x) _ e)) refl
 

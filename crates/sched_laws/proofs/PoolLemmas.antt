@@ -31,7 +31,7 @@ chosen_name : (b : Bool) (size : ℕ) (q : Pool) → (cond b (record q { size = 
 chosen_name true size q = refl
 chosen_name false size q = refl
 
-resized_name : (name : List ℕ) (size : ℕ) (q : Pool) → (resize_pool name size q).name ≡ q.name
+pub resized_name : (name : List ℕ) (size : ℕ) (q : Pool) → (resize_pool name size q).name ≡ q.name
 resized_name name size q = chosen_name (same q.name name) size q
 
 chosen_sound : (b : Bool) (size : ℕ) (q : Pool) → nat_le size 1000000 ≡ true → is_sound_pool q ≡ true → is_sound_pool (cond b (record q { size = size }) q) ≡ true

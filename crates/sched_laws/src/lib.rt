@@ -4,7 +4,8 @@
 //! event is determined and leaves nothing undone, `sound` that it leaves a sound schedule, with each serial and each key once.
 //! `loading` and `naming` are about what comes in: a text that takes in a graph without runs leaves nothing to do, what it says
 //! is sound within the limits, and the runs that a tick names are new. `pausing` says that a pause enables nothing
-//! and changes no run.
+//! and changes no run, `occupying` what is taken of the pools after each change, and `resizing` that another size of a pool stops
+//! nothing, and that one that is no larger lets nothing out.
 //! `decisions` and `stages` say what a faster way to the same schedule may rely on: which decisions look at which instances, and in
 //! which order moves may be made. Easy to get wrong: decisions in another order may lead to another schedule.
 #![tactic(auto)]
@@ -13,7 +14,9 @@ mod decisions;
 mod hand_outs;
 mod loading;
 mod naming;
+mod occupying;
 mod pausing;
+mod resizing;
 mod settling;
 mod sound;
 mod stages;
@@ -28,7 +31,16 @@ pub use hand_outs::{
 };
 pub use loading::{loading_is_quiet, said_graphs_are_sound, upstreams_are_few};
 pub use naming::named_runs_are_new;
+pub use occupying::{
+    hand_outs_fill_up_to_the_size, of_no_pool_nothing_is_occupied, open_tries_stay,
+    open_tries_stay_at_a_position, reports_give_back_what_they_end,
+};
 pub use pausing::{pausing_changes_no_run, pausing_is_quiet, the_same_pause_is_none};
+pub use resizing::{
+    a_new_pool_lets_nothing_out, a_smaller_pool_lets_nothing_out, past_the_size_nothing_fits,
+    resizing_changes_one_pool, resizing_enables_no_move, resizing_stops_nothing,
+    the_same_size_is_none,
+};
 pub use settling::{moves_see_what_is_seen, settling_goes_by_moves, settling_is_determined};
 pub use sound::{
     a_date_has_one_run, advancing_keeps_soundness, graphs_stay_said, own_changes_keep_soundness,
