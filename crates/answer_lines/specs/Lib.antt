@@ -1,5 +1,6 @@
 pub mod Runs
 pub mod Tasks
+pub mod Pools
 pub mod Jobs
 pub mod Answers
 pub mod Faults

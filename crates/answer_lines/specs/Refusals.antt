@@ -2,10 +2,17 @@
 use Rattle.std.specs.Prelude.{ℕ, List, ◌++◌, codes}
 use Rattle.std.specs.Fmt.{decimal}
 use Rattle.moment_core.specs.Printing.{text_of}
+use Rattle.pool_book.specs.declared.pools.PoolFault.{PoolFault as FaultOfPool}
+use Rattle.pool_book.specs.declared.pools.PoolFault.TheVariants as pool
 use Rattle.sched_events.specs.declared.refusals.Refusal.{Refusal}
-use Rattle.sched_events.specs.declared.refusals.Refusal.TheVariants.{GraphFault, DagFault, UnknownPool, TooManyGraphs, GraphDiffers, UnknownGraph, ClockBack, NotInFlight, OutOfTurn, LanesTooMany, RecordFull, Memory}
+use Rattle.sched_events.specs.declared.refusals.Refusal.TheVariants.{GraphFault, DagFault, UnknownPool, TooManyGraphs, GraphDiffers, UnknownGraph, ClockBack, NotInFlight, OutOfTurn, PoolFault, LanesTooMany, RecordFull, Memory}
 use Rattle.answer_lines.specs.Faults.{graph_fault_text}
 use Rattle.answer_lines.specs.DagFaults.{dag_fault_text}
+
+-- the line of a pool that could not be made; want of memory is `memory` here too
+abbrev pub pool_fault_text : FaultOfPool → List ℕ
+pool_fault_text pool.TooManyPools = codes "refused 15 PoolFault 1 TooManyPools\n"
+pool_fault_text pool.Memory = codes "memory\n"
 
 -- `refused`, the refusal's number and name, and what it carries; want of memory is `memory`
 abbrev pub refusal_text : Refusal → List ℕ
@@ -18,6 +25,7 @@ refusal_text UnknownGraph = codes "refused 6 UnknownGraph\n"
 refusal_text (ClockBack moment) = codes "refused 8 ClockBack " ++ text_of moment ++ codes "\n"
 refusal_text (NotInFlight serial) = codes "refused 13 NotInFlight " ++ decimal serial ++ codes "\n"
 refusal_text (OutOfTurn serial) = codes "refused 14 OutOfTurn " ++ decimal serial ++ codes "\n"
+refusal_text (PoolFault fault) = pool_fault_text fault
 refusal_text LanesTooMany = codes "refused 16 LanesTooMany\n"
 refusal_text RecordFull = codes "refused 17 RecordFull\n"
 refusal_text Memory = codes "memory\n"

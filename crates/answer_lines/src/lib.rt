@@ -9,6 +9,8 @@
 //! ok
 //! one scheduled__2024-02-28T00:00:00+00:00 t queued 1
 //! ok
+//! default_pool 128 1 127
+//! ok
 //! refused 8 ClockBack 2024-03-01T00:00:00+00:00
 //! usage 1 Words
 //! ```
@@ -18,6 +20,7 @@ mod answers;
 mod dag_faults;
 mod faults;
 mod jobs;
+mod pools;
 mod refusals;
 mod runs;
 mod tasks;
@@ -26,6 +29,7 @@ mod tests;
 
 pub use answers::{put_answer, put_ok};
 pub use faults::put_fault;
+pub use pools::put_pool;
 pub use refusals::put_refusal;
 pub use runs::put_runs;
 pub use tasks::put_task;

@@ -5,6 +5,7 @@ ghost use Rattle.answer_lines.specs.Refusals as spec;
 
 use crate::dag_faults::put_dag_fault;
 use crate::faults::put_graph_fault;
+use pool_book::PoolFault;
 use sched_events::Refusal;
 use std::io::{self, Write};
 
@@ -33,8 +34,18 @@ pub fn put_refusal<W: Write>(output: &mut W, refusal: &Refusal) -> io::Result<()
         Refusal::ClockBack(moment) => writeln!(output, "refused 8 ClockBack {moment}"),
         Refusal::NotInFlight(serial) => writeln!(output, "refused 13 NotInFlight {serial}"),
         Refusal::OutOfTurn(serial) => writeln!(output, "refused 14 OutOfTurn {serial}"),
+        Refusal::PoolFault(fault) => put_pool_fault(output, *fault),
         Refusal::LanesTooMany => output.write_all(b"refused 16 LanesTooMany\n"),
         Refusal::RecordFull => output.write_all(b"refused 17 RecordFull\n"),
         Refusal::Memory => output.write_all(b"memory\n"),
+    }
+}
+
+fn put_pool_fault<W: Write>(output: &mut W, fault: PoolFault) -> io::Result<()>
+    ensures { OnOk result (Appends (W.contents output.old) (W.contents output.new) (spec.pool_fault_text fault)) }
+{
+    match fault {
+        PoolFault::TooManyPools => output.write_all(b"refused 15 PoolFault 1 TooManyPools\n"),
+        PoolFault::Memory => output.write_all(b"memory\n"),
     }
 }

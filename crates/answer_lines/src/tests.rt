@@ -3,7 +3,8 @@ use cron_timetable::{CronFault, Interval};
 use dag_check::DagFault;
 use graph_file::{Action, Bounded, GraphFault, Name, Operator, Place, Sequence};
 use moment_core::{Moment, MomentFault};
-use sched_events::{Answer, InstanceRow, Refusal, RunId};
+use pool_book::PoolFault;
+use sched_events::{Answer, InstanceRow, PoolRow, Refusal, RunId};
 use sched_state::{Job, Kind, Phase, Run};
 use script_commands::{CommandFault, SourceFault, UsageFault};
 use std::alloc::Global;
@@ -152,6 +153,28 @@ fn tasks_have_a_row_each(rt: HostRuntime) -> Result<(), Fail> {
     Ok(())
 }
 
+#[test]
+fn pools_have_a_row_each(rt: HostRuntime) -> Result<(), Fail> {
+    let alloc = rt.alloc();
+    for (pool, size, occupied, open_slots, wanted) in [
+        ("default_pool", 128, 0, 128, "default_pool 128 0 128\n"),
+        ("p", 1, 3, -2, "p 1 3 -2\n"),
+        ("q", 0, 0, 0, "q 0 0 0\n"),
+    ] {
+        let pool = name(alloc, pool)?;
+        let row = PoolRow {
+            name: &pool,
+            size,
+            occupied,
+            open_slots,
+        };
+        let mut line = Vec::new(alloc);
+        put_pool(&mut line, &row)?;
+        assert_eq!(rt; line.as_slice(), wanted.as_bytes());
+    }
+    Ok(())
+}
+
 // Asserts the line of a refusal.
 fn assert_refusal(
     rt: &impl Abort,
@@ -181,6 +204,11 @@ fn refusals_have_a_line_each(rt: HostRuntime) -> Result<(), Fail> {
         ),
         (Refusal::NotInFlight(7), "refused 13 NotInFlight 7\n"),
         (Refusal::OutOfTurn(12), "refused 14 OutOfTurn 12\n"),
+        (
+            Refusal::PoolFault(PoolFault::TooManyPools),
+            "refused 15 PoolFault 1 TooManyPools\n",
+        ),
+        (Refusal::PoolFault(PoolFault::Memory), "memory\n"),
         (Refusal::LanesTooMany, "refused 16 LanesTooMany\n"),
         (Refusal::RecordFull, "refused 17 RecordFull\n"),
         (Refusal::Memory, "memory\n"),

@@ -1,5 +1,5 @@
 -- Pools in the order of their names: one of them is changed or put in, and pools that look the same are the same.
-use Rattle.std.proofs.Common.{◌≡◌, ◌∙◌, ◌+◌, Bool, true, false, cond, List, [], ◌∷◌, ◌++◌, get_or, refl, ap, sym, subst, arith, Option, Some, None, option_map, append_assoc}
+use Rattle.std.proofs.Common.{◌≡◌, ◌∙◌, ◌+◌, Bool, true, false, cond, List, [], ◌∷◌, ◌++◌, get_or, refl, ap, sym, subst, arith, Option, Some, None, option_map, append_assoc, length, suc}
 use Rattle.std.proofs.lemmas.Bool.{false≢true}
 use Rattle.std.proofs.lemmas.List.Elements.{All-from_recursion, recursion_from_All}
 use Rattle.std.proofs.lemmas.Map.{lookup-none}
@@ -21,7 +21,7 @@ use Rattle.std.specs.declared.cmp.Ordering.{Ordering}
 use Rattle.std.specs.declared.cmp.Ordering.TheVariants.{Less, Equal, Greater}
 use Rattle.indexmap.specs.IndexMap.{insert_entry as index_insert}
 use Rattle.pool_book.proofs.OrderLemmas.{below-all, sorted-from_strict}
-use Rattle.pool_book.specs.Pools.{Name, name_cmp, PoolUse, Entries, IsInOrder, pool_of, with_pool}
+use Rattle.pool_book.specs.Pools.{Name, name_cmp, PoolUse, Entries, IsInOrder, pool_of, with_pool, vacated}
 
 -- a name is told from another by its bytes
 tells : (x y : Name) (r : Ordering) → name_cmp x y ≡ r → bytes_eq x y ≡ is_eq r
@@ -213,3 +213,26 @@ copied-more all done done' rest rest' k k' v s so_far step same put =
     let apart = apart-in_order (done ++ (k, v) ∷ rest') (subst IsInOrder (sym whole) s) in
     ap (λ (es : Entries). es ++ rest') (put ∙ (ap (λ n. index_insert bytes_eq done n v) same ∙ appended done rest' k v apart))
     ∙ (append_assoc done ((k, v) ∷ []) rest' ∙ whole)
+
+-- NO POOL OF THE NAME
+
+pub with-none : (k : Name) (f : PoolUse → PoolUse) (es : Entries) → None ≡ pool_of k es → with_pool k f es ≡ es
+with-none k f [] none = refl
+with-none k f (e ∷ es) none = by (bytes_eq k e.0) refl none (with-none k f es)
+  where
+    by : (b : Bool) → bytes_eq k e.0 ≡ b → None ≡ cond b (Some e.1) (pool_of k es) → (None ≡ pool_of k es → with_pool k f es ≡ es) → with_pool k f (e ∷ es) ≡ e ∷ es
+    by true same gone rest = absurd (let c : ◌≡◌ {A = Option PoolUse} None (Some e.1) = gone in cc)
+    by false other gone rest = ap (λ b. (e.0, cond b (f e.1) e.1) ∷ with_pool k f es) other ∙ ap (λ (xs : Entries). e ∷ xs) (rest gone)
+
+-- A COPY OF WHICH NOTHING IS TAKEN
+
+pub keys-vacated : (es : Entries) → keys_of (vacated es) ≡ keys_of es
+keys-vacated [] = refl
+keys-vacated (e ∷ es) = ap (λ (ks : List Name). e.0 ∷ ks) (keys-vacated es)
+
+pub in_order-vacated : (es : Entries) → IsInOrder es → IsInOrder (vacated es)
+in_order-vacated es s = subst (λ (ks : List Name). IsStrictlySortedBy name_cmp ks) (sym (keys-vacated es)) s
+
+pub length-vacated : (es : Entries) → length (vacated es) ≡ length es
+length-vacated [] = refl
+length-vacated (e ∷ es) = ap suc (length-vacated es)

@@ -1,5 +1,5 @@
 -- The most that there is of a thing.
-use Rattle.std.specs.Prelude.{ℕ}
+use Rattle.std.specs.Prelude.{ℕ, ◌-◌, ◌^◌}
 
 -- slots that are counted at once
 abbrev pub slot_limit : ℕ
@@ -8,3 +8,7 @@ slot_limit = 1000000
 -- pools
 abbrev pub pool_limit : ℕ
 pool_limit = 64
+
+-- taken slots of a pool, where they are counted without knowing how many they are
+abbrev pub most_taken : ℕ
+most_taken = 2 ^ 62 - 1

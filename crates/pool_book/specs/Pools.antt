@@ -1,12 +1,12 @@
 -- Pools by name: how many slots each has, and how many of them are taken.
-use Rattle.std.specs.Prelude.{ℕ, ◌+◌, ◌-◌, Bool, not, ◌&&◌, ◌||◌, cond, List, map, length, Option, option_map, is_some, unwrap_or, nat_le, nat_lt, bytes_eq}
+use Rattle.std.specs.Prelude.{ℕ, ◌+◌, ◌-◌, Bool, not, ◌&&◌, ◌||◌, cond, List, map, length, Option, option_map, is_some, unwrap_or, min, nat_le, nat_lt, bytes_eq}
 use Rattle.std.specs.BTreeMap.{insert_entry}
 use Rattle.std.specs.Cmp.Lexicographic.{slice_cmp}
 use Rattle.std.specs.List.Sorted.{IsStrictlySortedBy}
 use Rattle.std.specs.Map.{keys_of, lookup}
 use Rattle.std.specs.Ordering.{nat_cmp}
 use Rattle.std.specs.declared.cmp.Ordering.{Ordering}
-use Rattle.pool_book.specs.Limits.{pool_limit}
+use Rattle.pool_book.specs.Limits.{pool_limit, most_taken}
 
 -- a name is its bytes, and names stand in the order of these
 abbrev pub Name : Type 0
@@ -63,3 +63,11 @@ take_slots slots p = record p { occupied = p.occupied + slots }
 
 abbrev pub give_back : ℕ → PoolUse → PoolUse
 give_back slots p = record p { occupied = p.occupied - slots }
+
+-- so many more slots are taken, of which no more than the most are counted
+abbrev pub take_counted : ℕ → PoolUse → PoolUse
+take_counted slots p = record p { occupied = min (p.occupied + slots) most_taken }
+
+-- the same pools, and nothing of them is taken
+abbrev pub vacated : Entries → Entries
+vacated pools = map (λ e. (e.0, record e.1 { occupied = 0 })) pools

@@ -74,9 +74,6 @@ impl Key {
     pub(crate) fn fits(&self, pools: &Pools) -> bool
         ensures { result ≡ fits pools.now.pools self.now }
     {
-        match pools.get(&self.pool) {
-            Some(pool) => pool.fits(self.slots),
-            None => false,
-        }
+        pools.fits(&self.pool, self.slots)
     }
 }

@@ -1,9 +1,13 @@
 //! One pool: its size, and how many of its slots are taken.
 ghost use Rattle.std.specs.Prelude.{◌≡◌, ◌+◌, ◌-◌, ◌^◌, ◌<◌, ◌≤◌, ◌-ℤ◌, pos, nat_le};
-ghost use Rattle.pool_book.specs.Pools.{take_slots, give_back};
+ghost use Rattle.pool_book.specs.Limits.{slot_limit};
+ghost use Rattle.pool_book.specs.Pools.{take_slots, take_counted, give_back};
 
 use crate::Slots;
 use std::marker::Model;
+
+// The most taken slots that are counted where nothing is known of how many they are.
+const MOST_TAKEN: u64 = (1 << 62) - 1;
 
 /// A pool: how many slots it has, and how many of them are taken.
 #[derive(Clone, Copy, Debug, PartialEq, Eq)]
@@ -58,7 +62,8 @@ impl Pool {
 
     // Whether so many slots are open.
     pub(crate) fn fits(&self, slots: Slots) -> bool
-        ensures { result ≡ nat_le (self.now.occupied + slots) self.now.size }
+        ensures fits { result ≡ nat_le (self.now.occupied + slots) self.now.size }
+        ensures high { self.now.size ≤ slot_limit }
     {
         self.occupied + u64::from(slots.get()) <= u64::from(self.size.get())
     }
@@ -76,6 +81,13 @@ impl Pool {
         ensures { self.new ≡ take_slots slots self.old }
     {
         self.occupied += u64::from(slots.get());
+    }
+
+    // So many more of its slots are taken, and no more than the most are counted.
+    pub(crate) fn occupy_counted(&mut self, slots: Slots)
+        ensures { self.new ≡ take_counted slots self.old }
+    {
+        self.occupied = (self.occupied + u64::from(slots.get())).min(MOST_TAKEN);
     }
 
     // So many of its slots are given back.

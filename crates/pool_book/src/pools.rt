@@ -1,8 +1,9 @@
 //! Pools by name, in the order of their names.
 ghost use Rattle.std.specs.Prelude.{◌≡◌, ◌+◌, ◌-◌, ◌^◌, ◌<◌, ◌≤◌, ◌↔◌, ◌-ℤ◌, [], true, false, pos, length, option_map, option_copied, IsSome, IfSome, IfOk, IsErrOf, OnOk, OnErr, if◌then◌else◌};
 ghost use Rattle.std.specs.Map.Iter.{ShowsInOrder, deref_pair};
-ghost use Rattle.pool_book.specs.Limits.{pool_limit};
-ghost use Rattle.pool_book.specs.Pools.{IsInOrder, pool_of, resized, with_pool, take_slots, give_back, is_one_too_many, has_pool, has_place};
+ghost use Rattle.pool_book.specs.Keys.{fits_in};
+ghost use Rattle.pool_book.specs.Limits.{pool_limit, slot_limit};
+ghost use Rattle.pool_book.specs.Pools.{IsInOrder, pool_of, resized, with_pool, take_slots, take_counted, give_back, vacated, is_one_too_many, has_pool, has_place};
 
 use crate::{Pool, Slots};
 use graph_file::Name;
@@ -96,6 +97,17 @@ impl Pools {
         Some(pool.open_slots())
     }
 
+    /// Whether so many slots of the pool of a name are open. Of a pool that isn't there none are.
+    pub fn fits(&self, name: &Name, slots: Slots) -> bool
+        ensures fits { result ≡ fits_in slots (pool_of name.now self.now.pools) }
+        ensures high { IfSome (pool_of name.now self.now.pools) (λ p. p.size ≤ slot_limit) }
+    {
+        match self.get(name) {
+            Some(pool) => pool.fits(slots),
+            None => false,
+        }
+    }
+
     /// The pools with their names, in the order of the names.
     pub fn iter(&self) -> Iter<'_, Name, Pool>
         ensures rest { result ≡ self.now.pools }
@@ -114,6 +126,17 @@ impl Pools {
     {
         if let Some(pool) = self.pools.get_mut(name) {
             pool.occupy(slots);
+        }
+    }
+
+    /// Takes slots as `occupy` does, where nothing is known of how many are taken: from 2^62 - 1 on they aren't counted further. A
+    /// pool that isn't there is left so. This takes no memory.
+    pub fn occupy_counted(&mut self, name: &Name, slots: Slots)
+        ensures pools { self.new.pools ≡ with_pool name.now (take_counted slots) self.old.pools }
+        ensures room { self.new.room ≡ self.old.room }
+    {
+        if let Some(pool) = self.pools.get_mut(name) {
+            pool.occupy_counted(slots);
         }
     }
 
@@ -170,6 +193,17 @@ impl Pools {
         let mut pools = IndexMap::with_capacity(alloc, self.pools.len())?;
         for (name, pool) in self.pools.iter() {
             pools.insert(name.copy(alloc)?, *pool)?;
+        }
+        Ok(Pools { pools })
+    }
+
+    /// The same pools once more, of which nothing is taken. Room that was reserved isn't copied.
+    pub fn vacant_copy(&self, alloc: Global) -> Result<Pools, AllocError>
+        ensures { IfOk result (λ copy. copy.pools ≡ vacated self.now.pools) }
+    {
+        let mut pools = IndexMap::with_capacity(alloc, self.pools.len())?;
+        for (name, pool) in self.pools.iter() {
+            pools.insert(name.copy(alloc)?, Pool::new(pool.size(), 0))?;
         }
         Ok(Pools { pools })
     }

@@ -166,6 +166,26 @@ fn a_smaller_pool_waits_for_its_slots(rt: HostRuntime) -> Result<(), Fail> {
     Ok(())
 }
 
+// Of two taken slots the copy has none, and four of three are counted there.
+#[test]
+fn a_vacant_copy_counts_from_nothing(rt: HostRuntime) -> Result<(), Fail> {
+    let alloc = rt.alloc();
+    let mut pools = pool(alloc, 3)?;
+    let (p, q) = (name(alloc, "p")?, name(alloc, "q")?);
+    occupy(&mut pools, &p, 2)?;
+    let mut copy = match pools.vacant_copy(alloc) {
+        Ok(copy) => copy,
+        Err(_) => pools.vacant_copy(alloc)?,
+    };
+    assert_pool(&rt, &copy, &p, (3, 0, 3));
+    assert!(rt; copy.fits(&p, slots(3)?) && pools.fits(&p, slots(1)?));
+    copy.occupy_counted(&p, slots(4)?);
+    copy.occupy_counted(&q, slots(1)?);
+    assert_pool(&rt, &copy, &p, (3, 4, -1));
+    assert!(rt; !copy.fits(&p, slots(0)?) && !copy.fits(&q, slots(0)?));
+    Ok(())
+}
+
 // Asserts that these rows are the best ones, one after the other is withdrawn.
 fn assert_ranks(
     rt: &impl Abort,

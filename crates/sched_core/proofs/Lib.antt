@@ -6,4 +6,7 @@ pub mod PlanLemmas
 pub mod FindLemmas
 pub mod ViewLemmas
 pub mod RowLemmas
+pub mod BookLemmas
 pub mod FinishLemmas
+pub mod EffectLemmas
+pub mod ResizeLemmas

@@ -31,7 +31,7 @@ use Rattle.sched_model.specs.Sound.{IsSound, Says, AllSay}
 use Rattle.sched_laws.proofs.SettleLemmas.{settle_still}
 use Rattle.sched_laws.proofs.HandOutLemmas.{hand_still}
 use Rattle.sched_laws.proofs.LoadLemmas.{load_still, load_no_hand, load_again}
-use Rattle.sched_events.specs.Events.{named_by, change_by, leaves_more_by, load_result, IsDated}
+use Rattle.sched_events.specs.Events.{named_by, change_by, leaves_more_by, load_result, IsInRange}
 use Rattle.sched_events.specs.Causes.{exceeds, unknown_pool, differs, refused_text, refused}
 use Rattle.sched_events.specs.Steps.{step, id_of, answer_to}
 use Rattle.sched_events.specs.Kept.{IsKept}
@@ -191,10 +191,10 @@ planned_load a text dag kept said quiet accepted =
     record { accepted = accepted; before = refl; after = sym is; answer = quiet_answer a b text is refl }
 
 -- ---- by a draft
-pub draft_sound : (e : Event) (a b : Schedule) → IsDated e → refused a e ≡ None → IsKept a → b ≡ add_runs (named_by e a) (change_by e a) → IsSound b
+pub draft_sound : (e : Event) (a b : Schedule) → IsInRange e → refused a e ≡ None → IsKept a → b ≡ add_runs (named_by e a) (change_by e a) → IsSound b
 draft_sound e a b dated accepted kept is = subst IsSound (sym is) (added_sound e a dated accepted kept (change_kept e a dated accepted kept).0)
 
-pub draft_kept : (e : Event) (a b : Schedule) → IsDated e → refused a e ≡ None → IsKept a → b ≡ add_runs (named_by e a) (change_by e a) → IsKept (hand_out (settle b))
+pub draft_kept : (e : Event) (a b : Schedule) → IsInRange e → refused a e ≡ None → IsKept a → b ≡ add_runs (named_by e a) (change_by e a) → IsKept (hand_out (settle b))
 unfolding step
 draft_kept e a b dated accepted kept is = subst (λ (c : Schedule). IsKept (hand_out (settle c))) (sym is) (step_kept e a dated accepted kept)
 

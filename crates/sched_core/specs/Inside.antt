@@ -1,12 +1,14 @@
 -- What the core's own functions say of each other.
-use Rattle.std.specs.Prelude.{◌≡◌, ℕ, ◌<◌, ◌≤◌, Bool, true, false, cond, List, [], ◌∷◌, length, take, sum_by, count_by, Option, MatchOption, Some, None, slice_get, Ok, Err, ◌⊎◌}
+use Rattle.std.specs.Prelude.{◌≡◌, ℕ, ◌-ℤ◌, pos, ◌<◌, ◌≤◌, Bool, true, false, cond, List, [], ◌∷◌, length, take, sum_by, count_by, Option, MatchOption, Some, None, slice_get, Ok, Err, ◌⊎◌}
 use Rattle.graph_file.specs.Graphs.{graph_of}
 use Rattle.graph_file.specs.declared.faults.GraphFault.{GraphFault}
 use Rattle.graph_file.specs.declared.graph_specs.GraphSpec.{GraphSpec}
 use Rattle.dag_check.specs.Graphs.{Dag, IsGraphOf}
 use Rattle.dag_check.specs.Faults.{Stands, first_fault, without_names}
 use Rattle.dag_check.specs.declared.faults.DagFault.{DagFault}
+use Rattle.pool_book.specs.Pools.{Entries, PoolUse}
 use Rattle.sched_model.specs.Sound.{Says}
+use Rattle.sched_draft.specs.Books.{pools_in}
 use Rattle.sched_draft.specs.Parts.{with_unpaused}
 use Rattle.sched_events.specs.Causes.{exceeds, unknown_pool}
 use Rattle.std.specs.List.{list_any}
@@ -16,7 +18,7 @@ use Rattle.sched_state.specs.declared.graphs.Graph.{Graph}
 use Rattle.sched_state.specs.declared.runs.Run.{Run}
 use Rattle.sched_model.specs.Schedule.{Schedule}
 use Rattle.sched_model.specs.States.{is_open}
-use Rattle.sched_events.specs.Rows.{Row}
+use Rattle.sched_events.specs.Rows.{Row, PoolLine}
 use Rattle.sched_events.specs.declared.refusals.Refusal.{Refusal}
 use Rattle.sched_events.specs.declared.refusals.Refusal.TheVariants as refusal
 use Rattle.sched_core.specs.Views.{row_before, follows}
@@ -65,11 +67,14 @@ IsCheckFault spec r = (r ≡ refusal.Memory) ⊎ ((fault : DagFault) × (r ≡ r
 abbrev pub IsReadFault : List ℕ → Refusal → Type 0
 IsReadFault text r = (r ≡ refusal.Memory) ⊎ ((fault : GraphFault) × (r ≡ refusal.GraphFault fault) × (graph_of text ≡ Err fault))
 
--- the draft is over the same pools and limits, and over the same graphs, of which one may be paused no more
+-- the draft is over the same limits, and over the same graphs, of which one may be paused no more
 pub record IsOver (unpaused : Option (List ℕ)) (a b : Schedule) : Type 0 where
   pub limits : b.limits ≡ a.limits
   pub graphs : b.graphs ≡ with_unpaused unpaused a.graphs
-  pub pools : b.pools ≡ a.pools
+
+-- the schedule over the pools of a book
+abbrev pub over : Entries → Schedule → Schedule
+over es a = record a { pools = pools_in es }
 
 -- how many tries of a run are without an end
 abbrev pub open_in : Run → ℕ
@@ -88,3 +93,8 @@ sooner last w o = cond (follows last w) (Some (put_first w o)) o
 abbrev pub first_after : Option (List ℕ) → List Row → Option Row
 first_after last [] = None
 first_after last (w ∷ ws) = sooner last w (first_after last ws)
+
+-- ---- pools
+-- the row of a pool in a book
+abbrev pub row_in : List ℕ × PoolUse → PoolLine
+row_in e = record { name = e.0; size = e.1.size; occupied = e.1.occupied; open_slots = pos e.1.size -ℤ pos e.1.occupied }

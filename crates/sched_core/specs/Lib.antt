@@ -1,4 +1,5 @@
 pub mod Changes
+pub mod Books
 pub mod Effects
 pub mod Plans
 pub mod Views

@@ -1,14 +1,15 @@
--- What a schedule shows of its task instances.
-use Rattle.std.specs.Prelude.{ℕ, Bool, true, List, [], ◌∷◌, ◌++◌, length, map, filter, flat_map, find, Option, Some, None, option_map, option_and_then}
+-- What a schedule shows of its task instances and its pools.
+use Rattle.std.specs.Prelude.{ℕ, ◌-ℤ◌, pos, Bool, true, List, [], ◌∷◌, ◌++◌, length, map, filter, flat_map, find, Option, Some, None, option_map, option_and_then}
 use Rattle.graph_file.specs.declared.task_specs.TaskSpec.{TaskSpec}
 use Rattle.instance_machine.specs.Instances.{Held}
 use Rattle.instance_machine.specs.States.{state_of}
 use Rattle.sched_state.specs.Lists.{same, name_cmp, is_less}
 use Rattle.sched_state.specs.declared.runs.Run.{Run}
-use Rattle.sched_model.specs.Schedule.{Schedule, is_at}
+use Rattle.sched_model.specs.Schedule.{Schedule, Pool, is_at}
+use Rattle.sched_model.specs.States.{occupied}
 use Rattle.sched_model.specs.Clearing.{pairs_of}
 use Rattle.sched_model.specs.Tables.{sort_by}
-use Rattle.sched_events.specs.Rows.{Row}
+use Rattle.sched_events.specs.Rows.{Row, PoolLine}
 
 -- the instance of a task in a run
 abbrev pub instance_in : Schedule → List ℕ → Run → Option Held
@@ -43,3 +44,12 @@ follows (Some id) w = is_less (name_cmp id w.task)
 abbrev pub rows_left : Schedule → List Run → Option (List ℕ) → List Row
 rows_left a [] last = []
 rows_left a (r ∷ rs) last = filter (follows last) (rows_of a r) ++ flat_map (rows_of a) rs
+
+-- ---- pools
+-- the row of a pool: its size, what is taken of it, and what is open (Airflow 2, 'Pools')
+abbrev pub pool_row : Schedule → Pool → PoolLine
+pool_row a q = record { name = q.name; size = q.size; occupied = occupied a q.name; open_slots = pos q.size -ℤ pos (occupied a q.name) }
+
+-- the rows of all pools, by name
+abbrev pub pool_rows : Schedule → List PoolLine
+pool_rows a = map (pool_row a) a.pools

@@ -4,6 +4,7 @@ use crate::schedules::Schedule;
 use dag_check::Graph as Dag;
 use graph_file::Name;
 use moment_core::Moment;
+use pool_book::Pools;
 use sched_events::Answer;
 use sched_state::{Run, Text};
 use std::marker::Model;
@@ -27,6 +28,8 @@ pub enum Effect {
 pub struct Next {
     // The id of the graph that is paused no more.
     pub unpaused: Option<Name>,
+    // The pools, with what is taken of each.
+    pub pools: Pools,
     pub clock: Moment,
     pub lanes: u32,
     // The serial of the next try.
@@ -46,12 +49,11 @@ pub struct Change {
 
 impl Model for Change {
     ghost use Rattle.sched_core.specs.Changes.{Planned};
-    ghost use Rattle.sched_events.specs.Kept.{IsKept};
-    ghost use Rattle.sched_core.specs.Effects.{applied};
+    ghost use Rattle.sched_core.specs.Effects.{applied, KeepsHeld};
 
     ghost Value = { Planned };
 
     ghost view = { λ c. record { before = c.before.value.content; after = applied c.effect c.before.value.content; answer = c.answer } };
 
-    ghost invariant = { λ c. IsKept (applied c.effect c.before.value.content) };
+    ghost invariant = { λ c. KeepsHeld c.effect c.before.value.content };
 }

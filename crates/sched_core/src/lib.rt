@@ -2,6 +2,7 @@
 #![tactic(auto)]
 
 mod changes;
+mod default_pools;
 mod finding;
 #[cfg(test)]
 mod load_tests;
@@ -12,6 +13,9 @@ mod ordering;
 mod pause_tests;
 mod pausing;
 mod planning;
+mod pool_rows;
+#[cfg(test)]
+mod pool_tests;
 #[cfg(test)]
 mod row_tests;
 mod rows;
@@ -23,6 +27,7 @@ mod stepping;
 mod views;
 
 pub use changes::Change;
+pub use pool_rows::PoolRows;
 pub use rows::Instances;
-pub use sched_events::{Answer, Event, InstanceRow, Refusal, RunId};
+pub use sched_events::{Answer, Event, InstanceRow, PoolRow, Refusal, RunId};
 pub use schedules::Schedule;

@@ -1,5 +1,5 @@
 use super::*;
-use crate::stepping::file;
+use crate::stepping::{empty, file};
 use dag_check::DagFault;
 use graph_file::{GraphFault, Name};
 use sched_state::Limits;
@@ -42,7 +42,7 @@ fn of_two(
 #[test]
 fn a_graph_is_held_by_place(rt: HostRuntime) -> Result<(), Fail> {
     let alloc = rt.alloc();
-    let mut schedule = Schedule::new(alloc, Limits::full());
+    let mut schedule = empty(alloc, Limits::full())?;
     let refused = of_two(alloc, &mut schedule, "upstream = [\"b\"]", "")?;
     assert!(rt; refused.is_none());
     let name = Name::read(alloc, "two")?;
@@ -58,7 +58,7 @@ fn a_graph_is_held_by_place(rt: HostRuntime) -> Result<(), Fail> {
 #[test]
 fn a_cycle_is_refused_with_its_tasks(rt: HostRuntime) -> Result<(), Fail> {
     let alloc = rt.alloc();
-    let mut schedule = Schedule::new(alloc, Limits::full());
+    let mut schedule = empty(alloc, Limits::full())?;
     let refused = of_two(
         alloc,
         &mut schedule,
@@ -79,7 +79,7 @@ fn a_cycle_is_refused_with_its_tasks(rt: HostRuntime) -> Result<(), Fail> {
 // A schedule that may hold one graph of two tasks, and no graph yet.
 fn small(alloc: Global) -> Result<Schedule, Fail> {
     let limits = Limits::new(1, 2, 1, 1, 2, 0).ok_or("limits")?;
-    Ok(Schedule::new(alloc, limits))
+    Ok(empty(alloc, limits)?)
 }
 
 #[test]

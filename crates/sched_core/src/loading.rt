@@ -2,8 +2,7 @@
 ghost use Rattle.std.specs.Prelude.{◌≡◌, ◌≤◌, IfOk, IfErr, MatchResult, None, false, not, find, option_map};
 ghost use Rattle.std.specs.Option.{option_copied};
 ghost use Rattle.graph_file.specs.TaskLists.{upstream_limit};
-ghost use Rattle.sched_state.specs.Lists.{same};
-ghost use Rattle.sched_model.specs.Schedule.{default_pool};
+ghost use Rattle.pool_book.specs.Pools.{has_pool};
 ghost use Rattle.sched_model.specs.Schedule.{has_runs};
 ghost use Rattle.sched_events.specs.Causes.{refused, exceeds, edge_count};
 ghost use Rattle.sched_core.specs.Plans.{IsPlanned};
@@ -17,12 +16,10 @@ use crate::lookups::{has_runs, place_of};
 use crate::schedules::Schedule;
 use dag_check::{Graph as Dag, check};
 use graph_file::{GraphFault, GraphSpec, Name, TaskSpec, read_graph};
+use pool_book::Pools;
 use sched_events::Refusal;
 use sched_state::{Limits, Text};
 use std::alloc::Global;
-
-// The pool that is always there (Airflow 2, "Pools").
-const DEFAULT_POOL: &str = "default_pool";
 
 impl Schedule {
     // What loading the text would do, or why it is refused.
@@ -61,7 +58,7 @@ impl Schedule {
             return Err(Refusal::GraphFault(GraphFault::TooMany));
         }
         let dag = checked(alloc, spec)?;
-        match unknown_pool(dag.spec().tasks.as_slice()) {
+        match unknown_pool(&self.pools, dag.spec().tasks.as_slice()) {
             None => Ok(dag),
             Some(pool) => Err(Refusal::UnknownPool(pool.copy(alloc)?)),
         }
@@ -122,11 +119,11 @@ fn edge_count(tasks: &[TaskSpec]) -> usize
 }
 
 // The pool of the first task whose pool is not there.
-fn unknown_pool(tasks: &[TaskSpec]) -> Option<&Name>
-    ensures { option_copied result ≡ option_map (λ t. t.pool) (find (λ t. not (same default_pool.name t.pool)) tasks.now) }
+fn unknown_pool<'t>(pools: &Pools, tasks: &'t [TaskSpec]) -> Option<&'t Name>
+    ensures { option_copied result ≡ option_map (λ t. t.pool) (find (λ t. not (has_pool t.pool pools.now.pools)) tasks.now) }
 {
     tasks
         .iter()
-        .find(|task| DEFAULT_POOL != task.pool.as_str())
+        .find(|task| pools.size(&task.pool).is_none())
         .map(|task| &task.pool)
 }

@@ -1,6 +1,5 @@
 use super::*;
-use crate::stepping::{accepted, file, refusal, step, tick, told};
-use graph_file::Name;
+use crate::stepping::{accepted, empty, file, name, refusal, step, tick, told};
 use instance_machine::{Outcome, Stage};
 use sched_state::Limits;
 use std::alloc::Global;
@@ -12,17 +11,11 @@ fn three_days(rt: &impl Abort, alloc: Global) -> Result<Schedule, Fail> {
     let keys =
         "schedule = \"@daily\"\nstart_date = \"2024-01-01\"\ncatchup = true\nmax_active_runs = 1";
     let tasks = "[[task]]\ntask_id = \"t\"\noperator = \"noop\"";
-    let mut schedule = Schedule::new(alloc, Limits::full());
+    let mut schedule = empty(alloc, Limits::full())?;
     accepted(rt, alloc, &mut schedule, &Event::Restart(4));
     accepted(rt, alloc, &mut schedule, &file(alloc, "g", keys, tasks)?);
     accepted(rt, alloc, &mut schedule, &tick(rt, "2024-01-04"));
     Ok(schedule)
-}
-
-// The name, read again where memory ran out.
-fn name(alloc: Global, text: &str) -> Result<Name, Fail> {
-    let read = Name::read(alloc, text).or_else(|_| Name::read(alloc, text));
-    Ok(read.ok().ok_or("no name")?)
 }
 
 #[test]

@@ -25,10 +25,10 @@ pub fn set_paused(graphs: &mut Vec<Graph>, id: &Name, paused: bool)
 }
 
 // The graph that is named, if one is, is paused no more.
-pub fn unpause(graphs: &mut Vec<Graph>, named: &Option<Name>)
-    ensures { graphs.new.items ≡ with_unpaused named.now graphs.old.items }
+pub fn unpause(graphs: &mut Vec<Graph>, named: Option<Name>)
+    ensures { graphs.new.items ≡ with_unpaused named graphs.old.items }
 {
     if let Some(id) = named {
-        set_paused(graphs, id, false);
+        set_paused(graphs, &id, false);
     }
 }

@@ -8,10 +8,11 @@ ghost use Rattle.sched_model.specs.Jobs.{handed};
 ghost use Rattle.sched_model.specs.Sound.{IsSound};
 ghost use Rattle.sched_events.specs.Kept.{IsKept};
 ghost use Rattle.sched_events.specs.Outcomes.{IsRefusal};
-ghost use Rattle.sched_events.specs.declared.events.Event.TheVariants.{Tick, Pause, Unpause, Report, Restart};
+ghost use Rattle.sched_events.specs.declared.events.Event.TheVariants.{Tick, Pause, Unpause, Resize, Report, Restart};
 ghost use Rattle.sched_core.specs.Plans.{IsPlanned, no_runs, run_id};
-ghost use Rattle.sched_core.specs.Effects.{applied};
-ghost use Rattle.sched_core.specs.Inside.{IsOver};
+ghost use Rattle.sched_core.specs.Books.{IsCounted};
+ghost use Rattle.sched_core.specs.Effects.{applied, KeepsHeld};
+ghost use Rattle.sched_core.specs.Inside.{IsOver, over};
 
 use crate::changes::{Change, Effect, Next};
 use crate::finding::{open_try, takes};
@@ -20,6 +21,7 @@ use crate::schedules::Schedule;
 use graph_file::{Name, Sequence};
 use instance_machine::Stage;
 use moment_core::Moment;
+use pool_book::{PoolFault, Pools, Slots};
 use sched_draft::Draft;
 use sched_events::{Answer, Event, Refusal, RunId};
 use sched_handout::hand_out;
@@ -43,6 +45,7 @@ impl Schedule {
             Event::Tick(moment) => self.plan_tick(alloc, *moment),
             Event::Pause(id) => self.plan_pause(alloc, id),
             Event::Unpause(id) => self.plan_unpause(alloc, id),
+            Event::Resize(name, size) => self.plan_resize(alloc, name, *size),
             Event::Report(serial, stage) => self.plan_report(alloc, *serial, *stage),
             Event::Restart(lanes) => self.plan_restart(alloc, *lanes),
         }
@@ -50,7 +53,7 @@ impl Schedule {
 
     // A change that makes no run and hands out no try.
     pub(crate) fn quiet_change(&self, alloc: Global, effect: Effect) -> Change
-        requires { IsKept (applied effect self.now.content) }
+        requires { KeepsHeld effect self.now.content }
         ensures { result ≡ record { before = self.now.content; after = applied effect self.now.content; answer = no_runs } }
     {
         Change {
@@ -72,11 +75,24 @@ impl Schedule {
     ) -> Result<Draft<'d>, AllocError>
         ensures { IfOk result (λ draft. draft ≡ record self.now.content { graphs = with_unpaused (option_copied unpaused.entry) self.now.content.graphs }) }
     {
+        self.draft_over(alloc, &self.pools, unpaused)
+    }
+
+    // The same over the pools of another book.
+    fn draft_over<'d>(
+        &'d self,
+        alloc: Global,
+        pools: &'d Pools,
+        unpaused: Option<&'d Name>,
+    ) -> Result<Draft<'d>, AllocError>
+        ensures { IfOk result (λ draft. draft ≡ record (over pools.now.pools self.now.content) { graphs = with_unpaused (option_copied unpaused.entry) self.now.content.graphs }) }
+    {
         let runs = copied(alloc, &self.runs)?;
         Ok(Draft::new(
             self.limits,
             &self.graphs,
             unpaused,
+            pools,
             self.clock,
             self.lanes,
             self.next,
@@ -96,6 +112,7 @@ impl Schedule {
         requires sound { IsSound draft }
         requires over { IsOver unpaused self.now.content draft }
         requires kept { IsKept (hand_out (settle draft)) }
+        requires counted { IsCounted draft }
         ensures { IfOk result (λ change. change ≡ record {
           before = self.now.content;
           after = hand_out (settle draft.entry);
@@ -104,10 +121,11 @@ impl Schedule {
     {
         let mut draft = draft;
         settle(&mut draft);
-        hand_out(alloc, &mut draft)?;
+        let pools = hand_out(alloc, &mut draft)?;
         let jobs = draft.jobs_from(alloc, self.next)?;
         let next = Next {
             unpaused,
+            pools,
             clock: draft.clock(),
             lanes: draft.lanes(),
             serial: draft.next_serial(),
@@ -160,6 +178,37 @@ impl Schedule {
         let unpaused = id.copy(alloc)?;
         let made = Sequence::new(Vec::new(alloc));
         Ok(self.finished(alloc, draft, Some(unpaused), made, false)?)
+    }
+
+    fn plan_resize(&self, alloc: Global, name: &Name, size: Slots) -> Result<Change, Refusal>
+        ensures accepted { IfOk result (IsPlanned self.now.content (Resize name.now size)) }
+        ensures refused { IfErr result (IsRefusal self.now.content (Resize name.now size)) }
+    {
+        if self.pools.size(name).is_none() && self.limits.pools() as usize <= self.pools.len() {
+            return Err(Refusal::PoolFault(PoolFault::TooManyPools));
+        }
+        let mut pools = self.pools.copy(alloc)?;
+        // The name and the size are in their ranges, as those of each pool are.
+        let (_name, _size) = (name.as_str(), size.get());
+        let name = name.copy(alloc)?;
+        pools.resize(name, size)?;
+        Ok(self.over(alloc, &pools)?)
+    }
+
+    // The change that puts the pools of this book in the place of the schedule's own, and hands out what fits then.
+    fn over<'d>(&'d self, alloc: Global, pools: &'d Pools) -> Result<Change, AllocError>
+        requires sound { IsSound (over pools.now.pools self.now.content) }
+        requires kept { IsKept (hand_out (settle (over pools.now.pools self.now.content))) }
+        requires counted { IsCounted self.now.content }
+        ensures { IfOk result (λ change. change ≡ record {
+          before = self.now.content;
+          after = hand_out (settle (over pools.now.pools self.now.content));
+          answer = record no_runs { jobs = handed self.now.content (hand_out (settle (over pools.now.pools self.now.content))) };
+        }) }
+    {
+        let draft = self.draft_over(alloc, pools, None)?;
+        let made = Sequence::new(Vec::new(alloc));
+        self.finished(alloc, draft, None, made, false)
     }
 
     fn plan_report(&self, alloc: Global, serial: u64, stage: Stage) -> Result<Change, Refusal>

@@ -1,5 +1,5 @@
 use super::*;
-use crate::stepping::{accepted, file, moment, refusal, tick, told};
+use crate::stepping::{accepted, empty, file, follow, moment, refusal, tick};
 use graph_file::Name;
 use instance_machine::{Outcome, Stage};
 use sched_state::Limits;
@@ -39,32 +39,18 @@ fn with_graph(
     tasks: &str,
     lanes: u32,
 ) -> Result<Schedule, AllocError> {
-    let mut schedule = Schedule::new(alloc, Limits::full());
+    let mut schedule = empty(alloc, Limits::full())?;
     let load = file(alloc, "one", DAILY, tasks)?;
     accepted(rt, alloc, &mut schedule, &load);
     accepted(rt, alloc, &mut schedule, &Event::Restart(lanes));
     Ok(schedule)
 }
 
-// Does the events one after another: each tells this.
-fn follow(
-    rt: &impl Abort,
-    alloc: Global,
-    schedule: &mut Schedule,
-    rows: &[(Event, &str)],
-) -> Result<(), Fail> {
-    for (event, wanted) in rows {
-        let found = told(rt, alloc, schedule, event)?;
-        assert_eq!(rt; found.as_str(), *wanted, "{event:?}");
-    }
-    Ok(())
-}
-
 // The profile's limit is 64 lanes.
 #[test]
 fn lanes_have_a_limit(rt: HostRuntime) -> Result<(), Fail> {
     let alloc = rt.alloc();
-    let mut schedule = Schedule::new(alloc, Limits::full());
+    let mut schedule = empty(alloc, Limits::full())?;
     let many = refusal(&rt, alloc, &mut schedule, &Event::Restart(65));
     assert!(rt; matches!(many, Refusal::LanesTooMany));
     assert_eq!(rt; schedule.lanes(), 0);

@@ -1,5 +1,5 @@
 use super::*;
-use crate::stepping::{accepted, file, moment, refusal, tick};
+use crate::stepping::{accepted, empty, file, moment, refusal, tick};
 use graph_file::{GraphFault, Place};
 use instance_machine::{Outcome, Stage};
 use moment_core::Moment;
@@ -35,7 +35,7 @@ fn made(rt: &impl Abort, alloc: Global, schedule: &mut Schedule, event: &Event) 
 #[test]
 fn a_day_gets_its_run_when_it_is_over(rt: HostRuntime) -> Result<(), Fail> {
     let alloc = rt.alloc();
-    let mut schedule = Schedule::new(alloc, Limits::full());
+    let mut schedule = empty(alloc, Limits::full())?;
     let load = graph(alloc, "one", "@daily", "2024-02-28", "")?;
     assert_eq!(rt; made(&rt, alloc, &mut schedule, &load), (0, false));
     for (text, wanted) in [
@@ -62,7 +62,7 @@ fn a_day_gets_its_run_when_it_is_over(rt: HostRuntime) -> Result<(), Fail> {
 
 // A schedule of one graph that runs each hour from 2024-01-01 on.
 fn hourly(rt: &impl Abort, alloc: Global, more: &str) -> Result<Schedule, AllocError> {
-    let mut schedule = Schedule::new(alloc, Limits::full());
+    let mut schedule = empty(alloc, Limits::full())?;
     let load = graph(alloc, "one", "@hourly", "2024-01-01", more)?;
     accepted(rt, alloc, &mut schedule, &load);
     Ok(schedule)
@@ -102,7 +102,7 @@ fn no_run_is_made_after_the_end(rt: HostRuntime) -> Result<(), Fail> {
 #[test]
 fn once_is_once(rt: HostRuntime) -> Result<(), Fail> {
     let alloc = rt.alloc();
-    let mut schedule = Schedule::new(alloc, Limits::full());
+    let mut schedule = empty(alloc, Limits::full())?;
     let once = graph(alloc, "one", "@once", "2024-01-01", "")?;
     accepted(&rt, alloc, &mut schedule, &once);
     for (text, wanted) in [
@@ -122,7 +122,7 @@ fn once_is_once(rt: HostRuntime) -> Result<(), Fail> {
 // A schedule that may hold one graph and two runs, and no graph yet.
 fn small(alloc: Global) -> Result<Schedule, Fail> {
     let limits = Limits::new(1, 1, 1, 1, 2, 0).ok_or("limits")?;
-    Ok(Schedule::new(alloc, limits))
+    Ok(empty(alloc, limits)?)
 }
 
 // Loads the graph "one" of each day, which makes no run.
@@ -193,7 +193,7 @@ fn what_contradicts_the_past_changes_nothing(rt: HostRuntime) -> Result<(), Fail
 
 // A schedule of two graphs without runs, of which one was loaded anew.
 fn reloaded(rt: &impl Abort, alloc: Global) -> Result<Schedule, AllocError> {
-    let mut schedule = Schedule::new(alloc, Limits::full());
+    let mut schedule = empty(alloc, Limits::full())?;
     for (id, timetable, start, more) in [
         ("b", "None", "2024-01-01", ""),
         ("b", "@daily", "2024-01-01", "max_active_runs = 1"),

@@ -12,24 +12,28 @@ ghost use Rattle.sched_events.specs.Outcomes.{IsStepped, IsRefusal};
 ghost use Rattle.sched_core.specs.Changes.{HasRoom};
 
 use crate::changes::{Change, Effect};
+use crate::default_pools::default_pools;
 use crate::lookups::{graph_named, place_of};
 use crate::ordering::place_for_graph;
 use crate::pausing::{set_paused, unpause};
 use dag_check::Graph as Dag;
 use graph_file::Name;
 use moment_core::Moment;
+use pool_book::Pools;
 use sched_events::{Answer, Event, Refusal};
 use sched_state::{Graph, Limits, Run, Text};
 use std::alloc::{AllocError, Global};
 use std::marker::Model;
 
-/// A schedule (Airflow 2, "Scheduler"): graphs with their runs and task instances, and the last moment that it has seen.
+/// A schedule (Airflow 2, "Scheduler"): graphs with their runs and task instances, pools, and the last moment that it has seen.
 ///
 /// Contracts see what it holds, `content`, and the `room` that is reserved.
 #[derive(Drop)]
 pub struct Schedule {
     pub(crate) limits: Limits,
     pub(crate) graphs: Vec<Graph>,
+    // By name, with what tries without an end take of each.
+    pub(crate) pools: Pools,
     pub(crate) clock: Moment,
     pub(crate) lanes: u32,
     // The serial of the next try.
@@ -38,34 +42,36 @@ pub struct Schedule {
 }
 
 impl Model for Schedule {
-    ghost use Rattle.std.specs.Prelude.{◌-◌, [], ◌∷◌, vec_len, vec_capacity};
-    ghost use Rattle.sched_model.specs.Schedule.{default_pool};
+    ghost use Rattle.std.specs.Prelude.{◌-◌, vec_len, vec_capacity};
+    ghost use Rattle.sched_draft.specs.Books.{pools_in};
+    ghost use Rattle.sched_core.specs.Books.{IsHeld};
     ghost use Rattle.sched_core.specs.Changes.{Held};
-    ghost use Rattle.sched_events.specs.Kept.{IsKept};
 
     ghost Value = { Held };
 
     ghost view = { λ s. record {
-      content = record { limits = s.limits; graphs = s.graphs.items; pools = default_pool ∷ []; now = s.clock; lanes = s.lanes; next = s.next; runs = s.runs.items };
+      content = record { limits = s.limits; graphs = s.graphs.items; pools = pools_in s.pools.pools; now = s.clock; lanes = s.lanes; next = s.next; runs = s.runs.items };
       room = record { graphs = vec_capacity s.graphs - vec_len s.graphs };
     } };
 
-    ghost invariant = { λ s. IsKept (record { limits = s.limits; graphs = s.graphs.items; pools = default_pool ∷ []; now = s.clock; lanes = s.lanes; next = s.next; runs = s.runs.items }) };
+    ghost invariant = { λ s. IsHeld (record { limits = s.limits; graphs = s.graphs.items; pools = pools_in s.pools.pools; now = s.clock; lanes = s.lanes; next = s.next; runs = s.runs.items }) s.pools.pools };
 }
 
 impl Schedule {
-    /// A schedule without graphs and lanes, whose clock stands at 1970-01-01T00:00:00Z. This takes no memory.
-    pub fn new(alloc: Global, limits: Limits) -> Schedule
-        ensures { result.content ≡ empty_schedule limits }
+    /// A schedule without graphs and lanes, whose clock stands at 1970-01-01T00:00:00Z. Its one pool is `default_pool`, of 128 slots
+    /// (Airflow 2, "Pools").
+    pub fn new(alloc: Global, limits: Limits) -> Result<Schedule, AllocError>
+        ensures { IfOk result (λ schedule. schedule.content ≡ empty_schedule limits) }
     {
-        Schedule {
+        Ok(Schedule {
             limits,
             graphs: Vec::new(alloc),
+            pools: default_pools(alloc)?,
             clock: Moment::at(0),
             lanes: 0,
             next: 1,
             runs: Vec::new(alloc),
-        }
+        })
     }
 
     /// The last moment that the schedule has seen.
@@ -132,7 +138,8 @@ impl Schedule {
             Effect::Load(text, dag) => take_in(&mut self.graphs, text, dag),
             Effect::Pause(id) => set_paused(&mut self.graphs, &id, true),
             Effect::Next(next) => {
-                unpause(&mut self.graphs, &next.unpaused);
+                unpause(&mut self.graphs, next.unpaused);
+                self.pools = next.pools;
                 self.clock = next.clock;
                 self.lanes = next.lanes;
                 self.next = next.serial;

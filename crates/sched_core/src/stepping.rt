@@ -1,7 +1,8 @@
 //! What the tests of events share.
 use super::*;
+use graph_file::Name;
 use moment_core::Moment;
-use sched_state::{Run, Text};
+use sched_state::{Limits, Run, Text};
 use std::alloc::{AllocError, Global};
 use std::fmt;
 use std::process::Abort;
@@ -16,6 +17,17 @@ pub fn moment(rt: &impl Abort, text: &str) -> Moment {
 
 pub fn tick(rt: &impl Abort, text: &str) -> Event {
     Event::Tick(moment(rt, text))
+}
+
+// The name, read again where memory ran out.
+pub fn name(alloc: Global, text: &str) -> Result<Name, Fail> {
+    let read = Name::read(alloc, text).or_else(|_| Name::read(alloc, text));
+    Ok(read.ok().ok_or("no name")?)
+}
+
+// A schedule before the first event, made again where memory ran out.
+pub fn empty(alloc: Global, limits: Limits) -> Result<Schedule, AllocError> {
+    Schedule::new(alloc, limits).or_else(|_| Schedule::new(alloc, limits))
 }
 
 // The file of a graph with this id, these keys and these tasks. The text is written again where memory ran out.
@@ -127,4 +139,18 @@ pub fn told(
         Ok(text) => Ok(text),
         Err(_) => Ok(written(alloc, schedule, &answered)?),
     }
+}
+
+// Does the events one after another: each tells this.
+pub fn follow(
+    rt: &impl Abort,
+    alloc: Global,
+    schedule: &mut Schedule,
+    rows: &[(Event, &str)],
+) -> Result<(), Fail> {
+    for (event, wanted) in rows {
+        let found = told(rt, alloc, schedule, event)?;
+        assert_eq!(rt; found.as_str(), *wanted, "{event:?}");
+    }
+    Ok(())
 }

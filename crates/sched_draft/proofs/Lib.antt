@@ -1,3 +1,4 @@
 pub mod AtLemmas
 pub mod GraphLemmas
 pub mod JobLemmas
+pub mod BookLemmas

@@ -1,12 +1,13 @@
 //! The draft, and the small changes that it takes.
-ghost use Rattle.std.specs.Prelude.{◌≡◌, ◌≢◌, ◌<◌, ◌≤◌, [], ◌∷◌, length, OnOk, OnErr};
+ghost use Rattle.std.specs.Prelude.{◌≡◌, ◌≢◌, ◌<◌, ◌≤◌, length, OnOk, OnErr};
 ghost use Rattle.std.specs.Option.{option_copied};
 ghost use Rattle.trigger_rules.specs.declared.verdicts.Verdict.TheVariants.{Wait};
 ghost use Rattle.sched_state.specs.Lists.{insert_by};
 ghost use Rattle.sched_model.specs.Lists.{at};
-ghost use Rattle.sched_model.specs.Schedule.{default_pool, run_before};
+ghost use Rattle.sched_model.specs.Schedule.{run_before};
 ghost use Rattle.sched_model.specs.Changes.{set_now, report, restart};
 ghost use Rattle.sched_model.specs.Handout.{in_instance, last_serial};
+ghost use Rattle.sched_draft.specs.Books.{pools_in};
 ghost use Rattle.sched_draft.specs.Parts.{decided_as, in_phase, instances_at, handed_at, with_unpaused};
 
 use crate::ordering::position_for;
@@ -14,18 +15,21 @@ use crate::reporting::{lose_in_runs, report_in_runs};
 use graph_file::{Bounded, Name};
 use instance_machine::Stage;
 use moment_core::Moment;
+use pool_book::Pools;
 use sched_state::{Graph, Limits, Phase, Run};
 use std::alloc::AllocError;
 use std::marker::Model;
 use trigger_rules::Verdict;
 
-/// A schedule that is being made. Its graphs are those of a schedule that is there, of which one may be unpaused; the rest is its own.
+/// A schedule that is being made. Its graphs are those of a schedule that is there, of which one may be unpaused, and its pools are those
+/// of a book; the rest is its own. What the book has of taken slots is not looked at.
 #[derive(Drop)]
 pub struct Draft<'a> {
     limits: Limits,
     pub(crate) graphs: &'a [Graph],
     // The graph with this id is not paused, whatever it says.
     pub(crate) unpaused: Option<&'a Name>,
+    pools: &'a Pools,
     clock: Moment,
     lanes: u32,
     next: u64,
@@ -33,9 +37,9 @@ pub struct Draft<'a> {
 }
 
 impl<'a> Model for Draft<'a> {
-    ghost use Rattle.std.specs.Prelude.{[], ◌∷◌};
     ghost use Rattle.std.specs.Option.{option_copied};
-    ghost use Rattle.sched_model.specs.Schedule.{Schedule, default_pool};
+    ghost use Rattle.sched_model.specs.Schedule.{Schedule};
+    ghost use Rattle.sched_draft.specs.Books.{pools_in};
     ghost use Rattle.sched_draft.specs.Parts.{with_unpaused};
 
     ghost Value = { Schedule };
@@ -43,7 +47,7 @@ impl<'a> Model for Draft<'a> {
     ghost view = { λ d. record {
       limits = d.limits;
       graphs = with_unpaused (option_copied d.unpaused) d.graphs.now;
-      pools = default_pool ∷ [];
+      pools = pools_in d.pools.now.pools;
       now = d.clock;
       lanes = d.lanes;
       next = d.next;
@@ -57,17 +61,19 @@ impl<'a> Draft<'a> {
         limits: Limits,
         graphs: &'a [Graph],
         unpaused: Option<&'a Name>,
+        pools: &'a Pools,
         clock: Moment,
         lanes: u32,
         next: u64,
         runs: Vec<Run>,
     ) -> Draft<'a>
-        ensures { result ≡ record { limits = limits; graphs = with_unpaused (option_copied unpaused.entry) graphs.now; pools = default_pool ∷ []; now = clock; lanes = lanes; next = next; runs = runs.items } }
+        ensures { result ≡ record { limits = limits; graphs = with_unpaused (option_copied unpaused.entry) graphs.now; pools = pools_in pools.now.pools; now = clock; lanes = lanes; next = next; runs = runs.items } }
     {
         Draft {
             limits,
             graphs,
             unpaused,
+            pools,
             clock,
             lanes,
             next,
@@ -89,13 +95,11 @@ impl<'a> Draft<'a> {
         self.lanes
     }
 
-    /// The size of the default pool. There is no other pool yet.
-    pub fn default_pool_size(&self) -> u32
-        ensures size { result ≡ default_pool.size }
-        ensures only { self.now.pools ≡ default_pool ∷ [] }
+    /// The book of its pools: their names and sizes are those of the draft.
+    pub fn pools(&self) -> &'a Pools
+        ensures { pools_in result.now.pools ≡ self.now.pools }
     {
-        let _lanes = self.lanes;
-        128
+        self.pools
     }
 
     /// The serial of the next try.

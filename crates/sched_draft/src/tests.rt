@@ -4,6 +4,7 @@ use dag_check::check;
 use graph_file::{Bounded, Name, Operator, Sequence, read_graph};
 use instance_machine::{Instance, Outcome, Stage};
 use moment_core::Moment;
+use pool_book::Pools;
 use sched_state::{Graph, Job, Kind, Limits, Phase, Run, Text};
 use std::alloc::Global;
 use std::process::Abort;
@@ -42,9 +43,13 @@ fn run(alloc: Global, day: &str, serial: u64) -> Result<Run, Fail> {
 }
 
 // A draft of the runs of two days, of which the second has the first try.
-fn of_two_days(alloc: Global, graphs: &[Graph]) -> Result<Draft<'_>, Fail> {
+fn of_two_days<'a>(
+    alloc: Global,
+    graphs: &'a [Graph],
+    pools: &'a Pools,
+) -> Result<Draft<'a>, Fail> {
     let none = Vec::new(alloc);
-    let mut draft = Draft::new(Limits::full(), graphs, None, Moment::at(0), 4, 4, none);
+    let mut draft = Draft::new(Limits::full(), graphs, None, pools, Moment::at(0), 4, 4, none);
     draft.insert(run(alloc, "2024-01-02", 2)?)?;
     draft.insert(run(alloc, "2024-01-01", 3)?.copy(alloc)?)?;
     Ok(draft)
@@ -53,7 +58,8 @@ fn of_two_days(alloc: Global, graphs: &[Graph]) -> Result<Draft<'_>, Fail> {
 #[test]
 fn runs_come_by_date(rt: HostRuntime) -> Result<(), Fail> {
     let graphs = [graph(rt.alloc())?];
-    let draft = of_two_days(rt.alloc(), &graphs)?;
+    let pools = Pools::new(rt.alloc());
+    let draft = of_two_days(rt.alloc(), &graphs, &pools)?;
     let first = draft.runs().first().map(|run| run.logical);
     assert_eq!(rt; first, Moment::read("2024-01-01").ok());
     Ok(())
@@ -62,7 +68,8 @@ fn runs_come_by_date(rt: HostRuntime) -> Result<(), Fail> {
 #[test]
 fn jobs_come_by_serial(rt: HostRuntime) -> Result<(), Fail> {
     let graphs = [graph(rt.alloc())?];
-    let draft = of_two_days(rt.alloc(), &graphs)?;
+    let pools = Pools::new(rt.alloc());
+    let draft = of_two_days(rt.alloc(), &graphs, &pools)?;
     assert_eq!(rt; draft.jobs_from(rt.alloc(), 3)?.len(), 1);
     let jobs = draft.jobs_from(rt.alloc(), 1)?;
     assert_eq!(rt; jobs.len(), 2);
@@ -100,7 +107,8 @@ fn reports_and_restarts_change_tries(rt: HostRuntime) -> Result<(), Fail> {
     let alloc = rt.alloc();
     let graphs = [graph(alloc)?];
     let runs = vec![in alloc; run(alloc, "2024-01-01", 1)?]?;
-    let mut draft = Draft::new(Limits::full(), &graphs, None, Moment::at(0), 4, 2, runs);
+    let pools = Pools::new(alloc);
+    let mut draft = Draft::new(Limits::full(), &graphs, None, &pools, Moment::at(0), 4, 2, runs);
     for (serial, stage, after) in [
         (2, Stage::Started, State::Queued),
         (1, Stage::Ended(Outcome::Success), State::Queued),
@@ -132,9 +140,10 @@ fn the_graph_that_is_named_is_unpaused(rt: HostRuntime) -> Result<(), Fail> {
     }];
     let id = Name::read(alloc, "g")?;
     let other = Name::read(alloc, "h")?;
+    let pools = Pools::new(alloc);
     for (unpaused, paused) in [(None, true), (Some(&other), true), (Some(&id), false)] {
         let runs = Vec::new(alloc);
-        let draft = Draft::new(Limits::full(), &graphs, unpaused, Moment::at(0), 0, 1, runs);
+        let draft = Draft::new(Limits::full(), &graphs, unpaused, &pools, Moment::at(0), 0, 1, runs);
         assert_eq!(rt; draft.is_paused(&id), paused);
         assert!(rt; !draft.is_paused(&other));
     }

@@ -10,6 +10,7 @@ use Rattle.graph_file.specs.declared.task_specs.TaskSpec.{TaskSpec}
 use Rattle.dag_check.specs.Graphs.{Dag, dag_of}
 use Rattle.dag_check.specs.Faults.{first_fault}
 use Rattle.dag_check.proofs.PlacedLemmas.{graph-of-faultless}
+use Rattle.pool_book.specs.declared.pools.PoolFault.TheVariants.{TooManyPools}
 use Rattle.sched_state.specs.Lists.{same}
 use Rattle.sched_state.specs.declared.graphs.Graph.{Graph}
 use Rattle.sched_state.specs.declared.runs.Run.{Run}
@@ -22,14 +23,15 @@ use Rattle.sched_model.specs.NamedRuns.{Named, is_for, named_by_tick}
 use Rattle.sched_model.specs.Sound.{IsSound, Says, AllSay, is_sound_run, is_new, are_new}
 use Rattle.sched_laws.proofs.GraphLemmas.{load_sound, pause_sound}
 use Rattle.sched_laws.proofs.LoadLemmas.{load_again}
+use Rattle.sched_laws.proofs.PoolLemmas.{resize_sound}
 use Rattle.sched_laws.proofs.SaidLemmas.{said_sound}
 use Rattle.sched_laws.proofs.SoundLemmas.{clock_sound, report_sound, restart_sound}
 use Rattle.sched_laws.proofs.TextLemmas.{load_says, pause_says}
-use Rattle.sched_events.specs.Events.{change_by, load_result, IsDated}
+use Rattle.sched_events.specs.Events.{change_by, load_result, IsInRange}
 use Rattle.sched_events.specs.Causes.{exceeds, edge_count, unknown_pool, differs, refused, refused_text}
 use Rattle.sched_events.specs.Kept.{IsKept}
 use Rattle.sched_events.specs.declared.events.Event.{Event}
-use Rattle.sched_events.specs.declared.events.Event.TheVariants.{Load, Tick, Pause, Unpause, Report, Restart}
+use Rattle.sched_events.specs.declared.events.Event.TheVariants.{Load, Tick, Pause, Unpause, Resize, Report, Restart}
 use Rattle.sched_events.specs.declared.refusals.Refusal.{Refusal}
 use Rattle.sched_events.specs.declared.refusals.Refusal.TheVariants as refusal
 
@@ -124,13 +126,14 @@ read_kept a text (Ok spec) read e kept =
     subst (λ (b : Schedule). IsSound b × AllSay b.graphs) (sym is) (loaded_kept a text spec t kept)
 
 -- ---- each event
-pub change_kept : (e : Event) (a : Schedule) → IsDated e → refused a e ≡ None → IsKept a → IsSound (change_by e a) × AllSay (change_by e a).graphs
-change_kept (Load text) a dated accepted kept = read_kept a text (graph_of text) refl accepted kept
-change_kept (Tick t) a dated accepted kept = (clock_sound t a dated kept.sound, kept.said)
-change_kept (Pause id) a dated accepted kept = (pause_sound id true a kept.sound, pause_says id true a kept.said)
-change_kept (Unpause id) a dated accepted kept = (pause_sound id false a kept.sound, pause_says id false a kept.said)
-change_kept (Report serial stage) a dated accepted kept = (report_sound serial stage a kept.sound, kept.said)
-change_kept (Restart lanes) a dated accepted kept = (restart_sound lanes a (within refusal.LanesTooMany _ accepted) kept.sound, kept.said)
+pub change_kept : (e : Event) (a : Schedule) → IsInRange e → refused a e ≡ None → IsKept a → IsSound (change_by e a) × AllSay (change_by e a).graphs
+change_kept (Load text) a ranged accepted kept = read_kept a text (graph_of text) refl accepted kept
+change_kept (Tick t) a ranged accepted kept = (clock_sound t a ranged kept.sound, kept.said)
+change_kept (Pause id) a ranged accepted kept = (pause_sound id true a kept.sound, pause_says id true a kept.said)
+change_kept (Unpause id) a ranged accepted kept = (pause_sound id false a kept.sound, pause_says id false a kept.said)
+change_kept (Resize name size) a ranged accepted kept = (resize_sound name size a ranged (within (refusal.PoolFault TooManyPools) _ accepted) kept.sound, kept.said)
+change_kept (Report serial stage) a ranged accepted kept = (report_sound serial stage a kept.sound, kept.said)
+change_kept (Restart lanes) a ranged accepted kept = (restart_sound lanes a (within refusal.LanesTooMany _ accepted) kept.sound, kept.said)
 
 -- ---- the runs that an event names are new, and there is room for them
 pub still_new : (a : Schedule) (t : ℕ) (ns : List Named) → are_new (set_now t a) ns ≡ are_new a ns

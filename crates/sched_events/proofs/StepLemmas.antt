@@ -1,5 +1,5 @@
 -- What a step keeps and what it adds.
-use Rattle.std.proofs.Common.{◌≡◌, ◌∙◌, refl, sym, ap, subst, cond, find, ℕ, zero, suc, List, [], ◌∷◌, ◌++◌, Bool, true, false, ◌||◌, Option, Some, None, Result, Ok, Err}
+use Rattle.std.proofs.Common.{◌≡◌, ◌∙◌, refl, sym, ap, subst, cond, find, ℕ, zero, suc, List, [], ◌∷◌, ◌++◌, ◌≤◌, Bool, true, false, ◌||◌, Option, Some, None, Result, Ok, Err}
 use Rattle.std.specs.List.{list_any}
 use Rattle.std.proofs.lemmas.List.Folds.{list_any-append}
 use Rattle.graph_file.specs.Graphs.{graph_of}
@@ -11,11 +11,11 @@ use Rattle.dag_check.specs.Faults.{first_fault}
 use Rattle.sched_state.specs.Lists.{same, repeat}
 use Rattle.sched_state.specs.declared.graphs.Graph.{Graph}
 use Rattle.instance_machine.specs.Reports.{reported_try, lost_try}
-use Rattle.sched_model.specs.Schedule.{Schedule, graph_named, has_run_at}
+use Rattle.sched_model.specs.Schedule.{Schedule, graph_named, has_pool, has_run_at, size_of}
 use Rattle.sched_model.specs.Settle.{move, move_runs, with_runs, moves_left, settle}
 use Rattle.sched_model.specs.Handout.{hand, hand_one, best_offer, serials_left, hand_out}
 use Rattle.sched_model.specs.NamedRuns.{is_for, add_runs}
-use Rattle.sched_model.specs.Changes.{load_graph, set_paused}
+use Rattle.sched_model.specs.Changes.{load_graph, set_paused, resize}
 use Rattle.sched_model.specs.Sound.{IsSound, Says, AllSay}
 use Rattle.sched_laws.proofs.SettleLemmas.{settle_ends, settle_still, map_some}
 use Rattle.sched_laws.proofs.HandLemmas.{out_still}
@@ -27,12 +27,13 @@ use Rattle.sched_state.proofs.NameLemmas.{same_is}
 use Rattle.sched_laws.proofs.LoadLemmas.{load_again}
 use Rattle.sched_laws.proofs.NamedLemmas.{named_new}
 use Rattle.sched_laws.proofs.PauseLemmas.{pause_still, pause_no_hand, pause_again}
-use Rattle.sched_events.specs.Events.{named_by, change_by, load_result, IsDated}
+use Rattle.sched_laws.proofs.ResizeLemmas.{resize_still, smaller_no_hand, new_no_hand, resize_again}
+use Rattle.sched_events.specs.Events.{named_by, change_by, load_result, IsInRange}
 use Rattle.sched_events.specs.Causes.{refused}
 use Rattle.sched_events.specs.Steps.{step, steps, named_along, AreAccepted}
 use Rattle.sched_events.specs.Kept.{IsKept}
 use Rattle.sched_events.specs.declared.events.Event.{Event}
-use Rattle.sched_events.specs.declared.events.Event.TheVariants.{Load, Tick, Pause, Unpause, Report, Restart}
+use Rattle.sched_events.specs.declared.events.Event.TheVariants.{Load, Tick, Pause, Unpause, Resize, Report, Restart}
 use Rattle.sched_events.proofs.AcceptLemmas.{change_kept, still_new, tick_room}
 
 -- ---- graphs stay
@@ -74,19 +75,20 @@ finished_kept b sound said = record {
 }
 
 -- with the runs that it names the changed schedule is sound
-pub added_sound : (e : Event) (a : Schedule) → IsDated e → refused a e ≡ None → IsKept a → IsSound (change_by e a) → IsSound (add_runs (named_by e a) (change_by e a))
-added_sound (Load text) a dated accepted kept s = s
-added_sound (Tick t) a dated accepted kept s = add_sound (named_by (Tick t) a) (change_by (Tick t) a) (still_new a t (named_by (Tick t) a) ∙ named_new a t kept.sound dated) (tick_room a t accepted) s
-added_sound (Pause id) a dated accepted kept s = s
-added_sound (Unpause id) a dated accepted kept s = s
-added_sound (Report serial stage) a dated accepted kept s = s
-added_sound (Restart lanes) a dated accepted kept s = s
+pub added_sound : (e : Event) (a : Schedule) → IsInRange e → refused a e ≡ None → IsKept a → IsSound (change_by e a) → IsSound (add_runs (named_by e a) (change_by e a))
+added_sound (Load text) a ranged accepted kept s = s
+added_sound (Tick t) a ranged accepted kept s = add_sound (named_by (Tick t) a) (change_by (Tick t) a) (still_new a t (named_by (Tick t) a) ∙ named_new a t kept.sound ranged) (tick_room a t accepted) s
+added_sound (Pause id) a ranged accepted kept s = s
+added_sound (Unpause id) a ranged accepted kept s = s
+added_sound (Resize name size) a ranged accepted kept s = s
+added_sound (Report serial stage) a ranged accepted kept s = s
+added_sound (Restart lanes) a ranged accepted kept s = s
 
-pub step_kept : (e : Event) (a : Schedule) → IsDated e → refused a e ≡ None → IsKept a → IsKept (step e a)
+pub step_kept : (e : Event) (a : Schedule) → IsInRange e → refused a e ≡ None → IsKept a → IsKept (step e a)
 unfolding step
-step_kept e a dated accepted kept =
-    let c = change_kept e a dated accepted kept in
-    finished_kept (add_runs (named_by e a) (change_by e a)) (added_sound e a dated accepted kept c.0) c.1
+step_kept e a ranged accepted kept =
+    let c = change_kept e a ranged accepted kept in
+    finished_kept (add_runs (named_by e a) (change_by e a)) (added_sound e a ranged accepted kept c.0) c.1
 
 -- ---- runs
 loaded_dates : (text : List ℕ) (r : Result GraphSpec GraphFault) (a : Schedule) (id : List ℕ) (date : ℕ) → has_run_at (load_result text r a) id date ≡ has_run_at a id date
@@ -101,6 +103,7 @@ change_dates (Load text) a id date = loaded_dates text (graph_of text) a id date
 change_dates (Tick t) a id date = refl
 change_dates (Pause name) a id date = refl
 change_dates (Unpause name) a id date = refl
+change_dates (Resize name size) a id date = refl
 change_dates (Report serial stage) a id date = tries_keys (reported_try serial stage a.now) a id date
 change_dates (Restart lanes) a id date = tries_keys (lost_try a.now) a id date
 
@@ -151,6 +154,24 @@ same_pause id a g kept found is = still_step a (set_paused id true a) kept (paus
 pub same_unpause : (id : List ℕ) (a : Schedule) (g : Graph) → IsKept a → graph_named a id ≡ Some g → g.paused ≡ false → step (Unpause id) a ≡ a
 unfolding step
 same_unpause id a g kept found is = still_step a (set_paused id false a) kept (pause_again id false a g kept.sound.graphs_by_id found is)
+
+-- ---- resizes
+-- a pool that is made no larger, or is made, leaves nothing to do
+resized_still : (name : List ℕ) (size : ℕ) (a : Schedule) → IsKept a → hand_one (resize name size a) ≡ None → step (Resize name size) a ≡ resize name size a
+unfolding step
+resized_still name size a kept none =
+    let b : Schedule = resize name size a in
+    ap hand_out (settle_still b (resize_still name size a kept.settled)) ∙ hand_still b none
+
+pub smaller_step : (name : List ℕ) (size : ℕ) (a : Schedule) → IsKept a → size ≤ size_of a name → step (Resize name size) a ≡ resize name size a
+smaller_step name size a kept no_larger = resized_still name size a kept (smaller_no_hand name size a no_larger kept.handed)
+
+pub new_step : (name : List ℕ) (size : ℕ) (a : Schedule) → IsKept a → has_pool a name ≡ false → step (Resize name size) a ≡ resize name size a
+new_step name size a kept none = resized_still name size a kept (new_no_hand name size a kept.sound none kept.handed)
+
+pub same_size : (name : List ℕ) (size : ℕ) (a : Schedule) → IsKept a → has_pool a name ≡ true → size_of a name ≡ size → step (Resize name size) a ≡ a
+unfolding step
+same_size name size a kept there is = still_step a (resize name size a) kept (resize_again name size a kept.sound.pools_by_name there is)
 
 -- ---- the same text again
 -- a graph that is found is what its text says

@@ -7,14 +7,15 @@ use Rattle.graph_file.specs.declared.faults.GraphFault.TheVariants.{TooMany}
 use Rattle.graph_file.specs.declared.graph_specs.GraphSpec.{GraphSpec}
 use Rattle.graph_file.specs.declared.task_specs.TaskSpec.{TaskSpec}
 use Rattle.dag_check.specs.Faults.{first_fault}
+use Rattle.pool_book.specs.declared.pools.PoolFault.TheVariants.{TooManyPools}
 use Rattle.sched_state.specs.Limits.{Bounds}
 use Rattle.sched_state.specs.Lists.{same}
 use Rattle.sched_state.specs.declared.graphs.Graph.{Graph}
 use Rattle.sched_model.specs.Schedule.{Schedule, graph_named, has_pool, has_runs}
 use Rattle.sched_model.specs.NamedRuns.{named_by_tick}
-use Rattle.sched_model.specs.Causes.{is_not_in_flight, is_out_of_turn, is_unknown_graph, has_too_many_graphs, has_too_many_lanes, is_full_with}
+use Rattle.sched_model.specs.Causes.{is_not_in_flight, is_out_of_turn, is_unknown_graph, has_too_many_graphs, has_too_many_pools, has_too_many_lanes, is_full_with}
 use Rattle.sched_events.specs.declared.events.Event.{Event}
-use Rattle.sched_events.specs.declared.events.Event.TheVariants.{Load, Tick, Pause, Unpause, Report, Restart}
+use Rattle.sched_events.specs.declared.events.Event.TheVariants.{Load, Tick, Pause, Unpause, Resize, Report, Restart}
 use Rattle.sched_events.specs.declared.refusals.Refusal.{Refusal}
 use Rattle.sched_events.specs.declared.refusals.Refusal.TheVariants as refusal
 
@@ -51,5 +52,6 @@ refused a (Load text) = refused_text a text (graph_of text)
 refused a (Tick t) = first_some (when (nat_lt t a.now) (refusal.ClockBack a.now) ∷ when (is_full_with a (named_by_tick a t)) refusal.RecordFull ∷ [])
 refused a (Pause id) = when (is_unknown_graph a id) refusal.UnknownGraph
 refused a (Unpause id) = when (is_unknown_graph a id) refusal.UnknownGraph
+refused a (Resize name size) = when (has_too_many_pools a name) (refusal.PoolFault TooManyPools)
 refused a (Report serial stage) = first_some (when (is_not_in_flight a serial) (refusal.NotInFlight serial) ∷ when (is_out_of_turn a serial stage) (refusal.OutOfTurn serial) ∷ [])
 refused a (Restart lanes) = when (has_too_many_lanes a lanes) refusal.LanesTooMany

@@ -7,10 +7,10 @@ use Rattle.dag_check.specs.Graphs.{dag_of}
 use Rattle.dag_check.specs.Faults.{first_fault}
 use Rattle.sched_model.specs.Schedule.{Schedule}
 use Rattle.sched_model.specs.NamedRuns.{Named, named_by_tick, leaves_more}
-use Rattle.sched_model.specs.Changes.{load_graph, set_now, set_paused, report, restart}
-use Rattle.sched_model.specs.Sound.{is_moment}
+use Rattle.sched_model.specs.Changes.{load_graph, set_now, set_paused, new_pool, resize, report, restart}
+use Rattle.sched_model.specs.Sound.{is_moment, is_sound_pool}
 use Rattle.sched_events.specs.declared.events.Event.{Event}
-use Rattle.sched_events.specs.declared.events.Event.TheVariants.{Load, Tick, Pause, Unpause, Report, Restart}
+use Rattle.sched_events.specs.declared.events.Event.TheVariants.{Load, Tick, Pause, Unpause, Resize, Report, Restart}
 
 -- the runs that an event names
 abbrev pub named_by : Event → Schedule → List Named
@@ -18,6 +18,7 @@ named_by (Load text) a = []
 named_by (Tick t) a = named_by_tick a t
 named_by (Pause id) a = []
 named_by (Unpause id) a = []
+named_by (Resize name size) a = []
 named_by (Report serial stage) a = []
 named_by (Restart lanes) a = []
 
@@ -27,6 +28,7 @@ leaves_more_by (Load text) a = false
 leaves_more_by (Tick t) a = leaves_more a t
 leaves_more_by (Pause id) a = false
 leaves_more_by (Unpause id) a = false
+leaves_more_by (Resize name size) a = false
 leaves_more_by (Report serial stage) a = false
 leaves_more_by (Restart lanes) a = false
 
@@ -41,14 +43,16 @@ change_by (Load text) a = load_result text (graph_of text) a
 change_by (Tick t) a = set_now t a
 change_by (Pause id) a = set_paused id true a
 change_by (Unpause id) a = set_paused id false a
+change_by (Resize name size) a = resize name size a
 change_by (Report serial stage) a = report serial stage a
 change_by (Restart lanes) a = restart lanes a
 
--- the moment of a tick is one
-abbrev pub IsDated : Event → Type 0
-IsDated (Load text) = Unit {0}
-IsDated (Tick t) = IsTrue (is_moment t)
-IsDated (Pause id) = Unit {0}
-IsDated (Unpause id) = Unit {0}
-IsDated (Report serial stage) = Unit {0}
-IsDated (Restart lanes) = Unit {0}
+-- the moment of a tick is one, and the pool of a resize: it has a name, and no more slots than a pool may have
+abbrev pub IsInRange : Event → Type 0
+IsInRange (Load text) = Unit {0}
+IsInRange (Tick t) = IsTrue (is_moment t)
+IsInRange (Pause id) = Unit {0}
+IsInRange (Unpause id) = Unit {0}
+IsInRange (Resize name size) = IsTrue (is_sound_pool (new_pool name size))
+IsInRange (Report serial stage) = Unit {0}
+IsInRange (Restart lanes) = Unit {0}

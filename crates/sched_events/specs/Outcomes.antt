@@ -5,6 +5,8 @@ use Rattle.graph_file.specs.declared.graph_specs.GraphSpec.{GraphSpec}
 use Rattle.dag_check.specs.Faults.{Stands, without_names}
 use Rattle.dag_check.specs.declared.faults.DagFault.{DagFault}
 use Rattle.dag_check.specs.declared.faults.DagFault.TheVariants as fault
+use Rattle.pool_book.specs.declared.pools.PoolFault.{PoolFault}
+use Rattle.pool_book.specs.declared.pools.PoolFault.TheVariants as pool
 use Rattle.sched_model.specs.Schedule.{Schedule}
 use Rattle.sched_events.specs.Causes.{refused}
 use Rattle.sched_events.specs.Steps.{step, answer_to}
@@ -21,6 +23,11 @@ refusal_of (fault.UnknownUpstream i) = refusal.DagFault (fault.UnknownUpstream i
 refusal_of (fault.DoubleEdge i) = refusal.DagFault (fault.DoubleEdge i)
 refusal_of (fault.Cycle names) = refusal.DagFault (fault.Cycle names)
 refusal_of fault.Memory = refusal.Memory
+
+-- the refusal for a fault of a pool
+abbrev pub refusal_of_pool : PoolFault → Refusal
+refusal_of_pool pool.TooManyPools = refusal.PoolFault pool.TooManyPools
+refusal_of_pool pool.Memory = refusal.Memory
 
 -- the event is accepted, the schedule after it is its step, and this is its answer
 pub record IsStepped (a : Schedule) (e : Event) (b : Schedule) (given : Answer) : Type 0 where
@@ -39,6 +46,7 @@ unnamed refusal.UnknownGraph = refusal.UnknownGraph
 unnamed (refusal.ClockBack moment) = refusal.ClockBack moment
 unnamed (refusal.NotInFlight serial) = refusal.NotInFlight serial
 unnamed (refusal.OutOfTurn serial) = refusal.OutOfTurn serial
+unnamed (refusal.PoolFault fault) = refusal.PoolFault fault
 unnamed refusal.LanesTooMany = refusal.LanesTooMany
 unnamed refusal.RecordFull = refusal.RecordFull
 unnamed refusal.Memory = refusal.Memory

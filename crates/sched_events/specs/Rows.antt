@@ -1,5 +1,5 @@
--- Task instances as rows.
-use Rattle.std.specs.Prelude.{ℕ, List}
+-- Task instances and pools as rows.
+use Rattle.std.specs.Prelude.{ℕ, ℤ, List}
 use Rattle.trigger_rules.specs.declared.states.State.{State}
 use Rattle.sched_state.specs.declared.runs.Kind.{Kind}
 
@@ -11,3 +11,11 @@ pub record Row : Type 0 where
   pub task : List ℕ
   pub state : State
   pub tries : ℕ
+
+-- a pool, as it is shown: its name, its size, how many slots are taken of it, and how many are open, which are fewer than none where
+-- more are taken than it has
+pub record PoolLine : Type 0 where
+  pub name : List ℕ
+  pub size : ℕ
+  pub occupied : ℕ
+  pub open_slots : ℤ

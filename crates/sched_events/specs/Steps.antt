@@ -4,7 +4,7 @@ use Rattle.sched_model.specs.Schedule.{Schedule}
 use Rattle.sched_model.specs.NamedRuns.{Named}
 use Rattle.sched_model.specs.Changes.{advance}
 use Rattle.sched_model.specs.Jobs.{handed}
-use Rattle.sched_events.specs.Events.{named_by, leaves_more_by, change_by, IsDated}
+use Rattle.sched_events.specs.Events.{named_by, leaves_more_by, change_by, IsInRange}
 use Rattle.sched_events.specs.Causes.{refused}
 use Rattle.sched_events.specs.declared.answers.RunId.{RunId}
 use Rattle.sched_events.specs.declared.answers.Answer.{Answer}
@@ -22,7 +22,7 @@ steps (e ∷ es) a = steps es (step e a)
 -- each of the events is accepted at the schedule that it comes to
 abbrev pub AreAccepted : List Event → Schedule → Type 0
 AreAccepted [] a = Unit {0}
-AreAccepted (e ∷ es) a = IsDated e × (refused a e ≡ None) × AreAccepted es (step e a)
+AreAccepted (e ∷ es) a = IsInRange e × (refused a e ≡ None) × AreAccepted es (step e a)
 
 -- the runs that a list of events names, each at the schedule that it comes to
 abbrev pub named_along : List Event → Schedule → List Named

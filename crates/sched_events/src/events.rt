@@ -4,6 +4,7 @@ ghost use Rattle.std.specs.Prelude.{◌≡◌, IfOk};
 use graph_file::Name;
 use instance_machine::Stage;
 use moment_core::Moment;
+use pool_book::Slots;
 use sched_state::Text;
 use std::alloc::{AllocError, Global};
 
@@ -19,6 +20,8 @@ pub enum Event {
     Pause(Name),
     /// It is paused no more.
     Unpause(Name),
+    /// The pool with this name gets so many slots; an unknown one is made (Airflow 2, "Pools").
+    Resize(Name, Slots),
     /// A worker reports of the try with this serial.
     Report(u64, Stage),
     /// The scheduler was restarted, with so many lanes: tries without an end are lost (Airflow 2, "Tasks": zombie tasks).
@@ -35,6 +38,7 @@ impl Event {
             Event::Tick(moment) => Ok(Event::Tick(*moment)),
             Event::Pause(id) => Ok(Event::Pause(id.copy(alloc)?)),
             Event::Unpause(id) => Ok(Event::Unpause(id.copy(alloc)?)),
+            Event::Resize(pool, size) => Ok(Event::Resize(pool.copy(alloc)?, *size)),
             Event::Report(serial, stage) => Ok(Event::Report(*serial, *stage)),
             Event::Restart(lanes) => Ok(Event::Restart(*lanes)),
         }

@@ -1,28 +1,28 @@
 //! Laws of the steps.
-ghost use Rattle.std.specs.Prelude.{◌≡◌, ℕ, ◌||◌, ◌++◌, List, None, Some, Ok, IsTrue, true, false};
+ghost use Rattle.std.specs.Prelude.{◌≡◌, ℕ, ◌||◌, ◌++◌, ◌≤◌, List, None, Some, Ok, IsTrue, true, false};
 ghost use Rattle.std.specs.List.{list_any};
 ghost use Rattle.graph_file.specs.Graphs.{graph_of};
 ghost use Rattle.graph_file.specs.declared.graph_specs.GraphSpec.{GraphSpec};
 ghost use Rattle.sched_state.specs.Lists.{same};
 ghost use Rattle.sched_state.specs.declared.graphs.Graph.{Graph};
-ghost use Rattle.sched_model.specs.Schedule.{Schedule, graph_named, has_run_at};
+ghost use Rattle.sched_model.specs.Schedule.{Schedule, graph_named, has_pool, has_run_at, size_of};
 ghost use Rattle.sched_model.specs.Settle.{move};
 ghost use Rattle.sched_model.specs.Handout.{hand_one};
 ghost use Rattle.sched_model.specs.NamedRuns.{is_for};
-ghost use Rattle.sched_model.specs.Changes.{set_paused};
-ghost use Rattle.sched_events.specs.Events.{named_by, IsDated};
+ghost use Rattle.sched_model.specs.Changes.{set_paused, resize};
+ghost use Rattle.sched_events.specs.Events.{named_by, IsInRange};
 ghost use Rattle.sched_events.specs.Causes.{refused};
 ghost use Rattle.sched_events.specs.Steps.{step, steps, named_along, AreAccepted};
 ghost use Rattle.sched_events.specs.Kept.{IsKept};
 ghost use Rattle.sched_events.specs.declared.events.Event.{Event};
-ghost use Rattle.sched_events.specs.declared.events.Event.TheVariants.{Load, Pause, Unpause};
+ghost use Rattle.sched_events.specs.declared.events.Event.TheVariants.{Load, Pause, Unpause, Resize};
 
 /// After each step neither a move nor a hand-out is possible, and the step of an accepted event keeps a schedule: it stays sound, and
 /// each graph is what its text says.
 pub fn steps_keep_the_schedule()
     ensures settled { (e : Event) (a : Schedule) → move (step e a) ≡ None }
     ensures handed { (e : Event) (a : Schedule) → hand_one (step e a) ≡ None }
-    ensures kept { (e : Event) (a : Schedule) → IsDated e → refused a e ≡ None → IsKept a → IsKept (step e a) }
+    ensures kept { (e : Event) (a : Schedule) → IsInRange e → refused a e ≡ None → IsKept a → IsKept (step e a) }
 {}
 
 /// The runs after a step are those before it and the named ones, by graph and logical date.
@@ -36,6 +36,14 @@ pub fn pauses_change_one_graph()
     ensures pause { (id : List ℕ) (a : Schedule) → IsKept a → step (Pause id) a ≡ set_paused id true a }
     ensures paused { (id : List ℕ) (a : Schedule) (g : Graph) → IsKept a → graph_named a id ≡ Some g → g.paused ≡ true → step (Pause id) a ≡ a }
     ensures unpaused { (id : List ℕ) (a : Schedule) (g : Graph) → IsKept a → graph_named a id ≡ Some g → g.paused ≡ false → step (Unpause id) a ≡ a }
+{}
+
+/// Of a pool that is made no larger, or is made, only the size changes: no run and no try. The size that a pool has already changes
+/// nothing. Where a pool is made larger, what waits for it may go out.
+pub fn resizes_change_one_pool()
+    ensures smaller { (name : List ℕ) (size : ℕ) (a : Schedule) → IsKept a → size ≤ size_of a name → step (Resize name size) a ≡ resize name size a }
+    ensures made { (name : List ℕ) (size : ℕ) (a : Schedule) → IsKept a → has_pool a name ≡ false → step (Resize name size) a ≡ resize name size a }
+    ensures same { (name : List ℕ) (size : ℕ) (a : Schedule) → IsKept a → has_pool a name ≡ true → size_of a name ≡ size → step (Resize name size) a ≡ a }
 {}
 
 /// The text that a graph has already changes nothing.

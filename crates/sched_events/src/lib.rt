@@ -1,5 +1,5 @@
 //! What comes to a schedule, and what it makes of it: events, why they are refused, what they answer, and the step of each; and how
-//! task instances are shown.
+//! task instances and pools are shown.
 //!
 //! The definitions stand in `specs/`: the causes against an event, its step and its answer. The laws are about them alone. What plans
 //! and does events is `sched_core`.
@@ -17,8 +17,8 @@ pub use answers::{Answer, RunId};
 pub use events::Event;
 pub use laws::{
     lists_of_steps_add_their_runs, lists_of_steps_go_in_parts, lists_of_steps_keep_the_schedule,
-    pauses_change_one_graph, steps_add_the_named_runs, steps_keep_the_schedule,
-    the_same_text_changes_nothing,
+    pauses_change_one_graph, resizes_change_one_pool, steps_add_the_named_runs,
+    steps_keep_the_schedule, the_same_text_changes_nothing,
 };
 pub use refusals::Refusal;
-pub use rows::InstanceRow;
+pub use rows::{InstanceRow, PoolRow};

@@ -2,6 +2,7 @@
 use dag_check::DagFault;
 use graph_file::{GraphFault, Name};
 use moment_core::Moment;
+use pool_book::PoolFault;
 use std::alloc::AllocError;
 
 /// Why an event is refused. Where several causes stand, the first in this order is answered, and nothing changes.
@@ -25,6 +26,8 @@ pub enum Refusal {
     NotInFlight(u64),
     /// The try with this serial has begun already, or not yet, or is reported lost.
     OutOfTurn(u64),
+    /// The pool is not there, and there are as many pools as the limit (`TooManyPools`).
+    PoolFault(PoolFault),
     /// There would be more lanes than the limit.
     LanesTooMany,
     /// There would be more runs than the limit.
@@ -54,6 +57,20 @@ impl From<DagFault> for Refusal {
         match fault {
             DagFault::Memory => Refusal::Memory,
             fault => Refusal::DagFault(fault),
+        }
+    }
+}
+
+impl From<PoolFault> for Refusal {
+    ghost use Rattle.std.specs.Prelude.{◌≡◌};
+    ghost use Rattle.sched_events.specs.Outcomes.{refusal_of_pool};
+
+    ghost from_gives = { λ fault refusal. refusal ≡ refusal_of_pool fault };
+
+    fn from(fault: PoolFault) -> Refusal {
+        match fault {
+            PoolFault::TooManyPools => Refusal::PoolFault(PoolFault::TooManyPools),
+            PoolFault::Memory => Refusal::Memory,
         }
     }
 }

@@ -1,4 +1,4 @@
-//! Task instances as rows.
+//! Task instances and pools as rows.
 use graph_file::Name;
 use moment_core::Moment;
 use sched_state::Kind;
@@ -27,4 +27,24 @@ impl<'a> Model for InstanceRow<'a> {
     ghost Value = { Row };
 
     ghost view = { λ w. record { graph = w.graph.now; logical = w.logical; kind = w.kind; task = w.task.now; state = w.state; tries = w.tries } };
+}
+
+/// A pool, as it is shown.
+#[derive(Drop)]
+pub struct PoolRow<'a> {
+    pub name: &'a Name,
+    /// How many slots it has.
+    pub size: u32,
+    /// How many slots the tries without an end take of it.
+    pub occupied: u64,
+    /// Its size less what is taken: fewer than none where the pool was made smaller than that (Airflow 2, "Pools").
+    pub open_slots: i64,
+}
+
+impl<'a> Model for PoolRow<'a> {
+    ghost use Rattle.sched_events.specs.Rows.{PoolLine};
+
+    ghost Value = { PoolLine };
+
+    ghost view = { λ w. record { name = w.name.now; size = w.size; occupied = w.occupied; open_slots = w.open_slots } };
 }

@@ -2,6 +2,7 @@ use super::*;
 use graph_file::{Action, Bounded, Name, Operator, Sequence};
 use instance_machine::{Outcome, Stage};
 use moment_core::Moment;
+use pool_book::Slots;
 use sched_state::{Job, Kind, Text};
 use std::alloc::Global;
 use std::test::Fail;
@@ -26,6 +27,11 @@ fn told(alloc: Global, event: &Event) -> Result<String, Fail> {
             let id = id.as_str();
             format!(in alloc; "unpause {id}")?
         }
+        Event::Resize(pool, size) => {
+            let pool = pool.as_str();
+            let size = size.get();
+            format!(in alloc; "resize {pool} {size}")?
+        }
         Event::Report(serial, stage) => format!(in alloc; "{serial} {stage:?}")?,
         Event::Restart(lanes) => format!(in alloc; "restart {lanes}")?,
     })
@@ -44,6 +50,7 @@ fn events_are_copied(rt: HostRuntime) -> Result<(), Fail> {
         ),
         (Event::Pause(name(alloc, "g")?), "pause g"),
         (Event::Unpause(name(alloc, "h")?), "unpause h"),
+        (Event::Resize(name(alloc, "p")?, Slots::of(5)), "resize p 5"),
         (Event::Restart(4), "restart 4"),
     ] {
         let copy = event.copy(alloc)?;

@@ -1,5 +1,5 @@
 -- What the best offer allows, and what one hand-out is for all of them.
-use Rattle.std.proofs.Common.{◌≡◌, refl, sym, ap, subst, ◌∙◌, ℕ, ◌-◌, ◌<◌, ◌≤◌, List, [], ◌∷◌, Bool, true, false, ◌&&◌, filter, length, Option, Some, option_map, unwrap_or, nat_le, nat_lt, arith, leb-true}
+use Rattle.std.proofs.Common.{◌≡◌, refl, sym, ap, subst, ◌∙◌, ℕ, ◌+◌, ◌-◌, ◌<◌, ◌≤◌, List, [], ◌∷◌, Bool, true, false, ◌&&◌, filter, length, Option, Some, option_map, unwrap_or, nat_le, nat_lt, arith, leb-true}
 use Rattle.std.specs.Global.{Vec}
 use Rattle.std.proofs.lemmas.Bool.{ltb-true, lt-ltb}
 use Rattle.std.proofs.lemmas.Option.{slice_get_within}
@@ -7,16 +7,22 @@ use Rattle.sched_state.specs.declared.runs.Run.{Run}
 use Rattle.sched_state.proofs.OrderLemmas.{and_right}
 use Rattle.sched_model.specs.Lists.{best_by}
 use Rattle.sched_model.specs.Schedule.{Schedule}
-use Rattle.sched_model.specs.States.{in_flight}
+use Rattle.sched_model.specs.States.{in_flight, occupied}
 use Rattle.sched_model.specs.Handout.{Offer, offers, fits, ranks_before, best_offer, hand, hand_one, hand_out, serials_left, last_serial}
 use Rattle.sched_draft.specs.Parts.{instances_at}
 use Rattle.sched_laws.proofs.HandOutLemmas.{hand_falls, hand_still, hand_moved}
 use Rattle.sched_laws.proofs.OfferLemmas.{In, in_filter, eligible}
 use Rattle.sched_laws.proofs.RankLemmas.{best_in}
 use Rattle.sched_laws.proofs.SettleLemmas.{map_some}
-use Rattle.sched_laws.specs.Offered.{IsEligible}
+use Rattle.sched_laws.specs.Offered.{IsEligible, slots_of}
+use Rattle.sched_laws.proofs.HandLemmas.{hand_occupied, hand_in_flight}
+use Rattle.pool_book.specs.Pools.{Entries, with_pool, take_counted}
+use Rattle.sched_draft.specs.Books.{IsBookOf}
+use Rattle.sched_draft.proofs.BookLemmas.{with_keeps}
+use Rattle.sched_handout.specs.declared.counting.Room.{Room}
+use Rattle.sched_handout.specs.Rooms.{with_taken, IsRoomIn}
+use Rattle.sched_handout.proofs.BookLemmas.{takes_as, takes_more}
 use Rattle.sched_handout.specs.Choices.{IsOneHanded}
-use Rattle.sched_handout.specs.Rooms.{room_in}
 use Rattle.sched_handout.specs.Weighing.{WeighGraphs}
 
 -- ---- the best offer
@@ -39,6 +45,20 @@ best_place a o e =
 pub best_serial : (a : Schedule) (o : Offer) → best_offer a ≡ Some o → a.next ≤ last_serial
 best_serial a o e = leb-true a.next last_serial (and_right _ _ (and_right _ _ (best_is_offered a o e).1))
 
+-- what a hand-out leaves of the room
+pub room_handed : (a : Schedule) (o : Offer) (room : Room) → best_offer a ≡ Some o → IsRoomIn a room → (next : Room) (b : Schedule) → next ≡ with_taken o.pool o.slots room → b ≡ hand a o → IsRoomIn b next
+room_handed a o room e h next b taken handed =
+    let eligible : IsEligible a o = best_is_eligible a o e in
+    let one : in_flight (hand a o) ≡ in_flight a + 1 = hand_in_flight a o eligible in
+    rw (taken, handed) (record {
+      lanes = omega (arith, h.lanes, one);
+      pools = record {
+        pools = with_keeps o.pool (take_counted o.slots) (λ p. refl) room.pools.pools ∙ h.pools.pools;
+        taken = takes_as (λ name. occupied a name + slots_of o name) (occupied (hand a o)) (with_pool o.pool (take_counted o.slots) room.pools.pools) (λ name. sym (hand_occupied a o eligible name))
+            (takes_more (occupied a) o.pool o.slots room.pools.pools h.pools.taken);
+      };
+    })
+
 -- ---- no lane is free, or no serial is left
 none_passes : {X : Type 0} (p : X → Bool) (xs : List X) → ((x : X) → p x ≡ false) → filter p xs ≡ []
 none_passes p [] h = refl
@@ -55,10 +75,10 @@ and_none : (b c : Bool) → c ≡ false → (b && c) ≡ false
 and_none true c e = e
 and_none false c e = refl
 
-pub no_lane : (a : Schedule) → (nat_lt 0 (room_in a).lanes && nat_le a.next last_serial) ≡ false → a ≡ hand_out a
-no_lane a e =
+pub no_lane : (a : Schedule) (lanes : ℕ) → lanes ≡ a.lanes - in_flight a → (nat_lt 0 lanes && nat_le a.next last_serial) ≡ false → a ≡ hand_out a
+no_lane a lanes free e =
     let l : nat_lt 0 (a.lanes - in_flight a) ≡ nat_lt (in_flight a) a.lanes = lane_is (in_flight a) a.lanes (nat_lt (in_flight a) a.lanes) refl in
-    let f : (nat_lt (in_flight a) a.lanes && nat_le a.next last_serial) ≡ false = ap (λ b. b && nat_le a.next last_serial) (sym l) ∙ e in
+    let f : (nat_lt (in_flight a) a.lanes && nat_le a.next last_serial) ≡ false = ap (λ b. b && nat_le a.next last_serial) (sym (ap (nat_lt 0) free ∙ l)) ∙ e in
     let none : filter (fits a) (offers a) ≡ [] = none_passes (fits a) (offers a) (λ o. and_none _ _ f) in
     sym (hand_still a (ap (λ os. option_map (hand a) (best_by ranks_before os)) none))
 
@@ -77,3 +97,11 @@ pub handed_weighed : (handed : Bool) (a b : Schedule) (rows : List (Vec ℕ)) �
 handed_weighed handed a b rows e h w =
     let t = map_some (hand a) (best_offer a) b (was_handed handed a b e h) in
     subst (λ (c : Schedule). WeighGraphs c.graphs rows) t.2 w
+
+-- the room that is left where none was possible has the book of what all hand-outs lead to
+pub last_book : (handed : Bool) (a b first : Schedule) (room : Room) → handed ≡ false → IsOneHanded handed a b → hand_out a ≡ hand_out first → IsRoomIn b room → IsBookOf (hand_out first) room.pools.pools
+last_book true a b first room e h same r = absurd (let f : ◌≡◌ {A = Bool} true false = e in cc)
+last_book false a b first room e h same r = subst (λ (c : Schedule). IsBookOf c room.pools.pools) (h.1 ∙ (sym (hand_still a h.0) ∙ same)) r.pools
+
+pub book_as : {es : Entries} (a b : Schedule) → a ≡ b → IsBookOf a es → IsBookOf b es
+book_as {es} a b same book = subst (λ (c : Schedule). IsBookOf c es) same book

@@ -1,46 +1,48 @@
-//! What open tries leave of the lanes and of the default pool.
-ghost use Rattle.std.specs.Prelude.{◌≡◌, [], ◌∷◌, flat_map};
+//! What open tries leave of the lanes, and take of the pools.
+ghost use Rattle.std.specs.Prelude.{◌≡◌, flat_map, IfOk};
 ghost use Rattle.std.specs.List.{zip};
-ghost use Rattle.sched_state.specs.Lists.{same};
-ghost use Rattle.sched_model.specs.Schedule.{default_pool};
-ghost use Rattle.sched_model.specs.States.{open_of};
+ghost use Rattle.sched_model.specs.States.{open_of, open_tries};
 ghost use Rattle.sched_handout.specs.Rooms as rooms;
+ghost use Rattle.sched_handout.specs.Rooms.{IsRoomIn};
 
 use dag_check::Graph as Dag;
-use graph_file::{Name, TaskSpec};
-use instance_machine::{Instance, Try};
+use graph_file::{Bounded, Name, TaskSpec};
+use instance_machine::Instance;
+use pool_book::{Pools, Slots};
 use sched_draft::Draft;
 use sched_state::Run;
+use std::alloc::{AllocError, Global};
 
-/// How many lanes and how many slots of the default pool are free.
-#[derive(Clone, Copy, Debug, PartialEq, Eq)]
+/// How many lanes are free, and what is taken of each pool.
+#[derive(Debug, Drop)]
 pub struct Room {
     pub lanes: u32,
-    pub slots: u32,
+    pub pools: Pools,
 }
 
-/// Whether this is the default pool's name.
-pub fn is_default_pool(pool: &Name) -> bool
-    ensures { result ≡ same pool.now default_pool.name }
+/// The room of a schedule, counted over its tries.
+pub fn room_in(alloc: Global, draft: &Draft<'_>) -> Result<Room, AllocError>
+    ensures { IfOk result (IsRoomIn draft.now) }
 {
-    pool.as_str() == "default_pool"
-}
-
-/// The free lanes and slots. Where more is taken than there is, none are free.
-pub fn room_in(draft: &Draft<'_>) -> Room
-    ensures { result ≡ rooms.room_in draft.now }
-{
-    let mut room = Room {
+    let room = Room {
         lanes: draft.lanes(),
-        slots: draft.default_pool_size(),
+        pools: draft.pools().vacant_copy(alloc)?,
     };
+    Ok(left_by_runs(room, draft))
+}
+
+// What the open tries of all runs leave.
+fn left_by_runs(room: Room, draft: &Draft<'_>) -> Room
+    ensures { result ≡ rooms.left_by room (open_tries draft.now) }
+{
+    let mut left = room;
     let runs = draft.runs();
     for run in runs {
         if let Some(dag) = draft.dag(&run.graph) {
-            room = left_by_run(room, dag, run);
+            left = left_by_run(left, dag, run);
         }
     }
-    room
+    left
 }
 
 // What the open tries of a run leave.
@@ -64,23 +66,16 @@ fn left_by_instance(room: Room, task: &TaskSpec, instance: &Instance) -> Room
     let mut left = room;
     for one in tries {
         if one.ended.is_none() {
-            left = left_by_try(left, task, one);
+            take(&mut left, &task.pool, one.slots);
         }
     }
     left
 }
 
-// What an open try leaves.
-fn left_by_try(room: Room, task: &TaskSpec, one: &Try) -> Room
-    ensures { result ≡ rooms.left_by room ((task.now, one.now) ∷ []) }
+/// A try of so many slots takes a lane, and the slots of its pool.
+pub fn take(room: &mut Room, pool: &Name, slots: Bounded<1, 1_000>)
+    ensures { room.new ≡ rooms.with_taken pool.now slots room.old }
 {
-    let slots = if is_default_pool(&task.pool) {
-        one.slots.get()
-    } else {
-        0
-    };
-    Room {
-        lanes: room.lanes.saturating_sub(1),
-        slots: room.slots.saturating_sub(slots),
-    }
+    room.lanes = room.lanes.saturating_sub(1);
+    room.pools.occupy_counted(pool, Slots::of(slots.get()));
 }

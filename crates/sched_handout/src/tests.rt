@@ -1,12 +1,13 @@
 use super::*;
 use cron_timetable::Interval;
 use dag_check::{Graph as Dag, check};
-use graph_file::{Bounded, Sequence, read_graph};
+use graph_file::{Bounded, Name, Sequence, read_graph};
 use instance_machine::{Instance, Outcome, Stage};
 use moment_core::Moment;
+use pool_book::{Pools, Slots};
 use sched_draft::Draft;
 use sched_state::{Graph, Kind, Limits, Phase, Run, Text};
-use std::alloc::Global;
+use std::alloc::{AllocError, Global};
 use std::test::Fail;
 use trigger_rules::Verdict;
 
@@ -68,20 +69,22 @@ fn run(alloc: Global, graph: &Graph, secs: i64) -> Result<Run, Fail> {
     run_with(alloc, graph, secs, instances)
 }
 
-// A draft at second 1,000, after hand-outs. These are made again where memory ran out.
-fn handed_out<'a>(
-    alloc: Global,
-    graphs: &'a [Graph],
-    lanes: u32,
-    runs: Vec<Run>,
-) -> Result<Draft<'a>, Fail> {
-    let mut draft = Draft::new(Limits::full(), graphs, None, moment(1_000)?, lanes, 2, runs);
-    match hand_out(alloc, &mut draft) {
-        Ok(()) => Ok(draft),
-        Err(_) => {
-            hand_out(alloc, &mut draft)?;
-            Ok(draft)
-        }
+// The default pool, and a pool `p` of three slots.
+fn two_pools(alloc: Global) -> Result<Pools, Fail> {
+    let mut pools = Pools::new(alloc);
+    for (name, size) in [("default_pool", 128), ("p", 3)] {
+        let name = Name::read(alloc, name)?;
+        let size = Slots::new(size).ok_or("no size")?;
+        pools.resize(name, size).ok().ok_or("no pool")?;
+    }
+    Ok(pools)
+}
+
+// Hands out, and once more where memory ran out: the book of the pools.
+fn handed_out(alloc: Global, draft: &mut Draft<'_>) -> Result<Pools, AllocError> {
+    match hand_out(alloc, draft) {
+        Ok(pools) => Ok(pools),
+        Err(_) => hand_out(alloc, draft),
     }
 }
 
@@ -121,7 +124,10 @@ fn written(alloc: Global, draft: &Draft<'_>) -> Result<String, Fail> {
 
 // The same, once all is handed out.
 fn told(alloc: Global, graphs: &[Graph], lanes: u32, runs: Vec<Run>) -> Result<String, Fail> {
-    let draft = handed_out(alloc, graphs, lanes, runs)?;
+    let pools = two_pools(alloc)?;
+    let clock = moment(1_000)?;
+    let mut draft = Draft::new(Limits::full(), graphs, None, &pools, clock, lanes, 2, runs);
+    handed_out(alloc, &mut draft)?;
     written(alloc, &draft)
 }
 
@@ -158,11 +164,11 @@ fn the_first_in_rank_that_fits_gets_a_try(rt: HostRuntime) -> Result<(), Fail> {
             64,
             "g.0.a g.0.b ",
         ),
-        // what does not fit is passed over, and so is another pool
+        // what does not fit is passed over, and so is a pool that is not there
         (
             &[
                 ("a", "pool_slots = 129\npriority_weight = 9"),
-                ("b", "pool = \"p\"\npriority_weight = 5"),
+                ("b", "pool = \"q\"\npriority_weight = 5"),
                 ("c", ""),
             ],
             64,
@@ -173,6 +179,59 @@ fn the_first_in_rank_that_fits_gets_a_try(rt: HostRuntime) -> Result<(), Fail> {
         let found = told_of(alloc, tasks, lanes)?;
         assert_eq!(rt; found.as_str(), wanted, "{lanes} lanes");
     }
+    Ok(())
+}
+
+// Tasks of two pools, of which one has three slots.
+const TWO_POOLS: [(&str, &str); 4] = [
+    ("a", ""),
+    ("b", "pool = \"p\"\npool_slots = 2\npriority_weight = 5"),
+    ("c", "pool = \"p\"\npool_slots = 2\npriority_weight = 4"),
+    ("d", "priority_weight = 3"),
+];
+
+// By Airflow 2's page 'Pools': two slots of three are taken, so a task that takes two waits, and leaves the lane to another pool's.
+#[test]
+fn pools_compete_for_lanes(rt: HostRuntime) -> Result<(), Fail> {
+    let alloc = rt.alloc();
+    for (lanes, wanted) in [
+        (1, "g.0.b "),
+        (2, "g.0.b g.0.d "),
+        (64, "g.0.b g.0.d g.0.a "),
+    ] {
+        let found = told_of(alloc, &TWO_POOLS, lanes)?;
+        assert_eq!(rt; found.as_str(), wanted, "{lanes} lanes");
+    }
+    Ok(())
+}
+
+// What is taken of a pool, once all is handed out of a graph of these tasks with one run.
+fn taken_of(alloc: Global, tasks: &[(&str, &str)], name: &str) -> Result<Option<u64>, Fail> {
+    let graph = graph(alloc, "g", tasks)?;
+    let runs = vec![in alloc; run(alloc, &graph, 0)?]?;
+    let pools = two_pools(alloc)?;
+    let graphs = [graph];
+    let mut draft = Draft::new(
+        Limits::full(),
+        &graphs,
+        None,
+        &pools,
+        Moment::at(0),
+        64,
+        2,
+        runs,
+    );
+    let taken = handed_out(alloc, &mut draft)?;
+    let name = Name::read(alloc, name)?;
+    Ok(taken.occupied(&name))
+}
+
+#[test]
+fn what_is_taken_is_counted(rt: HostRuntime) -> Result<(), Fail> {
+    let alloc = rt.alloc();
+    assert_eq!(rt; taken_of(alloc, &TWO_POOLS, "p")?, Some(2));
+    assert_eq!(rt; taken_of(alloc, &TWO_POOLS, "default_pool")?, Some(2));
+    assert_eq!(rt; taken_of(alloc, &TWO_POOLS, "q")?, None);
     Ok(())
 }
 

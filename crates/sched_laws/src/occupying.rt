@@ -42,7 +42,7 @@ pub fn reports_give_back_what_they_end()
 {}
 
 /// Hand-outs fill a pool up to its size at most: where no more than some number is occupied, and the size is no more, no more is
-/// occupied after them. So a pool that was made smaller than what is taken of it gets no try until it fits again.
+/// occupied after them. So what is taken of a pool that was made smaller than that does not grow.
 pub fn hand_outs_fill_up_to_the_size()
     ensures { (a : Schedule) (p : List ℕ) (n : ℕ) → occupied a p ≤ n → size_of a p ≤ n → occupied (hand_out a) p ≤ n }
 {}

@@ -2,6 +2,7 @@ use super::*;
 use dag_check::check;
 use graph_file::read_graph;
 use moment_core::Moment;
+use pool_book::Pools;
 use sched_draft::Draft;
 use sched_state::{Graph, Kind, Limits, Phase, Text};
 use std::alloc::Global;
@@ -27,7 +28,8 @@ fn moment(day: &str) -> Result<Moment, Fail> {
 fn added(alloc: Global, day: &str, paused: bool) -> Result<(usize, bool, usize), Fail> {
     let tick = moment(day)?;
     let graphs = [graph(alloc, paused)?];
-    let mut draft = Draft::new(Limits::full(), &graphs, None, tick, 4, 1, Vec::new(alloc));
+    let pools = Pools::new(alloc);
+    let mut draft = Draft::new(Limits::full(), &graphs, None, &pools, tick, 4, 1, Vec::new(alloc));
     let first = named_by_tick(alloc, &draft, tick)?;
     let count = first.runs.len();
     add(&mut draft, first.runs)?;
@@ -49,7 +51,8 @@ fn a_named_run_is_queued_with_new_instances(rt: HostRuntime) -> Result<(), Fail>
     let alloc = rt.alloc();
     let tick = moment("2024-01-03")?;
     let graphs = [graph(alloc, false)?];
-    let draft = Draft::new(Limits::full(), &graphs, None, tick, 4, 1, Vec::new(alloc));
+    let pools = Pools::new(alloc);
+    let draft = Draft::new(Limits::full(), &graphs, None, &pools, tick, 4, 1, Vec::new(alloc));
     let named = named_by_tick(alloc, &draft, tick)?;
     let run = named.runs.last().ok_or("no run")?;
     assert_eq!(rt; run.graph.as_str(), "g");

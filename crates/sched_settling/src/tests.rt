@@ -6,6 +6,7 @@ use dag_check::check;
 use graph_file::{Bounded, Name, Sequence, read_graph};
 use instance_machine::{Instance, Outcome, Stage};
 use moment_core::Moment;
+use pool_book::Pools;
 use sched_draft::Draft;
 use sched_state::{Graph, Kind, Limits, Phase, Run, Text};
 use std::alloc::Global;
@@ -77,8 +78,8 @@ fn run(alloc: Global, day: &str, phase: Phase, ended: &[Option<Outcome>]) -> Res
     })
 }
 
-fn draft(graphs: &[Graph], runs: Vec<Run>) -> Draft<'_> {
-    Draft::new(Limits::full(), graphs, None, Moment::at(0), 4, 2, runs)
+fn draft<'a>(graphs: &'a [Graph], pools: &'a Pools, runs: Vec<Run>) -> Draft<'a> {
+    Draft::new(Limits::full(), graphs, None, pools, Moment::at(0), 4, 2, runs)
 }
 
 // What the instance at a place of a run was decided to.
@@ -101,7 +102,8 @@ fn decided(
 ) -> Result<Option<Verdict>, Fail> {
     let graphs = vec![in alloc; graph(alloc, tasks, false)?]?;
     let runs = vec![in alloc; run(alloc, "2024-01-01", Phase::Running, ended)?]?;
-    let mut draft = draft(&graphs, runs);
+    let pools = Pools::new(alloc);
+    let mut draft = draft(&graphs, &pools, runs);
     decide_all(&mut draft);
     Ok(verdict(rt, &draft, 0, ended.len().saturating_sub(1)))
 }
@@ -146,7 +148,8 @@ fn a_task_waits_for_its_past(rt: HostRuntime) -> Result<(), Fail> {
             run(alloc, "2024-01-01", Phase::Running, &[Some(first)])?,
             run(alloc, "2024-01-02", Phase::Running, &[None])?,
         ]?;
-        let mut draft = draft(&graphs, runs);
+        let pools = Pools::new(alloc);
+        let mut draft = draft(&graphs, &pools, runs);
         decide_all(&mut draft);
         assert_eq!(rt; verdict(&rt, &draft, 1, 0), second, "{first:?}");
     }
@@ -158,7 +161,8 @@ fn ended(alloc: Global, leaf: Option<Outcome>) -> Result<Option<Phase>, Fail> {
     let graphs = vec![in alloc; graph(alloc, JOIN, false)?]?;
     let before = Some(Outcome::Failed);
     let runs = vec![in alloc; run(alloc, "2024-01-01", Phase::Running, &[before, before, leaf])?]?;
-    let mut draft = draft(&graphs, runs);
+    let pools = Pools::new(alloc);
+    let mut draft = draft(&graphs, &pools, runs);
     end_all(&mut draft);
     Ok(draft.runs().first().map(|run| run.phase))
 }
@@ -182,7 +186,8 @@ fn the_earliest_queued_run_starts(rt: HostRuntime) -> Result<(), Fail> {
             run(alloc, "2024-01-01", Phase::Queued, &[None])?,
             run(alloc, "2024-01-02", Phase::Queued, &[None])?,
         ]?;
-        let mut draft = draft(&graphs, runs);
+        let pools = Pools::new(alloc);
+        let mut draft = draft(&graphs, &pools, runs);
         assert_eq!(rt; start_first(&mut draft), !paused);
         assert_eq!(rt; start_first(&mut draft), false);
         assert_eq!(rt; draft.runs().first().map(|run| run.phase), Some(first));

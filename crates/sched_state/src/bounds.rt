@@ -1,5 +1,5 @@
 //! The bounds of a schedule.
-ghost use Rattle.std.specs.Prelude.{◌≡◌};
+ghost use Rattle.std.specs.Prelude.{◌≡◌, ◌≤◌};
 ghost use Rattle.sched_state.specs.Limits.{ceilings, limits_of};
 
 use std::marker::Model;
@@ -82,6 +82,14 @@ impl Limits {
         ensures { result ≡ self.graphs }
     {
         self.graphs
+    }
+
+    /// The most pools, which are 64 at most.
+    pub fn pools(self) -> u32
+        ensures value { result ≡ self.pools }
+        ensures high { result ≤ ceilings.pools }
+    {
+        self.pools
     }
 
     /// The most runs, of all graphs.

@@ -2,3 +2,4 @@ pub mod AskLemmas
 pub mod TextLemmas
 pub mod RequestLemmas
 pub mod NameLemmas
+pub mod SizeLemmas

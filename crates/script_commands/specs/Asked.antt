@@ -5,12 +5,13 @@ use Rattle.graph_file.specs.Names.{is_name}
 use Rattle.moment_core.specs.Reading.{read_of}
 use Rattle.moment_core.specs.declared.reading.MomentFault.{MomentFault}
 use Rattle.sched_events.specs.declared.events.Event.{Event}
-use Rattle.sched_events.specs.declared.events.Event.TheVariants.{Load, Tick, Pause, Unpause}
-use Rattle.script_commands.specs.Values.{values, only}
+use Rattle.sched_events.specs.declared.events.Event.TheVariants.{Load, Tick, Pause, Unpause, Resize}
+use Rattle.script_commands.specs.Sizes.{slots_of}
+use Rattle.script_commands.specs.Values.{values, only, two}
 use Rattle.script_commands.specs.declared.asked.Asked.{Asked}
 use Rattle.script_commands.specs.declared.asked.Asked.TheVariants.{Nothing, Text, This, Fault}
 use Rattle.script_commands.specs.declared.commands.Command.{Command}
-use Rattle.script_commands.specs.declared.commands.Command.TheVariants.{Step, ListRuns, ListTasks}
+use Rattle.script_commands.specs.declared.commands.Command.TheVariants.{Step, ListRuns, ListTasks, ListPools}
 use Rattle.script_commands.specs.declared.commands.UsageFault.TheVariants.{Words, BadName, BadMoment}
 
 -- a moment, or why a word is none
@@ -22,16 +23,17 @@ at_reading (Err fault) = Fault (BadMoment fault)
 abbrev pub at_moment : List ℕ → Asked
 at_moment value = if bytes_eq value (codes "now") then Fault Words else at_reading (read_of value)
 
--- `list runs`, `list tasks`
+-- `list runs`, `list tasks`, `list pools`
 abbrev pub listed : List ℕ → Asked
 listed value =
     if bytes_eq value (codes "runs") then This ListRuns
     else (if bytes_eq value (codes "tasks") then This ListTasks
-    else Fault Words)
+    else (if bytes_eq value (codes "pools") then This ListPools
+    else Fault Words))
 
--- the event of a graph, where the word names one
-abbrev pub of_graph : (List ℕ → Event) → List ℕ → Asked
-of_graph event value = if is_name value then This (Step (event value)) else Fault BadName
+-- the event of a graph or a pool, where the word is a name
+abbrev pub of_name : (List ℕ → Event) → List ℕ → Asked
+of_name event value = if is_name value then This (Step (event value)) else Fault BadName
 
 -- a name and its value: `tick MOMENT`, `load inline`, `list ROWS`
 abbrev pub without_name : List ℕ → List ℕ → Asked
@@ -44,24 +46,34 @@ without_name name value =
 -- the same, and `pause DAG`, `unpause DAG`
 abbrev pub with_value : List ℕ → List ℕ → Asked
 with_value name value =
-    if bytes_eq name (codes "pause") then of_graph Pause value
-    else (if bytes_eq name (codes "unpause") then of_graph Unpause value
+    if bytes_eq name (codes "pause") then of_name Pause value
+    else (if bytes_eq name (codes "unpause") then of_name Unpause value
     else without_name name value)
 
 abbrev pub with_values : List ℕ → Option (List ℕ) → Asked
 with_values name (Some value) = with_value name value
 with_values name None = Fault Words
 
--- what words ask for: the first is the command's name, and it has one value
+-- `resize POOL SIZE`: that the size is none is answered before that the name is none
+abbrev pub with_size : List ℕ → Option ℕ → Asked
+with_size pool (Some size) = of_name (λ name. Resize name size) pool
+with_size pool None = Fault Words
+
+abbrev pub of_pool : Option (List ℕ × List ℕ) → Asked
+of_pool (Some (pool, size)) = with_size pool (slots_of size)
+of_pool None = Fault Words
+
+-- what words ask for: the first is the command's name; `resize` has two values, and each other command one
 abbrev pub asked_by : List (List ℕ) → Asked
 asked_by [] = Nothing
-asked_by (name ∷ args) = with_values name (only (values args))
+asked_by (name ∷ args) = if bytes_eq name (codes "resize") then of_pool (two (values args)) else with_values name (only (values args))
 
 -- a command that holds a text or a name, for which memory can run out
 abbrev pub wants_memory : Command → Bool
 wants_memory (Step (Load text)) = true
 wants_memory (Step (Pause id)) = true
 wants_memory (Step (Unpause id)) = true
+wants_memory (Step (Resize name size)) = true
 wants_memory _ = false
 
 abbrev pub can_lack : Asked → Bool

@@ -20,6 +20,11 @@ abbrev pub only : Option (List (List ℕ)) → Option (List ℕ)
 only (Some (v ∷ [])) = Some v
 only _ = None
 
+-- the two values, where there are two and no more
+abbrev pub two : Option (List (List ℕ)) → Option (List ℕ × List ℕ)
+two (Some (v ∷ w ∷ [])) = Some (v, w)
+two _ = None
+
 -- whether words give a value, where none of them is an option but `--`
 abbrev pub has_value : List (List ℕ) → Bool
 has_value [] = false

@@ -6,6 +6,7 @@ ghost use Rattle.script_commands.specs.Asked.{IsReadAs, asked_by};
 
 use crate::commands::{Command, UsageFault};
 use crate::graph_names::{to_pause, to_unpause};
+use crate::pool_sizes::to_resize;
 use crate::words::only_value;
 use moment_core::Moment;
 use sched_events::Event;
@@ -36,6 +37,9 @@ impl Asked {
         let Some((name, rest)) = next_word(line) else {
             return Ok(Asked::Nothing);
         };
+        if name == b"resize".as_slice() {
+            return to_resize(alloc, rest);
+        }
         match only_value(rest) {
             Some(value) => with_value(alloc, name, value),
             None => Ok(Asked::Fault(UsageFault::Words)),
@@ -81,6 +85,9 @@ fn listed(value: &[u8]) -> Asked
     }
     if value == b"tasks".as_slice() {
         return Asked::This(Command::ListTasks);
+    }
+    if value == b"pools".as_slice() {
+        return Asked::This(Command::ListPools);
     }
     Asked::Fault(UsageFault::Words)
 }

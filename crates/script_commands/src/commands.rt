@@ -5,20 +5,22 @@ use sched_events::Event;
 /// What a script asks for.
 #[derive(Debug, Drop)]
 pub enum Command {
-    /// `load inline` with its text, `tick MOMENT`, `pause DAG` or `unpause DAG`: an event for the schedule.
+    /// `load inline` with its text, `tick MOMENT`, `pause DAG`, `unpause DAG` or `resize POOL SIZE`: an event for the schedule.
     Step(Event),
     /// `list runs`: the runs are shown, by graph id and logical date.
     ListRuns,
     /// `list tasks`: the task instances are shown, by graph id, logical date and task id.
     ListTasks,
+    /// `list pools`: the pools are shown, by name.
+    ListPools,
 }
 
 /// Why a line is no command.
 #[derive(Clone, Copy, Debug, PartialEq, Eq)]
 pub enum UsageFault {
-    /// There is no such command, or it has too few words, too many or others.
+    /// There is no such command, or it has too few words, too many or others, or a size that is no number from 0 to 1,000,000.
     Words,
-    /// A word that should be the name of a graph is no name.
+    /// A word that should be the name of a graph or a pool is no name.
     BadName,
     /// A word that should be a moment is none.
     BadMoment(MomentFault),

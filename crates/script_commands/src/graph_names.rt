@@ -3,7 +3,7 @@ ghost use Rattle.std.specs.Prelude.{◌≡◌, MatchResult, true};
 ghost use Rattle.graph_file.specs.Lists.{when};
 ghost use Rattle.graph_file.specs.Names.{is_name};
 ghost use Rattle.sched_events.specs.declared.events.Event.TheVariants.{Pause, Unpause};
-ghost use Rattle.script_commands.specs.Asked.{IsReadAs, of_graph};
+ghost use Rattle.script_commands.specs.Asked.{IsReadAs, of_name};
 
 use crate::asked::Asked;
 use crate::commands::{Command, UsageFault};
@@ -14,7 +14,7 @@ use std::str;
 
 // What `pause` asks for.
 pub(crate) fn to_pause(alloc: Global, value: &[u8]) -> Result<Asked, AllocError>
-    ensures { IsReadAs (of_graph Pause value.now) result }
+    ensures { IsReadAs (of_name Pause value.now) result }
 {
     match name_of(alloc, value)? {
         Some(id) => Ok(Asked::This(Command::Step(Event::Pause(id)))),
@@ -24,7 +24,7 @@ pub(crate) fn to_pause(alloc: Global, value: &[u8]) -> Result<Asked, AllocError>
 
 // What `unpause` asks for.
 pub(crate) fn to_unpause(alloc: Global, value: &[u8]) -> Result<Asked, AllocError>
-    ensures { IsReadAs (of_graph Unpause value.now) result }
+    ensures { IsReadAs (of_name Unpause value.now) result }
 {
     match name_of(alloc, value)? {
         Some(id) => Ok(Asked::This(Command::Step(Event::Unpause(id)))),
@@ -33,7 +33,7 @@ pub(crate) fn to_unpause(alloc: Global, value: &[u8]) -> Result<Asked, AllocErro
 }
 
 // The name that a word is, if it is one.
-fn name_of(alloc: Global, word: &[u8]) -> Result<Option<Name>, AllocError>
+pub(crate) fn name_of(alloc: Global, word: &[u8]) -> Result<Option<Name>, AllocError>
     ensures { MatchResult result (λ name. name ≡ when (is_name word.now) word.now) (λ _. is_name word.now ≡ true) }
 {
     let Ok(text) = str::from_utf8(word) else {

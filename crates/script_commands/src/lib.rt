@@ -14,6 +14,8 @@
 //! pause nightly
 //! list runs
 //! list tasks
+//! resize bulk 4
+//! list pools
 //! ```
 #![tactic(auto)]
 
@@ -21,6 +23,7 @@ mod asked;
 mod commands;
 mod graph_names;
 mod graph_texts;
+mod pool_sizes;
 mod requests;
 #[cfg(test)]
 mod tests;

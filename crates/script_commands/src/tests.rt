@@ -30,11 +30,17 @@ fn told(alloc: Global, request: &Result<Command, CommandFault>) -> Result<String
             let id = id.as_str();
             format!(in alloc; "unpause {id}")
         }
+        Ok(Command::Step(Event::Resize(pool, size))) => {
+            let pool = pool.as_str();
+            let size = size.get();
+            format!(in alloc; "resize {pool} {size}")
+        }
         Ok(Command::Step(Event::Report(_, _) | Event::Restart(_))) => {
             String::from_str(alloc, "of a worker")
         }
         Ok(Command::ListRuns) => String::from_str(alloc, "list runs"),
         Ok(Command::ListTasks) => String::from_str(alloc, "list tasks"),
+        Ok(Command::ListPools) => String::from_str(alloc, "list pools"),
         Err(CommandFault::Usage(UsageFault::Words)) => String::from_str(alloc, "Words"),
         Err(CommandFault::Usage(UsageFault::BadName)) => String::from_str(alloc, "BadName"),
         Err(CommandFault::Usage(UsageFault::BadMoment(fault))) => {
@@ -91,7 +97,8 @@ fn words_are_commands(rt: HostRuntime) -> Result<(), Fail> {
         ("list runs\r", "Words"),
         ("list tasks", "list tasks"),
         ("list task", "Words"),
-        ("list pools", "Words"),
+        ("list pools", "list pools"),
+        ("list pool", "Words"),
         ("list", "Words"),
         ("List runs", "Words"),
         ("load graph.toml", "Words"),
@@ -116,6 +123,40 @@ fn words_name_graphs(rt: HostRuntime) -> Result<(), Fail> {
         ("pause", "Words"),
         ("pause g h", "Words"),
         ("Pause g", "Words"),
+    ] {
+        assert_commands(&rt, alloc, &mut line.as_bytes(), &[wanted])?;
+    }
+    Ok(())
+}
+
+#[test]
+fn words_size_pools(rt: HostRuntime) -> Result<(), Fail> {
+    let alloc = rt.alloc();
+    for (line, wanted) in [
+        ("resize p 3", "resize p 3"),
+        (" resize\tp  0 ", "resize p 0"),
+        ("resize p 1000000", "resize p 1000000"),
+        ("resize p +5", "resize p 5"),
+        ("resize p 007", "resize p 7"),
+        ("resize -- -p 4", "resize -p 4"),
+        ("resize p -- 4", "resize p 4"),
+        ("resize p 4 --", "resize p 4"),
+        ("resize p 1000001", "Words"),
+        ("resize p 4294967297", "Words"),
+        ("resize p -1", "Words"),
+        ("resize -- p -1", "Words"),
+        ("resize -p 4", "Words"),
+        ("resize p +", "Words"),
+        ("resize p 4x", "Words"),
+        ("resize p \u{664}", "Words"),
+        ("resize p!", "Words"),
+        ("resize p! x", "Words"),
+        ("resize p! 4", "BadName"),
+        ("resize p", "Words"),
+        ("resize p 4 4", "Words"),
+        ("resize -- p 4 --", "Words"),
+        ("resize", "Words"),
+        ("Resize p 4", "Words"),
     ] {
         assert_commands(&rt, alloc, &mut line.as_bytes(), &[wanted])?;
     }

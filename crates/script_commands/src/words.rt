@@ -2,7 +2,7 @@
 ghost use Rattle.std.specs.Prelude.{◌≡◌, MatchOption, Some, None};
 ghost use Rattle.text_words.specs.Words.{words};
 ghost use Rattle.script_commands.specs.Values as spec;
-ghost use Rattle.script_commands.specs.Values.{values, only};
+ghost use Rattle.script_commands.specs.Values.{values, only, two};
 
 use text_words::next_word;
 
@@ -18,6 +18,30 @@ pub(crate) fn only_value(text: &[u8]) -> Option<&[u8]>
         return None;
     }
     Some(first)
+}
+
+// The values of a text whose words give two values and no more.
+pub(crate) fn two_values(text: &[u8]) -> Option<(&[u8], &[u8])>
+    ensures { MatchOption result (two (values (words text.now)) ≡ None) (λ p. two (values (words text.now)) ≡ Some (p.0.now, p.1.now)) }
+{
+    let (first, rest) = next_word(text)?;
+    if first == b"--".as_slice() {
+        return two_words(rest);
+    }
+    if is_option(first) {
+        return None;
+    }
+    let second = only_value(rest)?;
+    Some((first, second))
+}
+
+// The words of a text that has two words and no more.
+fn two_words(text: &[u8]) -> Option<(&[u8], &[u8])>
+    ensures { MatchOption result (two (Some (words text.now)) ≡ None) (λ p. two (Some (words text.now)) ≡ Some (p.0.now, p.1.now)) }
+{
+    let (first, rest) = next_word(text)?;
+    let second = only_word(rest)?;
+    Some((first, second))
 }
 
 // The word of a text that has one word and no more.

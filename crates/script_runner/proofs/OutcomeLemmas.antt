@@ -8,14 +8,15 @@ use Rattle.sched_events.specs.declared.answers.Answer.{Answer}
 use Rattle.sched_events.specs.declared.events.Event.{Event}
 use Rattle.sched_events.specs.declared.refusals.Refusal.{Refusal}
 use Rattle.sched_events.specs.declared.refusals.Refusal.TheVariants as refusal
-use Rattle.sched_core.specs.Views.{all_rows}
+use Rattle.sched_core.specs.Views.{all_rows, pool_rows}
 use Rattle.script_commands.specs.Asked.{wants_memory}
 use Rattle.script_commands.specs.Commands.{Request, IsGiven}
 use Rattle.script_commands.specs.declared.commands.Command.{Command}
-use Rattle.script_commands.specs.declared.commands.Command.TheVariants.{Step, ListRuns, ListTasks}
+use Rattle.script_commands.specs.declared.commands.Command.TheVariants.{Step, ListRuns, ListTasks, ListPools}
 use Rattle.script_commands.specs.declared.commands.CommandFault.{CommandFault}
 use Rattle.answer_lines.specs.Answers.{answer_text}
 use Rattle.answer_lines.specs.Faults.{fault_text}
+use Rattle.answer_lines.specs.Pools.{pools_text}
 use Rattle.answer_lines.specs.Refusals.{refusal_text}
 use Rattle.answer_lines.specs.Runs.{runs_text}
 use Rattle.answer_lines.specs.Tasks.{tasks_text}
@@ -69,6 +70,7 @@ lacking : (command : Command) → wants_memory command ≡ true → (e : Event) 
 lacking (Step e) h = (e, refl)
 lacking ListRuns h = absurd (true≢false (sym h))
 lacking ListTasks h = absurd (true≢false (sym h))
+lacking ListPools h = absurd (true≢false (sym h))
 
 -- what is given for a command has an outcome of that command
 pub outcome-given : (wanted given : Request) (a : Schedule) (o : Outcome) → IsGiven wanted given → IsOutcome given a o → IsOutcome wanted a o
@@ -90,6 +92,15 @@ pub comes-tasks : (r : Request) (a : Schedule) → r ≡ Ok ListTasks → Comes 
 comes-tasks r a e = record {
   outcome = record { schedule = a; shown = tasks_text (all_rows a); status = 0 };
   is = subst (λ (x : Request). IsOutcome x a (record { schedule = a; shown = tasks_text (all_rows a); status = 0 })) (sym e) refl;
+  schedule = refl;
+  shows = refl;
+  has_status = refl;
+}
+
+pub comes-pools : (r : Request) (a : Schedule) → r ≡ Ok ListPools → Comes r a a (pools_text (pool_rows a)) 0
+comes-pools r a e = record {
+  outcome = record { schedule = a; shown = pools_text (pool_rows a); status = 0 };
+  is = subst (λ (x : Request). IsOutcome x a (record { schedule = a; shown = pools_text (pool_rows a); status = 0 })) (sym e) refl;
   schedule = refl;
   shows = refl;
   has_status = refl;

@@ -7,7 +7,7 @@ use Rattle.sched_events.specs.declared.refusals.Refusal.{Refusal}
 use Rattle.sched_events.specs.declared.refusals.Refusal.TheVariants.{Memory}
 use Rattle.sched_events.proofs.StepLemmas.{steps_parts}
 use Rattle.script_commands.specs.Commands.{Request}
-use Rattle.script_commands.specs.declared.commands.Command.TheVariants.{Step, ListRuns, ListTasks}
+use Rattle.script_commands.specs.declared.commands.Command.TheVariants.{Step, ListRuns, ListTasks, ListPools}
 use Rattle.script_runner.specs.Outcomes.{Outcome, IsOutcome, IsEventOutcome, refused_for, refusal_status}
 use Rattle.script_runner.specs.Runs.{IsRun, IsPart, StepsEvents, event_of, events_of, then_outcome}
 use Rattle.script_runner.specs.Runs.IsPart.{none, kept, left}
@@ -56,6 +56,7 @@ one : (r : Request) (a : Schedule) (o : Outcome) → IsOutcome r a o → StepsOn
 one (Ok (Step e)) a o h = one-step e a o h
 one (Ok ListRuns) a o h = no-event (Ok ListRuns) a o refl (ap (λ (x : Outcome). x.schedule) h)
 one (Ok ListTasks) a o h = no-event (Ok ListTasks) a o refl (ap (λ (x : Outcome). x.schedule) h)
+one (Ok ListPools) a o h = no-event (Ok ListPools) a o refl (ap (λ (x : Outcome). x.schedule) h)
 one (Err fault) a o h = no-event (Err fault) a o refl (ap (λ (x : Outcome). x.schedule) h)
 
 joined : (r : Request) (rs : List Request) (a : Schedule) (first rest o : Outcome) → StepsOne r a first → StepsEvents rs first.schedule rest → o ≡ then_outcome first rest → StepsEvents (r ∷ rs) a o

@@ -7,7 +7,7 @@ use Rattle.sched_events.specs.Steps.{step, steps}
 use Rattle.sched_events.specs.declared.events.Event.{Event}
 use Rattle.sched_events.specs.declared.events.Event.TheVariants.{Restart}
 use Rattle.script_commands.specs.Commands.{Request, commands_in}
-use Rattle.script_commands.specs.declared.commands.Command.TheVariants.{Step, ListRuns, ListTasks}
+use Rattle.script_commands.specs.declared.commands.Command.TheVariants.{Step, ListRuns, ListTasks, ListPools}
 use Rattle.script_runner.specs.Runs.{IsPart, IsScriptRun, StepsEvents, events_of}
 use Rattle.script_runner.specs.Runs.IsPart.{none, kept, left}
 use Rattle.script_runner.specs.Serial.{AreNamed, IsSerialRun, status_of}
@@ -29,6 +29,7 @@ events-append [] more = refl
 events-append (Ok (Step e) ∷ rs) more = ap (λ (es : List Event). e ∷ es) (events-append rs more)
 events-append (Ok ListRuns ∷ rs) more = events-append rs more
 events-append (Ok ListTasks ∷ rs) more = events-append rs more
+events-append (Ok ListPools ∷ rs) more = events-append rs more
 events-append (Err fault ∷ rs) more = events-append rs more
 
 -- the status is that of the script, or 4

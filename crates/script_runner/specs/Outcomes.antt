@@ -6,13 +6,14 @@ use Rattle.sched_events.specs.declared.answers.Answer.{Answer}
 use Rattle.sched_events.specs.declared.events.Event.{Event}
 use Rattle.sched_events.specs.declared.refusals.Refusal.{Refusal}
 use Rattle.sched_events.specs.declared.refusals.Refusal.TheVariants as refusal
-use Rattle.sched_core.specs.Views.{all_rows}
+use Rattle.sched_core.specs.Views.{all_rows, pool_rows}
 use Rattle.script_commands.specs.Commands.{Request}
-use Rattle.script_commands.specs.declared.commands.Command.TheVariants.{Step, ListRuns, ListTasks}
+use Rattle.script_commands.specs.declared.commands.Command.TheVariants.{Step, ListRuns, ListTasks, ListPools}
 use Rattle.script_commands.specs.declared.commands.CommandFault.{CommandFault}
 use Rattle.script_commands.specs.declared.commands.CommandFault.TheVariants.{Usage, Source, Memory}
 use Rattle.answer_lines.specs.Answers.{answer_text}
 use Rattle.answer_lines.specs.Faults.{fault_text}
+use Rattle.answer_lines.specs.Pools.{pools_text}
 use Rattle.answer_lines.specs.Refusals.{refusal_text}
 use Rattle.answer_lines.specs.Runs.{runs_text}
 use Rattle.answer_lines.specs.Tasks.{tasks_text}
@@ -54,4 +55,5 @@ abbrev pub IsOutcome : Request → Schedule → Outcome → Type 0
 IsOutcome (Ok (Step e)) a o = IsEventOutcome e a o
 IsOutcome (Ok ListRuns) a o = o ≡ record { schedule = a; shown = runs_text a.runs; status = 0 }
 IsOutcome (Ok ListTasks) a o = o ≡ record { schedule = a; shown = tasks_text (all_rows a); status = 0 }
+IsOutcome (Ok ListPools) a o = o ≡ record { schedule = a; shown = pools_text (pool_rows a); status = 0 }
 IsOutcome (Err fault) a o = o ≡ record { schedule = a; shown = fault_text fault; status = fault_status fault }

@@ -5,7 +5,7 @@ use Rattle.sched_model.specs.Schedule.{Schedule}
 use Rattle.sched_events.specs.Steps.{steps}
 use Rattle.sched_events.specs.declared.events.Event.{Event}
 use Rattle.script_commands.specs.Commands.{Request, commands_in}
-use Rattle.script_commands.specs.declared.commands.Command.TheVariants.{Step, ListRuns, ListTasks}
+use Rattle.script_commands.specs.declared.commands.Command.TheVariants.{Step, ListRuns, ListTasks, ListPools}
 use Rattle.script_runner.specs.Outcomes.{Outcome, IsOutcome}
 
 -- the outcome of a command and then of those after it: the last schedule, all that is shown, the greatest status
@@ -23,6 +23,7 @@ abbrev pub event_of : Request → List Event
 event_of (Ok (Step e)) = e ∷ []
 event_of (Ok ListRuns) = []
 event_of (Ok ListTasks) = []
+event_of (Ok ListPools) = []
 event_of (Err fault) = []
 
 abbrev pub events_of : List Request → List Event

@@ -4,7 +4,7 @@ ghost use Rattle.script_commands.specs.declared.commands.Command.TheVariants.{St
 ghost use Rattle.script_runner.specs.Outcomes as spec;
 ghost use Rattle.script_runner.specs.Runs.{IsAnswered};
 
-use crate::listing::put_tasks;
+use crate::listing::{put_pools, put_tasks};
 use answer_lines::{put_answer, put_fault, put_refusal, put_runs};
 use sched_core::Schedule;
 use sched_events::{Event, Refusal};
@@ -29,6 +29,10 @@ pub(crate) fn answer<W: Write>(
         }
         Ok(Command::ListTasks) => {
             put_tasks(output, schedule)?;
+            Ok(0)
+        }
+        Ok(Command::ListPools) => {
+            put_pools(output, schedule)?;
             Ok(0)
         }
         Err(fault) => {

@@ -19,6 +19,8 @@ mod laws;
 mod listing;
 #[cfg(test)]
 mod pause_tests;
+#[cfg(test)]
+mod pool_tests;
 mod running;
 mod serial;
 #[cfg(test)]

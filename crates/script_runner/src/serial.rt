@@ -31,7 +31,7 @@ pub fn run_serial<R: BufRead + Drop, W: Write + Drop>(
     ensures refused { IfErr result (IsRefusal (empty_schedule ceilings) (Restart lanes)) }
 {
     let mut lines = LineReader::new(alloc)?;
-    let mut schedule = Schedule::new(alloc, Limits::full());
+    let mut schedule = Schedule::new(alloc, Limits::full())?;
     let _answer = schedule.step(alloc, &Event::Restart(lanes))?;
     let ended = run_script(alloc, &mut schedule, &mut lines, &mut input, &mut output);
     let status = status_of(ended, output.flush());

@@ -7,7 +7,7 @@ use Rattle.instance_machine.specs.Instances.{Held}
 use Rattle.sched_model.specs.States.{open_of}
 use Rattle.sched_handout.specs.Rooms.{left_by}
 use Rattle.sched_handout.proofs.ListLemmas.{zip_at, zip_over}
-use Rattle.sched_handout.proofs.RoomLemmas.{left_none, left_turn}
+use Rattle.sched_handout.proofs.RoomLemmas.{left_turn}
 use Rattle.sched_handout.proofs.counting.left_by_run.Goals as goal
 
 pub loop-place-preserved : goal.loop-place-preserved
@@ -29,5 +29,5 @@ returns c =
     let left = c.loop-place.left in
     let none : drop c.loop-place.place (zip tasks instances) ≡ [] =
     zip_over tasks instances c.loop-place.place (omega (arith, c.min-count.ensures, c.len.ensures.len, c.loop-place-test.false)) in
-    sym (left_none left) ∙ (ap (λ (es : List (TaskSpec × Held)). left_by left (flat_map open_of es)) (sym none)
-    ∙ (c.loop-place.invariant ∙ ap (λ (is : List Held). left_by c.args.room (flat_map open_of (zip tasks is))) c.as_slice-instances.ensures))
+    ap (λ (es : List (TaskSpec × Held)). left_by left (flat_map open_of es)) (sym none)
+    ∙ (c.loop-place.invariant ∙ ap (λ (is : List Held). left_by c.args.room (flat_map open_of (zip tasks is))) c.as_slice-instances.ensures)

@@ -5,10 +5,11 @@ use Rattle.sched_model.specs.Settle.{settle}
 use Rattle.sched_model.specs.Handout.{hand_out}
 use Rattle.sched_model.specs.Jobs.{job_at, handed}
 use Rattle.sched_laws.proofs.SweepLemmas.{sound_ordered}
-use Rattle.sched_events.specs.Kept.{IsKept}
+use Rattle.sched_draft.specs.Books.{pools_in, IsBookOf}
 use Rattle.sched_draft.specs.Parts.{with_unpaused}
+use Rattle.sched_core.specs.Books.{IsHeld}
 use Rattle.sched_core.specs.Changes.{Held, Planned}
-use Rattle.sched_core.proofs.FinishLemmas.{finished_is}
+use Rattle.sched_core.proofs.FinishLemmas.{finished_is, finished_held}
 use Rattle.sched_core.proofs.schedules.Schedule.finished.Goals as goal
 
 pub settle-requires : goal.settle-requires
@@ -19,10 +20,14 @@ invariant_of-result c =
     let a : Schedule = c.args.self.now.content in
     let u : Option (List ℕ) = c.args.unpaused in
     let d : Schedule = c.hand_out.new.draft in
-    let end : d ≡ hand_out (settle c.args.draft) = c.in_ok-hand_out.ensures ∙ ap hand_out c.settle.ensures in
-    let is = finished_is u a c.args.draft d c.clock.result c.lanes.result c.next_serial.result c.into_runs.result.items c.requires.over end c.clock.ensures c.lanes.ensures c.next_serial.ensures c.into_runs.ensures in
-    subst (λ (h : Held). IsKept (record h.content { graphs = with_unpaused u h.content.graphs; now = c.clock.result; lanes = c.lanes.result; next = c.next_serial.result; runs = c.into_runs.result.items })) (sym c.of.ensures)
-    (subst IsKept (sym is) c.requires.kept)
+    let e : Schedule = hand_out (settle c.args.draft) in
+    let end : d ≡ e = c.in_ok-pools.ensures.draft ∙ ap hand_out c.settle.ensures in
+    let book : IsBookOf e c.in_ok-pools.pools.pools = subst (λ (s : Schedule). IsBookOf (hand_out s) c.in_ok-pools.pools.pools) c.settle.ensures c.in_ok-pools.ensures.book in
+    let is = finished_is u a c.args.draft d (pools_in c.in_ok-pools.pools.pools) c.clock.result c.lanes.result c.next_serial.result c.into_runs.result.items c.requires.over end book.pools
+    c.clock.ensures c.lanes.ensures c.next_serial.ensures c.into_runs.ensures in
+    let held : IsHeld e c.in_ok-pools.pools.pools = finished_held c.args.draft c.in_ok-pools.pools.pools c.requires.sound c.requires.counted c.requires.kept book in
+    λ es before. subst (λ (h : Held). IsHeld (record h.content { graphs = with_unpaused u h.content.graphs; pools = pools_in c.in_ok-pools.pools.pools; now = c.clock.result; lanes = c.lanes.result; next = c.next_serial.result; runs = c.into_runs.result.items }) c.in_ok-pools.pools.pools) (sym c.of.ensures)
+    (subst (λ (s : Schedule). IsHeld s c.in_ok-pools.pools.pools) (sym is) held)
 
 pub returns : goal.returns
 returns c =
@@ -30,14 +35,16 @@ returns c =
     let u : Option (List ℕ) = c.args.unpaused in
     let d : Schedule = c.hand_out.new.draft in
     let e : Schedule = hand_out (settle c.args.draft) in
-    let end : d ≡ e = c.in_ok-hand_out.ensures ∙ ap hand_out c.settle.ensures in
-    let is = finished_is u a c.args.draft d c.clock.result c.lanes.result c.next_serial.result c.into_runs.result.items c.requires.over end c.clock.ensures c.lanes.ensures c.next_serial.ensures c.into_runs.ensures in
+    let end : d ≡ e = c.in_ok-pools.ensures.draft ∙ ap hand_out c.settle.ensures in
+    let book : IsBookOf e c.in_ok-pools.pools.pools = subst (λ (s : Schedule). IsBookOf (hand_out s) c.in_ok-pools.pools.pools) c.settle.ensures c.in_ok-pools.ensures.book in
+    let is = finished_is u a c.args.draft d (pools_in c.in_ok-pools.pools.pools) c.clock.result c.lanes.result c.next_serial.result c.into_runs.result.items c.requires.over end book.pools
+    c.clock.ensures c.lanes.ensures c.next_serial.ensures c.into_runs.ensures in
     let jobs : c.in_ok-jobs.jobs ≡ handed a e =
     c.in_ok-jobs.ensures
     ∙ (ap (λ (h : Held). flat_map (job_at d) (range_with_len h.content.next (d.next - h.content.next))) c.self.view_is ∙ ap (handed a) end) in
     ap (λ (h : Held). let p : Planned = record {
       before = h.content;
-      after = record h.content { graphs = with_unpaused u h.content.graphs; now = c.clock.result; lanes = c.lanes.result; next = c.next_serial.result; runs = c.into_runs.result.items };
+      after = record h.content { graphs = with_unpaused u h.content.graphs; pools = pools_in c.in_ok-pools.pools.pools; now = c.clock.result; lanes = c.lanes.result; next = c.next_serial.result; runs = c.into_runs.result.items };
       answer = record { made = c.args.made; more = c.args.more; jobs = c.in_ok-jobs.jobs };
     } in p) c.of.ensures
     ∙ (ap (λ (s : Schedule). let p : Planned = record { before = a; after = s; answer = record { made = c.args.made; more = c.args.more; jobs = c.in_ok-jobs.jobs } } in p) is

@@ -4,23 +4,26 @@ use Rattle.sched_model.specs.Changes.{set_paused}
 use Rattle.sched_events.specs.Kept.{IsKept}
 use Rattle.sched_events.specs.declared.events.Event.TheVariants.{Pause}
 use Rattle.sched_core.specs.Changes.{Held, Planned}
+use Rattle.sched_core.specs.Effects.{KeepsHeld}
 use Rattle.sched_core.specs.Plans.{IsPlanned, no_runs}
+use Rattle.sched_core.specs.declared.changes.Effect.TheVariants as effect
+use Rattle.sched_core.proofs.EffectLemmas.{pause_held}
 use Rattle.sched_core.proofs.PlanLemmas.{looked_up, pause_unknown, pause_kept, planned_pause}
 use Rattle.sched_core.proofs.schedules.Schedule.plan_pause.Goals as goal
 
 pub quiet_change-requires : goal.quiet_change-requires
 quiet_change-requires c =
     let a : Schedule = c.args.self.now.content in
-    let kept = subst (λ (h : Held). IsKept h.content) c.self.view_is c.self.invariant in
+    let kept = subst (λ (h : Held). IsKept h.content) c.self.view_is c.self.invariant.kept in
     let there : is_none (graph_named a c.args.id.now) ≡ false =
     looked_up a c.as_slice.result.now c.args.id.now c.graph_named.result c.is_none.result (c.as_slice.ensures.value ∙ ap (λ (h : Held). h.content.graphs) c.self.view_is)
     c.graph_named.ensures c.is_none.ensures ∙ c.if-is_none.false in
-    subst (λ (id : List ℕ). IsKept (set_paused id true a)) (sym c.in_ok-id.ensures) (pause_kept a c.args.id.now kept there)
+    subst (λ (id : List ℕ). KeepsHeld (effect.Pause id) a) (sym c.in_ok-id.ensures) (pause_held c.args.id.now a (pause_kept a c.args.id.now kept there))
 
 pub returns-clause-accepted : goal.returns-clause-accepted
 returns-clause-accepted c =
     let a : Schedule = c.args.self.now.content in
-    let kept = subst (λ (h : Held). IsKept h.content) c.self.view_is c.self.invariant in
+    let kept = subst (λ (h : Held). IsKept h.content) c.self.view_is c.self.invariant.kept in
     let there : is_none (graph_named a c.args.id.now) ≡ false =
     looked_up a c.as_slice.result.now c.args.id.now c.graph_named.result c.is_none.result (c.as_slice.ensures.value ∙ ap (λ (h : Held). h.content.graphs) c.self.view_is)
     c.graph_named.ensures c.is_none.ensures ∙ c.if-is_none.false in

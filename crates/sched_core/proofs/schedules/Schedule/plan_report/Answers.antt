@@ -1,9 +1,12 @@
 use Rattle.std.proofs.Common.{◌≡◌, ◌∙◌, refl, sym, ap, subst, inr, is_some, true, false}
 use Rattle.instance_machine.specs.Reports.{report_try}
+use Rattle.sched_model.specs.Changes.{report}
 use Rattle.sched_model.specs.Schedule.{Schedule}
 use Rattle.sched_events.specs.Kept.{IsKept}
 use Rattle.sched_events.specs.declared.events.Event.TheVariants.{Report}
+use Rattle.sched_core.specs.Books.{IsCounted}
 use Rattle.sched_core.specs.Changes.{Held}
+use Rattle.sched_core.proofs.BookLemmas.{report_counted}
 use Rattle.sched_core.proofs.PlanLemmas.{found_try, not_in_flight, out_of_turn, in_turn, report_draft, draft_sound, draft_kept, draft_planned}
 use Rattle.sched_core.proofs.schedules.Schedule.plan_report.Goals as goal
 
@@ -26,7 +29,7 @@ finished-requires-clause-sound c =
     let found = found_try a c.args.serial c.deref.result.now c.open_try.result (c.deref.ensures.value ∙ ap (λ (h : Held). h.content.runs) c.self.view_is) c.open_try.ensures in
     let turn : is_some (report_try c.args.stage a.now c.in-Some.one) ≡ true = sym (c.if-not-takes.ensures a.now) in
     draft_sound (Report c.args.serial c.args.stage) a c.report.new.self tt (in_turn a c.args.serial c.args.stage c.in-Some.one (sym c.in-Some.is ∙ found) turn)
-    (subst (λ (h : Held). IsKept h.content) c.self.view_is c.self.invariant) (report_draft a c.in_ok-draft.draft c.report.new.self c.args.serial c.args.stage c.in_ok-draft.ensures c.report.ensures)
+    (subst (λ (h : Held). IsKept h.content) c.self.view_is c.self.invariant.kept) (report_draft a c.in_ok-draft.draft c.report.new.self c.args.serial c.args.stage c.in_ok-draft.ensures c.report.ensures)
 
 pub finished-requires-clause-kept : goal.finished-requires-clause-kept
 finished-requires-clause-kept c =
@@ -34,7 +37,13 @@ finished-requires-clause-kept c =
     let found = found_try a c.args.serial c.deref.result.now c.open_try.result (c.deref.ensures.value ∙ ap (λ (h : Held). h.content.runs) c.self.view_is) c.open_try.ensures in
     let turn : is_some (report_try c.args.stage a.now c.in-Some.one) ≡ true = sym (c.if-not-takes.ensures a.now) in
     draft_kept (Report c.args.serial c.args.stage) a c.report.new.self tt (in_turn a c.args.serial c.args.stage c.in-Some.one (sym c.in-Some.is ∙ found) turn)
-    (subst (λ (h : Held). IsKept h.content) c.self.view_is c.self.invariant) (report_draft a c.in_ok-draft.draft c.report.new.self c.args.serial c.args.stage c.in_ok-draft.ensures c.report.ensures)
+    (subst (λ (h : Held). IsKept h.content) c.self.view_is c.self.invariant.kept) (report_draft a c.in_ok-draft.draft c.report.new.self c.args.serial c.args.stage c.in_ok-draft.ensures c.report.ensures)
+
+pub finished-requires-clause-counted : goal.finished-requires-clause-counted
+finished-requires-clause-counted c =
+    let a : Schedule = c.args.self.now.content in
+    let counted : IsCounted a = subst (λ (h : Held). IsCounted h.content) c.self.view_is c.self.invariant.counted in
+    subst IsCounted (sym (c.report.ensures ∙ ap (report c.args.serial c.args.stage) c.in_ok-draft.ensures)) (report_counted c.args.serial c.args.stage a counted)
 
 pub returns-clause-accepted : goal.returns-clause-accepted
 returns-clause-accepted c =

@@ -1,9 +1,12 @@
-use Rattle.std.proofs.Common.{◌≡◌, ◌∙◌, refl, ap, subst, nat_lt, false, arith}
+use Rattle.std.proofs.Common.{◌≡◌, ◌∙◌, refl, ap, subst, sym, nat_lt, false, arith}
 use Rattle.std.proofs.lemmas.Bool.Decides.{nat_tests}
+use Rattle.sched_model.specs.Changes.{restart}
 use Rattle.sched_model.specs.Schedule.{Schedule}
 use Rattle.sched_events.specs.Kept.{IsKept}
 use Rattle.sched_events.specs.declared.events.Event.TheVariants.{Restart}
+use Rattle.sched_core.specs.Books.{IsCounted}
 use Rattle.sched_core.specs.Changes.{Held}
+use Rattle.sched_core.proofs.BookLemmas.{restart_counted}
 use Rattle.sched_core.proofs.PlanLemmas.{restart_accepted, restart_draft, draft_sound, draft_kept, draft_planned}
 use Rattle.sched_core.proofs.schedules.Schedule.plan_restart.Goals as goal
 
@@ -12,7 +15,7 @@ finished-requires-clause-sound c =
     let a : Schedule = c.args.self.now.content in
     let lanes : c.lanes.result ≡ a.limits.lanes = c.lanes.ensures ∙ ap (λ (h : Held). h.content.limits.lanes) c.self.view_is in
     let few : nat_lt a.limits.lanes c.args.lanes ≡ false = grind (arith, nat_tests, lanes, c.if-lanes.false) in
-    draft_sound (Restart c.args.lanes) a c.restart.new.self tt (restart_accepted a c.args.lanes few) (subst (λ (h : Held). IsKept h.content) c.self.view_is c.self.invariant)
+    draft_sound (Restart c.args.lanes) a c.restart.new.self tt (restart_accepted a c.args.lanes few) (subst (λ (h : Held). IsKept h.content) c.self.view_is c.self.invariant.kept)
     (restart_draft a c.in_ok-draft.draft c.restart.new.self c.args.lanes c.in_ok-draft.ensures c.restart.ensures)
 
 pub finished-requires-clause-kept : goal.finished-requires-clause-kept
@@ -20,8 +23,13 @@ finished-requires-clause-kept c =
     let a : Schedule = c.args.self.now.content in
     let lanes : c.lanes.result ≡ a.limits.lanes = c.lanes.ensures ∙ ap (λ (h : Held). h.content.limits.lanes) c.self.view_is in
     let few : nat_lt a.limits.lanes c.args.lanes ≡ false = grind (arith, nat_tests, lanes, c.if-lanes.false) in
-    draft_kept (Restart c.args.lanes) a c.restart.new.self tt (restart_accepted a c.args.lanes few) (subst (λ (h : Held). IsKept h.content) c.self.view_is c.self.invariant)
+    draft_kept (Restart c.args.lanes) a c.restart.new.self tt (restart_accepted a c.args.lanes few) (subst (λ (h : Held). IsKept h.content) c.self.view_is c.self.invariant.kept)
     (restart_draft a c.in_ok-draft.draft c.restart.new.self c.args.lanes c.in_ok-draft.ensures c.restart.ensures)
+
+pub finished-requires-clause-counted : goal.finished-requires-clause-counted
+finished-requires-clause-counted c =
+    let a : Schedule = c.args.self.now.content in
+    subst IsCounted (sym (c.restart.ensures ∙ ap (restart c.args.lanes) c.in_ok-draft.ensures)) (restart_counted c.args.lanes a)
 
 pub returns-clause-accepted : goal.returns-clause-accepted
 returns-clause-accepted c =

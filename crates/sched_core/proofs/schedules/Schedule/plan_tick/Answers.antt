@@ -1,4 +1,4 @@
-use Rattle.std.proofs.Common.{◌≡◌, ◌∙◌, ap, subst, ℕ, length, map, nat_lt, true, false, None, arith}
+use Rattle.std.proofs.Common.{◌≡◌, ◌∙◌, ap, subst, sym, ℕ, length, map, nat_lt, true, false, None, arith}
 use Rattle.std.proofs.lemmas.Bool.Decides.{nat_tests}
 use Rattle.sched_model.specs.Schedule.{Schedule}
 use Rattle.sched_model.specs.NamedRuns.{named_by_tick, leaves_more, add_runs}
@@ -8,7 +8,9 @@ use Rattle.sched_events.specs.Causes.{refused}
 use Rattle.sched_events.specs.Events.{named_by, change_by}
 use Rattle.sched_events.specs.Kept.{IsKept}
 use Rattle.sched_events.specs.declared.events.Event.TheVariants.{Tick}
+use Rattle.sched_core.specs.Books.{IsCounted}
 use Rattle.sched_core.specs.Changes.{Held}
+use Rattle.sched_core.proofs.BookLemmas.{tick_counted}
 use Rattle.sched_core.specs.Plans.{run_id}
 use Rattle.sched_core.proofs.PlanLemmas.{tick_accepted, tick_draft, tick_ids, tick_length, draft_sound, draft_kept, draft_planned}
 use Rattle.sched_core.proofs.schedules.Schedule.plan_tick.Goals as goal
@@ -27,7 +29,7 @@ finished-requires-clause-sound c =
     let dated : is_moment t ≡ true = grind (arith, nat_tests, c.secs.ensures.value, c.secs.ensures.bound) in
     let is : c.add.new.draft ≡ add_runs (named_by (Tick t) a) (change_by (Tick t) a) =
     tick_draft a c.in_ok-draft.draft c.set_clock.new.self c.add.new.draft t c.in_ok-named.named.runs.items c.in_ok-draft.ensures c.set_clock.ensures c.in_ok-named.ensures.runs c.in_ok-add.ensures in
-    draft_sound (Tick t) a c.add.new.draft dated accepted (subst (λ (h : Held). IsKept h.content) c.self.view_is c.self.invariant) is
+    draft_sound (Tick t) a c.add.new.draft dated accepted (subst (λ (h : Held). IsKept h.content) c.self.view_is c.self.invariant.kept) is
 
 pub finished-requires-clause-kept : goal.finished-requires-clause-kept
 finished-requires-clause-kept c =
@@ -43,7 +45,16 @@ finished-requires-clause-kept c =
     let dated : is_moment t ≡ true = grind (arith, nat_tests, c.secs.ensures.value, c.secs.ensures.bound) in
     let is : c.add.new.draft ≡ add_runs (named_by (Tick t) a) (change_by (Tick t) a) =
     tick_draft a c.in_ok-draft.draft c.set_clock.new.self c.add.new.draft t c.in_ok-named.named.runs.items c.in_ok-draft.ensures c.set_clock.ensures c.in_ok-named.ensures.runs c.in_ok-add.ensures in
-    draft_kept (Tick t) a c.add.new.draft dated accepted (subst (λ (h : Held). IsKept h.content) c.self.view_is c.self.invariant) is
+    draft_kept (Tick t) a c.add.new.draft dated accepted (subst (λ (h : Held). IsKept h.content) c.self.view_is c.self.invariant.kept) is
+
+pub finished-requires-clause-counted : goal.finished-requires-clause-counted
+finished-requires-clause-counted c =
+    let a : Schedule = c.args.self.now.content in
+    let t : ℕ = c.args.moment in
+    let counted : IsCounted a = subst (λ (h : Held). IsCounted h.content) c.self.view_is c.self.invariant.counted in
+    let is : c.add.new.draft ≡ add_runs (named_by (Tick t) a) (change_by (Tick t) a) =
+    tick_draft a c.in_ok-draft.draft c.set_clock.new.self c.add.new.draft t c.in_ok-named.named.runs.items c.in_ok-draft.ensures c.set_clock.ensures c.in_ok-named.ensures.runs c.in_ok-add.ensures in
+    subst IsCounted (sym is) (tick_counted t (named_by_tick a t) a counted)
 
 pub returns-clause-accepted : goal.returns-clause-accepted
 returns-clause-accepted c =

@@ -1,0 +1,193 @@
+-- A schedule beside the book of its pools: what changes of what is taken, a pool that gets another size, and rows.
+use Rattle.std.proofs.Common.{◌≡◌, ◌∙◌, refl, sym, ap, subst, ℕ, ◌-ℤ◌, pos, ◌≤◌, List, [], ◌∷◌, Bool, true, false, cond, ◌||◌, map, filter, find, is_some, sum_by, Some, option_map, unwrap_or, arith, leb-true, true≢false}
+use Rattle.std.specs.BTreeMap.{insert_entry}
+use Rattle.std.specs.List.{list_all, list_any}
+use Rattle.std.specs.Ordering.{is_eq, match_ordering}
+use Rattle.std.specs.declared.cmp.Ordering.{Ordering}
+use Rattle.std.specs.declared.cmp.Ordering.TheVariants.{Less, Equal, Greater}
+use Rattle.std.specs.Cmp.Lexicographic.{nat_list_eq_equiv}
+use Rattle.std.proofs.Math.Nat.{min-eq_left}
+use Rattle.std.proofs.lemmas.Cmp.{nat_list_cmp_total}
+use Rattle.std.proofs.lemmas.Map.Text.{is_eq-slice_cmp}
+use Rattle.graph_file.specs.Names.{is_name}
+use Rattle.instance_machine.specs.Reports.{reported_try}
+use Rattle.instance_machine.specs.declared.tries.Stage.{Stage}
+use Rattle.pool_book.specs.Limits.{most_taken}
+use Rattle.pool_book.specs.Pools.{Entries, PoolUse, pool_of, resized, occupied_of}
+use Rattle.sched_state.specs.Lists.{same, name_cmp, is_less, insert_by}
+use Rattle.sched_state.proofs.NameLemmas.{same_is, same_itself}
+use Rattle.sched_state.proofs.OrderLemmas.{and_left, and_right, or_left, or_right}
+use Rattle.sched_model.specs.Changes.{resize_pool, new_pool, with_pool, set_now, set_paused, resize, report, restart}
+use Rattle.sched_model.specs.Handout.{hand_out}
+use Rattle.sched_model.specs.Lists.{rises}
+use Rattle.sched_model.specs.NamedRuns.{Named, add_runs}
+use Rattle.sched_model.specs.Schedule.{Schedule, Pool, pool_before}
+use Rattle.sched_model.specs.Settle.{settle}
+use Rattle.sched_model.specs.Sound.{IsSound, is_sound_pool}
+use Rattle.sched_model.specs.States.{open_tries, slots_in, occupied}
+use Rattle.sched_laws.proofs.OccupyingLemmas.{open_paused, open_added, open_restarted, ended_by, occupied_reported}
+use Rattle.sched_laws.proofs.SlotLemmas.{open_settled, out_filled}
+use Rattle.sched_laws.proofs.SoundLemmas.{settle_sound}
+use Rattle.sched_events.specs.Kept.{IsKept}
+use Rattle.sched_events.specs.Rows.{PoolLine}
+use Rattle.sched_draft.specs.Books.{pools_in, Takes, IsBookOf}
+use Rattle.sched_draft.proofs.BookLemmas.{has_is}
+use Rattle.sched_core.specs.Books.{IsCounted, IsHeld}
+use Rattle.sched_core.specs.Inside.{row_in}
+use Rattle.sched_core.specs.Views.{pool_row, pool_rows}
+
+-- ---- the same tries take the same slots
+counted_same : (a b : Schedule) → open_tries b ≡ open_tries a → IsCounted a → IsCounted b
+counted_same a b e counted name = subst (λ n. n ≤ most_taken) (ap (sum_by (slots_in name)) (sym e)) (counted name)
+
+pub quiet_held : (a b : Schedule) (es : Entries) → IsKept b → open_tries b ≡ open_tries a → IsHeld a es → IsHeld b es
+quiet_held a b es kept e held = record {
+  kept = kept;
+  counted = counted_same a b e held.counted;
+  taken = λ name p there. held.taken name p there ∙ ap (sum_by (slots_in name)) (sym e);
+}
+
+-- ---- what events leave is counted
+pub tick_counted : (t : ℕ) (ns : List Named) (a : Schedule) → IsCounted a → IsCounted (add_runs ns (set_now t a))
+tick_counted t ns a counted = counted_same a (add_runs ns (set_now t a)) (open_added ns (set_now t a)) counted
+
+pub unpause_counted : (id : List ℕ) (a : Schedule) → IsCounted a → IsCounted (set_paused id false a)
+unpause_counted id a counted = counted_same a (set_paused id false a) (open_paused id false a) counted
+
+pub resize_counted : (name : List ℕ) (size : ℕ) (a : Schedule) → IsCounted a → IsCounted (resize name size a)
+resize_counted name size a counted = counted_same a (resize name size a) refl counted
+
+pub report_counted : (serial : ℕ) (stage : Stage) (a : Schedule) → IsCounted a → IsCounted (report serial stage a)
+report_counted serial stage a counted name =
+    let given_back : ℕ = sum_by (slots_in name) (filter (ended_by (reported_try serial stage a.now)) (open_tries a)) in
+    let before = occupied_reported serial stage a name in
+    let high = counted name in
+    omega (arith, before, high)
+
+pub restart_counted : (lanes : ℕ) (a : Schedule) → IsCounted (restart lanes a)
+restart_counted lanes a name = subst (λ es. sum_by (slots_in name) es ≤ most_taken) (sym (open_restarted lanes a)) (leb-true 0 most_taken refl)
+
+-- ---- and what is handed out after them
+small : (name : List ℕ) (qs : List Pool) → list_all is_sound_pool qs ≡ true → unwrap_or (option_map (λ (q : Pool). q.size) (find (λ (q : Pool). same q.name name) qs)) 0 ≤ most_taken
+small name [] e = leb-true 0 most_taken refl
+small name (q ∷ qs) e =
+    elim (same q.name name) as (λ b. unwrap_or (option_map (λ (w : Pool). w.size) (cond b (Some q) (find (λ (w : Pool). same w.name name) qs))) 0 ≤ most_taken) [
+      | true ↦
+          let here : q.size ≤ 1000000 = leb-true _ _ (and_right (is_name q.name) _ (and_left (is_sound_pool q) _ e)) in
+          let high : 1000000 ≤ most_taken = leb-true 1000000 most_taken refl in
+          omega (arith, here, high)
+      | false ↦ small name qs (and_right (is_sound_pool q) _ e)
+    ]
+
+pub end_counted : (b : Schedule) → IsSound b → IsCounted b → IsCounted (hand_out (settle b))
+end_counted b sound counted name =
+    out_filled (settle b) name most_taken (counted_same b (settle b) (open_settled b) counted name) (small name (settle b).pools (settle_sound b sound).pools)
+
+-- a book that counts no further than the most says what is taken, where that is no more
+pub book_taken : (a : Schedule) (es : Entries) → IsCounted a → IsBookOf a es → Takes (occupied a) es
+book_taken a es counted book name p there = book.taken name p there ∙ min-eq_left (counted name)
+
+-- ---- pools by name
+apart_by : (x y : List ℕ) (k : Ordering) → name_cmp x y ≡ k → same x y ≡ is_eq k
+apart_by x y k e = sym (is_eq-slice_cmp x y) ∙ ap is_eq e
+
+less_name : (k : Ordering) → is_less k ≡ true → k ≡ Less
+less_name Less e = refl
+less_name Equal e = absurd (true≢false (sym e))
+less_name Greater e = absurd (true≢false (sym e))
+
+-- no pool after a name has it
+none_after : (x : List ℕ) (qs : List Pool) → list_all (λ (q : Pool). is_less (name_cmp x q.name)) qs ≡ true → list_any (λ (q : Pool). same q.name x) qs ≡ false
+none_after x [] e = refl
+none_after x (q ∷ qs) e =
+    let other : same q.name x ≡ false = nat_list_eq_equiv.symm q.name x ∙ apart_by x q.name Less (less_name _ (and_left (is_less (name_cmp x q.name)) _ e)) in
+    rw other (none_after x qs (and_right (is_less (name_cmp x q.name)) _ e))
+
+-- what stands after a name stands after one before it
+later_after : (x y : List ℕ) (qs : List Pool) → name_cmp x y ≡ Less → list_all (λ (q : Pool). is_less (name_cmp y q.name)) qs ≡ true → list_all (λ (q : Pool). is_less (name_cmp x q.name)) qs ≡ true
+later_after x y [] e f = refl
+later_after x y (q ∷ qs) e f =
+    let here : is_less (name_cmp x q.name) ≡ true = ap is_less (nat_list_cmp_total.trans x y q.name e (less_name _ (and_left (is_less (name_cmp y q.name)) _ f))) in
+    rw here (later_after x y qs e (and_right (is_less (name_cmp y q.name)) _ f))
+
+other_stays : (name : List ℕ) (size : ℕ) (q : Pool) → same q.name name ≡ false → resize_pool name size q ≡ q
+other_stays name size q e = ap (λ b. cond b (record q { size = size }) q) e
+
+others_stay : (name : List ℕ) (size : ℕ) (qs : List Pool) → list_any (λ (q : Pool). same q.name name) qs ≡ false → map (resize_pool name size) qs ≡ qs
+others_stay name size [] e = refl
+others_stay name size (q ∷ qs) e =
+    ap (λ w. w ∷ map (resize_pool name size) qs) (other_stays name size q (or_left (same q.name name) _ e))
+    ∙ ap (λ ws. q ∷ ws) (others_stay name size qs (or_right (same q.name name) _ e))
+
+-- ---- a pool of a book gets another size
+abbrev line : List ℕ × PoolUse → Pool
+line e = record { name = e.0; size = e.1.size }
+
+abbrev among : List ℕ → Entries → Bool
+among name es = list_any (λ (q : Pool). same q.name name) (pools_in es)
+
+-- behind a pool of another name
+behind : (name : List ℕ) (size : ℕ) (q : Pool) (qs : List Pool) (b : Bool) → same q.name name ≡ false → pool_before (new_pool name size) q ≡ false → q ∷ with_pool b name size qs ≡ with_pool b name size (q ∷ qs)
+behind name size q qs true e f = ap (λ w. w ∷ map (resize_pool name size) qs) (sym (other_stays name size q e))
+behind name size q qs false e f = ap (λ b. elim b [ true ↦ new_pool name size ∷ q ∷ qs | false ↦ q ∷ insert_by pool_before (new_pool name size) qs ]) (sym f)
+
+put : (name : List ℕ) (size taken : ℕ) (es : Entries) → rises pool_before (pools_in es) ≡ true
+    → pools_in (insert_entry name_cmp es name (record { size = size; occupied = taken })) ≡ with_pool (among name es) name size (pools_in es)
+put name size taken [] order = refl
+put name size taken (e ∷ es) order = by (name_cmp name e.0) refl (put name size taken es (and_right (list_all (pool_before (line e)) (pools_in es)) _ order))
+  where
+    after : list_all (pool_before (line e)) (pools_in es) ≡ true
+    after = and_left (list_all (pool_before (line e)) (pools_in es)) _ order
+
+    head : (k : Ordering) → name_cmp name e.0 ≡ k → same e.0 name ≡ is_eq k
+    head k at = nat_list_eq_equiv.symm e.0 name ∙ apart_by name e.0 k at
+
+    v : PoolUse
+    v = record { size = size; occupied = taken }
+
+    by : (k : Ordering) → name_cmp name e.0 ≡ k → pools_in (insert_entry name_cmp es name v) ≡ with_pool (among name es) name size (pools_in es)
+        → pools_in (match_ordering k ((name, v) ∷ e ∷ es) ((e.0, v) ∷ es) (e ∷ insert_entry name_cmp es name v)) ≡ with_pool (among name (e ∷ es)) name size (pools_in (e ∷ es))
+    by Less at rest =
+        let none : among name es ≡ false = none_after name (pools_in es) (later_after name e.0 (pools_in es) at after) in
+        let no_one : among name (e ∷ es) ≡ false = ap (λ b. b || among name es) (head Less at) ∙ none in
+        sym (ap (λ b. with_pool b name size (pools_in (e ∷ es))) no_one
+        ∙ ap (λ (k : Ordering). elim (is_less k) [ true ↦ new_pool name size ∷ pools_in (e ∷ es) | false ↦ line e ∷ insert_by pool_before (new_pool name size) (pools_in es) ]) at)
+    by Equal at rest =
+        let mine : same e.0 name ≡ true = head Equal at in
+        let none : among name es ≡ false = subst (λ n. among n es ≡ false) (same_is e.0 name mine) (none_after e.0 (pools_in es) after) in
+        let resized_one : resize_pool name size (line e) ≡ record { name = e.0; size = size } = ap (λ b. cond b (record { name = e.0; size = size }) (line e)) mine in
+        sym (ap (λ b. with_pool (b || among name es) name size (pools_in (e ∷ es))) mine
+        ∙ (ap (λ w. w ∷ map (resize_pool name size) (pools_in es)) resized_one
+        ∙ ap (λ ws. record { name = e.0; size = size } ∷ ws) (others_stay name size (pools_in es) none)))
+    by Greater at rest =
+        let other : same e.0 name ≡ false = head Greater at in
+        ap (λ ws. line e ∷ ws) rest
+        ∙ (behind name size (line e) (pools_in es) (among name es) other (ap is_less at)
+        ∙ ap (λ b. with_pool (b || among name es) name size (pools_in (e ∷ es))) (sym other))
+
+pub resized_pools : (name : List ℕ) (size : ℕ) (a : Schedule) (es : Entries) → pools_in es ≡ a.pools → rises pool_before a.pools ≡ true → pools_in (resized name size es) ≡ (resize name size a).pools
+resized_pools name size a es pools order =
+    put name size (occupied_of name es) es (ap (rises pool_before) pools ∙ order) ∙ ap (λ (qs : List Pool). with_pool (list_any (λ (q : Pool). same q.name name) qs) name size qs) pools
+
+-- ---- rows
+later_taken : (a : Schedule) (taken : List ℕ → ℕ) (e : List ℕ × PoolUse) (es : Entries) → list_all (pool_before (line e)) (pools_in es) ≡ true → Takes taken (e ∷ es) → Takes taken es
+later_taken a taken e es after h name p there = by (same name e.0) refl
+  where
+    by : (b : Bool) → same name e.0 ≡ b → p.occupied ≡ taken name
+    by true is =
+        let none : among name es ≡ false = subst (λ n. among n es ≡ false) (sym (same_is name e.0 is)) (none_after e.0 (pools_in es) after) in
+        let some : among name es ≡ true = has_is (record a { pools = pools_in es }) es name refl ∙ ap is_some there in
+        absurd (true≢false (sym some ∙ none))
+    by false other = h name p (ap (λ b. cond b (Some e.1) (pool_of name es)) other ∙ there)
+
+rows_in : (a : Schedule) (es : Entries) → rises pool_before (pools_in es) ≡ true → Takes (occupied a) es → map row_in es ≡ map (pool_row a) (pools_in es)
+rows_in a [] order h = refl
+rows_in a (e ∷ es) order h =
+    let here : e.1.occupied ≡ occupied a e.0 = h e.0 e.1 (ap (λ b. cond b (Some e.1) (pool_of e.0 es)) (same_itself e.0)) in
+    let after : list_all (pool_before (line e)) (pools_in es) ≡ true = and_left (list_all (pool_before (line e)) (pools_in es)) _ order in
+    let rest = rows_in a es (and_right (list_all (pool_before (line e)) (pools_in es)) _ order) (later_taken a (occupied a) e es after h) in
+    ap (λ (n : ℕ). let w : PoolLine = record { name = e.0; size = e.1.size; occupied = n; open_slots = pos e.1.size -ℤ pos n } in w ∷ map row_in es) here ∙ ap (λ (ws : List PoolLine). pool_row a (line e) ∷ ws) rest
+
+-- the rows of the book are those of the schedule
+pub rows_held : (a : Schedule) (es : Entries) → pools_in es ≡ a.pools → IsHeld a es → map row_in es ≡ pool_rows a
+rows_held a es pools held = rows_in a es (ap (rises pool_before) pools ∙ held.kept.sound.pools_by_name) held.taken ∙ ap (map (pool_row a)) pools

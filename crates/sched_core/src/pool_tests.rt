@@ -1,0 +1,188 @@
+use super::*;
+use crate::stepping::{accepted, empty, file, follow, name, refusal, tick};
+use instance_machine::{Outcome, Stage};
+use pool_book::{PoolFault, Slots};
+use sched_state::Limits;
+use std::alloc::Global;
+use std::fmt;
+use std::process::Abort;
+use std::test::Fail;
+
+const STARTED: Stage = Stage::Started;
+
+const SUCCESS: Stage = Stage::Ended(Outcome::Success);
+
+// The pool gets so many slots.
+fn resize(alloc: Global, pool: &str, size: u32) -> Result<Event, Fail> {
+    let size = Slots::new(size).ok_or("too many slots")?;
+    Ok(Event::Resize(name(alloc, pool)?, size))
+}
+
+// Tasks without upstreams, each with its id, pool, slots and weight.
+fn tasks(alloc: Global, tasks: &[(&str, &str, u32, u32)]) -> Result<String, fmt::Error> {
+    let mut text = String::new(alloc);
+    for (id, pool, slots, weight) in tasks {
+        write!(
+            text,
+            "[[task]]\ntask_id = \"{id}\"\noperator = \"noop\"\npool = \"{pool}\"\npool_slots = {slots}\npriority_weight = {weight}\n"
+        )?;
+    }
+    Ok(text)
+}
+
+// A graph of these tasks that runs each day from 2024-01-01 on.
+fn daily(alloc: Global, id: &str, rows: &[(&str, &str, u32, u32)]) -> Result<Event, Fail> {
+    let keys = "schedule = \"@daily\"\nstart_date = \"2024-01-01\"";
+    let text = tasks(alloc, rows).or_else(|_| tasks(alloc, rows))?;
+    Ok(file(alloc, id, keys, text.as_str())?)
+}
+
+// A schedule over so many lanes with the pools p and q of these sizes, and the graph `one` of these tasks.
+fn with_pools(
+    rt: &impl Abort,
+    alloc: Global,
+    lanes: u32,
+    sizes: (u32, u32),
+    rows: &[(&str, &str, u32, u32)],
+) -> Result<Schedule, Fail> {
+    let mut schedule = empty(alloc, Limits::full())?;
+    accepted(rt, alloc, &mut schedule, &Event::Restart(lanes));
+    accepted(rt, alloc, &mut schedule, &resize(alloc, "p", sizes.0)?);
+    accepted(rt, alloc, &mut schedule, &resize(alloc, "q", sizes.1)?);
+    accepted(rt, alloc, &mut schedule, &daily(alloc, "one", rows)?);
+    Ok(schedule)
+}
+
+// Writes the pools, each with its size, what is taken and what is open.
+fn write_pools(alloc: Global, schedule: &Schedule) -> Result<String, fmt::Error> {
+    let mut text = String::new(alloc);
+    for row in schedule.pools() {
+        let PoolRow {
+            name,
+            size,
+            occupied,
+            open_slots,
+        } = row;
+        let name = name.as_str();
+        write!(text, "{name} {size} {occupied} {open_slots};")?;
+    }
+    Ok(text)
+}
+
+fn pools(alloc: Global, schedule: &Schedule) -> Result<String, Fail> {
+    Ok(write_pools(alloc, schedule).or_else(|_| write_pools(alloc, schedule))?)
+}
+
+#[test]
+fn a_pool_past_the_limit_is_refused(rt: HostRuntime) -> Result<(), Fail> {
+    let alloc = rt.alloc();
+    let limits = Limits::new(1, 1, 1, 2, 1, 1).ok_or("limits")?;
+    let mut schedule = empty(alloc, limits)?;
+    accepted(&rt, alloc, &mut schedule, &resize(alloc, "p", 3)?);
+    let refused = refusal(&rt, alloc, &mut schedule, &resize(alloc, "q", 1)?);
+    assert!(rt; matches!(refused, Refusal::PoolFault(PoolFault::TooManyPools)));
+    let before = pools(alloc, &schedule)?;
+    assert_eq!(rt; before.as_str(), "default_pool 128 0 128;p 3 0 3;");
+    accepted(&rt, alloc, &mut schedule, &resize(alloc, "p", 0)?);
+    let after = pools(alloc, &schedule)?;
+    assert_eq!(rt; after.as_str(), "default_pool 128 0 128;p 0 0 0;");
+    Ok(())
+}
+
+// Airflow 2, "Pools": a task waits until its slots are open. A lighter one may go before it.
+#[test]
+fn what_does_not_fit_waits_for_a_larger_pool(rt: HostRuntime) -> Result<(), Fail> {
+    let alloc = rt.alloc();
+    let rows = [("a", "p", 2, 5), ("b", "p", 2, 4), ("c", "p", 1, 3)];
+    let mut schedule = with_pools(&rt, alloc, 3, (3, 0), &rows)?;
+    let events = [
+        (
+            tick(&rt, "2024-01-02"),
+            "1:a 2:c | Running a=queued b=scheduled c=queued",
+        ),
+        (
+            resize(alloc, "p", 4)?,
+            "| Running a=queued b=scheduled c=queued",
+        ),
+        (
+            resize(alloc, "p", 5)?,
+            "3:b | Running a=queued b=queued c=queued",
+        ),
+    ];
+    follow(&rt, alloc, &mut schedule, &events)?;
+    let found = pools(alloc, &schedule)?;
+    assert_eq!(rt; found.as_str(), "default_pool 128 0 128;p 5 5 0;q 0 0 0;");
+    Ok(())
+}
+
+#[test]
+fn a_smaller_pool_stops_nothing(rt: HostRuntime) -> Result<(), Fail> {
+    let alloc = rt.alloc();
+    let rows = [
+        ("a", "p", 1, 1),
+        ("b", "p", 1, 1),
+        ("c", "p", 1, 1),
+        ("d", "p", 1, 1),
+    ];
+    let mut schedule = with_pools(&rt, alloc, 4, (3, 0), &rows)?;
+    for (event, wanted) in [
+        (tick(&rt, "2024-01-02"), "p 3 3 0"),
+        (resize(alloc, "p", 1)?, "p 1 3 -2"),
+        (Event::Report(1, STARTED), "p 1 3 -2"),
+        (Event::Report(1, SUCCESS), "p 1 2 -1"),
+        (Event::Report(2, STARTED), "p 1 2 -1"),
+        (Event::Report(2, SUCCESS), "p 1 1 0"),
+        (Event::Report(3, STARTED), "p 1 1 0"),
+    ] {
+        accepted(&rt, alloc, &mut schedule, &event);
+        let found = pools(alloc, &schedule)?;
+        assert!(rt; found.as_str().contains(wanted), "{event:?}");
+        assert_eq!(rt; schedule.next_serial(), 4);
+    }
+    let last = [(
+        Event::Report(3, SUCCESS),
+        "4:d | Running a=success b=success c=success d=queued",
+    )];
+    follow(&rt, alloc, &mut schedule, &last)
+}
+
+// A lane goes to the greater weight, whichever pool it takes of.
+#[test]
+fn two_pools_share_the_lanes(rt: HostRuntime) -> Result<(), Fail> {
+    let alloc = rt.alloc();
+    let rows = [
+        ("a", "p", 1, 1),
+        ("b", "q", 1, 3),
+        ("c", "p", 1, 2),
+        ("d", "q", 1, 4),
+    ];
+    let mut schedule = with_pools(&rt, alloc, 2, (2, 1), &rows)?;
+    let events = [
+        (
+            tick(&rt, "2024-01-02"),
+            "1:d 2:c | Running a=scheduled b=scheduled c=queued d=queued",
+        ),
+        (
+            Event::Report(2, STARTED),
+            "| Running a=scheduled b=scheduled c=running d=queued",
+        ),
+        (
+            Event::Report(2, SUCCESS),
+            "3:a | Running a=queued b=scheduled c=success d=queued",
+        ),
+    ];
+    follow(&rt, alloc, &mut schedule, &events)
+}
+
+// Of one weight the earlier date goes first, then the lesser id of the graph, then that of the task.
+#[test]
+fn ties_go_by_date_graph_and_task(rt: HostRuntime) -> Result<(), Fail> {
+    let alloc = rt.alloc();
+    let rows = [("d", "p", 1, 1), ("c", "p", 1, 1)];
+    let mut schedule = with_pools(&rt, alloc, 8, (8, 0), &rows)?;
+    let other = daily(alloc, "an", &[("f", "p", 1, 1), ("e", "p", 1, 1)])?;
+    let wanted =
+        "1:e 2:f 3:c 4:d 5:e 6:f 7:c 8:d | Running f=queued e=queued Running f=queued e=queued Running d=queued c=queued Running d=queued c=queued";
+    let events = [(other, "|"), (tick(&rt, "2024-01-03"), wanted)];
+    follow(&rt, alloc, &mut schedule, &events)
+}
