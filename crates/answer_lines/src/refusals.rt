@@ -32,6 +32,8 @@ pub fn put_refusal<W: Write>(output: &mut W, refusal: &Refusal) -> io::Result<()
         Refusal::GraphDiffers => output.write_all(b"refused 5 GraphDiffers\n"),
         Refusal::UnknownGraph => output.write_all(b"refused 6 UnknownGraph\n"),
         Refusal::ClockBack(moment) => writeln!(output, "refused 8 ClockBack {moment}"),
+        Refusal::RunExists => output.write_all(b"refused 10 RunExists\n"),
+        Refusal::NoInterval => output.write_all(b"refused 11 NoInterval\n"),
         Refusal::NotInFlight(serial) => writeln!(output, "refused 13 NotInFlight {serial}"),
         Refusal::OutOfTurn(serial) => writeln!(output, "refused 14 OutOfTurn {serial}"),
         Refusal::PoolFault(fault) => put_pool_fault(output, *fault),

@@ -198,6 +198,8 @@ fn refusals_have_a_line_each(rt: HostRuntime) -> Result<(), Fail> {
         (Refusal::TooManyGraphs, "refused 4 TooManyGraphs\n"),
         (Refusal::GraphDiffers, "refused 5 GraphDiffers\n"),
         (Refusal::UnknownGraph, "refused 6 UnknownGraph\n"),
+        (Refusal::RunExists, "refused 10 RunExists\n"),
+        (Refusal::NoInterval, "refused 11 NoInterval\n"),
         (
             Refusal::ClockBack(back),
             "refused 8 ClockBack 2024-01-02T00:00:00+00:00\n",

@@ -51,6 +51,9 @@ quiet_held a b es kept e held = record {
 pub tick_counted : (t : ℕ) (ns : List Named) (a : Schedule) → IsCounted a → IsCounted (add_runs ns (set_now t a))
 tick_counted t ns a counted = counted_same a (add_runs ns (set_now t a)) (open_added ns (set_now t a)) counted
 
+pub trigger_counted : (ns : List Named) (a : Schedule) → IsCounted a → IsCounted (add_runs ns a)
+trigger_counted ns a counted = counted_same a (add_runs ns a) (open_added ns a) counted
+
 pub unpause_counted : (id : List ℕ) (a : Schedule) → IsCounted a → IsCounted (set_paused id false a)
 unpause_counted id a counted = counted_same a (set_paused id false a) (open_paused id false a) counted
 

@@ -10,3 +10,4 @@ pub mod BookLemmas
 pub mod FinishLemmas
 pub mod EffectLemmas
 pub mod ResizeLemmas
+pub mod TriggerLemmas

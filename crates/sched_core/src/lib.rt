@@ -24,6 +24,9 @@ mod run_tests;
 mod schedules;
 #[cfg(test)]
 mod stepping;
+#[cfg(test)]
+mod trigger_tests;
+mod triggering;
 mod views;
 
 pub use changes::Change;

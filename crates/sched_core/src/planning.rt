@@ -43,6 +43,7 @@ impl Schedule {
         match event {
             Event::Load(text) => self.plan_load(alloc, text),
             Event::Tick(moment) => self.plan_tick(alloc, *moment),
+            Event::Trigger(id) => self.plan_trigger(alloc, id),
             Event::Pause(id) => self.plan_pause(alloc, id),
             Event::Unpause(id) => self.plan_unpause(alloc, id),
             Event::Resize(name, size) => self.plan_resize(alloc, name, *size),
@@ -68,7 +69,7 @@ impl Schedule {
     }
 
     // The schedule as a draft, in which the graph with the id `unpaused` is not paused.
-    fn draft<'d>(
+    pub(crate) fn draft<'d>(
         &'d self,
         alloc: Global,
         unpaused: Option<&'d Name>,
@@ -101,7 +102,7 @@ impl Schedule {
     }
 
     // The change that ends in this draft, settled and handed out. In it the graph with the id `unpaused` is paused no more.
-    fn finished(
+    pub(crate) fn finished(
         &self,
         alloc: Global,
         draft: Draft<'_>,
@@ -242,7 +243,7 @@ impl Schedule {
 }
 
 // Which runs these are.
-fn ids_of(alloc: Global, runs: &[Run]) -> Result<Sequence<RunId>, AllocError>
+pub(crate) fn ids_of(alloc: Global, runs: &[Run]) -> Result<Sequence<RunId>, AllocError>
     ensures { IfOk result (λ ids. ids ≡ map run_id runs.now) }
 {
     let mut ids = Vec::new(alloc);

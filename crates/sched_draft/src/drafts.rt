@@ -3,6 +3,7 @@ ghost use Rattle.std.specs.Prelude.{◌≡◌, ◌≢◌, ◌<◌, ◌≤◌, le
 ghost use Rattle.std.specs.Option.{option_copied};
 ghost use Rattle.trigger_rules.specs.declared.verdicts.Verdict.TheVariants.{Wait};
 ghost use Rattle.sched_state.specs.Lists.{insert_by};
+ghost use Rattle.sched_model.specs.Clearing.{cleared};
 ghost use Rattle.sched_model.specs.Lists.{at};
 ghost use Rattle.sched_model.specs.Schedule.{run_before};
 ghost use Rattle.sched_model.specs.Changes.{set_now, report, restart};
@@ -150,6 +151,15 @@ impl<'a> Draft<'a> {
             .instances
             .item_mut(place)
             .decide(verdict);
+    }
+
+    /// The instance at a place of a run is set back: it has no verdict, and its tries so far count for nothing.
+    pub fn clear(&mut self, position: usize, place: usize)
+        requires run { position < length self.old.runs }
+        requires instance { place < instances_at position self.old }
+        ensures { self.new ≡ record self.old { runs = at (in_instance cleared place) position self.old.runs } }
+    {
+        self.runs[position].instances.item_mut(place).clear();
     }
 
     /// The instance at a place of a run gets a try with the next serial. Without memory nothing changes.

@@ -49,7 +49,16 @@ fn of_two_days<'a>(
     pools: &'a Pools,
 ) -> Result<Draft<'a>, Fail> {
     let none = Vec::new(alloc);
-    let mut draft = Draft::new(Limits::full(), graphs, None, pools, Moment::at(0), 4, 4, none);
+    let mut draft = Draft::new(
+        Limits::full(),
+        graphs,
+        None,
+        pools,
+        Moment::at(0),
+        4,
+        4,
+        none,
+    );
     draft.insert(run(alloc, "2024-01-02", 2)?)?;
     draft.insert(run(alloc, "2024-01-01", 3)?.copy(alloc)?)?;
     Ok(draft)
@@ -108,7 +117,16 @@ fn reports_and_restarts_change_tries(rt: HostRuntime) -> Result<(), Fail> {
     let graphs = [graph(alloc)?];
     let runs = vec![in alloc; run(alloc, "2024-01-01", 1)?]?;
     let pools = Pools::new(alloc);
-    let mut draft = Draft::new(Limits::full(), &graphs, None, &pools, Moment::at(0), 4, 2, runs);
+    let mut draft = Draft::new(
+        Limits::full(),
+        &graphs,
+        None,
+        &pools,
+        Moment::at(0),
+        4,
+        2,
+        runs,
+    );
     for (serial, stage, after) in [
         (2, Stage::Started, State::Queued),
         (1, Stage::Ended(Outcome::Success), State::Queued),
@@ -143,7 +161,16 @@ fn the_graph_that_is_named_is_unpaused(rt: HostRuntime) -> Result<(), Fail> {
     let pools = Pools::new(alloc);
     for (unpaused, paused) in [(None, true), (Some(&other), true), (Some(&id), false)] {
         let runs = Vec::new(alloc);
-        let draft = Draft::new(Limits::full(), &graphs, unpaused, &pools, Moment::at(0), 0, 1, runs);
+        let draft = Draft::new(
+            Limits::full(),
+            &graphs,
+            unpaused,
+            &pools,
+            Moment::at(0),
+            0,
+            1,
+            runs,
+        );
         assert_eq!(rt; draft.is_paused(&id), paused);
         assert!(rt; !draft.is_paused(&other));
     }

@@ -1,5 +1,5 @@
 -- What follows of an event that is accepted: its own change keeps the schedule.
-use Rattle.std.proofs.Common.{◌≡◌, ◌∙◌, refl, sym, ap, subst, ℕ, ◌≤◌, List, [], ◌∷◌, Bool, true, false, not, ◌&&◌, ◌||◌, cond, length, find, is_some, nat_lt, Option, Some, None, option_map, Result, Ok, Err, true≢false}
+use Rattle.std.proofs.Common.{◌≡◌, ◌∙◌, refl, sym, ap, subst, ℕ, ◌≤◌, List, [], ◌∷◌, Bool, true, false, not, ◌&&◌, ◌||◌, cond, length, find, is_some, is_none, nat_lt, Option, Some, None, option_map, Result, Ok, Err, true≢false}
 use Rattle.std.specs.List.{list_all, list_any}
 use Rattle.std.proofs.lemmas.Bool.{ltb-false}
 use Rattle.graph_file.specs.Graphs.{graph_of}
@@ -16,11 +16,12 @@ use Rattle.sched_state.specs.declared.graphs.Graph.{Graph}
 use Rattle.sched_state.specs.declared.runs.Run.{Run}
 use Rattle.sched_state.proofs.NameLemmas.{same_is}
 use Rattle.sched_state.proofs.OrderLemmas.{and_left, and_right, or_left, or_right}
-use Rattle.sched_model.specs.Schedule.{Schedule, graph_among, graph_named, has_pool, has_runs}
+use Rattle.sched_model.specs.Schedule.{Schedule, graph_among, graph_named, has_pool, has_runs, has_run_at}
 use Rattle.sched_model.specs.Changes.{load_graph, set_now}
-use Rattle.sched_model.specs.Causes.{has_too_many_graphs, is_full_with}
-use Rattle.sched_model.specs.NamedRuns.{Named, is_for, named_by_tick}
+use Rattle.sched_model.specs.Causes.{has_too_many_graphs, is_full_with, is_unknown_graph}
+use Rattle.sched_model.specs.NamedRuns.{Named, is_for, named_by_tick, named_by_hand}
 use Rattle.sched_model.specs.Sound.{IsSound, Says, AllSay, is_sound_run, is_new, are_new}
+use Rattle.sched_laws.proofs.ByHandLemmas.{by_hand_new}
 use Rattle.sched_laws.proofs.GraphLemmas.{load_sound, pause_sound}
 use Rattle.sched_laws.proofs.LoadLemmas.{load_again}
 use Rattle.sched_laws.proofs.PoolLemmas.{resize_sound}
@@ -28,10 +29,10 @@ use Rattle.sched_laws.proofs.SaidLemmas.{said_sound}
 use Rattle.sched_laws.proofs.SoundLemmas.{clock_sound, report_sound, restart_sound}
 use Rattle.sched_laws.proofs.TextLemmas.{load_says, pause_says}
 use Rattle.sched_events.specs.Events.{change_by, load_result, IsInRange}
-use Rattle.sched_events.specs.Causes.{exceeds, edge_count, unknown_pool, differs, refused, refused_text}
+use Rattle.sched_events.specs.Causes.{exceeds, edge_count, unknown_pool, differs, has_no_interval, refused, refused_text}
 use Rattle.sched_events.specs.Kept.{IsKept}
 use Rattle.sched_events.specs.declared.events.Event.{Event}
-use Rattle.sched_events.specs.declared.events.Event.TheVariants.{Load, Tick, Pause, Unpause, Resize, Report, Restart}
+use Rattle.sched_events.specs.declared.events.Event.TheVariants.{Load, Tick, Trigger, Pause, Unpause, Resize, Report, Restart}
 use Rattle.sched_events.specs.declared.refusals.Refusal.{Refusal}
 use Rattle.sched_events.specs.declared.refusals.Refusal.TheVariants as refusal
 
@@ -129,6 +130,7 @@ read_kept a text (Ok spec) read e kept =
 pub change_kept : (e : Event) (a : Schedule) → IsInRange e → refused a e ≡ None → IsKept a → IsSound (change_by e a) × AllSay (change_by e a).graphs
 change_kept (Load text) a ranged accepted kept = read_kept a text (graph_of text) refl accepted kept
 change_kept (Tick t) a ranged accepted kept = (clock_sound t a ranged kept.sound, kept.said)
+change_kept (Trigger id) a ranged accepted kept = (kept.sound, kept.said)
 change_kept (Pause id) a ranged accepted kept = (pause_sound id true a kept.sound, pause_says id true a kept.said)
 change_kept (Unpause id) a ranged accepted kept = (pause_sound id false a kept.sound, pause_says id false a kept.said)
 change_kept (Resize name size) a ranged accepted kept = (resize_sound name size a ranged (within (refusal.PoolFault TooManyPools) _ accepted) kept.sound, kept.said)
@@ -142,3 +144,21 @@ still_new a t (n ∷ ns) = ap (λ b. is_new a n && (not (list_any (is_for n.grap
 
 pub tick_room : (a : Schedule) (t : ℕ) → refused a (Tick t) ≡ None → is_full_with (set_now t a) (named_by_tick a t) ≡ false
 tick_room a t accepted = (no_when (is_full_with a (named_by_tick a t)) _ _ (no_when (nat_lt t a.now) _ _ accepted).1).0
+
+some_there : {X : Type 0} (o : Option X) → is_none o ≡ false → is_some o ≡ true
+some_there None e = absurd (true≢false e)
+some_there (Some x) e = refl
+
+-- a run by hand that is accepted is new, and there is room for it
+pub hand_new : (a : Schedule) (id : List ℕ) → refused a (Trigger id) ≡ None → IsSound a → are_new a (named_by_hand a id) ≡ true
+hand_new a id accepted sound =
+    let known = no_when (is_unknown_graph a id) _ _ accepted in
+    let free = no_when (has_run_at a id a.now) _ _ known.1 in
+    by_hand_new a id sound (some_there (graph_named a id) known.0) free.0
+
+pub hand_room : (a : Schedule) (id : List ℕ) → refused a (Trigger id) ≡ None → is_full_with a (named_by_hand a id) ≡ false
+hand_room a id accepted =
+    let known = no_when (is_unknown_graph a id) _ _ accepted in
+    let free = no_when (has_run_at a id a.now) _ _ known.1 in
+    let ended = no_when (has_no_interval a id) _ _ free.1 in
+    (no_when (is_full_with a (named_by_hand a id)) _ _ ended.1).0

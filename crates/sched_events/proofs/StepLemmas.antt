@@ -33,8 +33,8 @@ use Rattle.sched_events.specs.Causes.{refused}
 use Rattle.sched_events.specs.Steps.{step, steps, named_along, AreAccepted}
 use Rattle.sched_events.specs.Kept.{IsKept}
 use Rattle.sched_events.specs.declared.events.Event.{Event}
-use Rattle.sched_events.specs.declared.events.Event.TheVariants.{Load, Tick, Pause, Unpause, Resize, Report, Restart}
-use Rattle.sched_events.proofs.AcceptLemmas.{change_kept, still_new, tick_room}
+use Rattle.sched_events.specs.declared.events.Event.TheVariants.{Load, Tick, Trigger, Pause, Unpause, Resize, Report, Restart}
+use Rattle.sched_events.proofs.AcceptLemmas.{change_kept, still_new, tick_room, hand_new, hand_room}
 
 -- ---- graphs stay
 pub repeat_keeps : {X Y : Type 0} (h : X → Y) (f : X → Option X) → ((x y : X) → f x ≡ Some y → h y ≡ h x) → (n : ℕ) (x : X) → h (repeat n f x) ≡ h x
@@ -78,6 +78,7 @@ finished_kept b sound said = record {
 pub added_sound : (e : Event) (a : Schedule) → IsInRange e → refused a e ≡ None → IsKept a → IsSound (change_by e a) → IsSound (add_runs (named_by e a) (change_by e a))
 added_sound (Load text) a ranged accepted kept s = s
 added_sound (Tick t) a ranged accepted kept s = add_sound (named_by (Tick t) a) (change_by (Tick t) a) (still_new a t (named_by (Tick t) a) ∙ named_new a t kept.sound ranged) (tick_room a t accepted) s
+added_sound (Trigger id) a ranged accepted kept s = add_sound (named_by (Trigger id) a) (change_by (Trigger id) a) (hand_new a id accepted kept.sound) (hand_room a id accepted) s
 added_sound (Pause id) a ranged accepted kept s = s
 added_sound (Unpause id) a ranged accepted kept s = s
 added_sound (Resize name size) a ranged accepted kept s = s
@@ -101,6 +102,7 @@ loaded_dates text (Err fault) a id date = refl
 change_dates : (e : Event) (a : Schedule) (id : List ℕ) (date : ℕ) → has_run_at (change_by e a) id date ≡ has_run_at a id date
 change_dates (Load text) a id date = loaded_dates text (graph_of text) a id date
 change_dates (Tick t) a id date = refl
+change_dates (Trigger name) a id date = refl
 change_dates (Pause name) a id date = refl
 change_dates (Unpause name) a id date = refl
 change_dates (Resize name size) a id date = refl

@@ -11,11 +11,12 @@ use Rattle.pool_book.specs.declared.pools.PoolFault.TheVariants.{TooManyPools}
 use Rattle.sched_state.specs.Limits.{Bounds}
 use Rattle.sched_state.specs.Lists.{same}
 use Rattle.sched_state.specs.declared.graphs.Graph.{Graph}
-use Rattle.sched_model.specs.Schedule.{Schedule, graph_named, has_pool, has_runs}
-use Rattle.sched_model.specs.NamedRuns.{named_by_tick}
+use Rattle.sched_model.specs.Schedule.{Schedule, graph_named, has_pool, has_runs, has_run_at}
+use Rattle.sched_model.specs.NamedRuns.{named_by_tick, named_by_hand}
+use Rattle.sched_model.specs.Sound.{is_empty}
 use Rattle.sched_model.specs.Causes.{is_not_in_flight, is_out_of_turn, is_unknown_graph, has_too_many_graphs, has_too_many_pools, has_too_many_lanes, is_full_with}
 use Rattle.sched_events.specs.declared.events.Event.{Event}
-use Rattle.sched_events.specs.declared.events.Event.TheVariants.{Load, Tick, Pause, Unpause, Resize, Report, Restart}
+use Rattle.sched_events.specs.declared.events.Event.TheVariants.{Load, Tick, Trigger, Pause, Unpause, Resize, Report, Restart}
 use Rattle.sched_events.specs.declared.refusals.Refusal.{Refusal}
 use Rattle.sched_events.specs.declared.refusals.Refusal.TheVariants as refusal
 
@@ -46,10 +47,20 @@ refused_text a text (Ok spec) = first_some (
     ∷ when (differs a text spec) refusal.GraphDiffers
     ∷ [])
 
+-- a run by hand of the graph has no interval: none of its timetable has ended
+abbrev pub has_no_interval : Schedule → List ℕ → Bool
+has_no_interval a id = is_empty (named_by_hand a id)
+
 -- the first cause against an event, in the order of the refusals; want of memory is none of them
 abbrev pub refused : Schedule → Event → Option Refusal
 refused a (Load text) = refused_text a text (graph_of text)
 refused a (Tick t) = first_some (when (nat_lt t a.now) (refusal.ClockBack a.now) ∷ when (is_full_with a (named_by_tick a t)) refusal.RecordFull ∷ [])
+refused a (Trigger id) = first_some (
+    when (is_unknown_graph a id) refusal.UnknownGraph
+    ∷ when (has_run_at a id a.now) refusal.RunExists
+    ∷ when (has_no_interval a id) refusal.NoInterval
+    ∷ when (is_full_with a (named_by_hand a id)) refusal.RecordFull
+    ∷ [])
 refused a (Pause id) = when (is_unknown_graph a id) refusal.UnknownGraph
 refused a (Unpause id) = when (is_unknown_graph a id) refusal.UnknownGraph
 refused a (Resize name size) = when (has_too_many_pools a name) (refusal.PoolFault TooManyPools)

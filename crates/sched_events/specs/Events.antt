@@ -6,16 +6,17 @@ use Rattle.graph_file.specs.declared.graph_specs.GraphSpec.{GraphSpec}
 use Rattle.dag_check.specs.Graphs.{dag_of}
 use Rattle.dag_check.specs.Faults.{first_fault}
 use Rattle.sched_model.specs.Schedule.{Schedule}
-use Rattle.sched_model.specs.NamedRuns.{Named, named_by_tick, leaves_more}
+use Rattle.sched_model.specs.NamedRuns.{Named, named_by_tick, named_by_hand, leaves_more}
 use Rattle.sched_model.specs.Changes.{load_graph, set_now, set_paused, new_pool, resize, report, restart}
 use Rattle.sched_model.specs.Sound.{is_moment, is_sound_pool}
 use Rattle.sched_events.specs.declared.events.Event.{Event}
-use Rattle.sched_events.specs.declared.events.Event.TheVariants.{Load, Tick, Pause, Unpause, Resize, Report, Restart}
+use Rattle.sched_events.specs.declared.events.Event.TheVariants.{Load, Tick, Trigger, Pause, Unpause, Resize, Report, Restart}
 
 -- the runs that an event names
 abbrev pub named_by : Event → Schedule → List Named
 named_by (Load text) a = []
 named_by (Tick t) a = named_by_tick a t
+named_by (Trigger id) a = named_by_hand a id
 named_by (Pause id) a = []
 named_by (Unpause id) a = []
 named_by (Resize name size) a = []
@@ -26,6 +27,7 @@ named_by (Restart lanes) a = []
 abbrev pub leaves_more_by : Event → Schedule → Bool
 leaves_more_by (Load text) a = false
 leaves_more_by (Tick t) a = leaves_more a t
+leaves_more_by (Trigger id) a = false
 leaves_more_by (Pause id) a = false
 leaves_more_by (Unpause id) a = false
 leaves_more_by (Resize name size) a = false
@@ -41,6 +43,7 @@ load_result text (Err fault) a = a
 abbrev pub change_by : Event → Schedule → Schedule
 change_by (Load text) a = load_result text (graph_of text) a
 change_by (Tick t) a = set_now t a
+change_by (Trigger id) a = a
 change_by (Pause id) a = set_paused id true a
 change_by (Unpause id) a = set_paused id false a
 change_by (Resize name size) a = resize name size a
@@ -51,6 +54,7 @@ change_by (Restart lanes) a = restart lanes a
 abbrev pub IsInRange : Event → Type 0
 IsInRange (Load text) = Unit {0}
 IsInRange (Tick t) = IsTrue (is_moment t)
+IsInRange (Trigger id) = Unit {0}
 IsInRange (Pause id) = Unit {0}
 IsInRange (Unpause id) = Unit {0}
 IsInRange (Resize name size) = IsTrue (is_sound_pool (new_pool name size))

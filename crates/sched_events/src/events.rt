@@ -15,6 +15,8 @@ pub enum Event {
     Load(Text),
     /// The clock has reached this moment (Airflow 2, "Scheduler").
     Tick(Moment),
+    /// A run of the graph with this id is made by hand, with the clock as its logical date (Airflow 2, "DAG Runs": external triggers).
+    Trigger(Name),
     /// The graph with this id is paused: no run of it is made by its timetable or started, and no try of it is handed out; tries that run
     /// go on (Airflow 2, "DAGs": pausing).
     Pause(Name),
@@ -36,6 +38,7 @@ impl Event {
         match self {
             Event::Load(text) => Ok(Event::Load(text.copy(alloc)?)),
             Event::Tick(moment) => Ok(Event::Tick(*moment)),
+            Event::Trigger(id) => Ok(Event::Trigger(id.copy(alloc)?)),
             Event::Pause(id) => Ok(Event::Pause(id.copy(alloc)?)),
             Event::Unpause(id) => Ok(Event::Unpause(id.copy(alloc)?)),
             Event::Resize(pool, size) => Ok(Event::Resize(pool.copy(alloc)?, *size)),

@@ -22,6 +22,10 @@ pub enum Refusal {
     UnknownGraph,
     /// The moment lies before this one, which the schedule has seen.
     ClockBack(Moment),
+    /// A run of the graph has the logical date already.
+    RunExists,
+    /// No interval of the graph's timetable has ended.
+    NoInterval,
     /// No try without an end has this serial.
     NotInFlight(u64),
     /// The try with this serial has begun already, or not yet, or is reported lost.

@@ -19,6 +19,10 @@ fn told(alloc: Global, event: &Event) -> Result<String, Fail> {
             format!(in alloc; "load {text}")?
         }
         Event::Tick(moment) => format!(in alloc; "tick {moment}")?,
+        Event::Trigger(id) => {
+            let id = id.as_str();
+            format!(in alloc; "trigger {id}")?
+        }
         Event::Pause(id) => {
             let id = id.as_str();
             format!(in alloc; "pause {id}")?
@@ -48,6 +52,7 @@ fn events_are_copied(rt: HostRuntime) -> Result<(), Fail> {
             Event::Report(3, Stage::Ended(Outcome::Failed)),
             "3 Ended(Failed)",
         ),
+        (Event::Trigger(name(alloc, "f")?), "trigger f"),
         (Event::Pause(name(alloc, "g")?), "pause g"),
         (Event::Unpause(name(alloc, "h")?), "unpause h"),
         (Event::Resize(name(alloc, "p")?, Slots::of(5)), "resize p 5"),

@@ -30,3 +30,6 @@ pub mod NamedLemmas
 pub mod OccupyingLemmas
 pub mod SlotLemmas
 pub mod ResizeLemmas
+pub mod SetBackLemmas
+pub mod BackfillLemmas
+pub mod ByHandLemmas

@@ -15,6 +15,7 @@ use Rattle.run_planner.proofs.RiseLemmas.{all_filtered, all_take, take_starts, w
 use Rattle.run_planner.proofs.MemberLemmas.{contains_head, contains_tail, due_members}
 use Rattle.sched_state.specs.Lists.{same}
 use Rattle.sched_state.specs.declared.graphs.Graph.{Graph}
+use Rattle.sched_state.specs.declared.runs.Kind.{Kind}
 use Rattle.sched_state.specs.declared.runs.Kind.TheVariants.{Scheduled}
 use Rattle.sched_state.proofs.OrderLemmas.{and_left, and_right, not_true, not_false}
 use Rattle.sched_state.proofs.NameLemmas.{same_itself, find_any, or_assoc, or_right_true}
@@ -39,7 +40,7 @@ and_false false = refl
 abbrev pub is_dated : Interval → Bool
 is_dated i = is_moment i.start && (is_moment i.end && nat_le i.start i.end)
 
-dated : (t : ℕ) (i : Interval) → t < seconds_end → i.start ≤ i.end → i.end ≤ t → is_dated i ≡ true
+pub dated : (t : ℕ) (i : Interval) → t < seconds_end → i.start ≤ i.end → i.end ≤ t → is_dated i ≡ true
 dated t i range rising ended =
     let starts : i.start < seconds_end = omega arith in
     let ends : i.end < seconds_end = omega arith in
@@ -49,7 +50,7 @@ all_members : {X : Type 0} (p : X → Bool) (xs : List X) → ((x : X) → Conta
 all_members p [] h = refl
 all_members p (x ∷ xs) h = both (p x) _ (h x (contains_head x xs)) (all_members p xs (λ y there. h y (contains_tail x xs y there)))
 
-all_filter : {X : Type 0} (p q : X → Bool) (xs : List X) → list_all q xs ≡ true → list_all q (filter p xs) ≡ true
+pub all_filter : {X : Type 0} (p q : X → Bool) (xs : List X) → list_all q xs ≡ true → list_all q (filter p xs) ≡ true
 all_filter p q [] e = refl
 all_filter p q (x ∷ xs) e =
     elim (p x) as (λ b. list_all q (cond b (x ∷ filter p xs) (filter p xs)) ≡ true) [
@@ -57,7 +58,7 @@ all_filter p q (x ∷ xs) e =
       | false ↦ all_filter p q xs (and_right (q x) _ e)
     ]
 
-all_last : {X : Type 0} (q : X → Bool) (xs : List X) → list_all q xs ≡ true → list_all q (last_alone xs) ≡ true
+pub all_last : {X : Type 0} (q : X → Bool) (xs : List X) → list_all q xs ≡ true → list_all q (last_alone xs) ≡ true
 all_last q [] e = refl
 all_last q (x ∷ []) e = e
 all_last q (x ∷ y ∷ xs) e = all_last q (y ∷ xs) (and_right (q x) _ e)
@@ -71,7 +72,7 @@ once_dated first t last true range e =
     let ended : first ≤ t = leb-true first t (and_right (is_up_to last first) _ e) in
     both _ _ (dated t (record { start = first; end = first }) range (omega arith) ended) refl
 
-due_dated : (timetable : Timetable) (first t : ℕ) (last : Option ℕ) → t < seconds_end → list_all is_dated (due_intervals timetable first last t) ≡ true
+pub due_dated : (timetable : Timetable) (first t : ℕ) (last : Option ℕ) → t < seconds_end → list_all is_dated (due_intervals timetable first last t) ≡ true
 unfolding due_intervals
 due_dated (Cron c) first t last range = all_members is_dated (due_intervals (Cron c) first last t) (λ i there. cron_dated c first t last i range ((due_members c first t last i range).0 there))
 due_dated Once first t last range = once_dated first t last (is_up_to last first && nat_le first t) range refl
@@ -88,7 +89,7 @@ wanted_dated g t dates range =
     (considered_dated g.catchup (due_intervals g.schedule g.start_date g.end_date t) (due_dated g.schedule g.start_date t g.end_date range))
 
 -- ---- dates
-filtered_date : (id : List ℕ) (date : ℕ) (rs : List Run) → has_date (map (λ (q : Run). q.logical) (filter (λ (q : Run). same q.graph id) rs)) date ≡ list_any (is_at id date) rs
+pub filtered_date : (id : List ℕ) (date : ℕ) (rs : List Run) → has_date (map (λ (q : Run). q.logical) (filter (λ (q : Run). same q.graph id) rs)) date ≡ list_any (is_at id date) rs
 filtered_date id date [] = refl
 filtered_date id date (r ∷ rs) =
     elim (same r.graph id) as (λ b. list_any (λ d. d == date) (map (λ (q : Run). q.logical) (cond b (r ∷ filter (λ (q : Run). same q.graph id) rs) (filter (λ (q : Run). same q.graph id) rs))) ≡ ((b && r.logical == date) || list_any (is_at id date) rs)) [
@@ -100,25 +101,25 @@ filtered_date id date (r ∷ rs) =
 abbrev scheduled : List ℕ → Interval → Named
 scheduled id = run_from Scheduled id
 
-later_apart : (id : List ℕ) (date : ℕ) (is : List Interval) → list_all (λ (j : Interval). nat_lt date j.start) is ≡ true → list_any (is_for id date) (map (scheduled id) is) ≡ false
-later_apart id date [] e = refl
-later_apart id date (i ∷ is) e =
+later_apart : (k : Kind) (id : List ℕ) (date : ℕ) (is : List Interval) → list_all (λ (j : Interval). nat_lt date j.start) is ≡ true → list_any (is_for id date) (map (run_from k id) is) ≡ false
+later_apart k id date [] e = refl
+later_apart k id date (i ∷ is) e =
     let later : date < i.start = ltb-true date i.start (and_left (nat_lt date i.start) _ e) in
     let other : (i.start == date) ≡ false = not_true _ (λ f. let at : i.start ≡ date = eqb-true i.start date f in absurd (omega arith)) in
-    let here : is_for id date (scheduled id i) ≡ false = ap (λ b. same id id && b) other ∙ and_false (same id id) in
-    rw (here, later_apart id date is (and_right (nat_lt date i.start) _ e)) refl
+    let here : is_for id date (run_from k id i) ≡ false = ap (λ b. same id id && b) other ∙ and_false (same id id) in
+    rw (here, later_apart k id date is (and_right (nat_lt date i.start) _ e)) refl
 
-one_graph : (a : Schedule) (id : List ℕ) (is : List Interval) → is_some (graph_named a id) ≡ true → list_all (λ (i : Interval). not (has_run_at a id i.start)) is ≡ true → list_all is_dated is ≡ true → starts_rise is ≡ true
-    → are_new a (map (scheduled id) is) ≡ true
-one_graph a id [] known free moments rising = refl
-one_graph a id (i ∷ is) known free moments rising =
-    both (is_new a (scheduled id i)) _
+pub one_graph : (a : Schedule) (k : Kind) (id : List ℕ) (is : List Interval) → is_some (graph_named a id) ≡ true → list_all (λ (i : Interval). not (has_run_at a id i.start)) is ≡ true → list_all is_dated is ≡ true → starts_rise is ≡ true
+    → are_new a (map (run_from k id) is) ≡ true
+one_graph a k id [] known free moments rising = refl
+one_graph a k id (i ∷ is) known free moments rising =
+    both (is_new a (run_from k id i)) _
     (both (is_some (graph_named a id) && not (has_run_at a id i.start)) _
     (both (is_some (graph_named a id)) (not (has_run_at a id i.start)) known (and_left (not (has_run_at a id i.start)) _ free))
     (and_left (is_dated i) _ moments))
-    (both (not (list_any (is_for id i.start) (map (scheduled id) is))) _
-    (not_is _ (later_apart id i.start is (and_left _ _ rising)))
-    (one_graph a id is known (and_right (not (has_run_at a id i.start)) _ free) (and_right (is_dated i) _ moments) (and_right (list_all (λ (j : Interval). nat_lt i.start j.start) is) _ rising)))
+    (both (not (list_any (is_for id i.start) (map (run_from k id) is))) _
+    (not_is _ (later_apart k id i.start is (and_left _ _ rising)))
+    (one_graph a k id is known (and_right (not (has_run_at a id i.start)) _ free) (and_right (is_dated i) _ moments) (and_right (list_all (λ (j : Interval). nat_lt i.start j.start) is) _ rising)))
 
 -- ---- several graphs
 any_append : {X : Type 0} (p : X → Bool) (xs ys : List X) → list_any p (xs ++ ys) ≡ (list_any p xs || list_any p ys)
@@ -177,7 +178,7 @@ new_from a t [] range order known = refl
 new_from a t (g ∷ gs) range order known =
     let is : List Interval = take runs_per_tick (wanted_by a t g) in
     new_append a (map (scheduled g.dag.spec.dag_id) is) (flat_map (named_of a t) gs)
-    (one_graph a g.dag.spec.dag_id is (and_left (is_some (graph_named a g.dag.spec.dag_id)) _ known)
+    (one_graph a Scheduled g.dag.spec.dag_id is (and_left (is_some (graph_named a g.dag.spec.dag_id)) _ known)
     (all_take (λ (i : Interval). not (has_run_at a g.dag.spec.dag_id i.start)) runs_per_tick (wanted_by a t g) (wanted_free a t g))
     (all_take is_dated runs_per_tick (wanted_by a t g) (wanted_moments a t g range))
     (take_starts runs_per_tick (wanted_by a t g) (wanted_rises a t g)))

@@ -3,3 +3,4 @@ pub mod Seen
 pub mod Passing
 pub mod Sweep
 pub mod Stages
+pub mod Repairs

@@ -5,11 +5,14 @@
 //! `loading` and `naming` are about what comes in: a text that takes in a graph without runs leaves nothing to do, what it says
 //! is sound within the limits, and the runs that a tick names are new. `pausing` says that a pause enables nothing
 //! and changes no run, `occupying` what is taken of the pools after each change, and `resizing` that another size of a pool stops
-//! nothing, and that one that is no larger lets nothing out.
+//! nothing, and that one that is no larger lets nothing out. `clearing` and `backfilling` are about repairs of past days: what a clear
+//! touches, and which runs a backfill names.
 //! `decisions` and `stages` say what a faster way to the same schedule may rely on: which decisions look at which instances, and in
 //! which order moves may be made. Easy to get wrong: decisions in another order may lead to another schedule.
 #![tactic(auto)]
 
+mod backfilling;
+mod clearing;
 mod decisions;
 mod hand_outs;
 mod loading;
@@ -21,6 +24,10 @@ mod settling;
 mod sound;
 mod stages;
 
+pub use backfilling::backfills_name_the_missing_dates;
+pub use clearing::{
+    clears_queue_finished_runs, clears_touch_what_they_name, what_is_set_back_starts_anew,
+};
 pub use decisions::{
     decisions_are_one_sweep, decisions_look_back, dirty_positions_are_enough,
     new_runs_enable_nothing, upstreams_are_exchanged,
@@ -30,7 +37,7 @@ pub use hand_outs::{
     hands_are_counted,
 };
 pub use loading::{loading_is_quiet, said_graphs_are_sound, upstreams_are_few};
-pub use naming::named_runs_are_new;
+pub use naming::{named_runs_are_new, runs_of_repairs_are_new};
 pub use occupying::{
     hand_outs_fill_up_to_the_size, of_no_pool_nothing_is_occupied, open_tries_stay,
     open_tries_stay_at_a_position, reports_give_back_what_they_end,

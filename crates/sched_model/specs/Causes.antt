@@ -9,7 +9,8 @@ use Rattle.sched_model.specs.Lists.{least}
 use Rattle.sched_model.specs.Schedule.{Schedule, dag_named, graph_named, has_pool}
 use Rattle.sched_state.specs.declared.runs.Run.{Run}
 use Rattle.sched_model.specs.States.{is_open}
-use Rattle.sched_model.specs.Clearing.{Naming, Clearing, named_pairs, place_of}
+use Rattle.sched_state.specs.declared.clearings.Clearing.{Clearing}
+use Rattle.sched_model.specs.Clearing.{Naming, named_pairs, place_of}
 use Rattle.sched_model.specs.NamedRuns.{Named}
 
 -- ---- a report

@@ -13,6 +13,7 @@ use Rattle.trigger_rules.specs.declared.states.State.TheVariants as state
 use Rattle.instance_machine.specs.Instances.{Held}
 use Rattle.instance_machine.specs.States.{state_of}
 use Rattle.sched_state.specs.Lists.{same}
+use Rattle.sched_state.specs.declared.clearings.Clearing.{Clearing}
 use Rattle.sched_state.specs.declared.runs.Phase.{Phase}
 use Rattle.sched_state.specs.declared.runs.Phase.TheVariants as phase
 use Rattle.sched_model.specs.Lists.{map_places}
@@ -24,19 +25,10 @@ use Rattle.sched_state.specs.declared.runs.Run.{Run}
 abbrev pub Naming : Type 0
 Naming = Run → ℕ → TaskSpec × Held → Bool
 
--- what a clear asks for: the runs of a graph in a span of dates, and of them all tasks, or one with what it reaches upstream
--- or downstream; of these all instances, or only the failed and upstream_failed ones
-pub record Clearing : Type 0 where
-  pub graph : List ℕ
-  pub low : ℕ
-  pub high : ℕ
-  pub task : Option (List ℕ)
-  pub upstream : Bool
-  pub downstream : Bool
-  pub only_failed : Bool
-
+-- a clear asks for the runs of a graph in a span of dates, and of them all tasks, or one with what it reaches upstream or downstream;
+-- of these all instances, or only the failed and upstream_failed ones
 abbrev pub in_span : Clearing → Run → Bool
-in_span c r = same r.graph c.graph && (nat_le c.low r.logical && nat_le r.logical c.high)
+in_span c r = same r.graph c.graph && (nat_le c.from r.logical && nat_le r.logical c.to)
 
 -- the place of the task with this id
 abbrev pub place_of : List TaskSpec → List ℕ → Option ℕ

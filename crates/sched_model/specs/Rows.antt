@@ -19,7 +19,8 @@ use Rattle.sched_state.specs.declared.runs.Run.{Run}
 use Rattle.sched_model.specs.States.{states}
 use Rattle.sched_model.specs.NamedRuns.{Named}
 use Rattle.sched_model.specs.Changes.{advance, set_now, report, restart, resize, set_paused}
-use Rattle.sched_model.specs.Clearing.{Clearing, cleared_by, clear}
+use Rattle.sched_model.specs.Clearing.{cleared_by, clear}
+use Rattle.sched_state.specs.declared.clearings.Clearing.{Clearing}
 use Rattle.sched_state.specs.declared.jobs.Job.{Job}
 use Rattle.sched_model.specs.Jobs.{handed}
 
@@ -92,7 +93,7 @@ pause b a = advance [] (set_paused (codes "g") b a)
 
 -- one task of graph g is cleared, or all of them, in the runs of a date
 abbrev pub clearing : ℕ → Option (List ℕ) → Bool → Bool → Clearing
-clearing date t down failed = record { graph = codes "g"; low = date; high = date; task = t; upstream = false; downstream = down; only_failed = failed }
+clearing date t down failed = record { graph = codes "g"; from = date; to = date; task = t; upstream = false; downstream = down; only_failed = failed }
 
 abbrev pub clears : Clearing → Schedule → Schedule
 clears c a = advance [] (clear (cleared_by a c) a)

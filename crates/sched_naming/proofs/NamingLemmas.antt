@@ -13,6 +13,7 @@ use Rattle.run_planner.specs.Due.{due_intervals, considered, wanted_intervals, I
 use Rattle.sched_state.specs.Lists.{same, insert_by}
 use Rattle.sched_state.specs.declared.graphs.Graph.{Graph}
 use Rattle.sched_state.specs.declared.runs.Run.{Run}
+use Rattle.sched_state.specs.declared.runs.Kind.{Kind}
 use Rattle.sched_state.specs.declared.runs.Kind.TheVariants.{Scheduled}
 use Rattle.sched_state.proofs.NameLemmas.{same_itself}
 use Rattle.sched_state.proofs.OrderLemmas.{and_left, and_right}
@@ -21,7 +22,7 @@ use Rattle.sched_model.specs.Schedule.{Schedule, graph_before, graph_among, dag_
 use Rattle.sched_model.specs.NamedRuns.{run_from, wanted_by, named_of, leaves_some, queued_run, insert_runs}
 use Rattle.sched_laws.proofs.LoadLemmas.{before_apart}
 use Rattle.sched_laws.proofs.ListLemmas.{all_get}
-use Rattle.sched_naming.specs.NewRuns.{scheduled_run}
+use Rattle.sched_naming.specs.NewRuns.{run_of}
 
 -- ---- a graph is found by its id
 found : (gs : List Graph) (n : ℕ) (g : Graph) → rises graph_before gs ≡ true → slice_get gs n ≡ Some g → graph_among gs g.dag.spec.dag_id ≡ Some g
@@ -50,19 +51,19 @@ wanted_same g t dates others alike = filter_same _ _ (λ (i : Interval). ap not 
 unpaused : (a : Schedule) (t : ℕ) (g : Graph) → g.paused ≡ false → wanted_by a t g ≡ wanted_intervals g.dag.spec t (dates_of a g.dag.spec.dag_id)
 unpaused a t g e = ap (λ (b : Bool). let chosen : List Interval = elim b [ true ↦ [] | false ↦ wanted_intervals g.dag.spec t (dates_of a g.dag.spec.dag_id) ] in chosen) e
 
-queued_is : (a : Schedule) (g : Dag) → dag_named a g.spec.dag_id ≡ g → (is : List Interval) → map (scheduled_run g) is ≡ map (queued_run a) (map (run_from Scheduled g.spec.dag_id) is)
-queued_is a g e [] = refl
-queued_is a g e (i ∷ is) =
-    let one : scheduled_run g i ≡ queued_run a (run_from Scheduled g.spec.dag_id i) =
-    ap (λ (k : Dag). record (scheduled_run g i) { instances = replicate (length k.tasks) new_instance }) (sym e) in
-    ap (λ r. r ∷ map (scheduled_run g) is) one ∙ ap (λ rs. queued_run a (run_from Scheduled g.spec.dag_id i) ∷ rs) (queued_is a g e is)
+pub queued_is : (a : Schedule) (g : Dag) (kind : Kind) → dag_named a g.spec.dag_id ≡ g → (is : List Interval) → map (run_of g kind) is ≡ map (queued_run a) (map (run_from kind g.spec.dag_id) is)
+queued_is a g kind e [] = refl
+queued_is a g kind e (i ∷ is) =
+    let one : run_of g kind i ≡ queued_run a (run_from kind g.spec.dag_id i) =
+    ap (λ (k : Dag). record (run_of g kind i) { instances = replicate (length k.tasks) new_instance }) (sym e) in
+    ap (λ r. r ∷ map (run_of g kind) is) one ∙ ap (λ rs. queued_run a (run_from kind g.spec.dag_id i) ∷ rs) (queued_is a g kind e is)
 
 named_is : (a : Schedule) (t : ℕ) (g : Graph) (dates : List ℕ) (intervals : List Interval) (more : Bool) → dag_named a g.dag.spec.dag_id ≡ g.dag → g.paused ≡ false
     → ((d : ℕ) → has_date dates d ≡ has_date (dates_of a g.dag.spec.dag_id) d) → IsFirst (wanted_intervals g.dag.spec t dates) 10 intervals more
-    → (map (scheduled_run g.dag) intervals ≡ map (queued_run a) (named_of a t g)) × (more ≡ leaves_some a t g)
+    → (map (run_of g.dag Scheduled) intervals ≡ map (queued_run a) (named_of a t g)) × (more ≡ leaves_some a t g)
 named_is a t g dates intervals more found_ open_ alike first =
     let wanted : wanted_intervals g.dag.spec t dates ≡ wanted_by a t g = wanted_same g.dag.spec t dates (dates_of a g.dag.spec.dag_id) alike ∙ sym (unpaused a t g open_) in (
-      queued_is a g.dag found_ intervals ∙ ap (λ is. map (queued_run a) (map (run_from Scheduled g.dag.spec.dag_id) is)) (first.first ∙ ap (take 10) wanted),
+      queued_is a g.dag Scheduled found_ intervals ∙ ap (λ is. map (queued_run a) (map (run_from Scheduled g.dag.spec.dag_id) is)) (first.first ∙ ap (take 10) wanted),
       first.others ∙ ap (λ is. nat_lt 10 (length is)) wanted,
     )
 
@@ -77,13 +78,13 @@ named_none a t g e =
 pub named_there : (a : Schedule) (t n : ℕ) (g : Graph) (dag : Dag) (dates : List ℕ) (intervals : List Interval) (more : Bool) → rises graph_before a.graphs ≡ true
     → slice_get a.graphs n ≡ Some g → option_map (λ (k : Graph). k.dag) (slice_get a.graphs n) ≡ Some dag → option_map (λ (k : Graph). k.paused) (slice_get a.graphs n) ≡ Some false
     → ((d : ℕ) → has_date dates d ≡ has_date (dates_of a dag.spec.dag_id) d) → IsFirst (wanted_intervals dag.spec t dates) 10 intervals more
-    → (map (scheduled_run dag) intervals ≡ map (queued_run a) (named_of a t g)) × (more ≡ leaves_some a t g)
+    → (map (run_of dag Scheduled) intervals ≡ map (queued_run a) (named_of a t g)) × (more ≡ leaves_some a t g)
 named_there a t n g dag dates intervals more up there tasks open_ alike first =
     let c : ◌≡◌ {A = Option Dag} (Some g.dag) (Some dag) = sym (ap (option_map (λ (k : Graph). k.dag)) there) ∙ tasks in
     let d : ◌≡◌ {A = Option Bool} (Some g.paused) (Some false) = sym (ap (option_map (λ (k : Graph). k.paused)) there) ∙ open_ in
     let is : dag ≡ g.dag = cc in
     let unpaused_ : g.paused ≡ false = cc in (
-      (ap (λ (k : Dag). map (scheduled_run k) intervals) is)
+      (ap (λ (k : Dag). map (run_of k Scheduled) intervals) is)
           ∙ (named_is a t g dates intervals more (found_dag a n g up there) unpaused_
           (subst (λ (k : Dag). (e : ℕ) → has_date dates e ≡ has_date (dates_of a k.spec.dag_id) e) is alike)
           (subst (λ (k : Dag). IsFirst (wanted_intervals k.spec t dates) 10 intervals more) is first)).0,

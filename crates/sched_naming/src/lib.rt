@@ -5,10 +5,15 @@
 #![tactic(auto)]
 
 mod adding;
+mod backfills;
+mod by_hand;
+mod dates;
 mod new_runs;
 #[cfg(test)]
 mod tests;
 mod ticks;
 
 pub use adding::add;
+pub use backfills::{Backfill, named_by_backfill};
+pub use by_hand::{ByHandFault, named_by_hand};
 pub use ticks::{Named, named_by_tick};

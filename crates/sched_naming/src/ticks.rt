@@ -1,17 +1,16 @@
 //! The runs that a tick names.
-ghost use Rattle.std.specs.Prelude.{◌≡◌, ◌<◌, ℕ, IfOk, Some, length, map, slice_get, true};
-ghost use Rattle.run_planner.specs.Index.{has_date};
+ghost use Rattle.std.specs.Prelude.{◌≡◌, ◌<◌, IfOk, Some, length, map, slice_get, true};
 ghost use Rattle.sched_model.specs.Lists.{rises};
-ghost use Rattle.sched_model.specs.Schedule.{graph_before, dates_of};
+ghost use Rattle.sched_model.specs.Schedule.{graph_before};
 ghost use Rattle.sched_model.specs.NamedRuns.{named_of, named_by_tick, leaves_some, leaves_more, queued_run};
 ghost use Rattle.sched_state.specs.declared.graphs.Graph as states;
 
-use crate::new_runs::scheduled_runs;
-use graph_file::Name;
+use crate::dates::dates_of;
+use crate::new_runs::runs_of;
 use moment_core::Moment;
-use run_planner::{RunIndex, due};
+use run_planner::due;
 use sched_draft::Draft;
-use sched_state::Run;
+use sched_state::{Kind, Run};
 use std::alloc::{AllocError, Global};
 
 // The most runs of one graph that one tick makes.
@@ -24,20 +23,6 @@ pub struct Named {
     pub runs: Vec<Run>,
     /// Whether a graph has more due runs than one tick makes.
     pub more: bool,
-}
-
-// The logical dates of the graph's runs.
-fn dates_of(alloc: Global, draft: &Draft<'_>, id: &Name) -> Result<RunIndex, AllocError>
-    ensures { IfOk result (λ index. (d : ℕ) → has_date index.dates d ≡ has_date (dates_of draft.now id.now) d) }
-{
-    let mut index = RunIndex::new(alloc);
-    for run in draft.runs() {
-        if run.graph == *id {
-            index.reserve(1)?;
-            index.add(run.logical);
-        }
-    }
-    Ok(index)
 }
 
 // The runs that a tick names of the graph at a position, beside those that are there.
@@ -61,7 +46,7 @@ fn named_at(
     let dag = draft.dag_at(position);
     let index = dates_of(alloc, draft, &dag.spec().dag_id)?;
     let planned = due(alloc, dag, moment, &index, RUNS_PER_TICK)?;
-    let runs = scheduled_runs(alloc, dag, &planned.intervals)?;
+    let runs = runs_of(alloc, dag, Kind::Scheduled, &planned.intervals)?;
     Ok(Named {
         runs,
         more: planned.more,

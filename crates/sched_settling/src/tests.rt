@@ -79,7 +79,16 @@ fn run(alloc: Global, day: &str, phase: Phase, ended: &[Option<Outcome>]) -> Res
 }
 
 fn draft<'a>(graphs: &'a [Graph], pools: &'a Pools, runs: Vec<Run>) -> Draft<'a> {
-    Draft::new(Limits::full(), graphs, None, pools, Moment::at(0), 4, 2, runs)
+    Draft::new(
+        Limits::full(),
+        graphs,
+        None,
+        pools,
+        Moment::at(0),
+        4,
+        2,
+        runs,
+    )
 }
 
 // What the instance at a place of a run was decided to.

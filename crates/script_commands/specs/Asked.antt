@@ -5,7 +5,7 @@ use Rattle.graph_file.specs.Names.{is_name}
 use Rattle.moment_core.specs.Reading.{read_of}
 use Rattle.moment_core.specs.declared.reading.MomentFault.{MomentFault}
 use Rattle.sched_events.specs.declared.events.Event.{Event}
-use Rattle.sched_events.specs.declared.events.Event.TheVariants.{Load, Tick, Pause, Unpause, Resize}
+use Rattle.sched_events.specs.declared.events.Event.TheVariants.{Load, Tick, Trigger, Pause, Unpause, Resize}
 use Rattle.script_commands.specs.Sizes.{slots_of}
 use Rattle.script_commands.specs.Values.{values, only, two}
 use Rattle.script_commands.specs.declared.asked.Asked.{Asked}
@@ -43,12 +43,13 @@ without_name name value =
     else (if bytes_eq name (codes "list") then listed value
     else Fault Words))
 
--- the same, and `pause DAG`, `unpause DAG`
+-- the same, and `trigger DAG`, `pause DAG`, `unpause DAG`
 abbrev pub with_value : List ℕ → List ℕ → Asked
 with_value name value =
-    if bytes_eq name (codes "pause") then of_name Pause value
+    if bytes_eq name (codes "trigger") then of_name Trigger value
+    else (if bytes_eq name (codes "pause") then of_name Pause value
     else (if bytes_eq name (codes "unpause") then of_name Unpause value
-    else without_name name value)
+    else without_name name value))
 
 abbrev pub with_values : List ℕ → Option (List ℕ) → Asked
 with_values name (Some value) = with_value name value
@@ -71,6 +72,7 @@ asked_by (name ∷ args) = if bytes_eq name (codes "resize") then of_pool (two (
 -- a command that holds a text or a name, for which memory can run out
 abbrev pub wants_memory : Command → Bool
 wants_memory (Step (Load text)) = true
+wants_memory (Step (Trigger id)) = true
 wants_memory (Step (Pause id)) = true
 wants_memory (Step (Unpause id)) = true
 wants_memory (Step (Resize name size)) = true

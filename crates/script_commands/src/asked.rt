@@ -5,7 +5,7 @@ ghost use Rattle.script_commands.specs.Asked as spec;
 ghost use Rattle.script_commands.specs.Asked.{IsReadAs, asked_by};
 
 use crate::commands::{Command, UsageFault};
-use crate::graph_names::{to_pause, to_unpause};
+use crate::graph_names::{to_pause, to_trigger, to_unpause};
 use crate::pool_sizes::to_resize;
 use crate::words::only_value;
 use moment_core::Moment;
@@ -51,6 +51,9 @@ impl Asked {
 fn with_value(alloc: Global, name: &[u8], value: &[u8]) -> Result<Asked, AllocError>
     ensures { IsReadAs (spec.with_value name.now value.now) result }
 {
+    if name == b"trigger".as_slice() {
+        return to_trigger(alloc, value);
+    }
     if name == b"pause".as_slice() {
         return to_pause(alloc, value);
     }

@@ -5,7 +5,7 @@ use sched_events::Event;
 /// What a script asks for.
 #[derive(Debug, Drop)]
 pub enum Command {
-    /// `load inline` with its text, `tick MOMENT`, `pause DAG`, `unpause DAG` or `resize POOL SIZE`: an event for the schedule.
+    /// `load inline` with its text, `tick MOMENT`, `trigger DAG`, `pause DAG`, `unpause DAG` or `resize POOL SIZE`: an event for the schedule.
     Step(Event),
     /// `list runs`: the runs are shown, by graph id and logical date.
     ListRuns,

@@ -2,7 +2,7 @@
 ghost use Rattle.std.specs.Prelude.{◌≡◌, MatchResult, true};
 ghost use Rattle.graph_file.specs.Lists.{when};
 ghost use Rattle.graph_file.specs.Names.{is_name};
-ghost use Rattle.sched_events.specs.declared.events.Event.TheVariants.{Pause, Unpause};
+ghost use Rattle.sched_events.specs.declared.events.Event.TheVariants.{Trigger, Pause, Unpause};
 ghost use Rattle.script_commands.specs.Asked.{IsReadAs, of_name};
 
 use crate::asked::Asked;
@@ -11,6 +11,16 @@ use graph_file::{Name, NameFault};
 use sched_events::Event;
 use std::alloc::{AllocError, Global};
 use std::str;
+
+// What `trigger` asks for.
+pub(crate) fn to_trigger(alloc: Global, value: &[u8]) -> Result<Asked, AllocError>
+    ensures { IsReadAs (of_name Trigger value.now) result }
+{
+    match name_of(alloc, value)? {
+        Some(id) => Ok(Asked::This(Command::Step(Event::Trigger(id)))),
+        None => Ok(Asked::Fault(UsageFault::BadName)),
+    }
+}
 
 // What `pause` asks for.
 pub(crate) fn to_pause(alloc: Global, value: &[u8]) -> Result<Asked, AllocError>

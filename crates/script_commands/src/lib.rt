@@ -11,6 +11,7 @@
 //! ..
 //! .
 //! tick 2024-01-02
+//! trigger nightly
 //! pause nightly
 //! list runs
 //! list tasks

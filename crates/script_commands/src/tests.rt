@@ -22,6 +22,10 @@ fn told(alloc: Global, request: &Result<Command, CommandFault>) -> Result<String
             format!(in alloc; "load {text}")
         }
         Ok(Command::Step(Event::Tick(moment))) => format!(in alloc; "tick {moment}"),
+        Ok(Command::Step(Event::Trigger(id))) => {
+            let id = id.as_str();
+            format!(in alloc; "trigger {id}")
+        }
         Ok(Command::Step(Event::Pause(id))) => {
             let id = id.as_str();
             format!(in alloc; "pause {id}")
@@ -116,6 +120,11 @@ fn words_name_graphs(rt: HostRuntime) -> Result<(), Fail> {
     for (line, wanted) in [
         ("pause nightly_load.2", "pause nightly_load.2"),
         (" unpause\tg ", "unpause g"),
+        ("trigger g", "trigger g"),
+        ("trigger -- -g", "trigger -g"),
+        ("trigger", "Words"),
+        ("trigger g h", "Words"),
+        ("trigger g!", "BadName"),
         ("pause -- -g", "pause -g"),
         ("pause -g", "Words"),
         ("pause g!", "BadName"),

@@ -21,6 +21,12 @@ returns-in-GraphDiffers g c = rw c.in-GraphDiffers.is c.write_all-in-GraphDiffer
 pub returns-in-UnknownGraph : goal.returns-in-UnknownGraph
 returns-in-UnknownGraph g c = rw c.in-UnknownGraph.is c.write_all-in-UnknownGraph.ensures.bytes
 
+pub returns-in-RunExists : goal.returns-in-RunExists
+returns-in-RunExists g c = rw c.in-RunExists.is c.write_all-in-RunExists.ensures.bytes
+
+pub returns-in-NoInterval : goal.returns-in-NoInterval
+returns-in-NoInterval g c = rw c.in-NoInterval.is c.write_all-in-NoInterval.ensures.bytes
+
 pub returns-in-ClockBack : goal.returns-in-ClockBack
 returns-in-ClockBack g c = rw c.in-ClockBack.is (simp append_assoc (let h = simp append_assoc at c.writeln-in-ClockBack.ensures.bytes in h))
 

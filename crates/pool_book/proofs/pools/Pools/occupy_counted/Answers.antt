@@ -1,6 +1,6 @@
 use Rattle.std.proofs.Common.{◌∙◌, ap, sym}
 use Rattle.std.specs.Option.{option_copied_mut}
-use Rattle.pool_book.specs.Pools.{Book, Entries, take_counted, with_pool, pool_of}
+use Rattle.pool_book.specs.Pools.{Book, take_counted, pool_of}
 use Rattle.pool_book.proofs.PoolLemmas.{with-written, with-none}
 use Rattle.pool_book.proofs.pools.Pools.occupy_counted.Goals as goal
 use Rattle.pool_book.proofs.pools.Pools.occupy_counted.Goals.{in-Some, in_default}

@@ -1,4 +1,4 @@
-use Rattle.std.proofs.Common.{◌≡◌, ◌∙◌, ◌∷◌, ◌++◌, ap, sym, subst, append-nil, length}
+use Rattle.std.proofs.Common.{◌≡◌, ◌∙◌, ◌∷◌, ◌++◌, ap, sym, subst, append-nil}
 use Rattle.pool_book.specs.Pools.{Book, Entries, PoolUse, IsInOrder, vacated}
 use Rattle.pool_book.proofs.PoolLemmas.{copied-more, in_order-vacated, length-vacated}
 use Rattle.pool_book.proofs.pools.Pools.vacant_copy.Goals as goal

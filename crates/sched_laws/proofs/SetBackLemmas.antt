@@ -1,0 +1,127 @@
+-- What a clear makes of one run, and of one instance of it.
+use Rattle.std.proofs.Common.{◌≡◌, ◌∙◌, refl, sym, ap, subst, ℕ, zero, suc, ◌+◌, List, [], ◌∷◌, Bool, true, false, cond, filter, map, length, drop, nat_le, slice_get, Option, Some, None, option_map, option_and_then, arith, true≢false}
+use Rattle.std.specs.List.{zip, enumerate_from}
+use Rattle.std.proofs.lemmas.Bool.{le-leb}
+use Rattle.std.proofs.lemmas.Option.{slice_get-map}
+use Rattle.graph_file.specs.declared.task_specs.TaskSpec.{TaskSpec}
+use Rattle.instance_machine.specs.Instances.{Held, recent, last_of}
+use Rattle.instance_machine.specs.States.{state_of, state_by, has_retry}
+use Rattle.trigger_rules.specs.declared.states.State.TheVariants as state
+use Rattle.instance_machine.specs.declared.tries.Try.{Try}
+use Rattle.sched_state.specs.declared.runs.Run.{Run}
+use Rattle.sched_model.specs.Lists.{map_places}
+use Rattle.sched_model.specs.Schedule.{Schedule, tasks_of}
+use Rattle.sched_model.specs.Clearing.{Naming, cleared, clear_pair, pairs_of, named_in, requeued, with_cleared, clear_if, clear_run, clear}
+use Rattle.sched_laws.specs.Repairs.{instance_at}
+
+-- ---- lists
+pairs_at : {X Y : Type 0} (xs : List X) (ys : List Y) (p : ℕ) (x : X) (y : Y) → slice_get xs p ≡ Some x → slice_get ys p ≡ Some y → slice_get (zip xs ys) p ≡ Some (x, y)
+pairs_at {X} [] ys p x y e f = absurd (let c : ◌≡◌ {A = Option X} None (Some x) = e in cc)
+pairs_at {X} {Y} (z ∷ xs) [] p x y e f = absurd (let c : ◌≡◌ {A = Option Y} None (Some y) = f in cc)
+pairs_at {X} {Y} (z ∷ xs) (w ∷ ys) zero x y e f =
+    let c : ◌≡◌ {A = Option X} (Some z) (Some x) = e in let d : ◌≡◌ {A = Option Y} (Some w) (Some y) = f in
+    let g : z ≡ x = cc in let h : w ≡ y = cc in ap (λ u. Some (u, w)) g ∙ ap (λ v. Some (x, v)) h
+pairs_at (z ∷ xs) (w ∷ ys) (suc p) x y e f = pairs_at xs ys p x y e f
+
+pair_back : {X Y : Type 0} (xs : List X) (ys : List Y) (p : ℕ) (x : X) (y : Y) → slice_get (zip xs ys) p ≡ Some (x, y) → (slice_get xs p ≡ Some x) × (slice_get ys p ≡ Some y)
+pair_back {X} {Y} [] ys p x y e = absurd (let c : ◌≡◌ {A = Option (X × Y)} None (Some (x, y)) = e in cc)
+pair_back {X} {Y} (z ∷ xs) [] p x y e = absurd (let c : ◌≡◌ {A = Option (X × Y)} None (Some (x, y)) = e in cc)
+pair_back {X} {Y} (z ∷ xs) (w ∷ ys) zero x y e =
+    let c : ◌≡◌ {A = Option (X × Y)} (Some (z, w)) (Some (x, y)) = e in let is : ◌≡◌ {A = X × Y} (z, w) (x, y) = cc in
+    (ap (λ (q : X × Y). Some q.0) is, ap (λ (q : X × Y). Some q.1) is)
+pair_back (z ∷ xs) (w ∷ ys) (suc p) x y e = pair_back xs ys p x y e
+
+places_at : {X Y : Type 0} (f : ℕ → X → Y) (k : ℕ) (xs : List X) (p : ℕ) (x : X) → slice_get xs p ≡ Some x → slice_get (map_places f k xs) p ≡ Some (f (k + p) x)
+places_at {X} f k [] p x e = absurd (let c : ◌≡◌ {A = Option X} None (Some x) = e in cc)
+places_at {X} f k (y ∷ xs) zero x e = let c : ◌≡◌ {A = Option X} (Some y) (Some x) = e in let is : y ≡ x = cc in let z : k + 0 ≡ k = omega arith in rw z (ap (λ u. Some (f k u)) is)
+places_at f k (y ∷ xs) (suc p) x e = let z : k + suc p ≡ (k + 1) + p = omega arith in rw z (places_at f (k + 1) xs p x e)
+
+-- what none of the numbered elements passes
+none_at : {X : Type 0} (q : ℕ × X → Bool) (k : ℕ) (xs : List X) (p : ℕ) (x : X) → filter q (enumerate_from k xs) ≡ [] → slice_get xs p ≡ Some x → q (k + p, x) ≡ false
+none_at {X} q k [] p x e f = absurd (let c : ◌≡◌ {A = Option X} None (Some x) = f in cc)
+none_at {X} q k (y ∷ xs) p x e f = elim (q (k, y)) as (λ b. q (k, y) ≡ b → cond b ((k, y) ∷ filter q (enumerate_from (k + 1) xs)) (filter q (enumerate_from (k + 1) xs)) ≡ [] → q (k + p, x) ≡ false) [
+  | true ↦ λ g h. absurd (let c : ◌≡◌ {A = List (ℕ × X)} ((k, y) ∷ filter q (enumerate_from (k + 1) xs)) [] = h in cc)
+  | false ↦ λ g h. there q k y xs p x g h f (λ n. none_at q (k + 1) xs n x h)
+] refl e
+  where
+    there : {X : Type 0} (q : ℕ × X → Bool) (k : ℕ) (y : X) (xs : List X) (p : ℕ) (x : X) → q (k, y) ≡ false → filter q (enumerate_from (k + 1) xs) ≡ [] → slice_get (y ∷ xs) p ≡ Some x
+        → ((n : ℕ) → slice_get xs n ≡ Some x → q ((k + 1) + n, x) ≡ false) → q (k + p, x) ≡ false
+    there {X} q k y xs zero x g h f ih = let c : ◌≡◌ {A = Option X} (Some y) (Some x) = f in let is : y ≡ x = cc in let z : k + 0 ≡ k = omega arith in rw z (ap (λ u. q (k, u)) (sym is) ∙ g)
+    there q k y xs (suc n) x g h f ih = let z : k + suc n ≡ (k + 1) + n = omega arith in rw z (ih n f)
+
+none_first : {X : Type 0} (q : ℕ × X → Bool) (xs : List X) (p : ℕ) (x : X) → filter q (enumerate_from 0 xs) ≡ [] → slice_get xs p ≡ Some x → q (p, x) ≡ false
+none_first q xs p x e f = let z : 0 + p ≡ p = omega arith in subst (λ n. q (n, x) ≡ false) z (none_at q 0 xs p x e f)
+
+-- none passes where each is passed over
+all_passed : {X : Type 0} (q : ℕ × X → Bool) (k : ℕ) (xs : List X) → ((p : ℕ) (x : X) → slice_get xs p ≡ Some x → q (k + p, x) ≡ false) → filter q (enumerate_from k xs) ≡ []
+all_passed q k [] h = refl
+all_passed q k (y ∷ xs) h =
+    let here : q (k, y) ≡ false = let z : k + 0 ≡ k = omega arith in subst (λ n. q (n, y) ≡ false) z (h 0 y refl) in
+    rw (here, filter) (all_passed q (k + 1) xs (λ p x e. let z : k + suc p ≡ (k + 1) + p = omega arith in subst (λ n. q (n, x) ≡ false) z (h (suc p) x e)))
+
+-- ---- a run
+chosen_of : (a : Schedule) (named : Naming) (r : Run) → List (ℕ × (TaskSpec × Held))
+chosen_of a named r = filter (λ (e : ℕ × (TaskSpec × Held)). named r e.0 e.1) (enumerate_from 0 (pairs_of a r))
+
+empty_map : {X Y : Type 0} (f : X → Y) (xs : List X) → map f xs ≡ [] → xs ≡ []
+empty_map f [] e = refl
+empty_map {X} {Y} f (x ∷ xs) e = absurd (let c : ◌≡◌ {A = List Y} (f x ∷ map f xs) [] = e in cc)
+
+pair_at : (a : Schedule) (r : Run) (p : ℕ) (t : TaskSpec) (i : Held) → slice_get (tasks_of a r) p ≡ Some t → slice_get r.instances p ≡ Some i → slice_get (pairs_of a r) p ≡ Some (t, i)
+pair_at a r p t i e f = pairs_at (tasks_of a r) r.instances p t i e f
+
+-- where one is named some are
+some_named : (a : Schedule) (named : Naming) (r : Run) (p : ℕ) (t : TaskSpec) (i : Held) → slice_get (tasks_of a r) p ≡ Some t → slice_get r.instances p ≡ Some i → named r p (t, i) ≡ true
+    → clear_run a named r ≡ with_cleared a named r
+some_named a named r p t i e f g = elim (named_in a named r) as (λ es. named_in a named r ≡ es → clear_if a named r es ≡ with_cleared a named r) [
+  | [] ↦ λ h. absurd (true≢false (sym g ∙ none_first (λ (x : ℕ × (TaskSpec × Held)). named r x.0 x.1) (pairs_of a r) p (t, i) (empty_map (λ (x : ℕ × (TaskSpec × Held)). x.1) _ h) (pair_at a r p t i e f)))
+  | x ∷ xs ↦ λ h. refl
+] refl
+
+cleared_at : (a : Schedule) (named : Naming) (r : Run) (p : ℕ) (t : TaskSpec) (i : Held) (b : Bool) → slice_get (tasks_of a r) p ≡ Some t → slice_get r.instances p ≡ Some i → named r p (t, i) ≡ b
+    → slice_get (with_cleared a named r).instances p ≡ Some (cond b (cleared i) i)
+cleared_at a named r p t i b e f g =
+    let z : 0 + p ≡ p = omega arith in
+    places_at (clear_pair (named r)) 0 (pairs_of a r) p (t, i) (pair_at a r p t i e f) ∙ (ap (λ k. Some (clear_pair (named r) k (t, i))) z ∙ ap (λ c. Some (cond c (cleared i) i)) g)
+
+run_at : (a : Schedule) (named : Naming) (n : ℕ) (r : Run) → slice_get a.runs n ≡ Some r → slice_get (clear named a).runs n ≡ Some (clear_run a named r)
+run_at a named n r e = slice_get-map (clear_run a named) a.runs n ∙ ap (option_map (clear_run a named)) e
+
+pub set_back : (named : Naming) (a : Schedule) (n p : ℕ) (r : Run) (t : TaskSpec) (i : Held) → slice_get a.runs n ≡ Some r → slice_get (tasks_of a r) p ≡ Some t → slice_get r.instances p ≡ Some i
+    → named r p (t, i) ≡ true → instance_at (clear named a) n p ≡ Some (cleared i)
+set_back named a n p r t i e f g h =
+    ap (option_and_then (λ (q : Run). slice_get q.instances p)) (run_at a named n r e ∙ ap (λ q. Some q) (some_named a named r p t i f g h)) ∙ cleared_at a named r p t i true f g h
+
+pub left_alone : (named : Naming) (a : Schedule) (n p : ℕ) (r : Run) (t : TaskSpec) (i : Held) → slice_get a.runs n ≡ Some r → slice_get (tasks_of a r) p ≡ Some t → slice_get r.instances p ≡ Some i
+    → named r p (t, i) ≡ false → instance_at (clear named a) n p ≡ Some i
+left_alone named a n p r t i e f g h =
+    ap (option_and_then (λ (q : Run). slice_get q.instances p)) (run_at a named n r e)
+    ∙ elim (named_in a named r) as (λ es. slice_get (clear_if a named r es).instances p ≡ Some i) [
+      | [] ↦ g
+      | x ∷ xs ↦ cleared_at a named r p t i false f g h
+    ]
+
+pub queued_again : (named : Naming) (a : Schedule) (n p : ℕ) (r : Run) (t : TaskSpec) (i : Held) → slice_get a.runs n ≡ Some r → slice_get (tasks_of a r) p ≡ Some t → slice_get r.instances p ≡ Some i
+    → named r p (t, i) ≡ true → option_map (λ (q : Run). q.phase) (slice_get (clear named a).runs n) ≡ Some (requeued r.phase)
+queued_again named a n p r t i e f g h = ap (option_map (λ (q : Run). q.phase)) (run_at a named n r e ∙ ap (λ q. Some q) (some_named a named r p t i f g h))
+
+pub untouched_run : (named : Naming) (a : Schedule) (n : ℕ) (r : Run) → slice_get a.runs n ≡ Some r
+    → ((p : ℕ) (t : TaskSpec) (i : Held) → slice_get (tasks_of a r) p ≡ Some t → slice_get r.instances p ≡ Some i → named r p (t, i) ≡ false) → slice_get (clear named a).runs n ≡ Some r
+untouched_run named a n r e none =
+    let q : ℕ × (TaskSpec × Held) → Bool = λ x. named r x.0 x.1 in
+    let empty : named_in a named r ≡ [] = ap (map (λ (x : ℕ × (TaskSpec × Held)). x.1)) (all_passed q 0 (pairs_of a r) (λ p x f. let s = pair_back (tasks_of a r) r.instances p x.0 x.1 f in let z : p ≡ 0 + p = omega arith in subst (λ n. named r n x ≡ false) z (none p x.0 x.1 s.0 s.1))) in
+    run_at a named n r e ∙ ap (λ es. Some (clear_if a named r es)) empty
+
+-- ---- an instance
+drop_whole : {X : Type 0} (xs : List X) → drop (length xs) xs ≡ []
+drop_whole [] = refl
+drop_whole (x ∷ xs) = drop_whole xs
+
+pub none_recent : (i : Held) → recent (cleared i) ≡ []
+none_recent i = drop_whole i.tries
+
+pub state_none : (t : TaskSpec) (i : Held) → state_of t (cleared i) ≡ state.None
+state_none t i = ap (λ (ts : List Try). state_by None (nat_le (length ts) t.retries) (last_of ts)) (none_recent i)
+
+pub allowed_anew : (t : TaskSpec) (i : Held) → has_retry t (cleared i) ≡ true
+allowed_anew t i = ap (λ (ts : List Try). nat_le (length ts) t.retries) (none_recent i) ∙ le-leb 0 t.retries (omega arith)
