@@ -1,0 +1,3 @@
+pub mod Namings
+pub mod Passing
+pub mod SetBack

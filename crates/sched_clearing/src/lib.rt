@@ -1,0 +1,16 @@
+//! Which task instances a clear names, and setting them back (Airflow 2, "DAG Runs": re-run tasks).
+//!
+//! A clear names instances of the runs of one graph; nothing changes until they are set back. Easy to get wrong: an instance that is set
+//! back keeps its tries, and only a run in which an instance is named is queued again.
+#![tactic(auto)]
+
+mod clearing;
+mod in_flight;
+mod marks;
+mod namings;
+#[cfg(test)]
+mod tests;
+
+pub use clearing::clear;
+pub use in_flight::least_in_flight;
+pub use namings::{ClearFault, Naming, named_by_clear, named_by_reset};
