@@ -5,7 +5,7 @@ use Rattle.moment_core.specs.Printing.{text_of}
 use Rattle.pool_book.specs.declared.pools.PoolFault.{PoolFault as FaultOfPool}
 use Rattle.pool_book.specs.declared.pools.PoolFault.TheVariants as pool
 use Rattle.sched_events.specs.declared.refusals.Refusal.{Refusal}
-use Rattle.sched_events.specs.declared.refusals.Refusal.TheVariants.{GraphFault, DagFault, UnknownPool, TooManyGraphs, GraphDiffers, UnknownGraph, ClockBack, RunExists, NoInterval, NotInFlight, OutOfTurn, PoolFault, LanesTooMany, RecordFull, Memory}
+use Rattle.sched_events.specs.declared.refusals.Refusal.TheVariants.{GraphFault, DagFault, UnknownPool, TooManyGraphs, GraphDiffers, UnknownGraph, UnknownTask, ClockBack, BadSpan, RunExists, NoInterval, InFlight, NotInFlight, OutOfTurn, PoolFault, LanesTooMany, RecordFull, Memory}
 use Rattle.answer_lines.specs.Faults.{graph_fault_text}
 use Rattle.answer_lines.specs.DagFaults.{dag_fault_text}
 
@@ -22,9 +22,12 @@ refusal_text (UnknownPool pool) = codes "refused 3 UnknownPool " ++ pool ++ code
 refusal_text TooManyGraphs = codes "refused 4 TooManyGraphs\n"
 refusal_text GraphDiffers = codes "refused 5 GraphDiffers\n"
 refusal_text UnknownGraph = codes "refused 6 UnknownGraph\n"
+refusal_text UnknownTask = codes "refused 7 UnknownTask\n"
 refusal_text (ClockBack moment) = codes "refused 8 ClockBack " ++ text_of moment ++ codes "\n"
+refusal_text BadSpan = codes "refused 9 BadSpan\n"
 refusal_text RunExists = codes "refused 10 RunExists\n"
 refusal_text NoInterval = codes "refused 11 NoInterval\n"
+refusal_text (InFlight serial) = codes "refused 12 InFlight " ++ decimal serial ++ codes "\n"
 refusal_text (NotInFlight serial) = codes "refused 13 NotInFlight " ++ decimal serial ++ codes "\n"
 refusal_text (OutOfTurn serial) = codes "refused 14 OutOfTurn " ++ decimal serial ++ codes "\n"
 refusal_text (PoolFault fault) = pool_fault_text fault

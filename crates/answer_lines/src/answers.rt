@@ -2,25 +2,47 @@
 ghost use Rattle.std.specs.Prelude.{◌≡◌, OnOk, codes};
 ghost use Rattle.std.specs.Io.KnownBytes.{Appends};
 ghost use Rattle.std.specs.List.{flat_map};
-ghost use Rattle.answer_lines.specs.Answers.{answer_text, made_line};
+ghost use Rattle.answer_lines.specs.Answers as answers;
+ghost use Rattle.answer_lines.specs.Answers.{answer_text, cleared_line, made_line};
 ghost use Rattle.answer_lines.specs.Runs as spec;
 
 use crate::jobs::put_jobs;
-use sched_events::{Answer, RunId};
+use sched_events::{Answer, Event, RunId};
 use sched_state::Kind;
 use std::io::{self, Write};
 
-/// Writes `made DAG RUNID` for each run made, `more` where some are left, `try SERIAL DAG LOGICAL TASK NUMBER` for each try handed out,
-/// and `ok`.
-pub fn put_answer<W: Write>(output: &mut W, answer: &Answer) -> io::Result<()>
-    ensures { OnOk result (Appends (W.contents output.old) (W.contents output.new) (answer_text answer.now)) }
+/// Writes the answer to an event: `made DAG RUNID` for each run made; `cleared N` for a clear and a backfill with a reset, where N task
+/// instances that were not none were set back; `more` where some runs are left; `try SERIAL DAG LOGICAL TASK NUMBER` for each try handed
+/// out; and `ok`.
+pub fn put_answer<W: Write>(output: &mut W, event: &Event, answer: &Answer) -> io::Result<()>
+    ensures { OnOk result (Appends (W.contents output.old) (W.contents output.new) (answer_text event.now answer.now)) }
 {
     put_made(output, answer.made.as_slice())?;
+    if sets_back(event) {
+        put_cleared(output, answer.cleared)?;
+    }
     if answer.more {
         output.write_all(b"more\n")?;
     }
     put_jobs(output, answer.jobs.as_slice())?;
     put_ok(output)
+}
+
+// Whether the event sets task instances back.
+fn sets_back(event: &Event) -> bool
+    ensures { result ≡ answers.sets_back event.now }
+{
+    match event {
+        Event::Clear(_) => true,
+        Event::Backfill { reset, .. } => *reset,
+        _ => false,
+    }
+}
+
+fn put_cleared<W: Write>(output: &mut W, cleared: u32) -> io::Result<()>
+    ensures { OnOk result (Appends (W.contents output.old) (W.contents output.new) (cleared_line cleared)) }
+{
+    writeln!(output, "cleared {cleared}")
 }
 
 /// Writes `ok`, which ends an answer and the rows of a list.

@@ -5,6 +5,7 @@
 //!
 //! ```text
 //! made one scheduled__2024-02-28T00:00:00+00:00
+//! cleared 2
 //! try 1 one 2024-02-28T00:00:00+00:00 t 1
 //! ok
 //! one scheduled__2024-02-28T00:00:00+00:00 t queued 1

@@ -4,8 +4,8 @@ use dag_check::DagFault;
 use graph_file::{Action, Bounded, GraphFault, Name, Operator, Place, Sequence};
 use moment_core::{Moment, MomentFault};
 use pool_book::PoolFault;
-use sched_events::{Answer, InstanceRow, PoolRow, Refusal, RunId};
-use sched_state::{Job, Kind, Phase, Run};
+use sched_events::{Answer, Event, InstanceRow, PoolRow, Refusal, RunId};
+use sched_state::{Clearing, Job, Kind, Phase, Run};
 use script_commands::{CommandFault, SourceFault, UsageFault};
 use std::alloc::Global;
 use std::io::{self, ErrorKind, Write};
@@ -56,6 +56,7 @@ fn complete(alloc: Global) -> Result<Answer, Fail> {
     Ok(Answer {
         made: made(alloc)?,
         more: true,
+        cleared: 12,
         jobs: Sequence::new(vec![in alloc; job(alloc)?]?),
     })
 }
@@ -64,20 +65,81 @@ fn empty(alloc: Global) -> Answer {
     Answer {
         made: Sequence::new(Vec::new(alloc)),
         more: false,
+        cleared: 0,
         jobs: Sequence::new(Vec::new(alloc)),
     }
+}
+
+// Asserts the lines of the answer to an event.
+fn assert_answer(
+    rt: &impl Abort,
+    alloc: Global,
+    event: &Event,
+    answer: &Answer,
+    wanted: &str,
+) -> Result<(), Fail> {
+    let mut lines = Vec::new(alloc);
+    put_answer(&mut lines, event, answer)?;
+    assert_eq!(rt; lines.as_slice(), wanted.as_bytes());
+    Ok(())
 }
 
 #[test]
 fn an_answer_has_its_lines(rt: HostRuntime) -> Result<(), Fail> {
     let alloc = rt.alloc();
-    let mut lines = Vec::new(alloc);
-    put_answer(&mut lines, &complete(alloc)?)?;
-    put_answer(&mut lines, &empty(alloc))?;
+    let tick = Event::Tick(moment("2024-03-02")?);
     let wanted =
-        b"made one scheduled__2024-02-28T00:00:00+00:00\nmade one manual__2024-02-29T00:00:00+00:00\nmade one backfill__2024-03-01T00:00:00+00:00\nmore\ntry 1 one 2024-01-01T00:00:00+00:00 t 1\nok\nok\n";
-    assert_eq!(rt; lines.as_slice(), wanted.as_slice());
-    Ok(())
+        "made one scheduled__2024-02-28T00:00:00+00:00\nmade one manual__2024-02-29T00:00:00+00:00\nmade one backfill__2024-03-01T00:00:00+00:00\nmore\ntry 1 one 2024-01-01T00:00:00+00:00 t 1\nok\n";
+    assert_answer(&rt, alloc, &tick, &complete(alloc)?, wanted)?;
+    assert_answer(&rt, alloc, &tick, &empty(alloc), "ok\n")
+}
+
+fn backfill(alloc: Global, reset: bool) -> Result<Event, Fail> {
+    Ok(Event::Backfill {
+        graph: name(alloc, "one")?,
+        from: moment("2024-01-01")?,
+        to: moment("2024-01-03")?,
+        reset,
+    })
+}
+
+fn clear(alloc: Global) -> Result<Event, Fail> {
+    Ok(Event::Clear(Clearing {
+        graph: name(alloc, "one")?,
+        from: moment("2024-01-01")?,
+        to: moment("2024-01-03")?,
+        task: None,
+        upstream: false,
+        downstream: false,
+        only_failed: false,
+    }))
+}
+
+#[test]
+fn what_is_set_back_is_told(rt: HostRuntime) -> Result<(), Fail> {
+    let alloc = rt.alloc();
+    let made =
+        "made one scheduled__2024-02-28T00:00:00+00:00\nmade one manual__2024-02-29T00:00:00+00:00\nmade one backfill__2024-03-01T00:00:00+00:00\n";
+    let wanted = format!(in alloc;
+        "{made}cleared 12\nmore\ntry 1 one 2024-01-01T00:00:00+00:00 t 1\nok\n"
+    )?;
+    let reset = backfill(alloc, true)?;
+    assert_answer(&rt, alloc, &reset, &complete(alloc)?, wanted.as_str())
+}
+
+#[test]
+fn that_none_is_set_back_is_told(rt: HostRuntime) -> Result<(), Fail> {
+    let alloc = rt.alloc();
+    let none = empty(alloc);
+    assert_answer(&rt, alloc, &clear(alloc)?, &none, "cleared 0\nok\n")?;
+    assert_answer(
+        &rt,
+        alloc,
+        &backfill(alloc, true)?,
+        &none,
+        "cleared 0\nok\n",
+    )?;
+    assert_answer(&rt, alloc, &backfill(alloc, false)?, &none, "ok\n")
 }
 
 #[test]
@@ -198,6 +260,9 @@ fn refusals_have_a_line_each(rt: HostRuntime) -> Result<(), Fail> {
         (Refusal::TooManyGraphs, "refused 4 TooManyGraphs\n"),
         (Refusal::GraphDiffers, "refused 5 GraphDiffers\n"),
         (Refusal::UnknownGraph, "refused 6 UnknownGraph\n"),
+        (Refusal::UnknownTask, "refused 7 UnknownTask\n"),
+        (Refusal::BadSpan, "refused 9 BadSpan\n"),
+        (Refusal::InFlight(3), "refused 12 InFlight 3\n"),
         (Refusal::RunExists, "refused 10 RunExists\n"),
         (Refusal::NoInterval, "refused 11 NoInterval\n"),
         (

@@ -1,5 +1,5 @@
 -- A schedule beside the book of its pools: what changes of what is taken, a pool that gets another size, and rows.
-use Rattle.std.proofs.Common.{◌≡◌, ◌∙◌, refl, sym, ap, subst, ℕ, ◌-ℤ◌, pos, ◌≤◌, List, [], ◌∷◌, Bool, true, false, cond, ◌||◌, map, filter, find, is_some, sum_by, Some, option_map, unwrap_or, arith, leb-true, true≢false}
+use Rattle.std.proofs.Common.{◌≡◌, ◌∙◌, refl, sym, ap, subst, ℕ, ◌-ℤ◌, pos, ◌≤◌, List, [], ◌∷◌, Bool, true, false, cond, ◌||◌, map, filter, find, is_some, sum_by, Option, Some, None, option_map, unwrap_or, arith, leb-true, true≢false}
 use Rattle.std.specs.BTreeMap.{insert_entry}
 use Rattle.std.specs.List.{list_all, list_any}
 use Rattle.std.specs.Ordering.{is_eq, match_ordering}
@@ -18,6 +18,7 @@ use Rattle.sched_state.specs.Lists.{same, name_cmp, is_less, insert_by}
 use Rattle.sched_state.proofs.NameLemmas.{same_is, same_itself}
 use Rattle.sched_state.proofs.OrderLemmas.{and_left, and_right, or_left, or_right}
 use Rattle.sched_model.specs.Changes.{resize_pool, new_pool, with_pool, set_now, set_paused, resize, report, restart}
+use Rattle.sched_model.specs.Clearing.{Naming}
 use Rattle.sched_model.specs.Handout.{hand_out}
 use Rattle.sched_model.specs.Lists.{rises}
 use Rattle.sched_model.specs.NamedRuns.{Named, add_runs}
@@ -25,9 +26,10 @@ use Rattle.sched_model.specs.Schedule.{Schedule, Pool, pool_before}
 use Rattle.sched_model.specs.Settle.{settle}
 use Rattle.sched_model.specs.Sound.{IsSound, is_sound_pool}
 use Rattle.sched_model.specs.States.{open_tries, slots_in, occupied}
-use Rattle.sched_laws.proofs.OccupyingLemmas.{open_paused, open_added, open_restarted, ended_by, occupied_reported}
+use Rattle.sched_laws.proofs.OccupyingLemmas.{open_paused, open_cleared, open_added, open_restarted, ended_by, occupied_reported}
 use Rattle.sched_laws.proofs.SlotLemmas.{open_settled, out_filled}
 use Rattle.sched_laws.proofs.SoundLemmas.{settle_sound}
+use Rattle.sched_events.specs.Events.{set_back}
 use Rattle.sched_events.specs.Kept.{IsKept}
 use Rattle.sched_events.specs.Rows.{PoolLine}
 use Rattle.sched_draft.specs.Books.{pools_in, Takes, IsBookOf}
@@ -53,6 +55,13 @@ tick_counted t ns a counted = counted_same a (add_runs ns (set_now t a)) (open_a
 
 pub trigger_counted : (ns : List Named) (a : Schedule) → IsCounted a → IsCounted (add_runs ns a)
 trigger_counted ns a counted = counted_same a (add_runs ns a) (open_added ns a) counted
+
+open_back : (named : Option Naming) (a : Schedule) → open_tries (set_back named a) ≡ open_tries a
+open_back None a = refl
+open_back (Some named) a = open_cleared named a
+
+pub repair_counted : (ns : List Named) (named : Option Naming) (a : Schedule) → IsCounted a → IsCounted (add_runs ns (set_back named a))
+repair_counted ns named a counted = counted_same a (add_runs ns (set_back named a)) (open_added ns (set_back named a) ∙ open_back named a) counted
 
 pub unpause_counted : (id : List ℕ) (a : Schedule) → IsCounted a → IsCounted (set_paused id false a)
 unpause_counted id a counted = counted_same a (set_paused id false a) (open_paused id false a) counted

@@ -11,3 +11,4 @@ pub mod FinishLemmas
 pub mod EffectLemmas
 pub mod ResizeLemmas
 pub mod TriggerLemmas
+pub mod RepairLemmas

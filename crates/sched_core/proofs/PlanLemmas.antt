@@ -31,7 +31,7 @@ use Rattle.sched_model.specs.Sound.{IsSound, Says, AllSay}
 use Rattle.sched_laws.proofs.SettleLemmas.{settle_still}
 use Rattle.sched_laws.proofs.HandOutLemmas.{hand_still}
 use Rattle.sched_laws.proofs.LoadLemmas.{load_still, load_no_hand, load_again}
-use Rattle.sched_events.specs.Events.{named_by, change_by, leaves_more_by, load_result, IsInRange}
+use Rattle.sched_events.specs.Events.{named_by, set_back_by, count_in, change_by, leaves_more_by, load_result, IsInRange}
 use Rattle.sched_events.specs.Causes.{exceeds, unknown_pool, differs, refused_text, refused}
 use Rattle.sched_events.specs.Steps.{step, id_of, answer_to}
 use Rattle.sched_events.specs.Kept.{IsKept}
@@ -198,16 +198,27 @@ pub draft_kept : (e : Event) (a b : Schedule) → IsInRange e → refused a e �
 unfolding step
 draft_kept e a b dated accepted kept is = subst (λ (c : Schedule). IsKept (hand_out (settle c))) (sym is) (step_kept e a dated accepted kept)
 
-pub draft_planned : (e : Event) (a b : Schedule) (made : List RunId) (more : Bool) (c : Planned) → refused a e ≡ None → b ≡ add_runs (named_by e a) (change_by e a) → made ≡ map id_of (named_by e a)
-    → more ≡ leaves_more_by e a → c ≡ record { before = a; after = hand_out (settle b); answer = record { made = made; more = more; jobs = handed a (hand_out (settle b)) } } → IsPlanned a e c
+-- what an event answers, but for the tries that are handed out
+abbrev pub told : Event → Schedule → Answer
+told e a = record { made = map id_of (named_by e a); more = leaves_more_by e a; cleared = count_in (set_back_by e a) a; jobs = [] }
+
+-- the parts of one, put into an answer that tells nothing
+pub told_by : (e : Event) (a : Schedule) (q : Answer) (ids : List RunId) (more : Bool) (count : ℕ) → q ≡ no_runs → ids ≡ map id_of (named_by e a) → more ≡ leaves_more_by e a → count ≡ count_in (set_back_by e a) a
+    → record q { made = ids; more = more; cleared = count } ≡ told e a
+told_by e a q ids more count quiet ids_is more_is count_is =
+    ap (λ (t : Answer). record t { made = ids; more = more; cleared = count }) quiet
+    ∙ (ap (λ is. record no_runs { made = is; more = more; cleared = count }) ids_is
+    ∙ (ap (λ m. record no_runs { made = map id_of (named_by e a); more = m; cleared = count }) more_is
+    ∙ ap (λ n. record no_runs { made = map id_of (named_by e a); more = leaves_more_by e a; cleared = n }) count_is))
+
+pub draft_planned : (e : Event) (a b : Schedule) (answer : Answer) (c : Planned) → refused a e ≡ None → b ≡ add_runs (named_by e a) (change_by e a) → answer ≡ told e a
+    → c ≡ record { before = a; after = hand_out (settle b); answer = record answer { jobs = handed a (hand_out (settle b)) } } → IsPlanned a e c
 unfolding step
-draft_planned e a b made more c accepted is made_is more_is planned =
+draft_planned e a b answer c accepted is answer_is planned =
     let after : hand_out (settle b) ≡ step e a = ap (λ (s : Schedule). hand_out (settle s)) is in
-    let answer : ◌≡◌ {A = Answer} (record { made = made; more = more; jobs = handed a (hand_out (settle b)) }) (answer_to e a) =
-    ap (λ ids. record { made = ids; more = more; jobs = handed a (hand_out (settle b)) }) made_is
-    ∙ (ap (λ m. record { made = map id_of (named_by e a); more = m; jobs = handed a (hand_out (settle b)) }) more_is
-    ∙ ap (λ (s : Schedule). record { made = map id_of (named_by e a); more = leaves_more_by e a; jobs = handed a s }) after) in
-    subst (IsPlanned a e) (sym planned) (record { accepted = accepted; before = refl; after = after; answer = answer })
+    let given : ◌≡◌ {A = Answer} (record answer { jobs = handed a (hand_out (settle b)) }) (answer_to e a) =
+    ap (λ (t : Answer). record t { jobs = handed a (hand_out (settle b)) }) answer_is ∙ ap (λ (s : Schedule). record (told e a) { jobs = handed a s }) after in
+    subst (IsPlanned a e) (sym planned) (record { accepted = accepted; before = refl; after = after; answer = given })
 
 -- the tick's causes
 two_none : (b c : Bool) (x y : Refusal) → b ≡ false → c ≡ false → first_some (when b x ∷ when c y ∷ []) ≡ None

@@ -4,3 +4,4 @@ pub mod Effects
 pub mod Plans
 pub mod Views
 pub mod Inside
+pub mod Repairs

@@ -20,6 +20,6 @@ pub record IsPlanned (a : Schedule) (e : Event) (c : Planned) : Type 0 where
 abbrev pub run_id : Run → RunId
 run_id r = record { graph = r.graph; logical = r.logical; kind = r.kind }
 
--- the answer that names no run and no try
+-- the answer that names no run and no try, where nothing was set back
 abbrev pub no_runs : Answer
-no_runs = record { made = []; more = false; jobs = [] }
+no_runs = record { made = []; more = false; cleared = 0; jobs = [] }

@@ -3,6 +3,8 @@
 
 mod changes;
 mod default_pools;
+#[cfg(test)]
+mod event_words;
 mod finding;
 #[cfg(test)]
 mod load_tests;
@@ -16,6 +18,9 @@ mod planning;
 mod pool_rows;
 #[cfg(test)]
 mod pool_tests;
+#[cfg(test)]
+mod repair_tests;
+mod repairing;
 #[cfg(test)]
 mod row_tests;
 mod rows;

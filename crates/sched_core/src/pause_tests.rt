@@ -1,6 +1,5 @@
 use super::*;
-use crate::stepping::{accepted, empty, file, name, refusal, step, tick, told};
-use instance_machine::{Outcome, Stage};
+use crate::stepping::{accepted, empty, file, follow, name, refusal, step, tick};
 use sched_state::Limits;
 use std::alloc::Global;
 use std::process::Abort;
@@ -22,36 +21,30 @@ fn three_days(rt: &impl Abort, alloc: Global) -> Result<Schedule, Fail> {
 fn a_paused_graph_starts_no_run(rt: HostRuntime) -> Result<(), Fail> {
     let alloc = rt.alloc();
     let mut schedule = three_days(&rt, alloc)?;
-    for (event, wanted) in [
+    let rows = [
+        ("pause g", "| Running t=queued Queued t=none Queued t=none"),
         (
-            Event::Pause(name(alloc, "g")?),
-            "| Running t=queued Queued t=none Queued t=none",
-        ),
-        (
-            Event::Report(1, Stage::Started),
+            "started 1",
             "| Running t=running Queued t=none Queued t=none",
         ),
         (
-            Event::Report(1, Stage::Ended(Outcome::Success)),
+            "success 1",
             "| Success t=success Queued t=none Queued t=none",
         ),
         (
-            tick(&rt, "2024-01-05"),
+            "tick 2024-01-05",
             "| Success t=success Queued t=none Queued t=none",
         ),
         (
-            Event::Unpause(name(alloc, "g")?),
+            "unpause g",
             "2:t | Success t=success Running t=queued Queued t=none",
         ),
         (
-            tick(&rt, "2024-01-05"),
+            "tick 2024-01-05",
             "| Success t=success Running t=queued Queued t=none Queued t=none",
         ),
-    ] {
-        let text = told(&rt, alloc, &mut schedule, &event)?;
-        assert_eq!(rt; text.as_str(), wanted, "{event:?}");
-    }
-    Ok(())
+    ];
+    follow(&rt, alloc, &mut schedule, &rows)
 }
 
 #[test]

@@ -44,6 +44,13 @@ impl Schedule {
             Event::Load(text) => self.plan_load(alloc, text),
             Event::Tick(moment) => self.plan_tick(alloc, *moment),
             Event::Trigger(id) => self.plan_trigger(alloc, id),
+            Event::Backfill {
+                graph,
+                from,
+                to,
+                reset,
+            } => self.plan_backfill(alloc, graph, *from, *to, *reset),
+            Event::Clear(clearing) => self.plan_clear(alloc, clearing),
             Event::Pause(id) => self.plan_pause(alloc, id),
             Event::Unpause(id) => self.plan_unpause(alloc, id),
             Event::Resize(name, size) => self.plan_resize(alloc, name, *size),
@@ -60,11 +67,7 @@ impl Schedule {
         Change {
             before: Snapshot::of(self),
             effect,
-            answer: Answer {
-                made: Sequence::new(Vec::new(alloc)),
-                more: false,
-                jobs: Sequence::new(Vec::new(alloc)),
-            },
+            answer: quiet_answer(alloc),
         }
     }
 
@@ -101,14 +104,14 @@ impl Schedule {
         ))
     }
 
-    // The change that ends in this draft, settled and handed out. In it the graph with the id `unpaused` is paused no more.
+    // The change that ends in this draft, settled and handed out, with this answer and the tries that are handed out. In it the graph
+    // with the id `unpaused` is paused no more.
     pub(crate) fn finished(
         &self,
         alloc: Global,
         draft: Draft<'_>,
         unpaused: Option<Name>,
-        made: Sequence<RunId>,
-        more: bool,
+        answer: Answer,
     ) -> Result<Change, AllocError>
         requires sound { IsSound draft }
         requires over { IsOver unpaused self.now.content draft }
@@ -117,7 +120,7 @@ impl Schedule {
         ensures { IfOk result (λ change. change ≡ record {
           before = self.now.content;
           after = hand_out (settle draft.entry);
-          answer = record { made = made; more = more; jobs = handed self.now.content (hand_out (settle draft.entry)) };
+          answer = record answer { jobs = handed self.now.content (hand_out (settle draft.entry)) };
         }) }
     {
         let mut draft = draft;
@@ -135,7 +138,7 @@ impl Schedule {
         Ok(Change {
             before: Snapshot::of(self),
             effect: Effect::Next(next),
-            answer: Answer { made, more, jobs },
+            answer: Answer { jobs, ..answer },
         })
     }
 
@@ -154,7 +157,12 @@ impl Schedule {
         let made = ids_of(alloc, &named.runs)?;
         draft.set_clock(moment);
         add(&mut draft, named.runs)?;
-        Ok(self.finished(alloc, draft, None, made, named.more)?)
+        let answer = Answer {
+            made,
+            more: named.more,
+            ..quiet_answer(alloc)
+        };
+        Ok(self.finished(alloc, draft, None, answer)?)
     }
 
     fn plan_pause(&self, alloc: Global, id: &Name) -> Result<Change, Refusal>
@@ -177,8 +185,7 @@ impl Schedule {
         }
         let draft = self.draft(alloc, Some(id))?;
         let unpaused = id.copy(alloc)?;
-        let made = Sequence::new(Vec::new(alloc));
-        Ok(self.finished(alloc, draft, Some(unpaused), made, false)?)
+        Ok(self.finished(alloc, draft, Some(unpaused), quiet_answer(alloc))?)
     }
 
     fn plan_resize(&self, alloc: Global, name: &Name, size: Slots) -> Result<Change, Refusal>
@@ -208,8 +215,7 @@ impl Schedule {
         }) }
     {
         let draft = self.draft_over(alloc, pools, None)?;
-        let made = Sequence::new(Vec::new(alloc));
-        self.finished(alloc, draft, None, made, false)
+        self.finished(alloc, draft, None, quiet_answer(alloc))
     }
 
     fn plan_report(&self, alloc: Global, serial: u64, stage: Stage) -> Result<Change, Refusal>
@@ -224,8 +230,7 @@ impl Schedule {
         }
         let mut draft = self.draft(alloc, None)?;
         draft.report(serial, stage);
-        let made = Sequence::new(Vec::new(alloc));
-        Ok(self.finished(alloc, draft, None, made, false)?)
+        Ok(self.finished(alloc, draft, None, quiet_answer(alloc))?)
     }
 
     fn plan_restart(&self, alloc: Global, lanes: u32) -> Result<Change, Refusal>
@@ -237,8 +242,19 @@ impl Schedule {
         }
         let mut draft = self.draft(alloc, None)?;
         draft.restart(lanes);
-        let made = Sequence::new(Vec::new(alloc));
-        Ok(self.finished(alloc, draft, None, made, false)?)
+        Ok(self.finished(alloc, draft, None, quiet_answer(alloc))?)
+    }
+}
+
+// The answer of an event that makes no run, sets nothing back and hands out no try.
+pub(crate) fn quiet_answer(alloc: Global) -> Answer
+    ensures { result ≡ no_runs }
+{
+    Answer {
+        made: Sequence::new(Vec::new(alloc)),
+        more: false,
+        cleared: 0,
+        jobs: Sequence::new(Vec::new(alloc)),
     }
 }
 

@@ -1,16 +1,12 @@
 use super::*;
-use crate::stepping::{accepted, empty, file, follow, name, refusal, tick};
-use instance_machine::{Outcome, Stage};
+use crate::event_words::event;
+use crate::stepping::{accepted, empty, file, follow, name, refusal};
 use pool_book::{PoolFault, Slots};
 use sched_state::Limits;
 use std::alloc::Global;
 use std::fmt;
 use std::process::Abort;
 use std::test::Fail;
-
-const STARTED: Stage = Stage::Started;
-
-const SUCCESS: Stage = Stage::Ended(Outcome::Success);
 
 // The pool gets so many slots.
 fn resize(alloc: Global, pool: &str, size: u32) -> Result<Event, Fail> {
@@ -93,23 +89,17 @@ fn a_pool_past_the_limit_is_refused(rt: HostRuntime) -> Result<(), Fail> {
 #[test]
 fn what_does_not_fit_waits_for_a_larger_pool(rt: HostRuntime) -> Result<(), Fail> {
     let alloc = rt.alloc();
-    let rows = [("a", "p", 2, 5), ("b", "p", 2, 4), ("c", "p", 1, 3)];
-    let mut schedule = with_pools(&rt, alloc, 3, (3, 0), &rows)?;
-    let events = [
+    let tasks = [("a", "p", 2, 5), ("b", "p", 2, 4), ("c", "p", 1, 3)];
+    let mut schedule = with_pools(&rt, alloc, 3, (3, 0), &tasks)?;
+    let rows = [
         (
-            tick(&rt, "2024-01-02"),
+            "tick 2024-01-02",
             "1:a 2:c | Running a=queued b=scheduled c=queued",
         ),
-        (
-            resize(alloc, "p", 4)?,
-            "| Running a=queued b=scheduled c=queued",
-        ),
-        (
-            resize(alloc, "p", 5)?,
-            "3:b | Running a=queued b=queued c=queued",
-        ),
+        ("resize p 4", "| Running a=queued b=scheduled c=queued"),
+        ("resize p 5", "3:b | Running a=queued b=queued c=queued"),
     ];
-    follow(&rt, alloc, &mut schedule, &events)?;
+    follow(&rt, alloc, &mut schedule, &rows)?;
     let found = pools(alloc, &schedule)?;
     assert_eq!(rt; found.as_str(), "default_pool 128 0 128;p 5 5 0;q 0 0 0;");
     Ok(())
@@ -118,29 +108,30 @@ fn what_does_not_fit_waits_for_a_larger_pool(rt: HostRuntime) -> Result<(), Fail
 #[test]
 fn a_smaller_pool_stops_nothing(rt: HostRuntime) -> Result<(), Fail> {
     let alloc = rt.alloc();
-    let rows = [
+    let tasks = [
         ("a", "p", 1, 1),
         ("b", "p", 1, 1),
         ("c", "p", 1, 1),
         ("d", "p", 1, 1),
     ];
-    let mut schedule = with_pools(&rt, alloc, 4, (3, 0), &rows)?;
-    for (event, wanted) in [
-        (tick(&rt, "2024-01-02"), "p 3 3 0"),
-        (resize(alloc, "p", 1)?, "p 1 3 -2"),
-        (Event::Report(1, STARTED), "p 1 3 -2"),
-        (Event::Report(1, SUCCESS), "p 1 2 -1"),
-        (Event::Report(2, STARTED), "p 1 2 -1"),
-        (Event::Report(2, SUCCESS), "p 1 1 0"),
-        (Event::Report(3, STARTED), "p 1 1 0"),
+    let mut schedule = with_pools(&rt, alloc, 4, (3, 0), &tasks)?;
+    for (words, wanted) in [
+        ("tick 2024-01-02", "p 3 3 0"),
+        ("resize p 1", "p 1 3 -2"),
+        ("started 1", "p 1 3 -2"),
+        ("success 1", "p 1 2 -1"),
+        ("started 2", "p 1 2 -1"),
+        ("success 2", "p 1 1 0"),
+        ("started 3", "p 1 1 0"),
     ] {
+        let event = event(&rt, alloc, words)?;
         accepted(&rt, alloc, &mut schedule, &event);
         let found = pools(alloc, &schedule)?;
-        assert!(rt; found.as_str().contains(wanted), "{event:?}");
+        assert!(rt; found.as_str().contains(wanted), "{words}");
         assert_eq!(rt; schedule.next_serial(), 4);
     }
     let last = [(
-        Event::Report(3, SUCCESS),
+        "success 3",
         "4:d | Running a=success b=success c=success d=queued",
     )];
     follow(&rt, alloc, &mut schedule, &last)
@@ -150,39 +141,39 @@ fn a_smaller_pool_stops_nothing(rt: HostRuntime) -> Result<(), Fail> {
 #[test]
 fn two_pools_share_the_lanes(rt: HostRuntime) -> Result<(), Fail> {
     let alloc = rt.alloc();
-    let rows = [
+    let tasks = [
         ("a", "p", 1, 1),
         ("b", "q", 1, 3),
         ("c", "p", 1, 2),
         ("d", "q", 1, 4),
     ];
-    let mut schedule = with_pools(&rt, alloc, 2, (2, 1), &rows)?;
-    let events = [
+    let mut schedule = with_pools(&rt, alloc, 2, (2, 1), &tasks)?;
+    let rows = [
         (
-            tick(&rt, "2024-01-02"),
+            "tick 2024-01-02",
             "1:d 2:c | Running a=scheduled b=scheduled c=queued d=queued",
         ),
         (
-            Event::Report(2, STARTED),
+            "started 2",
             "| Running a=scheduled b=scheduled c=running d=queued",
         ),
         (
-            Event::Report(2, SUCCESS),
+            "success 2",
             "3:a | Running a=queued b=scheduled c=success d=queued",
         ),
     ];
-    follow(&rt, alloc, &mut schedule, &events)
+    follow(&rt, alloc, &mut schedule, &rows)
 }
 
 // Of one weight the earlier date goes first, then the lesser id of the graph, then that of the task.
 #[test]
 fn ties_go_by_date_graph_and_task(rt: HostRuntime) -> Result<(), Fail> {
     let alloc = rt.alloc();
-    let rows = [("d", "p", 1, 1), ("c", "p", 1, 1)];
-    let mut schedule = with_pools(&rt, alloc, 8, (8, 0), &rows)?;
+    let tasks = [("d", "p", 1, 1), ("c", "p", 1, 1)];
+    let mut schedule = with_pools(&rt, alloc, 8, (8, 0), &tasks)?;
     let other = daily(alloc, "an", &[("f", "p", 1, 1), ("e", "p", 1, 1)])?;
+    accepted(&rt, alloc, &mut schedule, &other);
     let wanted =
         "1:e 2:f 3:c 4:d 5:e 6:f 7:c 8:d | Running f=queued e=queued Running f=queued e=queued Running d=queued c=queued Running d=queued c=queued";
-    let events = [(other, "|"), (tick(&rt, "2024-01-03"), wanted)];
-    follow(&rt, alloc, &mut schedule, &events)
+    follow(&rt, alloc, &mut schedule, &[("tick 2024-01-03", wanted)])
 }

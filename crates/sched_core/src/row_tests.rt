@@ -1,7 +1,6 @@
 use super::*;
-use crate::stepping::{accepted, empty, file, follow, moment, refusal, tick};
-use graph_file::Name;
-use instance_machine::{Outcome, Stage};
+use crate::event_words::event;
+use crate::stepping::{accepted, empty, file, follow, moment, name, refusal, tick};
 use sched_state::Limits;
 use std::alloc::{AllocError, Global};
 use std::fmt;
@@ -21,16 +20,6 @@ const JOIN: &str =
 // The same below r, whose failure skips a.
 const BELOW: &str =
     "[[task]]\ntask_id = \"r\"\noperator = \"noop\"\n[[task]]\ntask_id = \"a\"\noperator = \"noop\"\nupstream = [\"r\"]\ntrigger_rule = \"all_skipped\"\n[[task]]\ntask_id = \"b\"\noperator = \"noop\"\nupstream = [\"r\"]\n[[task]]\ntask_id = \"c\"\noperator = \"noop\"\nupstream = [\"a\", \"b\"]\n";
-
-const STARTED: Stage = Stage::Started;
-
-const SUCCESS: Stage = Stage::Ended(Outcome::Success);
-
-const SKIPPED: Stage = Stage::Ended(Outcome::Skipped);
-
-const FAILED: Stage = Stage::Ended(Outcome::Failed);
-
-const LOST: Stage = Stage::Ended(Outcome::Lost);
 
 // A schedule of the graph "one" with these tasks, over so many lanes.
 fn with_graph(
@@ -63,25 +52,15 @@ fn lanes_have_a_limit(rt: HostRuntime) -> Result<(), Fail> {
 fn one_lane_hands_out_one_by_one(rt: HostRuntime) -> Result<(), Fail> {
     let alloc = rt.alloc();
     let mut schedule = with_graph(&rt, alloc, TASK, 1)?;
-    follow(
-        &rt,
-        alloc,
-        &mut schedule,
-        &[
-            (
-                tick(&rt, "2024-01-03"),
-                "1:t | Running t=queued Running t=scheduled",
-            ),
-            (
-                Event::Report(1, STARTED),
-                "| Running t=running Running t=scheduled",
-            ),
-            (
-                Event::Report(1, SUCCESS),
-                "2:t | Success t=success Running t=queued",
-            ),
-        ],
-    )?;
+    let rows = [
+        (
+            "tick 2024-01-03",
+            "1:t | Running t=queued Running t=scheduled",
+        ),
+        ("started 1", "| Running t=running Running t=scheduled"),
+        ("success 1", "2:t | Success t=success Running t=queued"),
+    ];
+    follow(&rt, alloc, &mut schedule, &rows)?;
     assert_eq!(rt; schedule.in_flight(), 1);
     assert_eq!(rt; schedule.next_serial(), 3);
     Ok(())
@@ -89,89 +68,58 @@ fn one_lane_hands_out_one_by_one(rt: HostRuntime) -> Result<(), Fail> {
 
 // The rules of Airflow 2, "DAGs": trigger rules.
 #[test]
-fn the_first_upstream_to_end_decides(rt: HostRuntime) -> Result<(), Fail> {
+fn a_skip_that_comes_first_decides(rt: HostRuntime) -> Result<(), Fail> {
     let alloc = rt.alloc();
-    let mut skips = with_graph(&rt, alloc, JOIN, 4)?;
-    follow(
-        &rt,
-        alloc,
-        &mut skips,
-        &[
-            (
-                tick(&rt, "2024-01-02"),
-                "1:a 2:b | Running a=queued b=queued c=none",
-            ),
-            (
-                Event::Report(1, STARTED),
-                "| Running a=running b=queued c=none",
-            ),
-            (
-                Event::Report(2, STARTED),
-                "| Running a=running b=running c=none",
-            ),
-            (
-                Event::Report(1, SKIPPED),
-                "| Running a=skipped b=running c=skipped",
-            ),
-            (
-                Event::Report(2, FAILED),
-                "| Success a=skipped b=failed c=skipped",
-            ),
-        ],
-    )?;
-    let mut fails = with_graph(&rt, alloc, JOIN, 4)?;
-    follow(
-        &rt,
-        alloc,
-        &mut fails,
-        &[
-            (
-                tick(&rt, "2024-01-02"),
-                "1:a 2:b | Running a=queued b=queued c=none",
-            ),
-            (
-                Event::Report(2, STARTED),
-                "| Running a=queued b=running c=none",
-            ),
-            (
-                Event::Report(2, FAILED),
-                "| Running a=queued b=failed c=upstream_failed",
-            ),
-            (
-                Event::Report(1, STARTED),
-                "| Running a=running b=failed c=upstream_failed",
-            ),
-            (
-                Event::Report(1, SKIPPED),
-                "| Failed a=skipped b=failed c=upstream_failed",
-            ),
-        ],
-    )
+    let mut schedule = with_graph(&rt, alloc, JOIN, 4)?;
+    let rows = [
+        (
+            "tick 2024-01-02",
+            "1:a 2:b | Running a=queued b=queued c=none",
+        ),
+        ("started 1", "| Running a=running b=queued c=none"),
+        ("started 2", "| Running a=running b=running c=none"),
+        ("skipped 1", "| Running a=skipped b=running c=skipped"),
+        ("failed 2", "| Success a=skipped b=failed c=skipped"),
+    ];
+    follow(&rt, alloc, &mut schedule, &rows)
+}
+
+#[test]
+fn a_failure_that_comes_first_decides(rt: HostRuntime) -> Result<(), Fail> {
+    let alloc = rt.alloc();
+    let mut schedule = with_graph(&rt, alloc, JOIN, 4)?;
+    let rows = [
+        (
+            "tick 2024-01-02",
+            "1:a 2:b | Running a=queued b=queued c=none",
+        ),
+        ("started 2", "| Running a=queued b=running c=none"),
+        ("failed 2", "| Running a=queued b=failed c=upstream_failed"),
+        (
+            "started 1",
+            "| Running a=running b=failed c=upstream_failed",
+        ),
+        ("skipped 1", "| Failed a=skipped b=failed c=upstream_failed"),
+    ];
+    follow(&rt, alloc, &mut schedule, &rows)
 }
 
 #[test]
 fn what_follows_a_failure_is_decided_at_once(rt: HostRuntime) -> Result<(), Fail> {
     let alloc = rt.alloc();
     let mut schedule = with_graph(&rt, alloc, BELOW, 4)?;
-    follow(
-        &rt,
-        alloc,
-        &mut schedule,
-        &[
-            (
-                tick(&rt, "2024-01-02"),
-                "1:r | Running r=queued a=none b=none c=none",
-            ),
-            (
-                Event::Report(1, STARTED),
-                "| Running r=running a=none b=none c=none",
-            ),
-            (
-                Event::Report(1, FAILED),
-                "| Failed r=failed a=skipped b=upstream_failed c=upstream_failed",
-            ),
-        ],
-    )
+    let rows = [
+        (
+            "tick 2024-01-02",
+            "1:r | Running r=queued a=none b=none c=none",
+        ),
+        ("started 1", "| Running r=running a=none b=none c=none"),
+        (
+            "failed 1",
+            "| Failed r=failed a=skipped b=upstream_failed c=upstream_failed",
+        ),
+    ];
+    follow(&rt, alloc, &mut schedule, &rows)
 }
 
 // A delay of 300 seconds, to the second.
@@ -180,28 +128,28 @@ fn a_failed_try_is_followed_by_another(rt: HostRuntime) -> Result<(), Fail> {
     let alloc = rt.alloc();
     let task = "[[task]]\ntask_id = \"t\"\noperator = \"noop\"\nretries = 1\n";
     let mut schedule = with_graph(&rt, alloc, task, 4)?;
-    follow(
-        &rt,
-        alloc,
-        &mut schedule,
-        &[
-            (tick(&rt, "2024-01-02"), "1:t | Running t=queued"),
-            (Event::Report(1, STARTED), "| Running t=running"),
-            (Event::Report(1, FAILED), "| Running t=up_for_retry"),
-            (
-                tick(&rt, "2024-01-02T00:04:59Z"),
-                "| Running t=up_for_retry",
-            ),
-            (tick(&rt, "2024-01-02T00:05:00Z"), "2:t | Running t=queued"),
-            (Event::Report(2, STARTED), "| Running t=running"),
-            (Event::Report(2, FAILED), "| Failed t=failed"),
-        ],
-    )?;
-    let one = Name::read(alloc, "one").or_else(|_| Name::read(alloc, "one"))?;
-    let task = Name::read(alloc, "t").or_else(|_| Name::read(alloc, "t"))?;
+    let rows = [
+        ("tick 2024-01-02", "1:t | Running t=queued"),
+        ("started 1", "| Running t=running"),
+        ("failed 1", "| Running t=up_for_retry"),
+        ("tick 2024-01-02T00:04:59Z", "| Running t=up_for_retry"),
+        ("tick 2024-01-02T00:05:00Z", "2:t#2 | Running t=queued"),
+        ("started 2", "| Running t=running"),
+        ("failed 2", "| Failed t=failed"),
+    ];
+    follow(&rt, alloc, &mut schedule, &rows)
+}
+
+#[test]
+fn an_instance_is_found_by_its_key(rt: HostRuntime) -> Result<(), Fail> {
+    let alloc = rt.alloc();
+    let mut schedule = with_graph(&rt, alloc, TASK, 4)?;
+    accepted(&rt, alloc, &mut schedule, &tick(&rt, "2024-01-02"));
+    let one = name(alloc, "one")?;
+    let task = name(alloc, "t")?;
     let first = moment(&rt, "2024-01-01");
     let instance = schedule.instance_of(&one, first, &task).ok_or("none")?;
-    assert_eq!(rt; instance.tries().len(), 2);
+    assert_eq!(rt; instance.tries().len(), 1);
     assert!(rt; schedule.instance_of(&one, first, &one).is_none());
     assert!(rt; schedule.instance_of(&task, first, &task).is_none());
     assert!(rt;
@@ -217,52 +165,29 @@ fn the_past_holds_back(rt: HostRuntime) -> Result<(), Fail> {
     let alloc = rt.alloc();
     let task = "[[task]]\ntask_id = \"t\"\noperator = \"noop\"\ndepends_on_past = true\n";
     let mut schedule = with_graph(&rt, alloc, task, 4)?;
-    follow(
-        &rt,
-        alloc,
-        &mut schedule,
-        &[
-            (
-                tick(&rt, "2024-01-03"),
-                "1:t | Running t=queued Running t=none",
-            ),
-            (
-                Event::Report(1, STARTED),
-                "| Running t=running Running t=none",
-            ),
-            (Event::Report(1, FAILED), "| Failed t=failed Running t=none"),
-        ],
-    )
+    let rows = [
+        ("tick 2024-01-03", "1:t | Running t=queued Running t=none"),
+        ("started 1", "| Running t=running Running t=none"),
+        ("failed 1", "| Failed t=failed Running t=none"),
+    ];
+    follow(&rt, alloc, &mut schedule, &rows)
 }
 
 #[test]
 fn reports_come_in_turn(rt: HostRuntime) -> Result<(), Fail> {
     let alloc = rt.alloc();
     let mut schedule = with_graph(&rt, alloc, TASK, 4)?;
-    follow(
-        &rt,
-        alloc,
-        &mut schedule,
-        &[
-            (tick(&rt, "2024-01-02"), "1:t | Running t=queued"),
-            (Event::Report(1, SUCCESS), "OutOfTurn(1) | Running t=queued"),
-            (Event::Report(1, STARTED), "| Running t=running"),
-            (
-                Event::Report(1, STARTED),
-                "OutOfTurn(1) | Running t=running",
-            ),
-            (Event::Report(1, LOST), "OutOfTurn(1) | Running t=running"),
-            (
-                Event::Report(9, STARTED),
-                "NotInFlight(9) | Running t=running",
-            ),
-            (Event::Report(1, SUCCESS), "| Success t=success"),
-            (
-                Event::Report(1, SUCCESS),
-                "NotInFlight(1) | Success t=success",
-            ),
-        ],
-    )
+    let rows = [
+        ("tick 2024-01-02", "1:t | Running t=queued"),
+        ("success 1", "OutOfTurn(1) | Running t=queued"),
+        ("started 1", "| Running t=running"),
+        ("started 1", "OutOfTurn(1) | Running t=running"),
+        ("lost 1", "OutOfTurn(1) | Running t=running"),
+        ("started 9", "NotInFlight(9) | Running t=running"),
+        ("success 1", "| Success t=success"),
+        ("success 1", "NotInFlight(1) | Success t=success"),
+    ];
+    follow(&rt, alloc, &mut schedule, &rows)
 }
 
 // A restart loses the tries without an end, and frees their lanes (Airflow 2, "Tasks": zombie tasks).
@@ -270,25 +195,21 @@ fn reports_come_in_turn(rt: HostRuntime) -> Result<(), Fail> {
 fn a_restart_loses_what_is_in_flight(rt: HostRuntime) -> Result<(), Fail> {
     let alloc = rt.alloc();
     let mut schedule = with_graph(&rt, alloc, TASK, 1)?;
-    follow(
-        &rt,
-        alloc,
-        &mut schedule,
-        &[
-            (
-                tick(&rt, "2024-01-03"),
-                "1:t | Running t=queued Running t=scheduled",
-            ),
-            (Event::Restart(0), "| Failed t=failed Running t=scheduled"),
-            (Event::Restart(2), "2:t | Failed t=failed Running t=queued"),
-        ],
-    )?;
+    let rows = [
+        (
+            "tick 2024-01-03",
+            "1:t | Running t=queued Running t=scheduled",
+        ),
+        ("restart 0", "| Failed t=failed Running t=scheduled"),
+        ("restart 2", "2:t | Failed t=failed Running t=queued"),
+    ];
+    follow(&rt, alloc, &mut schedule, &rows)?;
     assert_eq!(rt; schedule.in_flight(), 1);
     Ok(())
 }
 
 // Each row of the instances: graph, date, task, state and number of tries.
-fn rows(alloc: Global, schedule: &Schedule) -> Result<String, fmt::Error> {
+fn row_lines(alloc: Global, schedule: &Schedule) -> Result<String, fmt::Error> {
     let mut text = String::new(alloc);
     for row in schedule.instances() {
         let graph = row.graph.as_str();
@@ -309,7 +230,7 @@ fn rows_come_by_date_and_task(rt: HostRuntime) -> Result<(), Fail> {
         "[[task]]\ntask_id = \"z\"\noperator = \"noop\"\n[[task]]\ntask_id = \"a\"\noperator = \"noop\"\nupstream = [\"z\"]\n";
     let mut schedule = with_graph(&rt, alloc, tasks, 1)?;
     accepted(&rt, alloc, &mut schedule, &tick(&rt, "2024-01-03"));
-    let text = rows(alloc, &schedule).or_else(|_| rows(alloc, &schedule))?;
+    let text = row_lines(alloc, &schedule).or_else(|_| row_lines(alloc, &schedule))?;
     assert_eq!(rt;
         text.as_str(),
         "one 2024-01-01T00:00:00+00:00 a none 0\none 2024-01-01T00:00:00+00:00 z queued 1\none 2024-01-02T00:00:00+00:00 a none 0\none 2024-01-02T00:00:00+00:00 z scheduled 0\n"
@@ -341,8 +262,8 @@ fn a_large_schedule_is_gone_through(rt: HostRuntime) -> Result<(), Fail> {
     }
     assert_eq!(rt; schedule.runs().len(), 100);
     assert_eq!(rt; schedule.in_flight(), 64);
-    accepted(&rt, alloc, &mut schedule, &Event::Report(1, STARTED));
-    accepted(&rt, alloc, &mut schedule, &Event::Report(1, SUCCESS));
+    accepted(&rt, alloc, &mut schedule, &event(&rt, alloc, "started 1")?);
+    accepted(&rt, alloc, &mut schedule, &event(&rt, alloc, "success 1")?);
     assert_eq!(rt; schedule.in_flight(), 64);
     assert_eq!(rt; schedule.next_serial(), 66);
     Ok(())

@@ -1,7 +1,6 @@
 use super::*;
 use crate::stepping::{accepted, empty, file, moment, refusal, tick};
 use graph_file::{GraphFault, Place};
-use instance_machine::{Outcome, Stage};
 use moment_core::Moment;
 use sched_state::{Kind, Limits, Phase};
 use std::alloc::{AllocError, Global};
@@ -233,25 +232,5 @@ fn the_second_run_of_a_graph_waits(rt: HostRuntime) -> Result<(), Fail> {
     assert_eq!(rt; runs.len(), 3);
     assert_eq!(rt; runs[1].phase, Phase::Running);
     assert_eq!(rt; runs[2].phase, Phase::Queued);
-    Ok(())
-}
-
-#[test]
-fn a_copy_of_an_event_is_equal(rt: HostRuntime) -> Result<(), Fail> {
-    let alloc = rt.alloc();
-    let load = graph(alloc, "one", "@daily", "2024-01-01", "")?;
-    match (&load, load.copy(alloc).or_else(|_| load.copy(alloc))?) {
-        (Event::Load(text), Event::Load(copied)) => {
-            assert_eq!(rt; copied.as_str(), text.as_str());
-        }
-        _ => panic!(rt; "no text"),
-    }
-    let Event::Tick(copied) = tick(&rt, "2024-01-02").copy(alloc)? else {
-        panic!(rt; "no moment")
-    };
-    assert_eq!(rt; copied, moment(&rt, "2024-01-02"));
-    let failed = Event::Report(7, Stage::Ended(Outcome::Failed)).copy(alloc)?;
-    assert!(rt; matches!(failed, Event::Report(7, Stage::Ended(Outcome::Failed))));
-    assert!(rt; matches!(Event::Restart(3).copy(alloc)?, Event::Restart(3)));
     Ok(())
 }

@@ -1,5 +1,6 @@
 //! What the tests of events share.
 use super::*;
+use crate::event_words::event;
 use graph_file::Name;
 use moment_core::Moment;
 use sched_state::{Limits, Run, Text};
@@ -113,10 +114,19 @@ fn written(
     match answered {
         Err(refusal) => write!(text, "{refusal:?} |")?,
         Ok(answer) => {
+            if answer.cleared > 0 {
+                let cleared = answer.cleared;
+                write!(text, "cleared {cleared} ")?;
+            }
             for job in answer.jobs.as_slice() {
                 let serial = job.serial;
                 let task = job.task.as_str();
-                write!(text, "{serial}:{task} ")?;
+                write!(text, "{serial}:{task}")?;
+                if job.try_number > 1 {
+                    let number = job.try_number;
+                    write!(text, "#{number}")?;
+                }
+                write!(text, " ")?;
             }
             write!(text, "|")?;
         }
@@ -127,7 +137,7 @@ fn written(
     Ok(text)
 }
 
-// Does the event, and tells what it answers and leaves: `1:t | Running t=queued`.
+// Does the event, and tells what it answers and leaves: `1:t | Running t=queued`; a try that is not the first is told as `2:t#2`.
 pub fn told(
     rt: &impl Abort,
     alloc: Global,
@@ -146,11 +156,12 @@ pub fn follow(
     rt: &impl Abort,
     alloc: Global,
     schedule: &mut Schedule,
-    rows: &[(Event, &str)],
+    rows: &[(&str, &str)],
 ) -> Result<(), Fail> {
-    for (event, wanted) in rows {
-        let found = told(rt, alloc, schedule, event)?;
-        assert_eq!(rt; found.as_str(), *wanted, "{event:?}");
+    for (words, wanted) in rows {
+        let event = event(rt, alloc, words)?;
+        let found = told(rt, alloc, schedule, &event)?;
+        assert_eq!(rt; found.as_str(), *wanted, "{words}");
     }
     Ok(())
 }

@@ -1,5 +1,5 @@
 use super::*;
-use crate::stepping::{accepted, empty, file, follow, moment, name, tick, told};
+use crate::stepping::{accepted, empty, file, follow, moment};
 use sched_state::Limits;
 use std::alloc::Global;
 use std::process::Abort;
@@ -27,35 +27,18 @@ fn of_one(
     Ok(schedule)
 }
 
-// Does the events one after another, each with what it answers and leaves: a tick at a moment, or a trigger where there is none.
-fn assert_told(
-    rt: &impl Abort,
-    alloc: Global,
-    schedule: &mut Schedule,
-    events: &[(Option<&str>, &str)],
-) -> Result<(), Fail> {
-    for (day, wanted) in events {
-        let event = match day {
-            Some(day) => tick(rt, day),
-            None => Event::Trigger(name(alloc, "one")?),
-        };
-        follow(rt, alloc, schedule, &[(event, *wanted)])?;
-    }
-    Ok(())
-}
-
 // By Airflow 2's page 'DAG Runs', on external triggers. The next day's interval starts at the date of the run by hand, so it gets none.
 #[test]
 fn a_run_by_hand_takes_its_date(rt: HostRuntime) -> Result<(), Fail> {
     let alloc = rt.alloc();
     let mut schedule = of_one(&rt, alloc, 9, "@daily", "2024-01-25")?;
-    let events = [
-        (Some("2024-01-25"), "|"),
-        (None, "1:t | Running t=queued"),
-        (None, "RunExists | Running t=queued"),
-        (Some("2024-01-26"), "| Running t=queued"),
+    let rows = [
+        ("tick 2024-01-25", "|"),
+        ("trigger one", "1:t | Running t=queued"),
+        ("trigger one", "RunExists | Running t=queued"),
+        ("tick 2024-01-26", "| Running t=queued"),
     ];
-    assert_told(&rt, alloc, &mut schedule, &events)?;
+    follow(&rt, alloc, &mut schedule, &rows)?;
     let interval = schedule.runs().first().map(|run| run.interval);
     let (start, end) = interval
         .map(|found| (found.start, found.end))
@@ -70,25 +53,25 @@ fn a_run_by_hand_takes_its_date(rt: HostRuntime) -> Result<(), Fail> {
 #[test]
 fn a_run_by_hand_wants_an_interval(rt: HostRuntime) -> Result<(), Fail> {
     let alloc = rt.alloc();
-    for (timetable, events) in [
-        ("@daily", [(None, "NoInterval |"), (None, "NoInterval |")]),
+    for (timetable, rows) in [
+        ("@daily", [("trigger one", "NoInterval |"); 2]),
         (
             "None",
             [
-                (None, "1:t | Running t=queued"),
-                (None, "RunExists | Running t=queued"),
+                ("trigger one", "1:t | Running t=queued"),
+                ("trigger one", "RunExists | Running t=queued"),
             ],
         ),
         (
             "@once",
             [
-                (Some("2024-01-01"), "1:t | Running t=queued"),
-                (None, "RunExists | Running t=queued"),
+                ("tick 2024-01-01", "1:t | Running t=queued"),
+                ("trigger one", "RunExists | Running t=queued"),
             ],
         ),
     ] {
         let mut schedule = of_one(&rt, alloc, 9, timetable, "2024-01-01")?;
-        assert_told(&rt, alloc, &mut schedule, &events)?;
+        follow(&rt, alloc, &mut schedule, &rows)?;
     }
     Ok(())
 }
@@ -97,38 +80,24 @@ fn a_run_by_hand_wants_an_interval(rt: HostRuntime) -> Result<(), Fail> {
 fn a_run_by_hand_is_one_run_more(rt: HostRuntime) -> Result<(), Fail> {
     let alloc = rt.alloc();
     let mut schedule = of_one(&rt, alloc, 3, "@daily", "2024-01-01")?;
-    accepted(
-        &rt,
-        alloc,
-        &mut schedule,
-        &Event::Pause(name(alloc, "one")?),
-    );
-    let events = [
-        (Some("2024-01-02"), "|"),
-        (None, "| Queued t=none"),
-        (Some("2024-01-03"), "| Queued t=none"),
-        (None, "| Queued t=none Queued t=none"),
-        (Some("2024-01-04"), "| Queued t=none Queued t=none"),
-        (None, "| Queued t=none Queued t=none Queued t=none"),
+    let three = "| Queued t=none Queued t=none Queued t=none";
+    let rows = [
+        ("pause one", "|"),
+        ("tick 2024-01-02", "|"),
+        ("trigger one", "| Queued t=none"),
+        ("tick 2024-01-03", "| Queued t=none"),
+        ("trigger one", "| Queued t=none Queued t=none"),
+        ("tick 2024-01-04", "| Queued t=none Queued t=none"),
+        ("trigger one", three),
+        ("tick 2024-01-05", three),
         (
-            Some("2024-01-05"),
-            "| Queued t=none Queued t=none Queued t=none",
-        ),
-        (
-            None,
+            "trigger one",
             "RecordFull | Queued t=none Queued t=none Queued t=none",
         ),
+        (
+            "trigger two",
+            "UnknownGraph | Queued t=none Queued t=none Queued t=none",
+        ),
     ];
-    assert_told(&rt, alloc, &mut schedule, &events)?;
-    let other = told(
-        &rt,
-        alloc,
-        &mut schedule,
-        &Event::Trigger(name(alloc, "two")?),
-    )?;
-    assert_eq!(rt;
-        other.as_str(),
-        "UnknownGraph | Queued t=none Queued t=none Queued t=none"
-    );
-    Ok(())
+    follow(&rt, alloc, &mut schedule, &rows)
 }

@@ -6,10 +6,10 @@ ghost use Rattle.sched_core.specs.Inside.{hand_refusal};
 ghost use Rattle.sched_core.specs.Plans.{IsPlanned};
 
 use crate::changes::Change;
-use crate::planning::ids_of;
+use crate::planning::{ids_of, quiet_answer};
 use crate::schedules::Schedule;
 use graph_file::Name;
-use sched_events::Refusal;
+use sched_events::{Answer, Refusal};
 use sched_naming::{ByHandFault, add, named_by_hand};
 use sched_state::Run;
 use std::alloc::{AllocError, Global};
@@ -31,7 +31,11 @@ impl Schedule {
         let runs = alone(alloc, run)?;
         let made = ids_of(alloc, &runs)?;
         add(&mut draft, runs)?;
-        Ok(self.finished(alloc, draft, None, made, false)?)
+        let answer = Answer {
+            made,
+            ..quiet_answer(alloc)
+        };
+        Ok(self.finished(alloc, draft, None, answer)?)
     }
 }
 

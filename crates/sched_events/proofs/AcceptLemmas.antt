@@ -1,9 +1,9 @@
 -- What follows of an event that is accepted: its own change keeps the schedule.
-use Rattle.std.proofs.Common.{◌≡◌, ◌∙◌, refl, sym, ap, subst, ℕ, ◌≤◌, List, [], ◌∷◌, Bool, true, false, not, ◌&&◌, ◌||◌, cond, length, find, is_some, is_none, nat_lt, Option, Some, None, option_map, Result, Ok, Err, true≢false}
+use Rattle.std.proofs.Common.{◌≡◌, ◌∙◌, refl, sym, ap, subst, ℕ, ◌≤◌, List, [], ◌∷◌, Bool, true, false, not, ◌&&◌, ◌||◌, cond, length, find, is_some, nat_lt, Option, Some, None, option_map, Result, Ok, Err, true≢false}
 use Rattle.std.specs.List.{list_all, list_any}
 use Rattle.std.proofs.lemmas.Bool.{ltb-false}
 use Rattle.graph_file.specs.Graphs.{graph_of}
-use Rattle.graph_file.specs.Lists.{when, first_some, holds_at}
+use Rattle.graph_file.specs.Lists.{holds_at}
 use Rattle.graph_file.specs.declared.faults.GraphFault.{GraphFault}
 use Rattle.graph_file.specs.declared.graph_specs.GraphSpec.{GraphSpec}
 use Rattle.graph_file.specs.declared.task_specs.TaskSpec.{TaskSpec}
@@ -28,23 +28,17 @@ use Rattle.sched_laws.proofs.PoolLemmas.{resize_sound}
 use Rattle.sched_laws.proofs.SaidLemmas.{said_sound}
 use Rattle.sched_laws.proofs.SoundLemmas.{clock_sound, report_sound, restart_sound}
 use Rattle.sched_laws.proofs.TextLemmas.{load_says, pause_says}
-use Rattle.sched_events.specs.Events.{change_by, load_result, IsInRange}
+use Rattle.sched_events.specs.Events.{set_back_by, change_by, load_result, IsInRange}
 use Rattle.sched_events.specs.Causes.{exceeds, edge_count, unknown_pool, differs, has_no_interval, refused, refused_text}
 use Rattle.sched_events.specs.Kept.{IsKept}
 use Rattle.sched_events.specs.declared.events.Event.{Event}
-use Rattle.sched_events.specs.declared.events.Event.TheVariants.{Load, Tick, Trigger, Pause, Unpause, Resize, Report, Restart}
+use Rattle.sched_events.specs.declared.events.Event.TheVariants.{Load, Tick, Trigger, Backfill, Clear, Pause, Unpause, Resize, Report, Restart}
 use Rattle.sched_events.specs.declared.refusals.Refusal.{Refusal}
 use Rattle.sched_events.specs.declared.refusals.Refusal.TheVariants as refusal
+use Rattle.sched_events.proofs.CauseLemmas.{no_when, no_map, within, some_there}
+use Rattle.sched_events.proofs.RepairLemmas.{backfill_over, clear_over, set_back_kept}
 
--- ---- no cause stands
-no_when : {X : Type 0} (b : Bool) (x : X) (os : List (Option X)) → first_some (when b x ∷ os) ≡ None → (b ≡ false) × (first_some os ≡ None)
-no_when {X} true x os e = absurd (let c : ◌≡◌ {A = Option X} (Some x) None = e in cc)
-no_when false x os e = (refl, e)
-
-no_map : {X Y : Type 0} (f : Y → X) (o : Option Y) (os : List (Option X)) → first_some (option_map f o ∷ os) ≡ None → (o ≡ None) × (first_some os ≡ None)
-no_map {X} f (Some y) os e = absurd (let c : ◌≡◌ {A = Option X} (Some (f y)) None = e in cc)
-no_map f None os e = (refl, e)
-
+-- ---- what is found, and what is not
 -- nothing is found, so all pass
 none_fails : {X : Type 0} (p : X → Bool) (xs : List X) → find (λ x. not (p x)) xs ≡ None → list_all p xs ≡ true
 none_fails p [] e = refl
@@ -60,10 +54,6 @@ unmapped {X} {Y} f (Some x) e = absurd (let c : ◌≡◌ {A = Option Y} (Some (
 doubly : (b : Bool) → (not b && true) ≡ false → b ≡ true
 doubly true e = refl
 doubly false e = absurd (true≢false e)
-
-within : {X : Type 0} (x : X) (b : Bool) → when b x ≡ None → b ≡ false
-within {X} x true e = absurd (let c : ◌≡◌ {A = Option X} (Some x) None = e in cc)
-within x false e = refl
 
 no_task_left : (a : Schedule) (spec : GraphSpec) → unknown_pool a spec ≡ None → list_all (λ (t : TaskSpec). has_pool a t.pool) spec.tasks ≡ true
 no_task_left a spec e = none_fails (λ (t : TaskSpec). has_pool a t.pool) spec.tasks (unmapped (λ (t : TaskSpec). t.pool) (find (λ (t : TaskSpec). not (has_pool a t.pool)) spec.tasks) e)
@@ -131,6 +121,8 @@ pub change_kept : (e : Event) (a : Schedule) → IsInRange e → refused a e ≡
 change_kept (Load text) a ranged accepted kept = read_kept a text (graph_of text) refl accepted kept
 change_kept (Tick t) a ranged accepted kept = (clock_sound t a ranged kept.sound, kept.said)
 change_kept (Trigger id) a ranged accepted kept = (kept.sound, kept.said)
+change_kept (Backfill id from to reset) a ranged accepted kept = set_back_kept (set_back_by (Backfill id from to reset) a) a (backfill_over a id from to reset accepted) kept
+change_kept (Clear c) a ranged accepted kept = set_back_kept (set_back_by (Clear c) a) a (clear_over a c accepted) kept
 change_kept (Pause id) a ranged accepted kept = (pause_sound id true a kept.sound, pause_says id true a kept.said)
 change_kept (Unpause id) a ranged accepted kept = (pause_sound id false a kept.sound, pause_says id false a kept.said)
 change_kept (Resize name size) a ranged accepted kept = (resize_sound name size a ranged (within (refusal.PoolFault TooManyPools) _ accepted) kept.sound, kept.said)
@@ -144,10 +136,6 @@ still_new a t (n ∷ ns) = ap (λ b. is_new a n && (not (list_any (is_for n.grap
 
 pub tick_room : (a : Schedule) (t : ℕ) → refused a (Tick t) ≡ None → is_full_with (set_now t a) (named_by_tick a t) ≡ false
 tick_room a t accepted = (no_when (is_full_with a (named_by_tick a t)) _ _ (no_when (nat_lt t a.now) _ _ accepted).1).0
-
-some_there : {X : Type 0} (o : Option X) → is_none o ≡ false → is_some o ≡ true
-some_there None e = absurd (true≢false e)
-some_there (Some x) e = refl
 
 -- a run by hand that is accepted is new, and there is room for it
 pub hand_new : (a : Schedule) (id : List ℕ) → refused a (Trigger id) ≡ None → IsSound a → are_new a (named_by_hand a id) ≡ true

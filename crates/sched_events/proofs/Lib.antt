@@ -1,2 +1,4 @@
 pub mod StepLemmas
 pub mod AcceptLemmas
+pub mod CauseLemmas
+pub mod RepairLemmas

@@ -9,12 +9,14 @@ use Rattle.dag_check.specs.Graphs.{Dag, dag_of}
 use Rattle.dag_check.proofs.FirstLemmas.{faultless}
 use Rattle.dag_check.specs.Faults.{first_fault}
 use Rattle.sched_state.specs.Lists.{same, repeat}
+use Rattle.sched_state.specs.declared.clearings.Clearing.{Clearing}
 use Rattle.sched_state.specs.declared.graphs.Graph.{Graph}
 use Rattle.instance_machine.specs.Reports.{reported_try, lost_try}
 use Rattle.sched_model.specs.Schedule.{Schedule, graph_named, has_pool, has_run_at, size_of}
 use Rattle.sched_model.specs.Settle.{move, move_runs, with_runs, moves_left, settle}
 use Rattle.sched_model.specs.Handout.{hand, hand_one, best_offer, serials_left, hand_out}
-use Rattle.sched_model.specs.NamedRuns.{is_for, add_runs}
+use Rattle.sched_model.specs.NamedRuns.{Named, is_for, named_by_backfill, spanned, add_runs}
+use Rattle.sched_model.specs.Clearing.{cleared_by, clear, named_pairs}
 use Rattle.sched_model.specs.Changes.{load_graph, set_paused, resize}
 use Rattle.sched_model.specs.Sound.{IsSound, Says, AllSay}
 use Rattle.sched_laws.proofs.SettleLemmas.{settle_ends, settle_still, map_some}
@@ -22,19 +24,23 @@ use Rattle.sched_laws.proofs.HandLemmas.{out_still}
 use Rattle.sched_laws.proofs.HandOutLemmas.{hand_ends, hand_still}
 use Rattle.sched_laws.proofs.SoundLemmas.{settle_sound, out_sound}
 use Rattle.sched_laws.proofs.AddLemmas.{add_sound}
+use Rattle.sched_laws.proofs.BackfillLemmas.{filled}
+use Rattle.run_planner.specs.Index.{has_date}
+use Rattle.run_planner.specs.Spans.{starts}
 use Rattle.sched_laws.proofs.KeyLemmas.{advance_keys, tries_keys}
 use Rattle.sched_state.proofs.NameLemmas.{same_is}
 use Rattle.sched_laws.proofs.LoadLemmas.{load_again}
 use Rattle.sched_laws.proofs.NamedLemmas.{named_new}
 use Rattle.sched_laws.proofs.PauseLemmas.{pause_still, pause_no_hand, pause_again}
 use Rattle.sched_laws.proofs.ResizeLemmas.{resize_still, smaller_no_hand, new_no_hand, resize_again}
-use Rattle.sched_events.specs.Events.{named_by, change_by, load_result, IsInRange}
+use Rattle.sched_events.specs.Events.{named_by, set_back_by, change_by, load_result, IsInRange}
 use Rattle.sched_events.specs.Causes.{refused}
 use Rattle.sched_events.specs.Steps.{step, steps, named_along, AreAccepted}
 use Rattle.sched_events.specs.Kept.{IsKept}
 use Rattle.sched_events.specs.declared.events.Event.{Event}
-use Rattle.sched_events.specs.declared.events.Event.TheVariants.{Load, Tick, Trigger, Pause, Unpause, Resize, Report, Restart}
+use Rattle.sched_events.specs.declared.events.Event.TheVariants.{Load, Tick, Trigger, Backfill, Clear, Pause, Unpause, Resize, Report, Restart}
 use Rattle.sched_events.proofs.AcceptLemmas.{change_kept, still_new, tick_room, hand_new, hand_room}
+use Rattle.sched_events.proofs.RepairLemmas.{set_back_dates, span_new, span_room, clear_none}
 
 -- ---- graphs stay
 pub repeat_keeps : {X Y : Type 0} (h : X → Y) (f : X → Option X) → ((x y : X) → f x ≡ Some y → h y ≡ h x) → (n : ℕ) (x : X) → h (repeat n f x) ≡ h x
@@ -79,6 +85,9 @@ pub added_sound : (e : Event) (a : Schedule) → IsInRange e → refused a e ≡
 added_sound (Load text) a ranged accepted kept s = s
 added_sound (Tick t) a ranged accepted kept s = add_sound (named_by (Tick t) a) (change_by (Tick t) a) (still_new a t (named_by (Tick t) a) ∙ named_new a t kept.sound ranged) (tick_room a t accepted) s
 added_sound (Trigger id) a ranged accepted kept s = add_sound (named_by (Trigger id) a) (change_by (Trigger id) a) (hand_new a id accepted kept.sound) (hand_room a id accepted) s
+added_sound (Backfill id from to reset) a ranged accepted kept s =
+    add_sound (named_by (Backfill id from to reset) a) (change_by (Backfill id from to reset) a) (span_new a id from to reset accepted kept.sound) (span_room a id from to reset accepted) s
+added_sound (Clear c) a ranged accepted kept s = s
 added_sound (Pause id) a ranged accepted kept s = s
 added_sound (Unpause id) a ranged accepted kept s = s
 added_sound (Resize name size) a ranged accepted kept s = s
@@ -103,6 +112,8 @@ change_dates : (e : Event) (a : Schedule) (id : List ℕ) (date : ℕ) → has_r
 change_dates (Load text) a id date = loaded_dates text (graph_of text) a id date
 change_dates (Tick t) a id date = refl
 change_dates (Trigger name) a id date = refl
+change_dates (Backfill name from to reset) a id date = set_back_dates (set_back_by (Backfill name from to reset) a) a id date
+change_dates (Clear c) a id date = set_back_dates (set_back_by (Clear c) a) a id date
 change_dates (Pause name) a id date = refl
 change_dates (Unpause name) a id date = refl
 change_dates (Resize name size) a id date = refl
@@ -174,6 +185,21 @@ new_step name size a kept none = resized_still name size a kept (new_no_hand nam
 pub same_size : (name : List ℕ) (size : ℕ) (a : Schedule) → IsKept a → has_pool a name ≡ true → size_of a name ≡ size → step (Resize name size) a ≡ a
 unfolding step
 same_size name size a kept there is = still_step a (resize name size a) kept (resize_again name size a kept.sound.pools_by_name there is)
+
+-- ---- repairs
+-- after a backfill each interval of its span has a run
+pub backfill_dates : (id : List ℕ) (from to : ℕ) (reset : Bool) (a : Schedule) (date : ℕ)
+    → has_run_at (step (Backfill id from to reset) a) id date ≡ (has_date (starts (spanned a id from to)) date || has_run_at a id date)
+backfill_dates id from to reset a date =
+    step_dates (Backfill id from to reset) a id date ∙ (sym (advance_keys (named_by_backfill a id from to) a id date) ∙ filled a id from to date)
+
+pub no_backfill : (id : List ℕ) (from to : ℕ) (a : Schedule) → IsKept a → named_by_backfill a id from to ≡ [] → step (Backfill id from to false) a ≡ a
+unfolding step
+no_backfill id from to a kept none = still_step a (add_runs (named_by_backfill a id from to) a) kept (ap (λ (ns : List Named). add_runs ns a) none)
+
+pub no_clear : (c : Clearing) (a : Schedule) → IsKept a → named_pairs a (cleared_by a c) ≡ [] → step (Clear c) a ≡ a
+unfolding step
+no_clear c a kept none = still_step a (clear (cleared_by a c) a) kept (clear_none (cleared_by a c) a none)
 
 -- ---- the same text again
 -- a graph that is found is what its text says

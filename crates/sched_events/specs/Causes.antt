@@ -1,5 +1,5 @@
 -- The causes for which an event is refused.
-use Rattle.std.specs.Prelude.{ℕ, not, ◌&&◌, ◌||◌, Bool, List, [], ◌∷◌, length, sum_by, find, nat_lt, Option, Some, option_map, Result, Ok, Err}
+use Rattle.std.specs.Prelude.{ℕ, not, ◌&&◌, ◌||◌, Bool, List, [], ◌∷◌, length, sum_by, find, nat_lt, Option, Some, option_map, option_and_then, Result, Ok, Err}
 use Rattle.graph_file.specs.Graphs.{graph_of}
 use Rattle.graph_file.specs.Lists.{when, first_some, holds_at}
 use Rattle.graph_file.specs.declared.faults.GraphFault.{GraphFault}
@@ -12,11 +12,12 @@ use Rattle.sched_state.specs.Limits.{Bounds}
 use Rattle.sched_state.specs.Lists.{same}
 use Rattle.sched_state.specs.declared.graphs.Graph.{Graph}
 use Rattle.sched_model.specs.Schedule.{Schedule, graph_named, has_pool, has_runs, has_run_at}
-use Rattle.sched_model.specs.NamedRuns.{named_by_tick, named_by_hand}
+use Rattle.sched_model.specs.NamedRuns.{named_by_tick, named_by_hand, named_by_backfill}
 use Rattle.sched_model.specs.Sound.{is_empty}
-use Rattle.sched_model.specs.Causes.{is_not_in_flight, is_out_of_turn, is_unknown_graph, has_too_many_graphs, has_too_many_pools, has_too_many_lanes, is_full_with}
+use Rattle.sched_model.specs.Causes.{is_not_in_flight, is_out_of_turn, is_unknown_graph, is_unknown_task, is_bad_span, least_in_flight, has_too_many_graphs, has_too_many_pools, has_too_many_lanes, is_full_with}
+use Rattle.sched_events.specs.Events.{set_back_by}
 use Rattle.sched_events.specs.declared.events.Event.{Event}
-use Rattle.sched_events.specs.declared.events.Event.TheVariants.{Load, Tick, Trigger, Pause, Unpause, Resize, Report, Restart}
+use Rattle.sched_events.specs.declared.events.Event.TheVariants.{Load, Tick, Trigger, Backfill, Clear, Pause, Unpause, Resize, Report, Restart}
 use Rattle.sched_events.specs.declared.refusals.Refusal.{Refusal}
 use Rattle.sched_events.specs.declared.refusals.Refusal.TheVariants as refusal
 
@@ -51,6 +52,10 @@ refused_text a text (Ok spec) = first_some (
 abbrev pub has_no_interval : Schedule → List ℕ → Bool
 has_no_interval a id = is_empty (named_by_hand a id)
 
+-- of the instances that an event sets back one has a try without an end, and this is the least serial of such tries
+abbrev pub in_flight : Schedule → Event → Option Refusal
+in_flight a e = option_map refusal.InFlight (option_and_then (least_in_flight a) (set_back_by e a))
+
 -- the first cause against an event, in the order of the refusals; want of memory is none of them
 abbrev pub refused : Schedule → Event → Option Refusal
 refused a (Load text) = refused_text a text (graph_of text)
@@ -60,6 +65,18 @@ refused a (Trigger id) = first_some (
     ∷ when (has_run_at a id a.now) refusal.RunExists
     ∷ when (has_no_interval a id) refusal.NoInterval
     ∷ when (is_full_with a (named_by_hand a id)) refusal.RecordFull
+    ∷ [])
+refused a (Backfill id from to reset) = first_some (
+    when (is_unknown_graph a id) refusal.UnknownGraph
+    ∷ when (is_bad_span from to) refusal.BadSpan
+    ∷ in_flight a (Backfill id from to reset)
+    ∷ when (is_full_with a (named_by_backfill a id from to)) refusal.RecordFull
+    ∷ [])
+refused a (Clear c) = first_some (
+    when (is_unknown_graph a c.graph) refusal.UnknownGraph
+    ∷ when (is_unknown_task a c) refusal.UnknownTask
+    ∷ when (is_bad_span c.from c.to) refusal.BadSpan
+    ∷ in_flight a (Clear c)
     ∷ [])
 refused a (Pause id) = when (is_unknown_graph a id) refusal.UnknownGraph
 refused a (Unpause id) = when (is_unknown_graph a id) refusal.UnknownGraph

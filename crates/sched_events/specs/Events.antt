@@ -1,22 +1,25 @@
 -- What an event does: the runs that it names, and its own change.
-use Rattle.std.specs.Prelude.{ℕ, Bool, true, false, List, [], Some, None, Result, Ok, Err, IsTrue}
+use Rattle.std.specs.Prelude.{ℕ, Bool, true, false, List, [], Option, Some, None, Result, Ok, Err, IsTrue}
 use Rattle.graph_file.specs.Graphs.{graph_of}
 use Rattle.graph_file.specs.declared.faults.GraphFault.{GraphFault}
 use Rattle.graph_file.specs.declared.graph_specs.GraphSpec.{GraphSpec}
 use Rattle.dag_check.specs.Graphs.{dag_of}
 use Rattle.dag_check.specs.Faults.{first_fault}
 use Rattle.sched_model.specs.Schedule.{Schedule}
-use Rattle.sched_model.specs.NamedRuns.{Named, named_by_tick, named_by_hand, leaves_more}
+use Rattle.sched_model.specs.NamedRuns.{Named, named_by_tick, named_by_hand, named_by_backfill, present_in, leaves_more}
+use Rattle.sched_model.specs.Clearing.{Naming, cleared_by, reset_by, clear, count_cleared}
 use Rattle.sched_model.specs.Changes.{load_graph, set_now, set_paused, new_pool, resize, report, restart}
 use Rattle.sched_model.specs.Sound.{is_moment, is_sound_pool}
 use Rattle.sched_events.specs.declared.events.Event.{Event}
-use Rattle.sched_events.specs.declared.events.Event.TheVariants.{Load, Tick, Trigger, Pause, Unpause, Resize, Report, Restart}
+use Rattle.sched_events.specs.declared.events.Event.TheVariants.{Load, Tick, Trigger, Backfill, Clear, Pause, Unpause, Resize, Report, Restart}
 
 -- the runs that an event names
 abbrev pub named_by : Event → Schedule → List Named
 named_by (Load text) a = []
 named_by (Tick t) a = named_by_tick a t
 named_by (Trigger id) a = named_by_hand a id
+named_by (Backfill id from to reset) a = named_by_backfill a id from to
+named_by (Clear c) a = []
 named_by (Pause id) a = []
 named_by (Unpause id) a = []
 named_by (Resize name size) a = []
@@ -25,14 +28,24 @@ named_by (Restart lanes) a = []
 
 -- whether it leaves some for the next event of its kind
 abbrev pub leaves_more_by : Event → Schedule → Bool
-leaves_more_by (Load text) a = false
 leaves_more_by (Tick t) a = leaves_more a t
-leaves_more_by (Trigger id) a = false
-leaves_more_by (Pause id) a = false
-leaves_more_by (Unpause id) a = false
-leaves_more_by (Resize name size) a = false
-leaves_more_by (Report serial stage) a = false
-leaves_more_by (Restart lanes) a = false
+leaves_more_by _ a = false
+
+-- the instances that it sets back, where it is an event that does: those that a clear names, or all instances of the runs that a
+-- backfill finds in its span, if they are to be reset
+abbrev pub set_back_by : Event → Schedule → Option Naming
+set_back_by (Backfill id from to true) a = Some (reset_by id (present_in a id from to))
+set_back_by (Clear c) a = Some (cleared_by a c)
+set_back_by _ a = None
+
+abbrev pub set_back : Option Naming → Schedule → Schedule
+set_back None a = a
+set_back (Some named) a = clear named a
+
+-- how many of them were not none
+abbrev pub count_in : Option Naming → Schedule → ℕ
+count_in None a = 0
+count_in (Some named) a = count_cleared a named
 
 -- a text that says a graph without faults is taken in
 abbrev pub load_result : List ℕ → Result GraphSpec GraphFault → Schedule → Schedule
@@ -44,6 +57,8 @@ abbrev pub change_by : Event → Schedule → Schedule
 change_by (Load text) a = load_result text (graph_of text) a
 change_by (Tick t) a = set_now t a
 change_by (Trigger id) a = a
+change_by (Backfill id from to reset) a = set_back (set_back_by (Backfill id from to reset) a) a
+change_by (Clear c) a = set_back (set_back_by (Clear c) a) a
 change_by (Pause id) a = set_paused id true a
 change_by (Unpause id) a = set_paused id false a
 change_by (Resize name size) a = resize name size a
@@ -55,6 +70,8 @@ abbrev pub IsInRange : Event → Type 0
 IsInRange (Load text) = Unit {0}
 IsInRange (Tick t) = IsTrue (is_moment t)
 IsInRange (Trigger id) = Unit {0}
+IsInRange (Backfill id from to reset) = Unit {0}
+IsInRange (Clear c) = Unit {0}
 IsInRange (Pause id) = Unit {0}
 IsInRange (Unpause id) = Unit {0}
 IsInRange (Resize name size) = IsTrue (is_sound_pool (new_pool name size))

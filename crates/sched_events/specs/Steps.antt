@@ -4,7 +4,7 @@ use Rattle.sched_model.specs.Schedule.{Schedule}
 use Rattle.sched_model.specs.NamedRuns.{Named}
 use Rattle.sched_model.specs.Changes.{advance}
 use Rattle.sched_model.specs.Jobs.{handed}
-use Rattle.sched_events.specs.Events.{named_by, leaves_more_by, change_by, IsInRange}
+use Rattle.sched_events.specs.Events.{named_by, leaves_more_by, set_back_by, count_in, change_by, IsInRange}
 use Rattle.sched_events.specs.Causes.{refused}
 use Rattle.sched_events.specs.declared.answers.RunId.{RunId}
 use Rattle.sched_events.specs.declared.answers.Answer.{Answer}
@@ -32,6 +32,7 @@ named_along (e ∷ es) a = named_by e a ++ named_along es (step e a)
 abbrev pub id_of : Named → RunId
 id_of n = record { graph = n.graph; logical = n.logical; kind = n.kind }
 
--- what an accepted event answers: the runs made, whether some are left for the next event of its kind, and the tries handed out
+-- what an accepted event answers: the runs made, whether some are left for the next event of its kind, how many
+-- of the instances that were set back were not none, and the tries handed out
 abbrev pub answer_to : Event → Schedule → Answer
-answer_to e a = record { made = map id_of (named_by e a); more = leaves_more_by e a; jobs = handed a (step e a) }
+answer_to e a = record { made = map id_of (named_by e a); more = leaves_more_by e a; cleared = count_in (set_back_by e a) a; jobs = handed a (step e a) }

@@ -37,6 +37,8 @@ pub struct Answer {
     pub made: Sequence<RunId>,
     /// Whether runs were left for the next tick.
     pub more: bool,
+    /// How many of the task instances that were set back were not none.
+    pub cleared: u32,
     /// The tries handed out, by serial.
     pub jobs: Sequence<Job>,
 }
@@ -57,6 +59,7 @@ impl Answer {
         Ok(Answer {
             made: Sequence::new(made),
             more: self.more,
+            cleared: self.cleared,
             jobs: Sequence::new(jobs),
         })
     }

@@ -5,7 +5,7 @@ use graph_file::Name;
 use instance_machine::Stage;
 use moment_core::Moment;
 use pool_book::Slots;
-use sched_state::Text;
+use sched_state::{Clearing, Text};
 use std::alloc::{AllocError, Global};
 
 /// What comes to a schedule.
@@ -17,6 +17,21 @@ pub enum Event {
     Tick(Moment),
     /// A run of the graph with this id is made by hand, with the clock as its logical date (Airflow 2, "DAG Runs": external triggers).
     Trigger(Name),
+    /// For each interval of the graph's timetable that starts from one moment to another, both among them, and has ended, a run is made
+    /// where there is none (Airflow 2, "DAG Runs": backfill).
+    Backfill {
+        /// The graph's id.
+        graph: Name,
+        /// The earliest start.
+        from: Moment,
+        /// The latest start.
+        to: Moment,
+        /// Whether all task instances of the runs that are there are set back.
+        reset: bool,
+    },
+    /// Task instances are set back, with a fresh allowance of tries, and finished runs of theirs go on (Airflow 2, "DAG Runs": re-run
+    /// tasks).
+    Clear(Clearing),
     /// The graph with this id is paused: no run of it is made by its timetable or started, and no try of it is handed out; tries that run
     /// go on (Airflow 2, "DAGs": pausing).
     Pause(Name),
@@ -39,6 +54,18 @@ impl Event {
             Event::Load(text) => Ok(Event::Load(text.copy(alloc)?)),
             Event::Tick(moment) => Ok(Event::Tick(*moment)),
             Event::Trigger(id) => Ok(Event::Trigger(id.copy(alloc)?)),
+            Event::Backfill {
+                graph,
+                from,
+                to,
+                reset,
+            } => Ok(Event::Backfill {
+                graph: graph.copy(alloc)?,
+                from: *from,
+                to: *to,
+                reset: *reset,
+            }),
+            Event::Clear(clearing) => Ok(Event::Clear(clearing.copy(alloc)?)),
             Event::Pause(id) => Ok(Event::Pause(id.copy(alloc)?)),
             Event::Unpause(id) => Ok(Event::Unpause(id.copy(alloc)?)),
             Event::Resize(pool, size) => Ok(Event::Resize(pool.copy(alloc)?, *size)),

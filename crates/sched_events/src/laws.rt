@@ -1,21 +1,25 @@
 //! Laws of the steps.
-ghost use Rattle.std.specs.Prelude.{◌≡◌, ℕ, ◌||◌, ◌++◌, ◌≤◌, List, None, Some, Ok, IsTrue, true, false};
+ghost use Rattle.std.specs.Prelude.{◌≡◌, ℕ, ◌||◌, ◌++◌, ◌≤◌, List, Bool, [], None, Some, Ok, IsTrue, true, false};
 ghost use Rattle.std.specs.List.{list_any};
 ghost use Rattle.graph_file.specs.Graphs.{graph_of};
 ghost use Rattle.graph_file.specs.declared.graph_specs.GraphSpec.{GraphSpec};
+ghost use Rattle.run_planner.specs.Index.{has_date};
+ghost use Rattle.run_planner.specs.Spans.{starts};
+ghost use Rattle.sched_state.specs.declared.clearings.Clearing.{Clearing};
 ghost use Rattle.sched_state.specs.Lists.{same};
 ghost use Rattle.sched_state.specs.declared.graphs.Graph.{Graph};
 ghost use Rattle.sched_model.specs.Schedule.{Schedule, graph_named, has_pool, has_run_at, size_of};
 ghost use Rattle.sched_model.specs.Settle.{move};
 ghost use Rattle.sched_model.specs.Handout.{hand_one};
-ghost use Rattle.sched_model.specs.NamedRuns.{is_for};
+ghost use Rattle.sched_model.specs.Clearing.{cleared_by, named_pairs};
+ghost use Rattle.sched_model.specs.NamedRuns.{is_for, named_by_backfill, spanned};
 ghost use Rattle.sched_model.specs.Changes.{set_paused, resize};
 ghost use Rattle.sched_events.specs.Events.{named_by, IsInRange};
 ghost use Rattle.sched_events.specs.Causes.{refused};
 ghost use Rattle.sched_events.specs.Steps.{step, steps, named_along, AreAccepted};
 ghost use Rattle.sched_events.specs.Kept.{IsKept};
 ghost use Rattle.sched_events.specs.declared.events.Event.{Event};
-ghost use Rattle.sched_events.specs.declared.events.Event.TheVariants.{Load, Pause, Unpause, Resize};
+ghost use Rattle.sched_events.specs.declared.events.Event.TheVariants.{Load, Backfill, Clear, Pause, Unpause, Resize};
 
 /// After each step neither a move nor a hand-out is possible, and the step of an accepted event keeps a schedule: it stays sound, and
 /// each graph is what its text says.
@@ -44,6 +48,19 @@ pub fn resizes_change_one_pool()
     ensures smaller { (name : List ℕ) (size : ℕ) (a : Schedule) → IsKept a → size ≤ size_of a name → step (Resize name size) a ≡ resize name size a }
     ensures made { (name : List ℕ) (size : ℕ) (a : Schedule) → IsKept a → has_pool a name ≡ false → step (Resize name size) a ≡ resize name size a }
     ensures same { (name : List ℕ) (size : ℕ) (a : Schedule) → IsKept a → has_pool a name ≡ true → size_of a name ≡ size → step (Resize name size) a ≡ a }
+{}
+
+/// After a backfill each interval of its span that has ended has a run, and no other date of the graph has got one.
+pub fn backfills_fill_their_span()
+    ensures { (id : List ℕ) (from to : ℕ) (reset : Bool) (a : Schedule) (date : ℕ) →
+        has_run_at (step (Backfill id from to reset) a) id date ≡ (has_date (starts (spanned a id from to)) date || has_run_at a id date) }
+{}
+
+/// A backfill of a span in which each interval has its run changes nothing where it does not reset, and neither does a clear that names no
+/// instance.
+pub fn repairs_of_nothing_change_nothing()
+    ensures backfill { (id : List ℕ) (from to : ℕ) (a : Schedule) → IsKept a → named_by_backfill a id from to ≡ [] → step (Backfill id from to false) a ≡ a }
+    ensures clear { (c : Clearing) (a : Schedule) → IsKept a → named_pairs a (cleared_by a c) ≡ [] → step (Clear c) a ≡ a }
 {}
 
 /// The text that a graph has already changes nothing.

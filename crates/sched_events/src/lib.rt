@@ -16,9 +16,10 @@ mod tests;
 pub use answers::{Answer, RunId};
 pub use events::Event;
 pub use laws::{
-    lists_of_steps_add_their_runs, lists_of_steps_go_in_parts, lists_of_steps_keep_the_schedule,
-    pauses_change_one_graph, resizes_change_one_pool, steps_add_the_named_runs,
-    steps_keep_the_schedule, the_same_text_changes_nothing,
+    backfills_fill_their_span, lists_of_steps_add_their_runs, lists_of_steps_go_in_parts,
+    lists_of_steps_keep_the_schedule, pauses_change_one_graph, repairs_of_nothing_change_nothing,
+    resizes_change_one_pool, steps_add_the_named_runs, steps_keep_the_schedule,
+    the_same_text_changes_nothing,
 };
 pub use refusals::Refusal;
 pub use rows::{InstanceRow, PoolRow};

@@ -20,12 +20,18 @@ pub enum Refusal {
     GraphDiffers,
     /// There is no graph with this id.
     UnknownGraph,
+    /// The graph has no task with this id.
+    UnknownTask,
     /// The moment lies before this one, which the schedule has seen.
     ClockBack(Moment),
+    /// The span ends before it begins.
+    BadSpan,
     /// A run of the graph has the logical date already.
     RunExists,
     /// No interval of the graph's timetable has ended.
     NoInterval,
+    /// A task instance that would be set back has a try without an end; this is the least serial of such tries.
+    InFlight(u64),
     /// No try without an end has this serial.
     NotInFlight(u64),
     /// The try with this serial has begun already, or not yet, or is reported lost.

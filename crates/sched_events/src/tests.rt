@@ -3,7 +3,7 @@ use graph_file::{Action, Bounded, Name, Operator, Sequence};
 use instance_machine::{Outcome, Stage};
 use moment_core::Moment;
 use pool_book::Slots;
-use sched_state::{Job, Kind, Text};
+use sched_state::{Clearing, Job, Kind, Text};
 use std::alloc::Global;
 use std::test::Fail;
 
@@ -11,56 +11,73 @@ fn name(alloc: Global, text: &str) -> Result<Name, Fail> {
     Ok(Name::read(alloc, text).ok().ok_or("no name")?)
 }
 
-// What an event is, in a few words.
-fn told(alloc: Global, event: &Event) -> Result<String, Fail> {
-    Ok(match event {
-        Event::Load(text) => {
-            let text = text.as_str();
-            format!(in alloc; "load {text}")?
-        }
-        Event::Tick(moment) => format!(in alloc; "tick {moment}")?,
-        Event::Trigger(id) => {
-            let id = id.as_str();
-            format!(in alloc; "trigger {id}")?
-        }
-        Event::Pause(id) => {
-            let id = id.as_str();
-            format!(in alloc; "pause {id}")?
-        }
-        Event::Unpause(id) => {
-            let id = id.as_str();
-            format!(in alloc; "unpause {id}")?
-        }
-        Event::Resize(pool, size) => {
-            let pool = pool.as_str();
-            let size = size.get();
-            format!(in alloc; "resize {pool} {size}")?
-        }
-        Event::Report(serial, stage) => format!(in alloc; "{serial} {stage:?}")?,
-        Event::Restart(lanes) => format!(in alloc; "restart {lanes}")?,
-    })
+// How the copy of an event is shown.
+fn copied(alloc: Global, event: Event) -> Result<String, Fail> {
+    let copy = event.copy(alloc)?;
+    Ok(format!(in alloc; "{copy:?}")?)
 }
 
 #[test]
-fn events_are_copied(rt: HostRuntime) -> Result<(), Fail> {
+fn events_with_numbers_are_copied(rt: HostRuntime) -> Result<(), Fail> {
     let alloc = rt.alloc();
-    let text = Text::new(alloc, "a")?;
     for (event, wanted) in [
-        (Event::Load(text), "load a"),
-        (Event::Tick(Moment::at(7)), "tick 1970-01-01T00:00:07+00:00"),
+        (Event::Tick(Moment::at(7)), "Tick(Moment { secs: 7 })"),
         (
             Event::Report(3, Stage::Ended(Outcome::Failed)),
-            "3 Ended(Failed)",
+            "Report(3, Ended(Failed))",
         ),
-        (Event::Trigger(name(alloc, "f")?), "trigger f"),
-        (Event::Pause(name(alloc, "g")?), "pause g"),
-        (Event::Unpause(name(alloc, "h")?), "unpause h"),
-        (Event::Resize(name(alloc, "p")?, Slots::of(5)), "resize p 5"),
-        (Event::Restart(4), "restart 4"),
+        (Event::Restart(4), "Restart(4)"),
     ] {
-        let copy = event.copy(alloc)?;
-        assert_eq!(rt; told(alloc, &copy)?.as_str(), wanted);
+        assert_eq!(rt; copied(alloc, event)?.as_str(), wanted);
     }
+    Ok(())
+}
+
+#[test]
+fn events_with_a_name_are_copied(rt: HostRuntime) -> Result<(), Fail> {
+    let alloc = rt.alloc();
+    let load = copied(alloc, Event::Load(Text::new(alloc, "a")?))?;
+    assert_eq!(rt; load.as_str(), "Load(Text { text: \"a\" })");
+    let trigger = copied(alloc, Event::Trigger(name(alloc, "f")?))?;
+    assert_eq!(rt; trigger.as_str(), "Trigger(Name { text: \"f\" })");
+    let pause = copied(alloc, Event::Pause(name(alloc, "g")?))?;
+    assert_eq!(rt; pause.as_str(), "Pause(Name { text: \"g\" })");
+    let unpause = copied(alloc, Event::Unpause(name(alloc, "h")?))?;
+    assert_eq!(rt; unpause.as_str(), "Unpause(Name { text: \"h\" })");
+    let resize = copied(alloc, Event::Resize(name(alloc, "p")?, Slots::of(5)))?;
+    assert_eq!(rt;
+        resize.as_str(),
+        "Resize(Name { text: \"p\" }, Slots { number: 5 })"
+    );
+    Ok(())
+}
+
+#[test]
+fn repairs_are_copied(rt: HostRuntime) -> Result<(), Fail> {
+    let alloc = rt.alloc();
+    let backfill = Event::Backfill {
+        graph: name(alloc, "g")?,
+        from: Moment::at(1),
+        to: Moment::at(2),
+        reset: true,
+    };
+    assert_eq!(rt;
+        copied(alloc, backfill)?.as_str(),
+        "Backfill { graph: Name { text: \"g\" }, from: Moment { secs: 1 }, to: Moment { secs: 2 }, reset: true }"
+    );
+    let clearing = Clearing {
+        graph: name(alloc, "g")?,
+        from: Moment::at(3),
+        to: Moment::at(4),
+        task: None,
+        upstream: true,
+        downstream: false,
+        only_failed: true,
+    };
+    assert_eq!(rt;
+        copied(alloc, Event::Clear(clearing))?.as_str(),
+        "Clear(Clearing { graph: Name { text: \"g\" }, from: Moment { secs: 3 }, to: Moment { secs: 4 }, task: None, upstream: true, downstream: false, only_failed: true })"
+    );
     Ok(())
 }
 
@@ -85,12 +102,14 @@ fn answers_are_copied(rt: HostRuntime) -> Result<(), Fail> {
     let answer = Answer {
         made: Sequence::new(vec![in alloc; id]?),
         more: true,
+        cleared: 6,
         jobs: Sequence::new(vec![in alloc; job]?),
     };
     let copy = answer.copy(alloc)?;
     let id = copy.made.as_slice().first().ok_or("no run")?;
     assert_eq!(rt; (id.graph.as_str(), id.logical), ("g", Moment::at(7)));
     assert_eq!(rt; (id.kind, copy.more), (Kind::Manual, true));
+    assert_eq!(rt; copy.cleared, 6);
     let job = copy.jobs.as_slice().first().ok_or("no job")?;
     assert_eq!(rt; (job.serial, job.task.as_str()), (3, "t"));
     assert_eq!(rt; (copy.made.len(), copy.jobs.len()), (1, 1));

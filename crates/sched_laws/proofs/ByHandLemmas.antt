@@ -1,7 +1,7 @@
 -- The runs by hand and of a backfill are new: of a graph that is there, no two for one date, and dated by moments.
-use Rattle.std.proofs.Common.{◌≡◌, ◌∙◌, refl, sym, ap, ℕ, ◌<◌, ◌≤◌, List, [], ◌∷◌, Bool, true, false, not, ◌&&◌, map, filter, length, ◌+◌, is_some, nat_le, Some, None, arith}
+use Rattle.std.proofs.Common.{◌≡◌, ◌∙◌, refl, sym, ap, ℕ, ◌<◌, ◌≤◌, List, [], ◌∷◌, true, false, not, map, length, ◌+◌, is_some, nat_le, Some, None, arith}
 use Rattle.std.specs.List.{list_all}
-use Rattle.std.proofs.lemmas.Bool.{ltb-true, le-leb}
+use Rattle.std.proofs.lemmas.Bool.{ltb-true}
 use Rattle.moment_core.specs.Moments.{seconds_end}
 use Rattle.cron_timetable.specs.declared.timetables.Interval.{Interval}
 use Rattle.cron_timetable.specs.declared.timetables.Timetable.{Timetable}

@@ -17,7 +17,8 @@ use Rattle.sched_state.specs.declared.runs.Run.{Run}
 use Rattle.sched_state.specs.declared.runs.Phase.{Phase}
 use Rattle.sched_model.specs.Schedule.{Schedule, dag_among, tasks_of, run_before}
 use Rattle.sched_model.specs.States.{is_open, open_of, open_tries, slots_in, occupied}
-use Rattle.sched_model.specs.Lists.{at}
+use Rattle.sched_model.specs.Clearing.{Naming, cleared, clear_pair, clear_if, clear_run, clear, named_in}
+use Rattle.sched_model.specs.Lists.{at, map_places}
 use Rattle.sched_model.specs.Handout.{in_instance}
 use Rattle.sched_laws.specs.Stages.{in_phase}
 use Rattle.sched_model.specs.NamedRuns.{Named, queued_run, insert_runs, add_runs}
@@ -55,6 +56,27 @@ insert_open a (n ∷ ns) rs =
 
 pub open_added : (ns : List Named) (a : Schedule) → open_tries (add_runs ns a) ≡ open_tries a
 open_added ns a = insert_open a ns a.runs
+
+-- ---- a clear
+set_back_open : (f : ℕ → TaskSpec × Held → Bool) (i : ℕ) (ts : List TaskSpec) (hs : List Held) → flat_map open_of (zip ts (map_places (clear_pair f) i (zip ts hs))) ≡ flat_map open_of (zip ts hs)
+set_back_open f i [] hs = refl
+set_back_open f i (t ∷ ts) [] = refl
+set_back_open f i (t ∷ ts) (h ∷ hs) = elim (f i (t, h)) as (λ b. open_of (t, cond b (cleared h) h) ++ flat_map open_of (zip ts (map_places (clear_pair f) (i + 1) (zip ts hs))) ≡ open_of (t, h) ++ flat_map open_of (zip ts hs)) [
+  | true ↦ ap (λ es. open_of (t, h) ++ es) (set_back_open f (i + 1) ts hs)
+  | false ↦ ap (λ es. open_of (t, h) ++ es) (set_back_open f (i + 1) ts hs)
+]
+
+run_open : (a : Schedule) (named : Naming) (r : Run) (es : List (TaskSpec × Held)) → open_by a.graphs (clear_if a named r es) ≡ open_by a.graphs r
+run_open a named r [] = refl
+run_open a named r (e ∷ es) = set_back_open (named r) 0 (tasks_of a r) r.instances
+
+runs_open : (a : Schedule) (named : Naming) (rs : List Run) → flat_map (open_by a.graphs) (map (clear_run a named) rs) ≡ flat_map (open_by a.graphs) rs
+runs_open a named [] = refl
+runs_open a named (r ∷ rs) =
+    ap (λ es. es ++ flat_map (open_by a.graphs) (map (clear_run a named) rs)) (run_open a named r (named_in a named r)) ∙ ap (λ es. open_by a.graphs r ++ es) (runs_open a named rs)
+
+pub open_cleared : (named : Naming) (a : Schedule) → open_tries (clear named a) ≡ open_tries a
+open_cleared named a = runs_open a named a.runs
 
 -- ---- every try is changed
 -- what is summed over the tries without an end, where a change keeps their slots

@@ -8,6 +8,7 @@ ghost use Rattle.instance_machine.specs.declared.tries.Stage.{Stage};
 ghost use Rattle.instance_machine.specs.declared.tries.Try.{Try};
 ghost use Rattle.sched_state.specs.declared.runs.Phase.{Phase};
 ghost use Rattle.sched_model.specs.Changes.{load_graph, set_now, set_paused, resize, report, restart};
+ghost use Rattle.sched_model.specs.Clearing.{Naming, clear};
 ghost use Rattle.sched_model.specs.Handout.{in_instance, hand_out};
 ghost use Rattle.sched_model.specs.Lists.{at};
 ghost use Rattle.sched_model.specs.NamedRuns.{Named, add_runs};
@@ -17,13 +18,14 @@ ghost use Rattle.sched_model.specs.Sound.{IsSound};
 ghost use Rattle.sched_model.specs.States.{is_open, open_tries, slots_in, occupied};
 ghost use Rattle.sched_laws.specs.Stages.{in_phase};
 
-/// A tick's clock, a pause, another size of a pool, a text for a graph without runs, new runs and settling leave the tries without an
-/// end as they are, each beside its task: so what is occupied of each pool, and how many are in flight. A restart leaves none.
+/// A tick's clock, a pause, another size of a pool, a text for a graph without runs, a clear, new runs and settling leave the tries without
+/// an end as they are, each beside its task: so what is occupied of each pool, and how many are in flight. A restart leaves none.
 pub fn open_tries_stay()
     ensures loaded { (text : List ℕ) (dag : Dag) (a : Schedule) → has_runs a dag.spec.dag_id ≡ false → open_tries (load_graph text dag a) ≡ open_tries a }
     ensures clock { (t : ℕ) (a : Schedule) → open_tries (set_now t a) ≡ open_tries a }
     ensures paused { (id : List ℕ) (paused : Bool) (a : Schedule) → open_tries (set_paused id paused a) ≡ open_tries a }
     ensures resized { (name : List ℕ) (size : ℕ) (a : Schedule) → open_tries (resize name size a) ≡ open_tries a }
+    ensures cleared { (named : Naming) (a : Schedule) → open_tries (clear named a) ≡ open_tries a }
     ensures added { (ns : List Named) (a : Schedule) → open_tries (add_runs ns a) ≡ open_tries a }
     ensures settled { (a : Schedule) → open_tries (settle a) ≡ open_tries a }
     ensures restarted { (lanes : ℕ) (a : Schedule) → open_tries (restart lanes a) ≡ [] }

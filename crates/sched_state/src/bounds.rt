@@ -92,9 +92,10 @@ impl Limits {
         self.pools
     }
 
-    /// The most runs, of all graphs.
+    /// The most runs, of all graphs, which are 1,000,000 at most.
     pub fn runs(self) -> u32
-        ensures { result ≡ self.runs }
+        ensures value { result ≡ self.runs }
+        ensures high { result ≤ ceilings.runs }
     {
         self.runs
     }

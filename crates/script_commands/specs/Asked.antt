@@ -5,7 +5,9 @@ use Rattle.graph_file.specs.Names.{is_name}
 use Rattle.moment_core.specs.Reading.{read_of}
 use Rattle.moment_core.specs.declared.reading.MomentFault.{MomentFault}
 use Rattle.sched_events.specs.declared.events.Event.{Event}
-use Rattle.sched_events.specs.declared.events.Event.TheVariants.{Load, Tick, Trigger, Pause, Unpause, Resize}
+use Rattle.sched_events.specs.declared.events.Event.TheVariants.{Load, Tick, Trigger, Backfill, Clear, Pause, Unpause, Resize}
+use Rattle.script_commands.specs.Options.{said_by}
+use Rattle.script_commands.specs.Repairs.{backfill_options, clear_options, of_backfill, of_clear}
 use Rattle.script_commands.specs.Sizes.{slots_of}
 use Rattle.script_commands.specs.Values.{values, only, two}
 use Rattle.script_commands.specs.declared.asked.Asked.{Asked}
@@ -64,15 +66,25 @@ abbrev pub of_pool : Option (List ℕ × List ℕ) → Asked
 of_pool (Some (pool, size)) = with_size pool (slots_of size)
 of_pool None = Fault Words
 
--- what words ask for: the first is the command's name; `resize` has two values, and each other command one
+-- a name and its words: `backfill` and `clear` have options, `resize` has two values, and each other command one
+abbrev pub with_words : List ℕ → List (List ℕ) → Asked
+with_words name args =
+    if bytes_eq name (codes "backfill") then of_backfill (said_by backfill_options args)
+    else (if bytes_eq name (codes "clear") then of_clear (said_by clear_options args)
+    else (if bytes_eq name (codes "resize") then of_pool (two (values args))
+    else with_values name (only (values args))))
+
+-- what words ask for: the first is the command's name
 abbrev pub asked_by : List (List ℕ) → Asked
 asked_by [] = Nothing
-asked_by (name ∷ args) = if bytes_eq name (codes "resize") then of_pool (two (values args)) else with_values name (only (values args))
+asked_by (name ∷ args) = with_words name args
 
 -- a command that holds a text or a name, for which memory can run out
 abbrev pub wants_memory : Command → Bool
 wants_memory (Step (Load text)) = true
 wants_memory (Step (Trigger id)) = true
+wants_memory (Step (Backfill id from to reset)) = true
+wants_memory (Step (Clear c)) = true
 wants_memory (Step (Pause id)) = true
 wants_memory (Step (Unpause id)) = true
 wants_memory (Step (Resize name size)) = true

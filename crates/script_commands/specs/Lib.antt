@@ -1,5 +1,9 @@
 pub mod Values
+pub mod Options
 pub mod Sizes
+pub mod Repairs
 pub mod Asked
 pub mod Commands
 pub mod Gathered
+pub mod Holding
+pub mod OfGraph

@@ -25,6 +25,11 @@ abbrev pub two : Option (List (List ℕ)) → Option (List ℕ × List ℕ)
 two (Some (v ∷ w ∷ [])) = Some (v, w)
 two _ = None
 
+-- the three values, where there are three and no more
+abbrev pub three : List (List ℕ) → Option (List ℕ × List ℕ × List ℕ)
+three (u ∷ v ∷ w ∷ []) = Some (u, v, w)
+three _ = None
+
 -- whether words give a value, where none of them is an option but `--`
 abbrev pub has_value : List (List ℕ) → Bool
 has_value [] = false

@@ -5,8 +5,9 @@ ghost use Rattle.script_commands.specs.Asked as spec;
 ghost use Rattle.script_commands.specs.Asked.{IsReadAs, asked_by};
 
 use crate::commands::{Command, UsageFault};
-use crate::graph_names::{to_pause, to_trigger, to_unpause};
+use crate::names::{OfGraph, to_named};
 use crate::pool_sizes::to_resize;
+use crate::repairs::{to_backfill, to_clear};
 use crate::words::only_value;
 use moment_core::Moment;
 use sched_events::Event;
@@ -29,21 +30,35 @@ pub enum Asked {
 impl Asked {
     /// What the words of a line ask for.
     ///
-    /// Words stand between blanks; there are no quotes. As with other command lines a word `--` ends the options, so that what
-    /// follows it is a value even where it begins with `-`; no command has an option yet. Only for a name memory is wanted.
+    /// Words stand between blanks; there are no quotes. As with other command lines (clap 4) options and values may stand in any order,
+    /// and a word `--` ends the options, so that what follows it is a value even where it begins with `-`. Only for a name memory is
+    /// wanted.
     pub fn by(alloc: Global, line: &[u8]) -> Result<Asked, AllocError>
         ensures { IsReadAs (asked_by (words line.now)) result }
     {
         let Some((name, rest)) = next_word(line) else {
             return Ok(Asked::Nothing);
         };
-        if name == b"resize".as_slice() {
-            return to_resize(alloc, rest);
-        }
-        match only_value(rest) {
-            Some(value) => with_value(alloc, name, value),
-            None => Ok(Asked::Fault(UsageFault::Words)),
-        }
+        with_words(alloc, name, rest)
+    }
+}
+
+// What a command's name and the text of its words ask for.
+fn with_words(alloc: Global, name: &[u8], text: &[u8]) -> Result<Asked, AllocError>
+    ensures { IsReadAs (spec.with_words name.now (words text.now)) result }
+{
+    if name == b"backfill".as_slice() {
+        return to_backfill(alloc, text);
+    }
+    if name == b"clear".as_slice() {
+        return to_clear(alloc, text);
+    }
+    if name == b"resize".as_slice() {
+        return to_resize(alloc, text);
+    }
+    match only_value(text) {
+        Some(value) => with_value(alloc, name, value),
+        None => Ok(Asked::Fault(UsageFault::Words)),
     }
 }
 
@@ -52,13 +67,13 @@ fn with_value(alloc: Global, name: &[u8], value: &[u8]) -> Result<Asked, AllocEr
     ensures { IsReadAs (spec.with_value name.now value.now) result }
 {
     if name == b"trigger".as_slice() {
-        return to_trigger(alloc, value);
+        return to_named(alloc, OfGraph::Trigger, value);
     }
     if name == b"pause".as_slice() {
-        return to_pause(alloc, value);
+        return to_named(alloc, OfGraph::Pause, value);
     }
     if name == b"unpause".as_slice() {
-        return to_unpause(alloc, value);
+        return to_named(alloc, OfGraph::Unpause, value);
     }
     Ok(without_name(name, value))
 }

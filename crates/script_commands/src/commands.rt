@@ -5,7 +5,8 @@ use sched_events::Event;
 /// What a script asks for.
 #[derive(Debug, Drop)]
 pub enum Command {
-    /// `load inline` with its text, `tick MOMENT`, `trigger DAG`, `pause DAG`, `unpause DAG` or `resize POOL SIZE`: an event for the schedule.
+    /// An event for the schedule: `load inline` with its text, `tick MOMENT`, `trigger DAG`, `backfill DAG FROM TO`, `clear DAG FROM TO`,
+    /// `pause DAG`, `unpause DAG` or `resize POOL SIZE`.
     Step(Event),
     /// `list runs`: the runs are shown, by graph id and logical date.
     ListRuns,
@@ -18,9 +19,10 @@ pub enum Command {
 /// Why a line is no command.
 #[derive(Clone, Copy, Debug, PartialEq, Eq)]
 pub enum UsageFault {
-    /// There is no such command, or it has too few words, too many or others, or a size that is no number from 0 to 1,000,000.
+    /// There is no such command, or it has too few words, too many or others, an option that it has not, an option twice, or a size that
+    /// is no number from 0 to 1,000,000.
     Words,
-    /// A word that should be the name of a graph or a pool is no name.
+    /// A word that should be the name of a graph, a task or a pool is no name.
     BadName,
     /// A word that should be a moment is none.
     BadMoment(MomentFault),

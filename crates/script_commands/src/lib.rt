@@ -12,6 +12,8 @@
 //! .
 //! tick 2024-01-02
 //! trigger nightly
+//! backfill nightly 2023-12-25 2023-12-31 --reset
+//! clear nightly 2024-01-01 2024-01-01 --task load --downstream
 //! pause nightly
 //! list runs
 //! list tasks
@@ -22,9 +24,14 @@
 
 mod asked;
 mod commands;
-mod graph_names;
 mod graph_texts;
+mod laws;
+mod names;
+#[cfg(test)]
+mod option_tests;
+mod options;
 mod pool_sizes;
+mod repairs;
 mod requests;
 #[cfg(test)]
 mod tests;
@@ -32,4 +39,5 @@ mod words;
 
 pub use asked::Asked;
 pub use commands::{Command, CommandFault, SourceFault, UsageFault};
+pub use laws::a_command_without_options_has_values_alone;
 pub use requests::next_command;

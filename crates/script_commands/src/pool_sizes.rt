@@ -8,7 +8,7 @@ ghost use Rattle.script_commands.specs.Values.{values, two};
 
 use crate::asked::Asked;
 use crate::commands::{Command, UsageFault};
-use crate::graph_names::name_of;
+use crate::names::name_of;
 use crate::words::two_values;
 use pool_book::Slots;
 use sched_events::Event;
@@ -32,8 +32,8 @@ pub(crate) fn to_resize(alloc: Global, text: &[u8]) -> Result<Asked, AllocError>
 fn with_size(alloc: Global, pool: &[u8], size: Slots) -> Result<Asked, AllocError>
     ensures { IsReadAs (spec.with_size pool.now (Some size)) result }
 {
-    match name_of(alloc, pool)? {
-        Some(pool) => Ok(Asked::This(Command::Step(Event::Resize(pool, size)))),
+    match name_of(alloc, pool) {
+        Some(pool) => Ok(Asked::This(Command::Step(Event::Resize(pool?, size)))),
         None => Ok(Asked::Fault(UsageFault::BadName)),
     }
 }

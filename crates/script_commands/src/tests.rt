@@ -1,5 +1,6 @@
 use super::*;
 use sched_events::Event;
+use sched_state::Clearing;
 use script_lines::LineReader;
 use std::alloc::{AllocError, Global};
 use std::io::{self, ErrorKind, Read};
@@ -12,6 +13,29 @@ fn line_reader(alloc: Global) -> Result<LineReader, AllocError> {
         Ok(lines) => Ok(lines),
         Err(_) => LineReader::new(alloc),
     }
+}
+
+// What a clear asks for: `*` stands for all tasks, and each thing that is asked for has a word.
+fn told_clearing(alloc: Global, clearing: &Clearing) -> Result<String, AllocError> {
+    let graph = clearing.graph.as_str();
+    let from = clearing.from;
+    let to = clearing.to;
+    let task = match &clearing.task {
+        Some(task) => task.as_str(),
+        None => "*",
+    };
+    let upstream = if clearing.upstream { " upstream" } else { "" };
+    let downstream = if clearing.downstream {
+        " downstream"
+    } else {
+        ""
+    };
+    let only_failed = if clearing.only_failed {
+        " only failed"
+    } else {
+        ""
+    };
+    format!(in alloc; "clear {graph} {from} {to} {task}{upstream}{downstream}{only_failed}")
 }
 
 // What a request is, in a few words.
@@ -39,6 +63,20 @@ fn told(alloc: Global, request: &Result<Command, CommandFault>) -> Result<String
             let size = size.get();
             format!(in alloc; "resize {pool} {size}")
         }
+        Ok(
+            Command::Step(
+                Event::Backfill {
+                    graph,
+                    from,
+                    to,
+                    reset,
+                },
+            ),
+        ) => {
+            let graph = graph.as_str();
+            format!(in alloc; "backfill {graph} {from} {to} {reset}")
+        }
+        Ok(Command::Step(Event::Clear(clearing))) => told_clearing(alloc, clearing),
         Ok(Command::Step(Event::Report(_, _) | Event::Restart(_))) => {
             String::from_str(alloc, "of a worker")
         }
@@ -57,7 +95,7 @@ fn told(alloc: Global, request: &Result<Command, CommandFault>) -> Result<String
 }
 
 // Asserts that the script has these commands, and no more.
-fn assert_commands<R: Read>(
+pub(crate) fn assert_commands<R: Read>(
     rt: &impl Abort,
     alloc: Global,
     script: &mut R,

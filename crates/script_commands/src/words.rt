@@ -66,7 +66,7 @@ fn has_value(text: &[u8]) -> bool
 }
 
 // Whether the word is an option.
-fn is_option(word: &[u8]) -> bool
+pub(crate) fn is_option(word: &[u8]) -> bool
     ensures { result ≡ spec.is_option word.now }
 {
     word.len() > 1 && word[0] == b'-'

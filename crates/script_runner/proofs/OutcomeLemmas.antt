@@ -37,9 +37,9 @@ pub record Comes (r : Request) (a b : Schedule) (shown : List ℕ) (status : ℕ
   pub shows : shown ≡ outcome.shown
   pub has_status : status ≡ outcome.status
 
-pub comes-accepted : (e : Event) (a b : Schedule) (given : Answer) → IsStepped a e b given → Comes (Ok (Step e)) a b (answer_text given) 0
+pub comes-accepted : (e : Event) (a b : Schedule) (given : Answer) → IsStepped a e b given → Comes (Ok (Step e)) a b (answer_text e given) 0
 comes-accepted e a b given s = record {
-  outcome = accepted_with given b;
+  outcome = accepted_with e given b;
   is = inl (b, given, s, refl);
   schedule = refl;
   shows = refl;

@@ -36,8 +36,8 @@ fault_status (Source fault) = 4
 fault_status Memory = 4
 
 -- an event that is accepted leads to a schedule, and is answered
-abbrev pub accepted_with : Answer → Schedule → Outcome
-accepted_with given b = record { schedule = b; shown = answer_text given; status = 0 }
+abbrev pub accepted_with : Event → Answer → Schedule → Outcome
+accepted_with e given b = record { schedule = b; shown = answer_text e given; status = 0 }
 
 -- one that is refused changes nothing
 abbrev pub refused_for : Refusal → Schedule → Outcome
@@ -47,7 +47,7 @@ refused_for r a = record { schedule = a; shown = refusal_text r; status = refusa
 -- can come in the place of both
 abbrev pub IsEventOutcome : Event → Schedule → Outcome → Type 0
 IsEventOutcome e a o =
-    ((b : Schedule) × (given : Answer) × IsStepped a e b given × (o ≡ accepted_with given b))
+    ((b : Schedule) × (given : Answer) × IsStepped a e b given × (o ≡ accepted_with e given b))
     ⊎ ((r : Refusal) × IsRefusal a e r × (o ≡ refused_for r a))
 
 -- what comes of what a script has in a command's place

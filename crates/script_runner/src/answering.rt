@@ -54,7 +54,7 @@ fn step<W: Write>(
 {
     match schedule.step(alloc, event) {
         Ok(answer) => {
-            put_answer(output, &answer)?;
+            put_answer(output, event, &answer)?;
             Ok(0)
         }
         Err(refusal) => {

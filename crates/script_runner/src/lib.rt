@@ -21,11 +21,13 @@ mod listing;
 mod pause_tests;
 #[cfg(test)]
 mod pool_tests;
+#[cfg(test)]
+mod repair_tests;
 mod running;
 mod serial;
 #[cfg(test)]
 mod tests;
 
-pub use laws::a_script_steps_its_events;
+pub use laws::{a_script_steps_its_events, what_is_set_back_is_told};
 pub use running::run_script;
 pub use serial::run_serial;

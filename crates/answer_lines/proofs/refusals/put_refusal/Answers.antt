@@ -42,3 +42,9 @@ returns-in_ok-put_dag_fault-in-DagFault g c =
 
 pub returns-in-UnknownPool : goal.returns-in-UnknownPool
 returns-in-UnknownPool g c = rw c.in-UnknownPool.is (rw c.as_str-pool.ensures.text at c.writeln.ensures.bytes)
+
+pub returns-in-UnknownTask : goal.returns-in-UnknownTask
+returns-in-UnknownTask g c = rw c.in-UnknownTask.is c.write_all-in-UnknownTask.ensures.bytes
+
+pub returns-in-BadSpan : goal.returns-in-BadSpan
+returns-in-BadSpan g c = rw c.in-BadSpan.is c.write_all-in-BadSpan.ensures.bytes

@@ -1,4 +1,4 @@
-use Rattle.std.proofs.Common.{◌≡◌, ◌∙◌, true, false, is_some, is_none, not, ap, Option, Some, None, refl}
+use Rattle.std.proofs.Common.{◌≡◌, true, false, is_some, is_none, Option, Some, None, refl}
 use Rattle.sched_state.specs.declared.graphs.Graph.{Graph}
 use Rattle.sched_model.specs.Schedule.{graph_named}
 use Rattle.sched_laws.proofs.ByHandLemmas.{by_hand_new, backfill_new}

@@ -1,5 +1,5 @@
 use Rattle.sched_laws.proofs.LoadLemmas.{load_open}
-use Rattle.sched_laws.proofs.OccupyingLemmas.{open_paused, open_added, open_restarted}
+use Rattle.sched_laws.proofs.OccupyingLemmas.{open_paused, open_cleared, open_added, open_restarted}
 use Rattle.sched_laws.proofs.SlotLemmas.{open_settled}
 use Rattle.sched_laws.proofs.occupying.open_tries_stay.Goals as goal
 
@@ -8,6 +8,9 @@ returns-clause-loaded c = load_open
 
 pub returns-clause-paused : goal.returns-clause-paused
 returns-clause-paused c = open_paused
+
+pub returns-clause-cleared : goal.returns-clause-cleared
+returns-clause-cleared c = open_cleared
 
 pub returns-clause-added : goal.returns-clause-added
 returns-clause-added c = open_added

@@ -45,7 +45,7 @@ returns c =
     ap (λ (h : Held). let p : Planned = record {
       before = h.content;
       after = record h.content { graphs = with_unpaused u h.content.graphs; pools = pools_in c.in_ok-pools.pools.pools; now = c.clock.result; lanes = c.lanes.result; next = c.next_serial.result; runs = c.into_runs.result.items };
-      answer = record { made = c.args.made; more = c.args.more; jobs = c.in_ok-jobs.jobs };
+      answer = record c.args.answer { jobs = c.in_ok-jobs.jobs };
     } in p) c.of.ensures
-    ∙ (ap (λ (s : Schedule). let p : Planned = record { before = a; after = s; answer = record { made = c.args.made; more = c.args.more; jobs = c.in_ok-jobs.jobs } } in p) is
-    ∙ ap (λ js. let p : Planned = record { before = a; after = e; answer = record { made = c.args.made; more = c.args.more; jobs = js } } in p) jobs)
+    ∙ (ap (λ (s : Schedule). let p : Planned = record { before = a; after = s; answer = record c.args.answer { jobs = c.in_ok-jobs.jobs } } in p) is
+    ∙ ap (λ js. let p : Planned = record { before = a; after = e; answer = record c.args.answer { jobs = js } } in p) jobs)

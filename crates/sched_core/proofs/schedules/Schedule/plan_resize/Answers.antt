@@ -1,4 +1,4 @@
-use Rattle.std.proofs.Common.{◌≡◌, ◌∙◌, refl, sym, ap, subst, inl, inr, [], true, false, not, length, nat_le, None, Err, arith}
+use Rattle.std.proofs.Common.{◌≡◌, ◌∙◌, refl, sym, ap, subst, inl, inr, true, false, not, length, nat_le, None, Err, arith}
 use Rattle.std.proofs.lemmas.Bool.Decides.{nat_tests}
 use Rattle.std.proofs.lemmas.Result.{err_from_is_err_and}
 use Rattle.graph_file.specs.Names.{is_name}
@@ -14,6 +14,7 @@ use Rattle.sched_events.specs.declared.events.Event.TheVariants.{Resize}
 use Rattle.sched_draft.specs.Books.{pools_in}
 use Rattle.sched_core.specs.Changes.{Held}
 use Rattle.sched_core.specs.Inside.{over}
+use Rattle.sched_core.specs.Plans.{no_runs}
 use Rattle.sched_core.proofs.PlanLemmas.{draft_sound, draft_kept, draft_planned}
 use Rattle.sched_core.proofs.ResizeLemmas.{known_by, too_many, HasPlace, known_place, new_place, resize_accepted, memory_alone, over_is}
 use Rattle.sched_core.proofs.schedules.Schedule.plan_resize.Goals.{else-is_none-via-then-is_none+else-pools-len, else-is_none-via-else-is_none}
@@ -104,4 +105,4 @@ returns-clause-accepted c =
     let accepted : refused a (Resize c.args.name.now c.args.size) ≡ None = resize_accepted a es c.args.name.now c.args.size place in
     let is : over c.resize.new.self.pools a ≡ resize c.args.name.now c.args.size a =
     over_is a es c.in_ok-pools.pools.pools c.resize.new.self.pools c.args.name.now c.in_ok-name.name c.args.size pools kept.sound.pools_by_name c.in_ok-pools.ensures c.in_ok-name.ensures c.in_ok-resize.ensures.pools in
-    draft_planned (Resize c.args.name.now c.args.size) a (over c.resize.new.self.pools a) [] false c.in_ok-over.field-0 accepted is refl refl c.in_ok-over.ensures
+    draft_planned (Resize c.args.name.now c.args.size) a (over c.resize.new.self.pools a) no_runs c.in_ok-over.field-0 accepted is refl c.in_ok-over.ensures

@@ -7,12 +7,13 @@ use Rattle.sched_model.specs.Sound.{is_moment}
 use Rattle.sched_events.specs.Causes.{refused}
 use Rattle.sched_events.specs.Events.{named_by, change_by}
 use Rattle.sched_events.specs.Kept.{IsKept}
+use Rattle.sched_events.specs.declared.answers.Answer.{Answer}
 use Rattle.sched_events.specs.declared.events.Event.TheVariants.{Tick}
 use Rattle.sched_core.specs.Books.{IsCounted}
 use Rattle.sched_core.specs.Changes.{Held}
 use Rattle.sched_core.proofs.BookLemmas.{tick_counted}
 use Rattle.sched_core.specs.Plans.{run_id}
-use Rattle.sched_core.proofs.PlanLemmas.{tick_accepted, tick_draft, tick_ids, tick_length, draft_sound, draft_kept, draft_planned}
+use Rattle.sched_core.proofs.PlanLemmas.{tick_accepted, tick_draft, tick_ids, tick_length, draft_sound, draft_kept, draft_planned, told_by}
 use Rattle.sched_core.proofs.schedules.Schedule.plan_tick.Goals as goal
 
 pub finished-requires-clause-sound : goal.finished-requires-clause-sound
@@ -24,7 +25,7 @@ finished-requires-clause-sound c =
     let limit : c.self.inside.limits.runs ≡ a.limits.runs = ap (λ (h : Held). h.content.limits.runs) c.self.view_is in
     let long : length c.self.inside.runs.items ≡ length a.runs = ap (λ (h : Held). length h.content.runs) c.self.view_is in
     let more : length c.in_ok-named.named.runs.items ≡ length (named_by_tick a t) = tick_length a c.in_ok-draft.draft t c.in_ok-named.named.runs.items c.in_ok-draft.ensures c.in_ok-named.ensures.runs in
-    let full : is_full_with a (named_by_tick a t) ≡ false = grind (arith, nat_tests, c.runs.ensures, c.len.ensures, c.len-2.ensures, limit, long, more, c.if-runs-len.false) in
+    let full : is_full_with a (named_by_tick a t) ≡ false = grind (arith, nat_tests, c.runs.ensures.value, c.len.ensures, c.len-2.ensures, limit, long, more, c.if-runs-len.false) in
     let accepted : refused a (Tick t) ≡ None = tick_accepted a t back full in
     let dated : is_moment t ≡ true = grind (arith, nat_tests, c.secs.ensures.value, c.secs.ensures.bound) in
     let is : c.add.new.draft ≡ add_runs (named_by (Tick t) a) (change_by (Tick t) a) =
@@ -40,7 +41,7 @@ finished-requires-clause-kept c =
     let limit : c.self.inside.limits.runs ≡ a.limits.runs = ap (λ (h : Held). h.content.limits.runs) c.self.view_is in
     let long : length c.self.inside.runs.items ≡ length a.runs = ap (λ (h : Held). length h.content.runs) c.self.view_is in
     let more : length c.in_ok-named.named.runs.items ≡ length (named_by_tick a t) = tick_length a c.in_ok-draft.draft t c.in_ok-named.named.runs.items c.in_ok-draft.ensures c.in_ok-named.ensures.runs in
-    let full : is_full_with a (named_by_tick a t) ≡ false = grind (arith, nat_tests, c.runs.ensures, c.len.ensures, c.len-2.ensures, limit, long, more, c.if-runs-len.false) in
+    let full : is_full_with a (named_by_tick a t) ≡ false = grind (arith, nat_tests, c.runs.ensures.value, c.len.ensures, c.len-2.ensures, limit, long, more, c.if-runs-len.false) in
     let accepted : refused a (Tick t) ≡ None = tick_accepted a t back full in
     let dated : is_moment t ≡ true = grind (arith, nat_tests, c.secs.ensures.value, c.secs.ensures.bound) in
     let is : c.add.new.draft ≡ add_runs (named_by (Tick t) a) (change_by (Tick t) a) =
@@ -65,11 +66,10 @@ returns-clause-accepted c =
     let limit : c.self.inside.limits.runs ≡ a.limits.runs = ap (λ (h : Held). h.content.limits.runs) c.self.view_is in
     let long : length c.self.inside.runs.items ≡ length a.runs = ap (λ (h : Held). length h.content.runs) c.self.view_is in
     let more : length c.in_ok-named.named.runs.items ≡ length (named_by_tick a t) = tick_length a c.in_ok-draft.draft t c.in_ok-named.named.runs.items c.in_ok-draft.ensures c.in_ok-named.ensures.runs in
-    let full : is_full_with a (named_by_tick a t) ≡ false = grind (arith, nat_tests, c.runs.ensures, c.len.ensures, c.len-2.ensures, limit, long, more, c.if-runs-len.false) in
+    let full : is_full_with a (named_by_tick a t) ≡ false = grind (arith, nat_tests, c.runs.ensures.value, c.len.ensures, c.len-2.ensures, limit, long, more, c.if-runs-len.false) in
     let accepted : refused a (Tick t) ≡ None = tick_accepted a t back full in
     let is : c.add.new.draft ≡ add_runs (named_by (Tick t) a) (change_by (Tick t) a) =
     tick_draft a c.in_ok-draft.draft c.set_clock.new.self c.add.new.draft t c.in_ok-named.named.runs.items c.in_ok-draft.ensures c.set_clock.ensures c.in_ok-named.ensures.runs c.in_ok-add.ensures in
-    draft_planned (Tick t) a c.add.new.draft c.in_ok-made.made c.in_ok-named.named.more c.in_ok-finished.field-0 accepted is
-    (tick_ids a c.in_ok-draft.draft t c.in_ok-named.named.runs.items c.in_ok-made.made c.in_ok-draft.ensures c.in_ok-named.ensures.runs
-    (c.in_ok-made.ensures ∙ ap (map run_id) c.deref.ensures.value))
-    (c.in_ok-named.ensures.more ∙ ap (λ (s : Schedule). leaves_more s t) c.in_ok-draft.ensures) c.in_ok-finished.ensures
+    let ids = tick_ids a c.in_ok-draft.draft t c.in_ok-named.named.runs.items c.in_ok-made.made c.in_ok-draft.ensures c.in_ok-named.ensures.runs (c.in_ok-made.ensures ∙ ap (map run_id) c.deref.ensures.value) in
+    let more = c.in_ok-named.ensures.more ∙ ap (λ (s : Schedule). leaves_more s t) c.in_ok-draft.ensures in
+    draft_planned (Tick t) a c.add.new.draft _ c.in_ok-finished.field-0 accepted is (told_by (Tick t) a c.quiet_answer.result c.in_ok-made.made c.in_ok-named.named.more _ c.quiet_answer.ensures ids more (ap (λ (q : Answer). q.cleared) c.quiet_answer.ensures)) c.in_ok-finished.ensures

@@ -1,4 +1,4 @@
-use Rattle.std.proofs.Common.{◌≡◌, ◌∙◌, refl, ap, subst, sym, ℕ, List, ◌+◌, length, map, nat_lt, false, None, arith}
+use Rattle.std.proofs.Common.{◌≡◌, ◌∙◌, ap, subst, sym, ℕ, List, ◌+◌, length, map, nat_lt, false, None, arith}
 use Rattle.std.proofs.lemmas.Bool.Decides.{nat_tests}
 use Rattle.sched_state.specs.declared.runs.Run.{Run}
 use Rattle.sched_model.specs.Schedule.{Schedule}
@@ -7,12 +7,13 @@ use Rattle.sched_naming.specs.ByHand.{IsByHand}
 use Rattle.sched_events.specs.Causes.{refused}
 use Rattle.sched_events.specs.Events.{named_by, change_by}
 use Rattle.sched_events.specs.Kept.{IsKept}
+use Rattle.sched_events.specs.declared.answers.Answer.{Answer}
 use Rattle.sched_events.specs.declared.events.Event.TheVariants.{Trigger}
 use Rattle.sched_core.specs.Books.{IsCounted}
 use Rattle.sched_core.specs.Changes.{Held}
 use Rattle.sched_core.specs.Plans.{run_id}
 use Rattle.sched_core.proofs.BookLemmas.{trigger_counted}
-use Rattle.sched_core.proofs.PlanLemmas.{draft_sound, draft_kept, draft_planned}
+use Rattle.sched_core.proofs.PlanLemmas.{draft_sound, draft_kept, draft_planned, told_by}
 use Rattle.sched_core.proofs.TriggerLemmas.{hand_full, trigger_draft, trigger_ids}
 use Rattle.sched_core.proofs.schedules.Schedule.plan_trigger.Goals as goal
 
@@ -25,7 +26,7 @@ finished-requires-clause-sound c =
     let h = subst (IsByHand d id) c.in-Ok.is c.named_by_hand.ensures in
     let limit : c.self.inside.limits.runs ≡ a.limits.runs = ap (λ (s : Held). s.content.limits.runs) c.self.view_is in
     let long : length c.self.inside.runs.items ≡ length a.runs = ap (λ (s : Held). length s.content.runs) c.self.view_is in
-    let full : nat_lt a.limits.runs (length a.runs + 1) ≡ false = grind (arith, nat_tests, c.runs.ensures, c.len.ensures, limit, long, c.if-runs-len.false) in
+    let full : nat_lt a.limits.runs (length a.runs + 1) ≡ false = grind (arith, nat_tests, c.runs.ensures.value, c.len.ensures, limit, long, c.if-runs-len.false) in
     let accepted : refused a (Trigger id) ≡ None = hand_full a d id run c.in_ok-draft.ensures h false full in
     let is : c.add.new.draft ≡ add_runs (named_by (Trigger id) a) (change_by (Trigger id) a) =
     trigger_draft a d c.add.new.draft id run c.in_ok-runs.runs.items c.in_ok-draft.ensures h.1.1 c.in_ok-runs.ensures c.in_ok-add.ensures in
@@ -40,7 +41,7 @@ finished-requires-clause-kept c =
     let h = subst (IsByHand d id) c.in-Ok.is c.named_by_hand.ensures in
     let limit : c.self.inside.limits.runs ≡ a.limits.runs = ap (λ (s : Held). s.content.limits.runs) c.self.view_is in
     let long : length c.self.inside.runs.items ≡ length a.runs = ap (λ (s : Held). length s.content.runs) c.self.view_is in
-    let full : nat_lt a.limits.runs (length a.runs + 1) ≡ false = grind (arith, nat_tests, c.runs.ensures, c.len.ensures, limit, long, c.if-runs-len.false) in
+    let full : nat_lt a.limits.runs (length a.runs + 1) ≡ false = grind (arith, nat_tests, c.runs.ensures.value, c.len.ensures, limit, long, c.if-runs-len.false) in
     let accepted : refused a (Trigger id) ≡ None = hand_full a d id run c.in_ok-draft.ensures h false full in
     let is : c.add.new.draft ≡ add_runs (named_by (Trigger id) a) (change_by (Trigger id) a) =
     trigger_draft a d c.add.new.draft id run c.in_ok-runs.runs.items c.in_ok-draft.ensures h.1.1 c.in_ok-runs.ensures c.in_ok-add.ensures in
@@ -66,9 +67,9 @@ returns-clause-accepted c =
     let h = subst (IsByHand d id) c.in-Ok.is c.named_by_hand.ensures in
     let limit : c.self.inside.limits.runs ≡ a.limits.runs = ap (λ (s : Held). s.content.limits.runs) c.self.view_is in
     let long : length c.self.inside.runs.items ≡ length a.runs = ap (λ (s : Held). length s.content.runs) c.self.view_is in
-    let full : nat_lt a.limits.runs (length a.runs + 1) ≡ false = grind (arith, nat_tests, c.runs.ensures, c.len.ensures, limit, long, c.if-runs-len.false) in
+    let full : nat_lt a.limits.runs (length a.runs + 1) ≡ false = grind (arith, nat_tests, c.runs.ensures.value, c.len.ensures, limit, long, c.if-runs-len.false) in
     let accepted : refused a (Trigger id) ≡ None = hand_full a d id run c.in_ok-draft.ensures h false full in
     let is : c.add.new.draft ≡ add_runs (named_by (Trigger id) a) (change_by (Trigger id) a) =
     trigger_draft a d c.add.new.draft id run c.in_ok-runs.runs.items c.in_ok-draft.ensures h.1.1 c.in_ok-runs.ensures c.in_ok-add.ensures in
-    draft_planned (Trigger id) a c.add.new.draft c.in_ok-made.made false c.in_ok-finished.field-0 accepted is
-    (trigger_ids a d id run c.in_ok-runs.runs.items c.in_ok-made.made c.in_ok-draft.ensures h.1.1 c.in_ok-runs.ensures (c.in_ok-made.ensures ∙ ap (map run_id) c.deref.ensures.value)) refl c.in_ok-finished.ensures
+    let ids = trigger_ids a d id run c.in_ok-runs.runs.items c.in_ok-made.made c.in_ok-draft.ensures h.1.1 c.in_ok-runs.ensures (c.in_ok-made.ensures ∙ ap (map run_id) c.deref.ensures.value) in
+    draft_planned (Trigger id) a c.add.new.draft _ c.in_ok-finished.field-0 accepted is (told_by (Trigger id) a c.quiet_answer.result c.in_ok-made.made _ _ c.quiet_answer.ensures ids (ap (λ (q : Answer). q.more) c.quiet_answer.ensures) (ap (λ (q : Answer). q.cleared) c.quiet_answer.ensures)) c.in_ok-finished.ensures

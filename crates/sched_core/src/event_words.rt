@@ -1,0 +1,91 @@
+//! Events as the tests tell them, in words.
+use super::*;
+use crate::stepping::{moment, name, tick};
+use instance_machine::{Outcome, Stage};
+use pool_book::Slots;
+use sched_state::Clearing;
+use std::alloc::Global;
+use std::process::Abort;
+use std::test::Fail;
+
+// The number that a word is.
+fn number(word: &str) -> Result<u32, Fail> {
+    Ok(word.parse::<u32>().ok().ok_or("no number")?)
+}
+
+// What a worker reports.
+fn stage(word: &str) -> Option<Stage> {
+    match word {
+        "started" => Some(Stage::Started),
+        "success" => Some(Stage::Ended(Outcome::Success)),
+        "failed" => Some(Stage::Ended(Outcome::Failed)),
+        "skipped" => Some(Stage::Ended(Outcome::Skipped)),
+        "lost" => Some(Stage::Ended(Outcome::Lost)),
+        _ => None,
+    }
+}
+
+// An event of a graph, or of a pool.
+fn of_name(alloc: Global, what: &str, id: &str) -> Result<Event, Fail> {
+    let id = name(alloc, id)?;
+    Ok(match what {
+        "trigger" => Event::Trigger(id),
+        "pause" => Event::Pause(id),
+        _ => Event::Unpause(id),
+    })
+}
+
+// A backfill: `DAG FROM TO`, with a word after them where it resets.
+fn backfill(rt: &impl Abort, alloc: Global, text: &str) -> Result<Event, Fail> {
+    let mut words = text.split(' ');
+    Ok(Event::Backfill {
+        graph: name(alloc, words.next().ok_or("no graph")?)?,
+        from: moment(rt, words.next().ok_or("no first day")?),
+        to: moment(rt, words.next().ok_or("no last day")?),
+        reset: words.next().is_some(),
+    })
+}
+
+// A clear: `DAG FROM TO`, and after them `up`, `down`, `failed` and a task in any order.
+fn clear(rt: &impl Abort, alloc: Global, text: &str) -> Result<Event, Fail> {
+    let mut words = text.split(' ');
+    let mut clearing = Clearing {
+        graph: name(alloc, words.next().ok_or("no graph")?)?,
+        from: moment(rt, words.next().ok_or("no first day")?),
+        to: moment(rt, words.next().ok_or("no last day")?),
+        task: None,
+        upstream: false,
+        downstream: false,
+        only_failed: false,
+    };
+    for word in words {
+        match word {
+            "up" => clearing.upstream = true,
+            "down" => clearing.downstream = true,
+            "failed" => clearing.only_failed = true,
+            task => clearing.task = Some(name(alloc, task)?),
+        }
+    }
+    Ok(Event::Clear(clearing))
+}
+
+// The event that is told in words: `tick MOMENT`, `restart LANES`, `resize POOL SIZE`, `success SERIAL` and so for each stage,
+// `pause DAG` and so for each event that names a graph alone, and the repairs above.
+pub fn event(rt: &impl Abort, alloc: Global, words: &str) -> Result<Event, Fail> {
+    let (what, rest) = words.split_once(' ').ok_or("one word")?;
+    if let Some(stage) = stage(what) {
+        return Ok(Event::Report(u64::from(number(rest)?), stage));
+    }
+    match what {
+        "tick" => Ok(tick(rt, rest)),
+        "restart" => Ok(Event::Restart(number(rest)?)),
+        "resize" => {
+            let (pool, size) = rest.split_once(' ').ok_or("no size")?;
+            let size = Slots::new(number(size)?).ok_or("too many slots")?;
+            Ok(Event::Resize(name(alloc, pool)?, size))
+        }
+        "backfill" => backfill(rt, alloc, rest),
+        "clear" => clear(rt, alloc, rest),
+        _ => of_name(alloc, what, rest),
+    }
+}
