@@ -102,6 +102,13 @@ fn pool(alloc: Global, size: u32) -> Result<Pools, Fail> {
     Ok(pools)
 }
 
+// The same with slots taken.
+fn taken(alloc: Global, size: u32, number: u32) -> Result<Pools, Fail> {
+    let mut pools = pool(alloc, size)?;
+    occupy(&mut pools, &name(alloc, "p")?, number)?;
+    Ok(pools)
+}
+
 // Asserts the graph and the task of the best key.
 fn assert_best(rt: &impl Abort, ready: &Ready, pools: &Pools, best: Option<(&str, &str)>) {
     let key = ready.best_fitting(pools);
@@ -147,17 +154,22 @@ fn what_does_not_fit_is_passed_over(rt: HostRuntime) -> Result<(), Fail> {
     Ok(())
 }
 
+// A pool of one slot, which had three when they were taken.
+fn overdrawn(alloc: Global) -> Result<Pools, Fail> {
+    let mut pools = taken(alloc, 3, 3)?;
+    resize(alloc, &mut pools, "p", 1)?.ok().ok_or("no pool")?;
+    Ok(pools)
+}
+
 // By Airflow 2's page 'Pools', a pool may be made smaller while its slots are taken; nothing is stopped.
 #[test]
 fn a_smaller_pool_waits_for_its_slots(rt: HostRuntime) -> Result<(), Fail> {
     let alloc = rt.alloc();
     let p = name(alloc, "p")?;
-    let mut pools = pool(alloc, 3)?;
     let ready = ready(alloc, &[(1, "2024-01-01", "g", "d", 1)])?;
-    occupy(&mut pools, &p, 3)?;
-    assert_best(&rt, &ready, &pools, None);
-    assert_eq!(rt; resize(alloc, &mut pools, "p", 1)?, Ok(()));
+    let mut pools = overdrawn(alloc)?;
     assert_pool(&rt, &pools, &p, (1, 3, -2));
+    assert_best(&rt, &ready, &pools, None);
     vacate(&mut pools, &p, 2)?;
     assert_pool(&rt, &pools, &p, (1, 1, 0));
     assert_best(&rt, &ready, &pools, None);
@@ -166,23 +178,37 @@ fn a_smaller_pool_waits_for_its_slots(rt: HostRuntime) -> Result<(), Fail> {
     Ok(())
 }
 
-// Of two taken slots the copy has none, and four of three are counted there.
+// A copy of which nothing is taken.
+fn vacant(alloc: Global, pools: &Pools) -> Result<Pools, Fail> {
+    match pools.vacant_copy(alloc) {
+        Ok(copy) => Ok(copy),
+        Err(_) => Ok(pools.vacant_copy(alloc)?),
+    }
+}
+
+#[test]
+fn a_vacant_copy_has_nothing_taken(rt: HostRuntime) -> Result<(), Fail> {
+    let alloc = rt.alloc();
+    let (one, three) = (slots(1)?, slots(3)?);
+    let p = name(alloc, "p")?;
+    let pools = taken(alloc, 3, 2)?;
+    let copy = vacant(alloc, &pools)?;
+    assert_pool(&rt, &copy, &p, (3, 0, 3));
+    assert!(rt; copy.fits(&p, three) && pools.fits(&p, one));
+    Ok(())
+}
+
+// Four slots of three are counted, and those of a pool that is not there are not.
 #[test]
 fn a_vacant_copy_counts_from_nothing(rt: HostRuntime) -> Result<(), Fail> {
     let alloc = rt.alloc();
-    let mut pools = pool(alloc, 3)?;
+    let (none, one, four) = (slots(0)?, slots(1)?, slots(4)?);
     let (p, q) = (name(alloc, "p")?, name(alloc, "q")?);
-    occupy(&mut pools, &p, 2)?;
-    let mut copy = match pools.vacant_copy(alloc) {
-        Ok(copy) => copy,
-        Err(_) => pools.vacant_copy(alloc)?,
-    };
-    assert_pool(&rt, &copy, &p, (3, 0, 3));
-    assert!(rt; copy.fits(&p, slots(3)?) && pools.fits(&p, slots(1)?));
-    copy.occupy_counted(&p, slots(4)?);
-    copy.occupy_counted(&q, slots(1)?);
+    let mut copy = vacant(alloc, &taken(alloc, 3, 2)?)?;
+    copy.occupy_counted(&p, four);
+    copy.occupy_counted(&q, one);
     assert_pool(&rt, &copy, &p, (3, 4, -1));
-    assert!(rt; !copy.fits(&p, slots(0)?) && !copy.fits(&q, slots(0)?));
+    assert!(rt; !copy.fits(&p, none) && !copy.fits(&q, none));
     Ok(())
 }
 
@@ -240,12 +266,29 @@ fn slots_have_their_range(rt: HostRuntime) -> Result<(), Fail> {
     let alloc = rt.alloc();
     assert_eq!(rt; Slots::new(1_000_001), None);
     let p = name(alloc, "p")?;
-    let mut pools = pool(alloc, 0)?;
-    assert_pool(&rt, &pools, &p, (0, 0, 0));
     let ready = ready(alloc, &[(1, "2024-01-01", "g", "a", 1)])?;
+    let pools = pool(alloc, 0)?;
+    assert_pool(&rt, &pools, &p, (0, 0, 0));
     assert_best(&rt, &ready, &pools, None);
-    assert_eq!(rt; resize(alloc, &mut pools, "p", 1_000_000)?, Ok(()));
-    occupy(&mut pools, &p, 999_999)?;
+    Ok(())
+}
+
+// A pool that had no slots, and has a million now, of which all but one are taken.
+fn grown(alloc: Global) -> Result<Pools, Fail> {
+    let mut pools = pool(alloc, 0)?;
+    resize(alloc, &mut pools, "p", 1_000_000)?
+        .ok()
+        .ok_or("no pool")?;
+    occupy(&mut pools, &name(alloc, "p")?, 999_999)?;
+    Ok(pools)
+}
+
+#[test]
+fn a_pool_of_a_million_has_one_left(rt: HostRuntime) -> Result<(), Fail> {
+    let alloc = rt.alloc();
+    let p = name(alloc, "p")?;
+    let ready = ready(alloc, &[(1, "2024-01-01", "g", "a", 1)])?;
+    let pools = grown(alloc)?;
     assert_pool(&rt, &pools, &p, (1_000_000, 999_999, 1));
     assert_best(&rt, &ready, &pools, Some(("g", "a")));
     Ok(())
@@ -272,39 +315,61 @@ fn assert_order(rt: &impl Abort, pools: &Pools) {
     assert_eq!(rt; greatest, Some("z"));
 }
 
+// As many pools as there may be, of which `a` is made larger last.
+fn most_pools(alloc: Global) -> Result<Pools, Fail> {
+    let mut pools = Pools::new(alloc);
+    make_pools(alloc, &mut pools, 64)?;
+    resize(alloc, &mut pools, "a", 2)?.ok().ok_or("no pool")?;
+    Ok(pools)
+}
+
 #[test]
 fn there_are_64_pools_at_most(rt: HostRuntime) -> Result<(), Fail> {
     let alloc = rt.alloc();
-    let mut pools = Pools::new(alloc);
-    make_pools(alloc, &mut pools, 64)?;
-    assert_eq!(rt;
-        resize(alloc, &mut pools, ".", 1)?,
-        Err(PoolFault::TooManyPools)
-    );
-    assert_eq!(rt; resize(alloc, &mut pools, "a", 2)?, Ok(()));
+    let mut pools = most_pools(alloc)?;
+    let more = resize(alloc, &mut pools, ".", 1)?;
+    assert_eq!(rt; more, Err(PoolFault::TooManyPools));
     assert_eq!(rt; pools.len(), 64);
-    let copy = match pools.copy(alloc) {
-        Ok(copy) => copy,
-        Err(_) => pools.copy(alloc)?,
-    };
     assert_order(&rt, &pools);
-    assert_order(&rt, &copy);
-    assert_pool(&rt, &copy, &name(alloc, "a")?, (2, 0, 2));
     Ok(())
+}
+
+// A copy of the pools.
+fn copied(alloc: Global, pools: &Pools) -> Result<Pools, Fail> {
+    match pools.copy(alloc) {
+        Ok(copy) => Ok(copy),
+        Err(_) => Ok(pools.copy(alloc)?),
+    }
+}
+
+#[test]
+fn a_copy_has_all_pools(rt: HostRuntime) -> Result<(), Fail> {
+    let alloc = rt.alloc();
+    let a = name(alloc, "a")?;
+    let copy = copied(alloc, &most_pools(alloc)?)?;
+    assert_order(&rt, &copy);
+    assert_pool(&rt, &copy, &a, (2, 0, 2));
+    Ok(())
+}
+
+// No pools, with room for one of this name.
+fn reserved(alloc: Global, name: &Name) -> Result<Pools, Fail> {
+    let mut pools = Pools::new(alloc);
+    if pools.reserve(name).is_err() {
+        pools.reserve(name)?;
+    }
+    Ok(pools)
 }
 
 #[test]
 fn what_is_reserved_takes_no_memory(rt: HostRuntime) -> Result<(), Fail> {
     let alloc = rt.alloc();
-    let p = name(alloc, "p")?;
-    let mut pools = Pools::new(alloc);
-    assert_eq!(rt; pools.open_slots(&p), None);
-    if pools.reserve(&p).is_err() {
-        pools.reserve(&p)?;
-    }
-    assert_eq!(rt; pools.len(), 0);
     let size = slots(3)?;
-    assert_eq!(rt; pools.resize(name(alloc, "p")?, size), Ok(()));
+    let (p, key) = (name(alloc, "p")?, name(alloc, "p")?);
+    let mut pools = reserved(alloc, &p)?;
+    assert_eq!(rt; pools.len(), 0);
+    assert_eq!(rt; pools.open_slots(&p), None);
+    assert_eq!(rt; pools.resize(key, size), Ok(()));
     assert_pool(&rt, &pools, &p, (3, 0, 3));
     Ok(())
 }
