@@ -3,34 +3,16 @@
 
 mod changes;
 mod default_pools;
-#[cfg(test)]
-mod event_words;
 mod finding;
-#[cfg(test)]
-mod load_tests;
 mod loading;
 mod lookups;
 mod ordering;
-#[cfg(test)]
-mod pause_tests;
 mod pausing;
 mod planning;
 mod pool_rows;
-#[cfg(test)]
-mod pool_tests;
-#[cfg(test)]
-mod repair_tests;
 mod repairing;
-#[cfg(test)]
-mod row_tests;
 mod rows;
-#[cfg(test)]
-mod run_tests;
 mod schedules;
-#[cfg(test)]
-mod stepping;
-#[cfg(test)]
-mod trigger_tests;
 mod triggering;
 mod views;
 

@@ -1,9 +1,9 @@
 //! What the tests of events share.
-use super::*;
 use crate::event_words::event;
 use graph_file::Name;
 use moment_core::Moment;
-use sched_state::{Limits, Run, Text};
+use sched_core::{Answer, Event, Refusal, Schedule};
+use sched_state::{Limits, Run};
 use std::alloc::{AllocError, Global};
 use std::fmt;
 use std::process::Abort;
@@ -16,10 +16,6 @@ pub fn moment(rt: &impl Abort, text: &str) -> Moment {
     }
 }
 
-pub fn tick(rt: &impl Abort, text: &str) -> Event {
-    Event::Tick(moment(rt, text))
-}
-
 // The name, read again where memory ran out.
 pub fn name(alloc: Global, text: &str) -> Result<Name, Fail> {
     let read = Name::read(alloc, text).or_else(|_| Name::read(alloc, text));
@@ -29,13 +25,6 @@ pub fn name(alloc: Global, text: &str) -> Result<Name, Fail> {
 // A schedule before the first event, made again where memory ran out.
 pub fn empty(alloc: Global, limits: Limits) -> Result<Schedule, AllocError> {
     Schedule::new(alloc, limits).or_else(|_| Schedule::new(alloc, limits))
-}
-
-// The file of a graph with this id, these keys and these tasks. The text is written again where memory ran out.
-pub fn file(alloc: Global, id: &str, keys: &str, tasks: &str) -> Result<Event, AllocError> {
-    let written = || format!(in alloc; "dag_id = \"{id}\"\n{keys}\n{tasks}");
-    let text = written().or_else(|_| written())?;
-    Ok(Event::Load(Text::from_string(text)))
 }
 
 // What a refused event must leave as it was, as far as it is told here.
@@ -56,7 +45,7 @@ fn done(alloc: Global, schedule: &mut Schedule, event: &Event) -> Result<Answer,
     Ok(schedule.commit(change))
 }
 
-// One step. Where memory ran out the schedule is as before, and the event is asked for again.
+// One step. A refused event leaves what is seen as it was, and where memory ran out it is asked for again.
 pub fn step(
     rt: &impl Abort,
     alloc: Global,
@@ -64,13 +53,15 @@ pub fn step(
     event: &Event,
 ) -> Result<Answer, Refusal> {
     let before = seen(schedule);
-    match done(alloc, schedule, event) {
-        Err(Refusal::Memory) => {
-            assert_eq!(rt; seen(schedule), before);
-            done(alloc, schedule, event)
-        }
-        answered => answered,
+    let mut answered = done(alloc, schedule, event);
+    if matches!(answered, Err(Refusal::Memory)) {
+        assert_eq!(rt; seen(schedule), before);
+        answered = done(alloc, schedule, event);
     }
+    if answered.is_err() {
+        assert_eq!(rt; seen(schedule), before);
+    }
+    answered
 }
 
 pub fn accepted(rt: &impl Abort, alloc: Global, schedule: &mut Schedule, event: &Event) -> Answer {
@@ -80,10 +71,17 @@ pub fn accepted(rt: &impl Abort, alloc: Global, schedule: &mut Schedule, event: 
     }
 }
 
-pub fn refusal(rt: &impl Abort, alloc: Global, schedule: &mut Schedule, event: &Event) -> Refusal {
-    match step(rt, alloc, schedule, event) {
+// Why the event that is told in words is refused.
+pub fn refusal(
+    rt: &impl Abort,
+    alloc: Global,
+    schedule: &mut Schedule,
+    words: &str,
+) -> Result<Refusal, Fail> {
+    let event = event(rt, alloc, words)?;
+    match step(rt, alloc, schedule, &event) {
         Ok(_) => panic!(rt; "not refused"),
-        Err(refusal) => refusal,
+        Err(refusal) => Ok(refusal),
     }
 }
 
@@ -138,7 +136,7 @@ fn written(
 }
 
 // Does the event, and tells what it answers and leaves: `1:t | Running t=queued`; a try that is not the first is told as `2:t#2`.
-pub fn told(
+fn told(
     rt: &impl Abort,
     alloc: Global,
     schedule: &mut Schedule,
@@ -164,4 +162,21 @@ pub fn follow(
         assert_eq!(rt; found.as_str(), *wanted, "{words}");
     }
     Ok(())
+}
+
+// A schedule with these limits that has done the events, each of which told this.
+pub fn within(
+    rt: &impl Abort,
+    alloc: Global,
+    limits: Limits,
+    rows: &[(&str, &str)],
+) -> Result<Schedule, Fail> {
+    let mut schedule = empty(alloc, limits)?;
+    follow(rt, alloc, &mut schedule, rows)?;
+    Ok(schedule)
+}
+
+// The same with the limits of the full size.
+pub fn days(rt: &impl Abort, alloc: Global, rows: &[(&str, &str)]) -> Result<Schedule, Fail> {
+    within(rt, alloc, Limits::full(), rows)
 }

@@ -1,8 +1,9 @@
 //! Events as the tests tell them, in words.
-use super::*;
-use crate::stepping::{moment, name, tick};
+use crate::graph_words::load;
+use crate::stepping::{moment, name};
 use instance_machine::{Outcome, Stage};
 use pool_book::Slots;
+use sched_core::Event;
 use sched_state::Clearing;
 use std::alloc::Global;
 use std::process::Abort;
@@ -69,7 +70,7 @@ fn clear(rt: &impl Abort, alloc: Global, text: &str) -> Result<Event, Fail> {
     Ok(Event::Clear(clearing))
 }
 
-// The event that is told in words: `tick MOMENT`, `restart LANES`, `resize POOL SIZE`, `success SERIAL` and so for each stage,
+// The event that is told in words: `load` and a graph, `tick MOMENT`, `restart LANES`, `resize POOL SIZE`, `success SERIAL` and so for each stage,
 // `pause DAG` and so for each event that names a graph alone, and the repairs above.
 pub fn event(rt: &impl Abort, alloc: Global, words: &str) -> Result<Event, Fail> {
     let (what, rest) = words.split_once(' ').ok_or("one word")?;
@@ -77,7 +78,8 @@ pub fn event(rt: &impl Abort, alloc: Global, words: &str) -> Result<Event, Fail>
         return Ok(Event::Report(u64::from(number(rest)?), stage));
     }
     match what {
-        "tick" => Ok(tick(rt, rest)),
+        "load" => load(alloc, rest),
+        "tick" => Ok(Event::Tick(moment(rt, rest))),
         "restart" => Ok(Event::Restart(number(rest)?)),
         "resize" => {
             let (pool, size) = rest.split_once(' ').ok_or("no size")?;

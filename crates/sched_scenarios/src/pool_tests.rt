@@ -1,22 +1,17 @@
-use super::*;
 use crate::event_words::event;
-use crate::stepping::{accepted, empty, file, follow, name, refusal};
-use pool_book::{PoolFault, Slots};
+use crate::stepping::{accepted, days, follow, within};
+use sched_core::{PoolRow, Schedule};
 use sched_state::Limits;
 use std::alloc::Global;
 use std::fmt;
 use std::process::Abort;
 use std::test::Fail;
 
-// The pool gets so many slots.
-fn resize(alloc: Global, pool: &str, size: u32) -> Result<Event, Fail> {
-    let size = Slots::new(size).ok_or("too many slots")?;
-    Ok(Event::Resize(name(alloc, pool)?, size))
-}
-
-// Tasks without upstreams, each with its id, pool, slots and weight.
-fn tasks(alloc: Global, tasks: &[(&str, &str, u32, u32)]) -> Result<String, fmt::Error> {
+// A load of a graph that runs each day from 2024-01-01 on, in words. Each of its tasks has no upstreams, and an id, a pool, slots and a
+// weight.
+fn daily(alloc: Global, id: &str, tasks: &[(&str, &str, u32, u32)]) -> Result<String, fmt::Error> {
     let mut text = String::new(alloc);
+    write!(text, "load {id} @daily 2024-01-01 ")?;
     for (id, pool, slots, weight) in tasks {
         write!(
             text,
@@ -26,26 +21,16 @@ fn tasks(alloc: Global, tasks: &[(&str, &str, u32, u32)]) -> Result<String, fmt:
     Ok(text)
 }
 
-// A graph of these tasks that runs each day from 2024-01-01 on.
-fn daily(alloc: Global, id: &str, rows: &[(&str, &str, u32, u32)]) -> Result<Event, Fail> {
-    let keys = "schedule = \"@daily\"\nstart_date = \"2024-01-01\"";
-    let text = tasks(alloc, rows).or_else(|_| tasks(alloc, rows))?;
-    Ok(file(alloc, id, keys, text.as_str())?)
-}
-
-// A schedule over so many lanes with the pools p and q of these sizes, and the graph `one` of these tasks.
-fn with_pools(
+// A schedule that has done these events, and has taken in the graph `one` of these tasks.
+fn with_tasks(
     rt: &impl Abort,
     alloc: Global,
-    lanes: u32,
-    sizes: (u32, u32),
-    rows: &[(&str, &str, u32, u32)],
+    rows: &[(&str, &str)],
+    tasks: &[(&str, &str, u32, u32)],
 ) -> Result<Schedule, Fail> {
-    let mut schedule = empty(alloc, Limits::full())?;
-    accepted(rt, alloc, &mut schedule, &Event::Restart(lanes));
-    accepted(rt, alloc, &mut schedule, &resize(alloc, "p", sizes.0)?);
-    accepted(rt, alloc, &mut schedule, &resize(alloc, "q", sizes.1)?);
-    accepted(rt, alloc, &mut schedule, &daily(alloc, "one", rows)?);
+    let load = daily(alloc, "one", tasks).or_else(|_| daily(alloc, "one", tasks))?;
+    let mut schedule = days(rt, alloc, rows)?;
+    follow(rt, alloc, &mut schedule, &[(load.as_str(), "|")])?;
     Ok(schedule)
 }
 
@@ -73,15 +58,15 @@ fn pools(alloc: Global, schedule: &Schedule) -> Result<String, Fail> {
 fn a_pool_past_the_limit_is_refused(rt: HostRuntime) -> Result<(), Fail> {
     let alloc = rt.alloc();
     let limits = Limits::new(1, 1, 1, 2, 1, 1).ok_or("limits")?;
-    let mut schedule = empty(alloc, limits)?;
-    accepted(&rt, alloc, &mut schedule, &resize(alloc, "p", 3)?);
-    let refused = refusal(&rt, alloc, &mut schedule, &resize(alloc, "q", 1)?);
-    assert!(rt; matches!(refused, Refusal::PoolFault(PoolFault::TooManyPools)));
-    let before = pools(alloc, &schedule)?;
-    assert_eq!(rt; before.as_str(), "default_pool 128 0 128;p 3 0 3;");
-    accepted(&rt, alloc, &mut schedule, &resize(alloc, "p", 0)?);
-    let after = pools(alloc, &schedule)?;
-    assert_eq!(rt; after.as_str(), "default_pool 128 0 128;p 0 0 0;");
+    let rows = [
+        ("resize p 3", "|"),
+        ("resize q 1", "PoolFault(TooManyPools) |"),
+        ("resize default_pool 7", "|"),
+        ("resize p 0", "|"),
+    ];
+    let schedule = within(&rt, alloc, limits, &rows)?;
+    let found = pools(alloc, &schedule)?;
+    assert_eq!(rt; found.as_str(), "default_pool 7 0 7;p 0 0 0;");
     Ok(())
 }
 
@@ -90,7 +75,8 @@ fn a_pool_past_the_limit_is_refused(rt: HostRuntime) -> Result<(), Fail> {
 fn what_does_not_fit_waits_for_a_larger_pool(rt: HostRuntime) -> Result<(), Fail> {
     let alloc = rt.alloc();
     let tasks = [("a", "p", 2, 5), ("b", "p", 2, 4), ("c", "p", 1, 3)];
-    let mut schedule = with_pools(&rt, alloc, 3, (3, 0), &tasks)?;
+    let sizes = [("restart 3", "|"), ("resize p 3", "|")];
+    let mut schedule = with_tasks(&rt, alloc, &sizes, &tasks)?;
     let rows = [
         (
             "tick 2024-01-02",
@@ -101,7 +87,7 @@ fn what_does_not_fit_waits_for_a_larger_pool(rt: HostRuntime) -> Result<(), Fail
     ];
     follow(&rt, alloc, &mut schedule, &rows)?;
     let found = pools(alloc, &schedule)?;
-    assert_eq!(rt; found.as_str(), "default_pool 128 0 128;p 5 5 0;q 0 0 0;");
+    assert_eq!(rt; found.as_str(), "default_pool 128 0 128;p 5 5 0;");
     Ok(())
 }
 
@@ -114,7 +100,8 @@ fn a_smaller_pool_stops_nothing(rt: HostRuntime) -> Result<(), Fail> {
         ("c", "p", 1, 1),
         ("d", "p", 1, 1),
     ];
-    let mut schedule = with_pools(&rt, alloc, 4, (3, 0), &tasks)?;
+    let sizes = [("restart 4", "|"), ("resize p 3", "|")];
+    let mut schedule = with_tasks(&rt, alloc, &sizes, &tasks)?;
     for (words, wanted) in [
         ("tick 2024-01-02", "p 3 3 0"),
         ("resize p 1", "p 1 3 -2"),
@@ -147,7 +134,8 @@ fn two_pools_share_the_lanes(rt: HostRuntime) -> Result<(), Fail> {
         ("c", "p", 1, 2),
         ("d", "q", 1, 4),
     ];
-    let mut schedule = with_pools(&rt, alloc, 2, (2, 1), &tasks)?;
+    let sizes = [("restart 2", "|"), ("resize p 2", "|"), ("resize q 1", "|")];
+    let mut schedule = with_tasks(&rt, alloc, &sizes, &tasks)?;
     let rows = [
         (
             "tick 2024-01-02",
@@ -170,10 +158,12 @@ fn two_pools_share_the_lanes(rt: HostRuntime) -> Result<(), Fail> {
 fn ties_go_by_date_graph_and_task(rt: HostRuntime) -> Result<(), Fail> {
     let alloc = rt.alloc();
     let tasks = [("d", "p", 1, 1), ("c", "p", 1, 1)];
-    let mut schedule = with_pools(&rt, alloc, 8, (8, 0), &tasks)?;
-    let other = daily(alloc, "an", &[("f", "p", 1, 1), ("e", "p", 1, 1)])?;
-    accepted(&rt, alloc, &mut schedule, &other);
+    let sizes = [("restart 8", "|"), ("resize p 8", "|")];
+    let mut schedule = with_tasks(&rt, alloc, &sizes, &tasks)?;
+    let tasks = [("f", "p", 1, 1), ("e", "p", 1, 1)];
+    let other = daily(alloc, "an", &tasks).or_else(|_| daily(alloc, "an", &tasks))?;
     let wanted =
         "1:e 2:f 3:c 4:d 5:e 6:f 7:c 8:d | Running f=queued e=queued Running f=queued e=queued Running d=queued c=queued Running d=queued c=queued";
-    follow(&rt, alloc, &mut schedule, &[("tick 2024-01-03", wanted)])
+    let rows = [(other.as_str(), "|"), ("tick 2024-01-03", wanted)];
+    follow(&rt, alloc, &mut schedule, &rows)
 }

@@ -1,32 +1,15 @@
-use super::*;
-use crate::stepping::{accepted, empty, file, follow, tick};
+use crate::stepping::{days, follow, within};
+use sched_core::Schedule;
 use sched_state::Limits;
 use std::alloc::Global;
 use std::process::Abort;
 use std::test::Fail;
 
-// The task t.
-const TASK: &str = "[[task]]\ntask_id = \"t\"\noperator = \"noop\"\n";
-
-// The tasks a, b, c and d: b and c wait for a, and d for both.
-const DIAMOND: &str =
-    "[[task]]\ntask_id = \"a\"\noperator = \"noop\"\n[[task]]\ntask_id = \"b\"\noperator = \"noop\"\nupstream = [\"a\"]\n[[task]]\ntask_id = \"c\"\noperator = \"noop\"\nupstream = [\"a\"]\n[[task]]\ntask_id = \"d\"\noperator = \"noop\"\nupstream = [\"b\", \"c\"]\n";
-
-// A schedule with four lanes and the graph `one` of these tasks, which runs each day from this one on.
-fn daily(rt: &impl Abort, alloc: Global, start: &str, tasks: &str) -> Result<Schedule, Fail> {
-    let written = || format!(in alloc; "schedule = \"@daily\"\nstart_date = \"{start}\"");
-    let keys = written().or_else(|_| written())?;
-    let mut schedule = empty(alloc, Limits::full())?;
-    accepted(rt, alloc, &mut schedule, &Event::Restart(4));
-    let load = file(alloc, "one", keys.as_str(), tasks)?;
-    accepted(rt, alloc, &mut schedule, &load);
-    Ok(schedule)
-}
-
 // The run of 2024-01-01 of the diamond, in which the tasks a to d ended well as the tries 1 to 4.
 fn diamond(rt: &impl Abort, alloc: Global) -> Result<Schedule, Fail> {
-    let mut schedule = daily(rt, alloc, "2024-01-01", DIAMOND)?;
     let rows = [
+        ("restart 4", "|"),
+        ("load one @daily 2024-01-01 diamond", "|"),
         (
             "tick 2024-01-02",
             "1:a | Running a=queued b=none c=none d=none",
@@ -55,8 +38,7 @@ fn diamond(rt: &impl Abort, alloc: Global) -> Result<Schedule, Fail> {
             "| Success a=success b=success c=success d=success",
         ),
     ];
-    follow(rt, alloc, &mut schedule, &rows)?;
-    Ok(schedule)
+    days(rt, alloc, &rows)
 }
 
 // Airflow 2, "DAG Runs": re-run tasks. What is upstream stays, and so does a run of which nothing is named.
@@ -126,9 +108,9 @@ fn a_clear_names_one_task_and_what_hangs_on_it(rt: HostRuntime) -> Result<(), Fa
 
 #[test]
 fn a_failure_is_cleared_with_what_it_stopped(rt: HostRuntime) -> Result<(), Fail> {
-    let alloc = rt.alloc();
-    let mut schedule = daily(&rt, alloc, "2024-01-01", DIAMOND)?;
     let rows = [
+        ("restart 4", "|"),
+        ("load one @daily 2024-01-01 diamond", "|"),
         (
             "tick 2024-01-02",
             "1:a | Running a=queued b=none c=none d=none",
@@ -156,16 +138,16 @@ fn a_failure_is_cleared_with_what_it_stopped(rt: HostRuntime) -> Result<(), Fail
             "cleared 2 4:b#2 | Running a=success b=queued c=success d=none",
         ),
     ];
-    follow(&rt, alloc, &mut schedule, &rows)
+    days(&rt, rt.alloc(), &rows)?;
+    Ok(())
 }
 
 // The tries so far count no more, and their numbers go on.
 #[test]
 fn a_cleared_task_has_all_of_its_tries_anew(rt: HostRuntime) -> Result<(), Fail> {
-    let alloc = rt.alloc();
-    let task = "[[task]]\ntask_id = \"t\"\noperator = \"noop\"\nretries = 1\n";
-    let mut schedule = daily(&rt, alloc, "2024-01-01", task)?;
     let rows = [
+        ("restart 4", "|"),
+        ("load one @daily 2024-01-01 task:retries = 1", "|"),
         ("tick 2024-01-02", "1:t | Running t=queued"),
         ("started 1", "| Running t=running"),
         ("failed 1", "| Running t=up_for_retry"),
@@ -179,16 +161,19 @@ fn a_cleared_task_has_all_of_its_tries_anew(rt: HostRuntime) -> Result<(), Fail>
         ("started 3", "| Running t=running"),
         ("failed 3", "| Running t=up_for_retry"),
     ];
-    follow(&rt, alloc, &mut schedule, &rows)
+    days(&rt, rt.alloc(), &rows)?;
+    Ok(())
 }
 
 // Airflow 2, "Tasks": depends_on_past.
 #[test]
 fn what_was_cleared_lets_the_next_day_go(rt: HostRuntime) -> Result<(), Fail> {
-    let alloc = rt.alloc();
-    let task = "[[task]]\ntask_id = \"t\"\noperator = \"noop\"\ndepends_on_past = true\n";
-    let mut schedule = daily(&rt, alloc, "2024-01-01", task)?;
     let rows = [
+        ("restart 4", "|"),
+        (
+            "load one @daily 2024-01-01 task:depends_on_past = true",
+            "|",
+        ),
         ("tick 2024-01-03", "1:t | Running t=queued Running t=none"),
         ("started 1", "| Running t=running Running t=none"),
         ("failed 1", "| Failed t=failed Running t=none"),
@@ -199,7 +184,8 @@ fn what_was_cleared_lets_the_next_day_go(rt: HostRuntime) -> Result<(), Fail> {
         ("started 2", "| Running t=running Running t=none"),
         ("skipped 2", "3:t | Success t=skipped Running t=queued"),
     ];
-    follow(&rt, alloc, &mut schedule, &rows)
+    days(&rt, rt.alloc(), &rows)?;
+    Ok(())
 }
 
 #[test]
@@ -249,10 +235,10 @@ fn a_clear_names_a_graph_and_a_task_that_are_there(rt: HostRuntime) -> Result<()
 // Airflow 2, "DAG Runs": backfill. Neither the start date of the graph nor its end date bounds it.
 #[test]
 fn a_backfill_makes_the_missing_days(rt: HostRuntime) -> Result<(), Fail> {
-    let alloc = rt.alloc();
-    let mut schedule = daily(&rt, alloc, "2024-02-01", TASK)?;
     let three = "| Running t=queued Running t=queued Running t=queued";
     let rows = [
+        ("restart 4", "|"),
+        ("load one @daily 2024-02-01", "|"),
         ("tick 2024-01-10", "|"),
         (
             "backfill one 2024-01-02 2024-01-02",
@@ -264,14 +250,15 @@ fn a_backfill_makes_the_missing_days(rt: HostRuntime) -> Result<(), Fail> {
         ),
         ("backfill one 2024-01-01 2024-01-03", three),
     ];
-    follow(&rt, alloc, &mut schedule, &rows)
+    days(&rt, rt.alloc(), &rows)?;
+    Ok(())
 }
 
 #[test]
 fn a_reset_waits_for_what_is_in_flight(rt: HostRuntime) -> Result<(), Fail> {
-    let alloc = rt.alloc();
-    let mut schedule = daily(&rt, alloc, "2024-02-01", TASK)?;
     let rows = [
+        ("restart 4", "|"),
+        ("load one @daily 2024-02-01", "|"),
         ("tick 2024-01-10", "|"),
         (
             "backfill one 2024-01-01 2024-01-02",
@@ -296,15 +283,16 @@ fn a_reset_waits_for_what_is_in_flight(rt: HostRuntime) -> Result<(), Fail> {
             "cleared 1 3:t#2 | Running t=queued Running t=queued",
         ),
     ];
-    follow(&rt, alloc, &mut schedule, &rows)
+    days(&rt, rt.alloc(), &rows)?;
+    Ok(())
 }
 
 // A run by hand stands at another moment than the start of an interval.
 #[test]
 fn a_reset_leaves_runs_by_hand(rt: HostRuntime) -> Result<(), Fail> {
-    let alloc = rt.alloc();
-    let mut schedule = daily(&rt, alloc, "2024-01-01", TASK)?;
     let rows = [
+        ("restart 4", "|"),
+        ("load one @daily 2024-01-01", "|"),
         ("tick 2024-01-02T12:00:00Z", "1:t | Running t=queued"),
         ("trigger one", "2:t | Running t=queued Running t=queued"),
         ("started 1", "| Running t=running Running t=queued"),
@@ -314,25 +302,18 @@ fn a_reset_leaves_runs_by_hand(rt: HostRuntime) -> Result<(), Fail> {
             "cleared 1 3:t#2 | Running t=queued Running t=queued",
         ),
     ];
-    follow(&rt, alloc, &mut schedule, &rows)
+    days(&rt, rt.alloc(), &rows)?;
+    Ok(())
 }
 
 // In flight is told before that there is no room.
 #[test]
 fn a_backfill_makes_all_of_its_runs_or_none(rt: HostRuntime) -> Result<(), Fail> {
-    let alloc = rt.alloc();
     let limits = Limits::new(1, 1, 1, 1, 2, 4).ok_or("no limits")?;
-    let mut schedule = empty(alloc, limits)?;
-    let load = file(
-        alloc,
-        "one",
-        "schedule = \"@daily\"\nstart_date = \"2024-01-03\"",
-        TASK,
-    )?;
-    accepted(&rt, alloc, &mut schedule, &load);
-    accepted(&rt, alloc, &mut schedule, &Event::Restart(4));
-    accepted(&rt, alloc, &mut schedule, &tick(&rt, "2024-01-04"));
     let rows = [
+        ("load one @daily 2024-01-03", "|"),
+        ("restart 4", "|"),
+        ("tick 2024-01-04", "1:t | Running t=queued"),
         (
             "backfill one 2024-01-01 2024-01-02",
             "RecordFull | Running t=queued",
@@ -346,5 +327,6 @@ fn a_backfill_makes_all_of_its_runs_or_none(rt: HostRuntime) -> Result<(), Fail>
             "2:t | Running t=queued Running t=queued",
         ),
     ];
-    follow(&rt, alloc, &mut schedule, &rows)
+    within(&rt, rt.alloc(), limits, &rows)?;
+    Ok(())
 }
