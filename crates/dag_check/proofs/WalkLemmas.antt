@@ -1,8 +1,7 @@
 -- A walk against the edges, and the cycle that it ends in.
-use Rattle.std.proofs.Common.{◌≡◌, ◌≢◌, ◌⊎◌, ◌∙◌, ℕ, ◌+◌, ◌-◌, ◌<◌, ◌≤◌, Bool, true, false, not, List, [], ◌∷◌, ◌++◌, length, get_or, sym, subst, arith, inl, inr}
-use Rattle.std.proofs.lemmas.Bool.{cases_lt, false≢true, and_cases, not_from_false}
-use Rattle.std.specs.List.{list_all}
-use Rattle.dag_check.specs.Orders.{is_in, IsCycle, may_come}
+use Rattle.std.proofs.Common.{◌≡◌, ◌≢◌, ◌⊎◌, ◌∙◌, ℕ, ◌+◌, ◌-◌, ◌<◌, ◌≤◌, Bool, true, false, List, [], ◌∷◌, ◌++◌, length, get_or, sym, subst, arith, inl, inr}
+use Rattle.std.proofs.lemmas.Bool.{cases_lt, false≢true}
+use Rattle.dag_check.specs.Orders.{is_in, IsCycle}
 use Rattle.dag_check.specs.Searches.{IsTurned}
 use Rattle.dag_check.proofs.OrderLemmas.{in-at, get-push_old, get-push_new, length-push}
 
@@ -42,10 +41,6 @@ walk-more up m n w at to h new inside off edge =
       inside = inside;
       open' = off;
     }
-
--- what is stuck has an upstream that isn't placed
-pub stuck-upstream : (up : ℕ → List ℕ) (m : ℕ → Bool) (at : ℕ) → may_come up m at ≡ false → m at ≡ false → list_all m (up at) ≡ false
-stuck-upstream up m at stuck off = elim (and_cases (not (m at)) (list_all m (up at)) stuck) [ inl h ↦ absurd (false≢true (sym h ∙ not_from_false (m at) off)) | inr h ↦ h ]
 
 -- an edge of the closed walk: a step of the walk, or the one that closes it
 closing : (up : ℕ → List ℕ) (m : ℕ → Bool) (n : ℕ) (w : List ℕ) (at from : ℕ) → IsWalk up m n w at → get_or w from 0 ≡ at → (a b : ℕ) → a < length w → (a ≡ b + 1) ⊎ ((a ≡ from) × (b + 1 ≡ length w)) → is_in (up (get_or w b 0)) (get_or w a 0) ≡ true

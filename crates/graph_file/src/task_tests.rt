@@ -97,6 +97,18 @@ fn reads_the_lists_of_a_task(rt: HostRuntime) -> Result<(), Fail> {
 }
 
 #[test]
+fn copies_an_operator_with_its_arguments(rt: HostRuntime) -> Result<(), Fail> {
+    let copy = second(rt.alloc())?.action.copy(rt.alloc())?;
+    assert_eq!(rt; copy.operator(), Operator::Command);
+    assert_eq!(rt; copy.argv().len(), 3);
+    assert_eq!(rt;
+        copy.argv().last().map(|argument| argument.as_str()),
+        Some("größe")
+    );
+    Ok(())
+}
+
+#[test]
 fn reads_the_words_and_numbers_of_a_task(rt: HostRuntime) -> Result<(), Fail> {
     let task = second(rt.alloc())?;
     assert_eq!(rt; task.task_id.as_str(), "second");

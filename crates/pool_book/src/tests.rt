@@ -306,13 +306,13 @@ fn make_pools(alloc: Global, pools: &mut Pools, count: usize) -> Result<(), Fail
     Ok(())
 }
 
-// Asserts that the pools go from `-` to `z`.
-fn assert_order(rt: &impl Abort, pools: &Pools) {
+// Asserts that the pools go from one name to another.
+fn assert_order(rt: &impl Abort, pools: &Pools, ends: (&str, &str)) {
     let mut pools = pools.iter();
     let least = pools.next().map(|(name, _)| name.as_str());
-    assert_eq!(rt; least, Some("-"));
+    assert_eq!(rt; least, Some(ends.0));
     let greatest = pools.last().map(|(name, _)| name.as_str());
-    assert_eq!(rt; greatest, Some("z"));
+    assert_eq!(rt; greatest, Some(ends.1));
 }
 
 // As many pools as there may be, of which `a` is made larger last.
@@ -330,7 +330,7 @@ fn there_are_64_pools_at_most(rt: HostRuntime) -> Result<(), Fail> {
     let more = resize(alloc, &mut pools, ".", 1)?;
     assert_eq!(rt; more, Err(PoolFault::TooManyPools));
     assert_eq!(rt; pools.len(), 64);
-    assert_order(&rt, &pools);
+    assert_order(&rt, &pools, ("-", "z"));
     Ok(())
 }
 
@@ -347,8 +347,20 @@ fn a_copy_has_all_pools(rt: HostRuntime) -> Result<(), Fail> {
     let alloc = rt.alloc();
     let a = name(alloc, "a")?;
     let copy = copied(alloc, &most_pools(alloc)?)?;
-    assert_order(&rt, &copy);
+    assert_order(&rt, &copy, ("-", "z"));
     assert_pool(&rt, &copy, &a, (2, 0, 2));
+    Ok(())
+}
+
+#[test]
+fn a_changed_copy_leaves_the_pools_in_order(rt: HostRuntime) -> Result<(), Fail> {
+    let alloc = rt.alloc();
+    let mut pools = Pools::new(alloc);
+    make_pools(alloc, &mut pools, 2)?;
+    let mut copy = copied(alloc, &pools)?;
+    resize(alloc, &mut copy, "a", 1)?.ok().ok_or("no pool")?;
+    assert_order(&rt, &copy, ("a", "z"));
+    assert_order(&rt, &pools, ("y", "z"));
     Ok(())
 }
 

@@ -1,5 +1,5 @@
 //! The set of the logical dates of a graph's runs.
-ghost use Rattle.std.specs.Prelude.{◌≡◌, ◌==◌, ◌||◌, ℕ, ◌+◌, ◌<◌, ◌≤◌, [], OnOk};
+ghost use Rattle.std.specs.Prelude.{◌≡◌, ◌==◌, ◌||◌, ℕ, ◌+◌, ◌<◌, ◌≤◌, [], OnOk, true};
 ghost use Rattle.run_planner.specs.Index.{has_date};
 
 use moment_core::Moment;
@@ -50,10 +50,11 @@ impl RunIndex {
         self.dates.binary_search(&secs).is_ok()
     }
 
-    /// Makes room for `n` dates more.
+    /// Makes room for `n` dates more. What room there was is kept, also where memory runs out.
     pub fn reserve(&mut self, n: usize) -> Result<(), AllocError>
         ensures dates { self.new.dates ≡ self.old.dates }
         ensures room { OnOk result (n ≤ self.new.room) }
+        ensures kept { self.old.room ≤ self.new.room }
     {
         self.dates.reserve(n)
     }
@@ -62,6 +63,7 @@ impl RunIndex {
     pub fn add(&mut self, date: Moment)
         requires { 0 < self.old.room }
         ensures added { (d : ℕ) → has_date self.new.dates d ≡ ((date == d) || has_date self.old.dates d) }
+        ensures there { has_date self.old.dates date ≡ true → self.new ≡ self.old }
         ensures room { self.old.room ≤ self.new.room + 1 }
     {
         match self.dates.binary_search(&date.secs()) {

@@ -1,9 +1,10 @@
-use Rattle.std.proofs.Common.{◌≡◌, ◌∙◌, ◌==◌, ◌<◌, ◌-◌, ◌||◌, ℕ, Bool, true, cond, length, get_or, ap, sym, subst, List, Err, arith, vec_len, vec_capacity}
+use Rattle.std.proofs.Common.{◌≡◌, ◌∙◌, ◌==◌, ◌<◌, ◌-◌, ◌||◌, ℕ, Bool, true, false, cond, length, get_or, ap, sym, subst, List, Err, arith, vec_len, vec_capacity}
+use Rattle.std.proofs.lemmas.Bool.{false≢true}
 use Rattle.std.specs.List.{list_any, insert}
 use Rattle.std.specs.List.Sorted.{IsNonDecreasingBy}
 use Rattle.std.specs.Result.{is_ok}
 use Rattle.run_planner.specs.Index.{Index, has_date}
-use Rattle.run_planner.proofs.IndexLemmas.{Found, place, added-there, added-new, rises-insert}
+use Rattle.run_planner.proofs.IndexLemmas.{Found, place, found-any, added-there, added-new, rises-insert}
 use Rattle.run_planner.proofs.run_index.RunIndex.add.Goals as goal
 
 pub returns-in-Ok-clause-added : goal.returns-in-Ok-clause-added
@@ -33,3 +34,14 @@ returns-in-Err-clause-added c m =
     ap (list_any (λ z. z == m)) items
     ∙ (added-new c.self.inside.dates.items c.secs-in-Err.result m c.in-Err.at
     ∙ (ap (λ (n : ℕ). (n == m) || list_any (λ z. z == m) c.self.inside.dates.items) c.secs-in-Err.ensures.value ∙ ap (λ (v : Index). (c.args.date == m) || has_date v.dates m) c.self.view_is))
+
+pub returns-in-Err-clause-there : goal.returns-in-Err-clause-there
+returns-in-Err-clause-there c there =
+    let found = place _ c.deref.result.now c.secs.result c.binary_search.result c.deref.ensures.value c.binary_search.ensures.position c.self.invariant in
+    let none : false ≡ list_any (λ z. z == c.secs.result) c.deref.result.now = ap is_ok (sym c.in-Err.is) ∙ found-any c.deref.result.now c.secs.result c.binary_search.result found in
+    let new : false ≡ has_date c.args.self.now.dates c.args.date =
+    none
+    ∙ (ap (λ (n : ℕ). list_any (λ z. z == n) c.deref.result.now) c.secs.ensures.value
+    ∙ (ap (λ (l : List ℕ). list_any (λ z. z == c.args.date) l) c.deref.ensures.value
+    ∙ ap (λ (v : Index). has_date v.dates c.args.date) c.self.view_is)) in
+    absurd (false≢true (new ∙ there))
