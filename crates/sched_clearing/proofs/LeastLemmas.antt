@@ -50,19 +50,6 @@ open_append ts us = ap (map (λ (t : Try). t.serial)) (filter-append is_open ts 
 pub open_least : (ts us : List Try) → least (open_serials (ts ++ us)) ≡ lesser (least (open_serials ts)) (least (open_serials us))
 open_least ts us = ap least (open_append ts us) ∙ least_append (open_serials ts) (open_serials us)
 
-pub try_open : (ts : List Try) (n : ℕ) (t : Try) (all l : Option ℕ) → slice_get ts n ≡ Some t → is_open t ≡ true
-    → lesser l (least (open_serials (drop n ts))) ≡ all → lesser (lesser l (Some t.serial)) (least (open_serials (drop (n + 1) ts))) ≡ all
-try_open ts n t all l there passes so =
-    let rest : Option ℕ = least (open_serials (drop (n + 1) ts)) in
-    let here : least (open_serials (drop n ts)) ≡ lesser (Some t.serial) rest = rw (drop_at ts n t there, passes) (better_is t.serial rest) in
-    lesser_assoc l (Some t.serial) rest ∙ (ap (lesser l) (sym here) ∙ so)
-
-pub try_ended : (ts : List Try) (n : ℕ) (t : Try) (all l : Option ℕ) → slice_get ts n ≡ Some t → is_open t ≡ false
-    → lesser l (least (open_serials (drop n ts))) ≡ all → lesser l (least (open_serials (drop (n + 1) ts))) ≡ all
-try_ended ts n t all l there fails so =
-    let here : least (open_serials (drop n ts)) ≡ least (open_serials (drop (n + 1) ts)) = rw (drop_at ts n t there, fails) refl in
-    ap (lesser l) (sym here) ∙ so
-
 -- ---- of instances
 abbrev Test : Type 0
 Test = ℕ → TaskSpec × Held → Bool

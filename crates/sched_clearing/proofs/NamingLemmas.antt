@@ -37,9 +37,6 @@ named_not a n r e =
     ap (λ (b : Bool). passing_from (λ p x. b && names_instance n p x) 0 (pairs_of a r)) e
     ∙ ap (map (λ (x : ℕ × (TaskSpec × Held)). x.1)) (filter_none (enumerate_from 0 (pairs_of a r)))
 
-pub named_nowhere : (a : Schedule) (n : Parts) (r : Run) → graph_named a r.graph ≡ None → named_in a (naming_of n) r ≡ []
-named_nowhere a n r e = ap (λ (o : Option Graph). passing_from (naming_of n r) 0 (zip (unwrap_or (option_map (λ (g : Graph). g.dag) o) no_dag).tasks r.instances)) e
-
 -- the graph of an id is there
 pub dag_is : (a : Schedule) (id : List ℕ) (g : Dag) → option_map (λ (k : Graph). k.dag) (graph_named a id) ≡ Some g → g ≡ dag_named a id
 dag_is a id g there = sym (ap (λ o. unwrap_or o no_dag) there)

@@ -66,9 +66,6 @@ repair_counted ns named a counted = counted_same a (add_runs ns (set_back named 
 pub unpause_counted : (id : List ℕ) (a : Schedule) → IsCounted a → IsCounted (set_paused id false a)
 unpause_counted id a counted = counted_same a (set_paused id false a) (open_paused id false a) counted
 
-pub resize_counted : (name : List ℕ) (size : ℕ) (a : Schedule) → IsCounted a → IsCounted (resize name size a)
-resize_counted name size a counted = counted_same a (resize name size a) refl counted
-
 pub report_counted : (serial : ℕ) (stage : Stage) (a : Schedule) → IsCounted a → IsCounted (report serial stage a)
 report_counted serial stage a counted name =
     let given_back : ℕ = sum_by (slots_in name) (filter (ended_by (reported_try serial stage a.now)) (open_tries a)) in

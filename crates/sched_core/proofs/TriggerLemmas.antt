@@ -1,5 +1,5 @@
 -- What is planned for a run by hand.
-use Rattle.std.proofs.Common.{◌≡◌, ◌∙◌, inl, inr, refl, sym, ap, subst, ℕ, ◌+◌, List, [], ◌∷◌, Bool, true, false, map, length, nat_lt, Option, Err}
+use Rattle.std.proofs.Common.{◌≡◌, ◌∙◌, refl, sym, ap, subst, ℕ, ◌+◌, List, [], ◌∷◌, Bool, false, map, length, nat_lt, Option}
 use Rattle.std.proofs.lemmas.List.{length-map}
 use Rattle.graph_file.specs.Lists.{when, first_some}
 use Rattle.sched_state.specs.declared.runs.Run.{Run}
@@ -7,18 +7,13 @@ use Rattle.sched_model.specs.Causes.{is_unknown_graph, is_full_with}
 use Rattle.sched_model.specs.NamedRuns.{Named, named_by_hand, queued_run, add_runs, insert_runs}
 use Rattle.sched_model.specs.Schedule.{Schedule, has_run_at}
 use Rattle.sched_model.specs.Sound.{is_empty}
-use Rattle.sched_naming.specs.ByHand.{IsByHand}
-use Rattle.sched_naming.specs.declared.by_hand.ByHandFault.{ByHandFault}
-use Rattle.sched_naming.specs.declared.by_hand.ByHandFault.TheVariants as fault
 use Rattle.sched_events.specs.Causes.{has_no_interval, refused}
 use Rattle.sched_events.specs.Events.{named_by, change_by}
-use Rattle.sched_events.specs.Outcomes.{IsRefusal}
 use Rattle.sched_events.specs.Steps.{id_of}
 use Rattle.sched_events.specs.declared.answers.RunId.{RunId}
 use Rattle.sched_events.specs.declared.events.Event.TheVariants.{Trigger}
 use Rattle.sched_events.specs.declared.refusals.Refusal.{Refusal}
 use Rattle.sched_events.specs.declared.refusals.Refusal.TheVariants as refusal
-use Rattle.sched_core.specs.Inside.{hand_refusal}
 use Rattle.sched_core.specs.Plans.{run_id}
 use Rattle.sched_core.proofs.PlanLemmas.{ids_named}
 
@@ -32,16 +27,6 @@ by_causes a id unknown exists none full e f g h =
     ap (λ b. causes b (has_run_at a id a.now) (has_no_interval a id) (is_full_with a (named_by_hand a id))) e
     ∙ (ap (λ b. causes unknown b (has_no_interval a id) (is_full_with a (named_by_hand a id))) f
     ∙ (ap (λ b. causes unknown exists b (is_full_with a (named_by_hand a id))) g ∙ ap (causes unknown exists none) h))
-
--- there is no run by hand
-hand_cause : (a : Schedule) (id : List ℕ) (f : ByHandFault) → IsByHand a id (Err f) → IsRefusal a (Trigger id) (hand_refusal f)
-hand_cause a id fault.UnknownGraph h = inr (record { first = by_causes a id true (has_run_at a id a.now) (has_no_interval a id) (is_full_with a (named_by_hand a id)) h refl refl refl; shown = tt })
-hand_cause a id fault.RunExists h = inr (record { first = by_causes a id false true (has_no_interval a id) (is_full_with a (named_by_hand a id)) h.0 h.1 refl refl; shown = tt })
-hand_cause a id fault.NoInterval h = inr (record { first = by_causes a id false false true (is_full_with a (named_by_hand a id)) h.0 h.1.0 (ap is_empty h.1.1) refl; shown = tt })
-hand_cause a id fault.Memory h = inl refl
-
-pub hand_refused : (a d : Schedule) (id : List ℕ) (f : ByHandFault) (r : Refusal) → d ≡ a → IsByHand d id (Err f) → r ≡ hand_refusal f → IsRefusal a (Trigger id) r
-hand_refused a d id f r draft h is = subst (IsRefusal a (Trigger id)) (sym is) (hand_cause a id f (subst (λ (s : Schedule). IsByHand s id (Err f)) draft h))
 
 -- ---- there is one
 one_is : (a : Schedule) (run : Run) (ns : List Named) → run ∷ [] ≡ map (queued_run a) ns → (length ns ≡ 1) × (is_empty ns ≡ false)

@@ -78,11 +78,6 @@ runs_open a named (r ∷ rs) =
 pub open_cleared : (named : Naming) (a : Schedule) → open_tries (clear named a) ≡ open_tries a
 open_cleared named a = runs_open a named a.runs
 
--- ---- every try is changed
--- what is summed over the tries without an end, where a change keeps their slots
-abbrev left_of : (Try → Try) → List ℕ → TaskSpec × Try → ℕ
-left_of f p e = cond (is_open (f e.1)) (slots_in p e) 0
-
 -- ---- a restart
 closed : (now : ℕ) (t : Try) (o : Option End) → t.ended ≡ o → is_open (lost_if now o t) ≡ false
 closed now t None e = refl

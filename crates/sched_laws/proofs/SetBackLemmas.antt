@@ -60,9 +60,6 @@ all_passed q k (y ∷ xs) h =
     rw (here, filter) (all_passed q (k + 1) xs (λ p x e. let z : k + suc p ≡ (k + 1) + p = omega arith in subst (λ n. q (n, x) ≡ false) z (h (suc p) x e)))
 
 -- ---- a run
-chosen_of : (a : Schedule) (named : Naming) (r : Run) → List (ℕ × (TaskSpec × Held))
-chosen_of a named r = filter (λ (e : ℕ × (TaskSpec × Held)). named r e.0 e.1) (enumerate_from 0 (pairs_of a r))
-
 empty_map : {X Y : Type 0} (f : X → Y) (xs : List X) → map f xs ≡ [] → xs ≡ []
 empty_map f [] e = refl
 empty_map {X} {Y} f (x ∷ xs) e = absurd (let c : ◌≡◌ {A = List Y} (f x ∷ map f xs) [] = e in cc)

@@ -79,9 +79,6 @@ value-more : (w : Word) (vs : Option (List Word)) → option_map (λ (ps : List 
 value-more w None = refl
 value-more w (Some vs) = refl
 
-option-alone : (w : Word) (ws : List Word) (after : Option (List Part)) → with_option no_options w ws after ≡ None
-option-alone w ws after = refl
-
 parts-values : (ws : List Word) → parts no_options ws ≡ option_map (map value) (values ws)
 parts-values [] = refl
 parts-values (w ∷ ws) = elim (ends_options w) as (λ b. ends_options w ≡ b → parts no_options (w ∷ ws) ≡ option_map (map value) (values (w ∷ ws))) [
