@@ -173,12 +173,11 @@ fn places_of_a_diamond(rt: HostRuntime) -> Result<(), Fail> {
 fn edges_of_a_diamond(rt: HostRuntime) -> Result<(), Fail> {
     let graph = graph(rt.alloc(), DIAMOND)?;
     assert_eq!(rt; graph.len(), 4);
-    assert_eq!(rt; graph.upstreams(0), [].as_slice());
-    assert_eq!(rt; graph.upstreams(3), [1, 2].as_slice());
-    assert_eq!(rt; graph.downstreams(0), [1, 2].as_slice());
-    assert_eq!(rt; graph.downstreams(3), [].as_slice());
-    assert!(rt; graph.is_leaf(3));
-    assert!(rt; !graph.is_leaf(1));
+    let above = (graph.upstreams(0), graph.upstreams(3));
+    assert_eq!(rt; above, ([].as_slice(), [1, 2].as_slice()));
+    let below = (graph.downstreams(0), graph.downstreams(3));
+    assert_eq!(rt; below, ([1, 2].as_slice(), [].as_slice()));
+    assert_eq!(rt; (graph.is_leaf(1), graph.is_leaf(3)), (false, true));
     Ok(())
 }
 
@@ -254,8 +253,8 @@ fn layers(alloc: Global) -> Result<String, AllocError> {
 fn assert_shape(rt: &impl Abort, graph: &Graph, first: &str, downstreams: usize) {
     assert_eq!(rt; graph.len(), 256);
     assert_eq!(rt; graph.task(0).task_id.as_str(), first);
-    assert_eq!(rt; graph.downstreams(0).len(), downstreams);
-    assert!(rt; graph.is_leaf(255));
+    let shape = (graph.downstreams(0).len(), graph.is_leaf(255));
+    assert_eq!(rt; shape, (downstreams, true));
 }
 
 // Asserts that the first task reaches so many, and that the last one is reached by as many.

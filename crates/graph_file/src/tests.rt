@@ -56,10 +56,10 @@ fn reads_what_a_file_has(rt: HostRuntime) -> Result<(), Fail> {
     let graph = answer(rt.alloc(), text.as_str())?;
     assert_eq!(rt; graph.dag_id.as_str(), "a.b-C_9");
     assert_eq!(rt; graph.schedule, Timetable::Once);
-    assert_eq!(rt; graph.start_date.secs(), 1_709_209_805);
-    assert_eq!(rt; graph.end_date.map(Moment::secs), Some(1_704_067_200));
-    assert_eq!(rt; graph.catchup, false);
-    assert_eq!(rt; graph.max_active_runs.get(), 1_000_000);
+    let days = (graph.start_date.secs(), graph.end_date.map(Moment::secs));
+    assert_eq!(rt; days, (1_709_209_805, Some(1_704_067_200)));
+    let runs = (graph.catchup, graph.max_active_runs.get());
+    assert_eq!(rt; runs, (false, 1_000_000));
     let tasks = graph.tasks.as_slice();
     assert_eq!(rt; tasks.len(), 1);
     assert_eq!(rt; tasks[0].task_id.as_str(), "t");

@@ -1,6 +1,7 @@
 use super::*;
 use moment_core::Moment;
 use std::alloc::Global;
+use std::fmt;
 use std::io::{self, BufReader, ErrorKind, Read, Write};
 use std::process::Abort;
 use std::test::Fail;
@@ -58,44 +59,48 @@ fn two_days_have_their_runs(rt: HostRuntime) -> Result<(), Fail> {
 }
 
 // The answer to a tick that makes hourly runs, from an hour of 2024-01-01 up to another.
-fn hours(alloc: Global, from: u8, to: u8, more: &str) -> Result<String, Fail> {
-    let mut answer = String::new(alloc);
+fn add_hours(answer: &mut String, (from, to, more): (u8, u8, &str)) -> Result<(), fmt::Error> {
     for hour in from..to {
         let hour = Moment::at(1_704_067_200 + u64::from(hour) * 3_600);
         write!(answer, "made one scheduled__{hour}\n")?;
     }
-    answer.push_str(more)?;
-    answer.push_str("ok\n")?;
-    Ok(answer)
+    write!(answer, "{more}ok\n")?;
+    Ok(())
+}
+
+// Asserts what a graph of each hour makes by one tick after another; gives the number of runs.
+fn assert_hours(
+    rt: &impl Abort,
+    alloc: Global,
+    keys: &str,
+    ticks: &[(u8, u8, &str)],
+) -> Result<usize, Fail> {
+    let mut script = graph(alloc, "@hourly", "2024-01-01", keys)?;
+    let mut wanted = String::from_str(alloc, "ok\n")?;
+    for tick in ticks {
+        script.push_str("tick 2024-01-02T01:00:00Z\n")?;
+        add_hours(&mut wanted, *tick)?;
+    }
+    assert_script(rt, alloc, script.as_bytes(), wanted.as_str(), 0)
 }
 
 #[test]
 fn a_tick_makes_ten_runs(rt: HostRuntime) -> Result<(), Fail> {
-    let alloc = rt.alloc();
-    let tick = "tick 2024-01-02T01:00:00Z\n";
-    let load = graph(alloc, "@hourly", "2024-01-01", "")?;
-    let script = format!(in alloc; "{load}{tick}{tick}{tick}")?;
-    let first = hours(alloc, 0, 10, "more\n")?;
-    let second = hours(alloc, 10, 20, "more\n")?;
-    let third = hours(alloc, 20, 25, "")?;
-    let wanted = format!(in alloc; "ok\n{first}{second}{third}")?;
-    let runs = assert_script(&rt, alloc, script.as_bytes(), wanted.as_str(), 0)?;
+    let ticks = [(0, 10, "more\n"), (10, 20, "more\n"), (20, 25, "")];
+    let runs = assert_hours(&rt, rt.alloc(), "", &ticks)?;
     assert_eq!(rt; runs, 25);
-    let load = graph(alloc, "@hourly", "2024-01-01", "catchup = false")?;
-    let script = format!(in alloc; "{load}{tick}")?;
-    let last = hours(alloc, 24, 25, "")?;
-    let wanted = format!(in alloc; "ok\n{last}")?;
-    assert_script(&rt, alloc, script.as_bytes(), wanted.as_str(), 0)?;
-    let load = graph(
-        alloc,
-        "@hourly",
-        "2024-01-01",
-        "end_date = \"2024-01-01T01:00:00Z\"",
-    )?;
-    let script = format!(in alloc; "{load}{tick}")?;
-    let both = hours(alloc, 0, 2, "")?;
-    let wanted = format!(in alloc; "ok\n{both}")?;
-    assert_script(&rt, alloc, script.as_bytes(), wanted.as_str(), 0)?;
+    Ok(())
+}
+
+#[test]
+fn a_tick_makes_what_the_keys_of_a_graph_allow(rt: HostRuntime) -> Result<(), Fail> {
+    let rows = [
+        ("catchup = false", (24, 25, "")),
+        ("end_date = \"2024-01-01T01:00:00Z\"", (0, 2, "")),
+    ];
+    for (keys, tick) in rows {
+        assert_hours(&rt, rt.alloc(), keys, &[tick])?;
+    }
     Ok(())
 }
 
@@ -151,31 +156,43 @@ impl Write for Failing<'_> {
     }
 }
 
+const TICKS: &[u8; 32] = b"tick 2024-01-02\ntick 2024-01-01\n";
+
+// The status of a script of two ticks whose reads fail after so many, and whether its clock was set and something was written.
+fn read_in(alloc: Global, calls: usize) -> Result<(u8, bool, bool), Fail> {
+    let text = TICKS.as_slice();
+    let input = BufReader::with_capacity(alloc, 1, Failing { text, calls })?;
+    let mut output = Vec::new(alloc);
+    let (schedule, status) = run_serial(alloc, 0, input, &mut output).map_err(|_| "refused")?;
+    Ok((status, schedule.now() > Moment::at(0), !output.is_empty()))
+}
+
 #[test]
-fn a_failed_read_or_write_ends_the_script(rt: HostRuntime) -> Result<(), Fail> {
-    let alloc = rt.alloc();
-    let text = b"tick 2024-01-02\ntick 2024-01-01\n".as_slice();
+fn a_failed_read_ends_the_script(rt: HostRuntime) -> Result<(), Fail> {
     for calls in 0..33 {
-        let input = BufReader::with_capacity(alloc, 1, Failing { text, calls })?;
-        let mut output = Vec::new(alloc);
-        let (schedule, status) = run_serial(alloc, 0, input, &mut output).map_err(|_| "refused")?;
-        assert_eq!(rt; status, 4, "at {calls}");
+        let found = read_in(rt.alloc(), calls)?;
         let is_done = calls >= 16;
-        assert_eq!(rt; schedule.now() > Moment::at(0), is_done, "at {calls}");
-        assert_eq!(rt; output.is_empty(), !is_done, "at {calls}");
+        assert_eq!(rt; found, (4, is_done, is_done), "at {calls}");
     }
-    let mut writer = Failing {
-        text: b"",
-        calls: 1_000,
-    };
-    let (_schedule, status) = run_serial(alloc, 0, text, &mut writer).map_err(|_| "refused")?;
+    Ok(())
+}
+
+// The status of the same script where writes fail after so many, the moment that it leaves, and how many writes are left.
+fn written_in(alloc: Global, calls: usize) -> Result<(u8, Moment, usize), Fail> {
+    let mut writer = Failing { text: b"", calls };
+    let ended = run_serial(alloc, 0, TICKS.as_slice(), &mut writer);
+    let (schedule, status) = ended.map_err(|_| "refused")?;
+    Ok((status, schedule.now(), writer.calls))
+}
+
+#[test]
+fn a_failed_write_ends_the_script(rt: HostRuntime) -> Result<(), Fail> {
+    let (status, now, left) = written_in(rt.alloc(), 1_000)?;
     assert_eq!(rt; status, 1);
-    for calls in 0..1_000usize.saturating_sub(writer.calls) {
-        let (schedule, status) = run_serial(alloc, 0, text, Failing { text: b"", calls }).map_err(
-            |_| "refused",
-        )?;
-        assert_eq!(rt; status, 4, "at {calls}");
-        assert_eq!(rt; schedule.now(), Moment::at(1_704_153_600), "at {calls}");
+    for calls in 0..1_000usize.saturating_sub(left) {
+        let found = written_in(rt.alloc(), calls)?;
+        assert_eq!(rt; found, (4, now, 0), "at {calls}");
     }
+    assert_eq!(rt; now, Moment::at(1_704_153_600));
     Ok(())
 }
