@@ -1,6 +1,7 @@
 //! Events as the tests tell them, in words.
 use crate::graph_words::load;
 use crate::stepping::{moment, name};
+use graph_file::Name;
 use instance_machine::{Outcome, Stage};
 use pool_book::Slots;
 use sched_core::Event;
@@ -26,14 +27,14 @@ fn stage(word: &str) -> Option<Stage> {
     }
 }
 
-// An event of a graph, or of a pool.
-fn of_name(alloc: Global, what: &str, id: &str) -> Result<Event, Fail> {
-    let id = name(alloc, id)?;
-    Ok(match what {
-        "trigger" => Event::Trigger(id),
-        "pause" => Event::Pause(id),
-        _ => Event::Unpause(id),
-    })
+// An event that names a graph alone.
+fn of_name(what: &str, id: Name) -> Option<Event> {
+    match what {
+        "trigger" => Some(Event::Trigger(id)),
+        "pause" => Some(Event::Pause(id)),
+        "unpause" => Some(Event::Unpause(id)),
+        _ => None,
+    }
 }
 
 // A backfill: `DAG FROM TO`, with a word after them where it resets.
@@ -88,6 +89,6 @@ pub fn event(rt: &impl Abort, alloc: Global, words: &str) -> Result<Event, Fail>
         }
         "backfill" => backfill(rt, alloc, rest),
         "clear" => clear(rt, alloc, rest),
-        _ => of_name(alloc, what, rest),
+        _ => Ok(of_name(what, name(alloc, rest)?).ok_or("no such event")?),
     }
 }

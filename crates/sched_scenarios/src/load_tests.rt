@@ -1,4 +1,4 @@
-use crate::stepping::{days, empty, name, refusal, within};
+use crate::stepping::{does, empty, name, refusal, within};
 use dag_check::DagFault;
 use graph_file::Name;
 use sched_core::{Refusal, Schedule};
@@ -33,7 +33,8 @@ fn places(alloc: Global, schedule: &Schedule, id: &Name) -> Result<String, fmt::
 fn a_graph_is_held_by_place(rt: HostRuntime) -> Result<(), Fail> {
     let alloc = rt.alloc();
     let load = two(alloc, "upstream = [\"b\"]", "")?;
-    let schedule = days(&rt, alloc, &[(load.as_str(), "|")])?;
+    let mut schedule = empty(alloc, Limits::full())?;
+    does(&rt, alloc, &mut schedule, load.as_str(), "|")?;
     for (id, wanted) in [("two", "b a "), ("one", "")] {
         let id = name(alloc, id)?;
         let found = places(alloc, &schedule, &id).or_else(|_| places(alloc, &schedule, &id))?;
@@ -68,12 +69,16 @@ fn a_fault_of_the_graph_comes_before_an_unknown_pool(rt: HostRuntime) -> Result<
     let alloc = rt.alloc();
     let long = two(alloc, "upstream = [\"b\", \"x\"]", "pool = \"x\"")?;
     let unknown = two(alloc, "upstream = [\"x\"]\npool = \"x\"", "")?;
-    let rows = [
-        (long.as_str(), "GraphFault(TooMany) |"),
-        (unknown.as_str(), "DagFault(UnknownUpstream(0)) |"),
-    ];
-    within(&rt, alloc, small()?, &rows)?;
-    Ok(())
+    let mut schedule = empty(alloc, small()?)?;
+    let schedule = &mut schedule;
+    does(&rt, alloc, schedule, long.as_str(), "GraphFault(TooMany) |")?;
+    does(
+        &rt,
+        alloc,
+        schedule,
+        unknown.as_str(),
+        "DagFault(UnknownUpstream(0)) |",
+    )
 }
 
 // Whether an event is refused as there is no pool of this name.
@@ -94,13 +99,11 @@ fn an_unknown_pool_is_answered_by_its_name(rt: HostRuntime) -> Result<(), Fail> 
 #[test]
 fn an_unknown_pool_comes_before_too_many_graphs(rt: HostRuntime) -> Result<(), Fail> {
     let alloc = rt.alloc();
-    let load = two(alloc, "", "pool = \"default_pool\"")?;
-    let rows = [
-        (load.as_str(), "|"),
-        ("load one @daily 2024-01-01", "TooManyGraphs |"),
-    ];
-    let mut schedule = within(&rt, alloc, small()?, &rows)?;
-    let words = "load one @daily 2024-01-01 task:pool = \"x\"";
+    let rows = r"
+load two @daily 2024-01-01 tasks a default_pool 1 1, b default_pool 1 1 => |
+load one @daily 2024-01-01 => TooManyGraphs |";
+    let mut schedule = within(&rt, alloc, small()?, rows)?;
+    let words = "load one @daily 2024-01-01 tasks t x 1 1";
     let refused = refusal(&rt, alloc, &mut schedule, words)?;
     assert!(rt; is_of_pool(&refused, "x"));
     Ok(())

@@ -149,27 +149,40 @@ fn told(
     }
 }
 
-// Does the events one after another: each tells this.
+// Does the event that is told in words, which tells this.
+pub fn does(
+    rt: &impl Abort,
+    alloc: Global,
+    schedule: &mut Schedule,
+    words: &str,
+    wanted: &str,
+) -> Result<(), Fail> {
+    let event = event(rt, alloc, words)?;
+    let found = told(rt, alloc, schedule, &event)?;
+    assert_eq!(rt; found.as_str(), wanted, "{words}");
+    Ok(())
+}
+
+// Does events one after another, a row each: `trigger one => 1:t | Running t=queued`.
 pub fn follow(
     rt: &impl Abort,
     alloc: Global,
     schedule: &mut Schedule,
-    rows: &[(&str, &str)],
+    rows: &str,
 ) -> Result<(), Fail> {
-    for (words, wanted) in rows {
-        let event = event(rt, alloc, words)?;
-        let found = told(rt, alloc, schedule, &event)?;
-        assert_eq!(rt; found.as_str(), *wanted, "{words}");
+    for row in rows.split('\n').filter(|row| !row.is_empty()) {
+        let (words, wanted) = row.split_once(" => ").ok_or("no row")?;
+        does(rt, alloc, schedule, words, wanted)?;
     }
     Ok(())
 }
 
-// A schedule with these limits that has done the events, each of which told this.
+// A schedule with these limits that has done the events of these rows.
 pub fn within(
     rt: &impl Abort,
     alloc: Global,
     limits: Limits,
-    rows: &[(&str, &str)],
+    rows: &str,
 ) -> Result<Schedule, Fail> {
     let mut schedule = empty(alloc, limits)?;
     follow(rt, alloc, &mut schedule, rows)?;
@@ -177,6 +190,6 @@ pub fn within(
 }
 
 // The same with the limits of the full size.
-pub fn days(rt: &impl Abort, alloc: Global, rows: &[(&str, &str)]) -> Result<Schedule, Fail> {
+pub fn days(rt: &impl Abort, alloc: Global, rows: &str) -> Result<Schedule, Fail> {
     within(rt, alloc, Limits::full(), rows)
 }
