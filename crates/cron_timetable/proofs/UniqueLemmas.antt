@@ -11,7 +11,8 @@ use Rattle.cron_timetable.specs.declared.timetables.Interval.{Interval}
 use Rattle.cron_timetable.specs.declared.timetables.Timetable.{Timetable}
 use Rattle.cron_timetable.specs.declared.timetables.Timetable.TheVariants.{Cron, Once, Never}
 
-clash : (c : Fields) (low high m : ℕ) → NoneBetween c low high → low ≤ m → m < high → fires c m ≡ true → ⊥
+-- a moment that fires lies in no range where none does
+pub clash : (c : Fields) (low high m : ℕ) → NoneBetween c low high → low ≤ m → m < high → fires c m ≡ true → ⊥
 clash c low high m none from below on = false≢true (sym (none m from below) ∙ on)
 
 -- two firing moments before which nothing fires from a on are the same

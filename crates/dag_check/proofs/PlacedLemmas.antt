@@ -4,7 +4,8 @@ use Rattle.std.proofs.lemmas.Bool.{cases_lt, cases_Bool, false≢true, or_cases,
 use Rattle.std.proofs.lemmas.Map.Steps.{length-le_from_distinct_below}
 use Rattle.std.proofs.lemmas.Map.Keys.{IsDistinct-cons}
 use Rattle.std.specs.List.{list_any, list_all, IsDistinct, AllByRecursion}
-use Rattle.graph_file.specs.Lists.{when, first_some}
+use Rattle.graph_file.specs.Lists.{when}
+use Rattle.graph_file.proofs.ListLemmas.{first_none, mapped_none, when_none}
 use Rattle.graph_file.specs.declared.graph_specs.GraphSpec.{GraphSpec}
 use Rattle.dag_check.specs.declared.faults.DagFault.TheVariants.{DoubleTask, UnknownUpstream, DoubleEdge, Cycle}
 use Rattle.dag_check.specs.Orders.{is_in, AllBelow, IsFirst, IsPlacement, may_come, places_of}
@@ -27,13 +28,9 @@ none-is p (suc n) none i below =
       | None ↦ λ e f.
           elim (cases_lt i n) [
             | inl less ↦ none-is p n e i less
-            | inr from ↦ let is : n ≡ i = omega arith in subst (λ (k : ℕ). p k ≡ false) is (when-none (p n) n f)
+            | inr from ↦ let is : n ≡ i = omega arith in subst (λ (k : ℕ). p k ≡ false) is (when_none (p n) n f)
           ]
     ] refl none
-  where
-    when-none : (b : Bool) (x : ℕ) → when b x ≡ None → b ≡ false
-    when-none true x e = absurd (let c : ◌≡◌ {A = Option ℕ} (Some x) None = e in cc)
-    when-none false x e = refl
 
 first-is : (p : ℕ → Bool) (n i : ℕ) → first_below p n ≡ Some i → (i < n) × IsFirst p i
 first-is p zero i some = absurd (let c : ◌≡◌ {A = Option ℕ} None (Some i) = some in cc)
@@ -135,27 +132,19 @@ placement up n below none =
     subst (IsPlacement up n) (placement-one up n r.0 p) p
 
 -- ---- the graph
-map-none : {A B : Type 0} (f : A → B) (o : Option A) → option_map f o ≡ None → o ≡ None
-map-none f None e = refl
-map-none {A} {B} f (Some x) e = absurd (let c : ◌≡◌ {A = Option B} (Some (f x)) None = e in cc)
-
-some-first : {X : Type 0} (o : Option X) (os : List (Option X)) → first_some (o ∷ os) ≡ None → (o ≡ None) × (first_some os ≡ None)
-some-first None os e = (refl, e)
-some-first {X} (Some x) os e = absurd (let c : ◌≡◌ {A = Option X} (Some x) None = e in cc)
-
 pub graph-of-faultless : (spec : GraphSpec) → first_fault spec.tasks ≡ None → IsGraphOf spec (dag_of spec)
 graph-of-faultless spec e =
     let file = spec.tasks in
     let n = length file in
-    let a = some-first (option_map DoubleTask (first_below (is_double file) n)) _ e in
-    let b = some-first (option_map UnknownUpstream (first_below (is_unknown file) n)) _ a.1 in
-    let d = some-first (option_map DoubleEdge (first_below (is_double_edge file) n)) _ b.1 in
-    let f = some-first (option_map (λ i. Cycle []) (first_below (is_on_cycle file) n)) _ d.1 in
-    let known : NoneBelow (is_unknown file) n = none-is _ n (map-none UnknownUpstream _ b.0) in
-    let none : NoneBelow (is_on_cycle file) n = none-is _ n (map-none (λ i. Cycle []) _ f.0) in
+    let a = first_none (option_map DoubleTask (first_below (is_double file) n)) _ e in
+    let b = first_none (option_map UnknownUpstream (first_below (is_unknown file) n)) _ a.1 in
+    let d = first_none (option_map DoubleEdge (first_below (is_double_edge file) n)) _ b.1 in
+    let f = first_none (option_map (λ i. Cycle []) (first_below (is_on_cycle file) n)) _ d.1 in
+    let known : NoneBelow (is_unknown file) n = none-is _ n (mapped_none UnknownUpstream _ b.0) in
+    let none : NoneBelow (is_on_cycle file) n = none-is _ n (mapped_none (λ i. Cycle []) _ f.0) in
     let placed = placement (up_of file) n (all-below file known) none in
     record {
-      plain = record { names = none-is _ n (map-none DoubleTask _ a.0); known = known; edges = none-is _ n (map-none DoubleEdge _ d.0) };
+      plain = record { names = none-is _ n (mapped_none DoubleTask _ a.0); known = known; edges = none-is _ n (mapped_none DoubleEdge _ d.0) };
       acyclic = placement-acyclic (up_of file) n _ placed;
       placed = placed;
       is = refl;

@@ -1,6 +1,7 @@
--- Where a search over a list finds nothing.
-use Rattle.std.proofs.Common.{◌≡◌, ℕ, zero, suc, ◌+◌, ◌<◌, ◌≤◌, Bool, true, false, not, cond, List, [], ◌∷◌, map, length, get_or, position, Option, Some, None, option_map, nat_lt, refl, arith}
+-- Where a search over a list finds nothing, and the order of what is asked.
+use Rattle.std.proofs.Common.{◌≡◌, ℕ, zero, suc, ◌+◌, ◌<◌, ◌≤◌, Bool, true, false, not, cond, List, [], ◌∷◌, map, length, get_or, position, Option, Some, None, option_map, nat_lt, refl, arith, sym, ap, ◌∙◌, ◌||◌}
 use Rattle.std.proofs.lemmas.Bool.{or_parts, ltb-false}
+use Rattle.std.proofs.Math.Bool.{or_assoc, or_comm}
 use Rattle.std.specs.List.{list_any, prefix_len}
 use Rattle.graph_file.specs.Lists.{when, first_some}
 
@@ -45,3 +46,7 @@ none_up_to p (x ∷ xs) h =
 -- where no place passes, no element does
 pub none_placed : {A : Type 0} (p : A → Bool) (xs : List A) → position p xs ≡ None → list_any p xs ≡ false
 none_placed p xs h = none_up_to p xs (ltb-false _ _ (found_none (nat_lt (prefix_len (λ d. not (p d)) xs) (length xs)) _ h))
+
+-- which of two tests is asked first makes no difference
+pub or_swap : (a b c : Bool) → (a || (b || c)) ≡ (b || (a || c))
+or_swap a b c = sym (or_assoc a b c) ∙ (ap (λ v. v || c) (or_comm a b) ∙ or_assoc b a c)

@@ -1,5 +1,6 @@
 -- What is read of a cron text is what the definition makes of it.
-use Rattle.std.proofs.Common.{◌≡◌, ℕ, zero, suc, ◌<◌, Bool, true, false, ◌||◌, List, [], Option, Some, None, IsOk, not, is_some, is_none, unwrap_or, option_and_then, Result, Ok, Err, refl, arith, inl, inr}
+use Rattle.std.proofs.Common.{◌≡◌, ℕ, zero, suc, ◌<◌, true, false, List, [], Option, Some, None, IsOk, not, is_some, is_none, unwrap_or, option_and_then, Result, Ok, Err, refl, arith, inl, inr}
+use Rattle.std.proofs.lemmas.Bool.{or_right}
 use Rattle.std.proofs.Math.Nat.{eq-or-lt_of_le}
 use Rattle.moment_core.specs.Moments.{seconds_end}
 use Rattle.cron_timetable.specs.Fields.{Fields, fires}
@@ -15,16 +16,12 @@ use Rattle.graph_file.specs.Values.{text_in}
 use Rattle.graph_file.specs.Schedules.{fires_before, firing, timetable_of, schedule_fault}
 use Rattle.graph_file.specs.declared.keys.Role.TheVariants as role
 
-or_true : (a b : Bool) → b ≡ true → (a || b) ≡ true
-or_true true b h = refl
-or_true false b h = h
-
 one_fires : (n m : ℕ) (c : Fields) → m < n → fires c m ≡ true → fires_before n c ≡ true
 unfolding fires_before
 one_fires zero m c h fired = absurd (omega arith)
 one_fires (suc n) m c h fired = elim (eq-or-lt_of_le {n = m} {m = n} (omega arith)) [
   | inl same ↦ rw (← same, fired) refl
-  | inr less ↦ or_true (fires c n) (fires_before n c) (one_fires n m c less fired)
+  | inr less ↦ or_right (fires c n) (fires_before n c) (one_fires n m c less fired)
 ]
 
 none_fires : (n : ℕ) (c : Fields) → ((k : ℕ) → k < n → fires c k ≡ false) → fires_before n c ≡ false

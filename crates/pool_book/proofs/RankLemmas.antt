@@ -1,6 +1,6 @@
 -- Keys in rank: where one stands, what offering and taking back do, and which of them is first.
-use Rattle.std.proofs.Common.{◌≡◌, ◌∙◌, ◌⊎◌, inl, inr, ℕ, zero, suc, ◌<◌, ◌==◌, ◌&&◌, Bool, true, false, not, cond, List, [], ◌∷◌, length, get_or, take, refl, ap, sym, subst, arith, Result, Ok, Err, eqb}
-use Rattle.std.proofs.lemmas.Bool.{false≢true, eqb-true, eq-eqb, and_parts, cases_lt}
+use Rattle.std.proofs.Common.{◌≡◌, ◌∙◌, ◌⊎◌, inl, inr, ℕ, zero, suc, ◌<◌, ◌==◌, Bool, true, false, not, cond, List, [], ◌∷◌, length, get_or, take, refl, ap, sym, subst, arith, Result, Ok, Err, eqb}
+use Rattle.std.proofs.lemmas.Bool.{false≢true, eqb-true, eq-eqb, and_parts, and_from, cases_lt}
 use Rattle.std.proofs.lemmas.Cmp.{tied_itself, tied_back, nat_cmp_total, on_total, then_total, back_total}
 use Rattle.std.proofs.lemmas.List.Elements.{All-contains, All-filter, All-from_recursion}
 use Rattle.std.proofs.lemmas.List.Folds.{list_any_at}
@@ -36,9 +36,6 @@ then-equal Greater s e = cc
 both-equal : (r s : Ordering) → r ≡ Equal → s ≡ Equal → ordering_then r s ≡ Equal
 both-equal r s e f = ap (λ t. ordering_then t s) e ∙ f
 
-both-true : (a b : Bool) → a ≡ true → b ≡ true → (a && b) ≡ true
-both-true a b e f = ap (λ t. t && b) e ∙ f
-
 same-names : (x y : List ℕ) → x ≡ y → bytes_eq x y ≡ true
 same-names x y e = subst (λ z. bytes_eq x z ≡ true) e (nat_list_eq_equiv.refl x)
 
@@ -48,8 +45,8 @@ alike x y e =
     let a = then-equal (nat_cmp y.weight x.weight) _ e in
     let b = then-equal (nat_cmp x.logical y.logical) _ a.1 in
     let c = then-equal (name_cmp x.graph y.graph) (name_cmp x.task y.task) b.1 in
-    both-true (y.logical == x.logical) _ (eq-eqb y.logical x.logical (sym (exact_unsigned x.logical y.logical b.0)))
-    (both-true (bytes_eq y.graph x.graph) _ (same-names y.graph x.graph (sym (exact_bytes x.graph y.graph c.0))) (same-names y.task x.task (sym (exact_bytes x.task y.task c.1))))
+    and_from (y.logical == x.logical) _ (eq-eqb y.logical x.logical (sym (exact_unsigned x.logical y.logical b.0)))
+    (and_from (bytes_eq y.graph x.graph) _ (same-names y.graph x.graph (sym (exact_bytes x.graph y.graph c.0))) (same-names y.task x.task (sym (exact_bytes x.task y.task c.1))))
 
 level : {K : Type 0} {R : K → K → Ordering} (o : IsTotalOrder R) (x y : K) → x ≡ y → R x y ≡ Equal
 level {K} {R} o x y e = subst (λ z. R x z ≡ Equal) e (tied_itself o x)

@@ -8,6 +8,7 @@ use Rattle.std.proofs.lemmas.List.{take-append-drop, get_or_default}
 use Rattle.std.proofs.lemmas.List.Folds.{list_any_at, list_any-append}
 use Rattle.std.specs.List.{list_any, insert}
 use Rattle.std.specs.Result.{is_ok}
+use Rattle.graph_file.proofs.ListLemmas.{or_swap}
 
 -- what a binary search in rising numbers says of a place
 abbrev pub Found : List ℕ → ℕ → Result ℕ ℕ → Type 0
@@ -35,16 +36,10 @@ pub added-there : (xs : List ℕ) (x m i : ℕ) → i < length xs → get_or xs 
 added-there xs x m i below at =
     either-same (eqb x m) _ (λ e. list_any_at (λ y. eqb y m) xs i 0 below (eq-eqb _ _ (at ∙ eqb-true x m e)))
 
-swapped : (t b d : Bool) → (t || (b || d)) ≡ (b || (t || d))
-swapped true true d = refl
-swapped true false d = refl
-swapped false true d = refl
-swapped false false d = refl
-
 pub added-new : (xs : List ℕ) (x m i : ℕ) → list_any (λ y. eqb y m) (insert xs i x) ≡ (eqb x m || list_any (λ y. eqb y m) xs)
 added-new xs x m i =
     list_any-append (λ y. eqb y m) (take i xs) (x ∷ drop i xs)
-    ∙ (swapped (list_any (λ y. eqb y m) (take i xs)) (eqb x m) (list_any (λ y. eqb y m) (drop i xs))
+    ∙ (or_swap (list_any (λ y. eqb y m) (take i xs)) (eqb x m) (list_any (λ y. eqb y m) (drop i xs))
     ∙ ap (λ v. eqb x m || v) (sym (list_any-append (λ y. eqb y m) (take i xs) (drop i xs)) ∙ ap (list_any (λ y. eqb y m)) (take-append-drop i xs)))
 
 -- the search of `ys`, which are `xs`

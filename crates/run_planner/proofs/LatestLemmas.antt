@@ -1,6 +1,6 @@
 -- The latest due interval is the last one of the list.
 use Rattle.std.proofs.Common.{◌≡◌, ℕ, ◌<◌, ◌≤◌, Bool, true, false, List, [], ◌∷◌, Option, None, Some, option_to_list, inl, inr, ap, sym, refl, arith, nat_lt}
-use Rattle.std.proofs.lemmas.Bool.{ltb-true}
+use Rattle.std.proofs.lemmas.Bool.{ltb-true, and_parts}
 use Rattle.std.specs.List.{list_all, Contains}
 use Rattle.moment_core.specs.Moments.{seconds_end}
 use Rattle.cron_timetable.specs.Fields.{Fields}
@@ -9,7 +9,7 @@ use Rattle.cron_timetable.specs.declared.timetables.Timetable.TheVariants.{Cron,
 use Rattle.graph_file.specs.declared.graph_specs.GraphSpec.{GraphSpec}
 use Rattle.run_planner.specs.Due.{due_intervals, last_alone, considered, without_runs, wanted_intervals, starts_rise}
 use Rattle.run_planner.specs.Latest.{IsDue, IsLatestDue, LatestDue}
-use Rattle.run_planner.proofs.RiseLemmas.{and_left, and_right, due_rise}
+use Rattle.run_planner.proofs.RiseLemmas.{due_rise}
 use Rattle.run_planner.proofs.MemberLemmas.{contains_head, contains_tail, contains_cases, contains_none, due_sound, due_complete, due_nothing}
 
 -- ---- the last of a list
@@ -21,12 +21,12 @@ last_of (x ∷ []) i rises h latest =
 last_of (x ∷ y ∷ is) i rises h latest =
     elim (contains_cases x (y ∷ is) i h) [
       | inl same ↦
-          let before : x.start < y.start = ltb-true x.start y.start (and_left (nat_lt x.start y.start) _ (and_left (list_all (λ (j : Interval). nat_lt x.start j.start) (y ∷ is)) _ rises)) in
+          let before : x.start < y.start = ltb-true x.start y.start (and_parts (nat_lt x.start y.start) _ (and_parts (list_all (λ (j : Interval). nat_lt x.start j.start) (y ∷ is)) _ rises).0).0 in
           let after : y.start ≤ i.start = latest y (contains_tail x (y ∷ is) y (contains_head y is)) in
           let starts : x.start ≡ i.start = ap (λ (j : Interval). j.start) same in
           absurd (omega arith)
       | inr later ↦
-          last_of (y ∷ is) i (and_right (list_all (λ (j : Interval). nat_lt x.start j.start) (y ∷ is)) _ rises) later (λ j g. latest j (contains_tail x (y ∷ is) j g))
+          last_of (y ∷ is) i (and_parts (list_all (λ (j : Interval). nat_lt x.start j.start) (y ∷ is)) _ rises).1 later (λ j g. latest j (contains_tail x (y ∷ is) j g))
     ]
 
 -- the latest due interval is the last of the list

@@ -9,6 +9,7 @@ use Rattle.cron_timetable.specs.Ticks.{NoneBetween}
 use Rattle.cron_timetable.specs.Intervals.{IsInterval, IsFirstIntervalFrom}
 use Rattle.cron_timetable.specs.declared.timetables.Interval.{Interval}
 use Rattle.cron_timetable.specs.declared.timetables.Timetable.TheVariants.{Cron}
+use Rattle.cron_timetable.proofs.UniqueLemmas.{clash}
 use Rattle.run_planner.specs.Due.{ticks_between, pairs_from, neighbours, is_up_to, due_intervals}
 use Rattle.run_planner.specs.Latest.{IsDue}
 use Rattle.run_planner.proofs.PlanLemmas.{ticks-cons_no, ticks-cons_yes}
@@ -69,9 +70,6 @@ record IsBetween (c : Fields) (low high : ℕ) (i : Interval) : Type 0 where
   between : NoneBetween c (i.start + 1) i.end
   from : low ≤ i.start
   below : i.end < high
-
-clash : (c : Fields) (low high m : ℕ) → NoneBetween c low high → low ≤ m → m < high → fires c m ≡ true → ⊥
-clash c low high m none from below on = false≢true (sym (none m from below) ∙ on)
 
 wider : (c : Fields) (low a high top : ℕ) (i : Interval) → a ≤ low → high ≤ top → IsBetween c low high i → IsBetween c a top i
 wider c low a high top i from to h = record {

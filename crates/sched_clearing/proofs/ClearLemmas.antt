@@ -2,6 +2,7 @@
 use Rattle.std.proofs.Common.{◌≡◌, ◌∙◌, refl, sym, ap, ℕ, zero, suc, ◌+◌, ◌<◌, ◌≤◌, List, [], ◌∷◌, Bool, true, false, cond, not, ◌&&◌, length, drop, map, flat_map, count_by, Option, Some, slice_get, arith}
 use Rattle.std.specs.List.{zip, list_all}
 use Rattle.std.proofs.lemmas.List.Sums.{sum_by-append}
+use Rattle.std.proofs.lemmas.List.{drop_all}
 use Rattle.graph_file.proofs.WriteLemmas.{written, written_begins, written_all}
 use Rattle.graph_file.specs.declared.task_specs.TaskSpec.{TaskSpec}
 use Rattle.dag_check.specs.Graphs.{Dag}
@@ -20,7 +21,6 @@ use Rattle.sched_clearing.specs.Namings.{Parts, names_instance, names_run, namin
 use Rattle.sched_clearing.specs.Passing.{passing_from, was_set}
 use Rattle.sched_clearing.specs.SetBack.{run_set_back, cleared_if, run_cleared}
 use Rattle.sched_clearing.proofs.NamingLemmas.{named_not, named_by_dag}
-use Rattle.sched_clearing.proofs.PassLemmas.{drop_over}
 use Rattle.sched_clearing.proofs.SetBackLemmas.{at_at, at_same, at_none, back_pairs}
 
 -- ---- one run
@@ -161,5 +161,5 @@ count_turn a d k n c m next all r there is counted sum so =
 
 pub count_over : (a : Schedule) (k : Parts) (n c all : ℕ) → length a.runs ≤ n → c + counted_from a k n ≡ all → c ≡ all
 count_over a k n c all over so =
-    let none : counted_from a k n ≡ 0 = ap (λ rs. count_by was_set (flat_map (named_in a (naming_of k)) rs)) (drop_over a.runs n over) in
+    let none : counted_from a k n ≡ 0 = ap (λ rs. count_by was_set (flat_map (named_in a (naming_of k)) rs)) (drop_all n a.runs over) in
     omega (arith, none, so)

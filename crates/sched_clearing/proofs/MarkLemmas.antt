@@ -1,8 +1,9 @@
 -- The marks of places are those that a clear of one task names.
 use Rattle.std.proofs.Common.{◌≡◌, ◌∙◌, refl, sym, ap, ℕ, zero, suc, ◌+◌, ◌<◌, ◌≤◌, List, [], ◌∷◌, ◌++◌, Bool, true, false, ◌&&◌, ◌||◌, ◌==◌, length, slice_get, unwrap_or, Some, Result, IfOk, Vec, Global, inl, inr, arith}
-use Rattle.std.proofs.lemmas.Bool.{cases_lt}
+use Rattle.std.proofs.lemmas.Bool.{cases_lt, false_from_ne_true}
 use Rattle.std.proofs.lemmas.Bool.Decides.{nat_tests}
 use Rattle.std.proofs.lemmas.Result.{IfOk-weaker}
+use Rattle.std.proofs.Math.Bool.{and-false}
 use Rattle.dag_check.specs.Graphs.{Dag, IsDag}
 use Rattle.dag_check.specs.Orders.{is_in}
 use Rattle.dag_check.specs.Reach.{IsReached, reach_of, towards, has_way}
@@ -12,7 +13,6 @@ use Rattle.dag_check.proofs.GraphLemmas.{in-passing}
 use Rattle.dag_check.proofs.WayLemmas.{reached-is}
 use Rattle.sched_state.specs.declared.clearings.Clearing.{Clearing}
 use Rattle.sched_state.proofs.NameLemmas.{or_assoc}
-use Rattle.sched_state.proofs.OrderLemmas.{not_true}
 use Rattle.sched_model.specs.Clearing.{around}
 use Rattle.sched_clearing.specs.Namings.{is_near, reached_if}
 
@@ -62,11 +62,7 @@ near_is c g q p =
     ∙ ap (λ b. p == q || (c.upstream && is_in (reach_of g to.Upstream q) p || b)) (in_if c.downstream g to.Downstream q p))
 
 none_past : (g : Dag) (d : Direction) (k p : ℕ) → length g.tasks ≤ p → is_in (reach_of g d k) p ≡ false
-none_past g d k p l = not_true (is_in (reach_of g d k) p) (λ e. let b : p < length g.tasks = (in-passing (has_way (towards d g) (length g.tasks) k) (length g.tasks) p e).1 in omega arith)
-
-and_no : (b : Bool) → (b && false) ≡ false
-and_no true = refl
-and_no false = refl
+none_past g d k p l = false_from_ne_true (is_in (reach_of g d k) p) (λ e. let b : p < length g.tasks = (in-passing (has_way (towards d g) (length g.tasks) k) (length g.tasks) p e).1 in omega arith)
 
 apart : (m n : ℕ) → n < m → (m == n) ≡ false
 apart m n l = grind (arith, nat_tests, l)
@@ -75,8 +71,8 @@ past_is : (c : Clearing) (g : Dag) (q p : ℕ) → q < length g.tasks → length
 past_is c g q p inside past =
     ap (λ b. b || (c.upstream && is_in (reach_of g to.Upstream q) p || c.downstream && is_in (reach_of g to.Downstream q) p)) (apart p q (omega arith))
     ∙ (ap (λ b. c.upstream && b || c.downstream && is_in (reach_of g to.Downstream q) p) (none_past g to.Upstream q p past)
-    ∙ (ap (λ b. b || c.downstream && is_in (reach_of g to.Downstream q) p) (and_no c.upstream)
-    ∙ (ap (λ b. c.downstream && b) (none_past g to.Downstream q p past) ∙ and_no c.downstream)))
+    ∙ (ap (λ b. b || c.downstream && is_in (reach_of g to.Downstream q) p) (and-false c.upstream)
+    ∙ (ap (λ b. c.downstream && b) (none_past g to.Downstream q p past) ∙ and-false c.downstream)))
 
 pub marks_are : (c : Clearing) (g : Dag) (q n : ℕ) (above below : List ℕ) (marks : List Bool) → q < length g.tasks → n ≡ length g.tasks
     → above ≡ reached_if c.upstream g to.Upstream q → below ≡ reached_if c.downstream g to.Downstream q → marks ≡ marks_from (is_near above below q) 0 n

@@ -1,5 +1,5 @@
 -- The named instances of a run, one beside those after it, and how many of them pass.
-use Rattle.std.proofs.Common.{◌≡◌, ◌∙◌, refl, sym, ap, ℕ, zero, suc, ◌+◌, ◌<◌, ◌≤◌, List, [], ◌∷◌, Bool, true, false, cond, not, ◌&&◌, length, drop, min, count_by, Option, Some, None, slice_get, get_or, arith}
+use Rattle.std.proofs.Common.{◌≡◌, ◌∙◌, refl, sym, ap, ℕ, ◌+◌, ◌<◌, List, [], ◌∷◌, Bool, true, false, cond, not, ◌&&◌, length, drop, count_by, Some, slice_get, get_or, arith}
 use Rattle.std.specs.List.{zip}
 use Rattle.std.proofs.lemmas.List.Sums.{sum_by-cons}
 use Rattle.std.proofs.lemmas.Option.{slice_get_read, slice_get-get_or}
@@ -10,37 +10,13 @@ use Rattle.sched_state.proofs.ElementLemmas.{drop_at}
 use Rattle.sched_state.proofs.OrderLemmas.{and_left, and_right}
 use Rattle.sched_model.specs.Sound.{is_empty}
 use Rattle.sched_clearing.specs.Passing.{passing_from, was_set}
-
--- ---- lists
-pub zip_at : {X Y : Type 0} (xs : List X) (ys : List Y) (k : ℕ) (x : X) (y : Y) → slice_get xs k ≡ Some x → slice_get ys k ≡ Some y → slice_get (zip xs ys) k ≡ Some (x, y)
-zip_at {X} [] ys k x y e f = absurd (let c : ◌≡◌ {A = Option X} None (Some x) = e in cc)
-zip_at {X} {Y} (z ∷ xs) [] k x y e f = absurd (let c : ◌≡◌ {A = Option Y} None (Some y) = f in cc)
-zip_at {X} {Y} (z ∷ xs) (w ∷ ys) zero x y e f =
-    let c : ◌≡◌ {A = Option X} (Some z) (Some x) = e in let d : ◌≡◌ {A = Option Y} (Some w) (Some y) = f in
-    let p : z ≡ x = cc in let q : w ≡ y = cc in
-    cc
-zip_at (z ∷ xs) (w ∷ ys) (suc k) x y e f = zip_at xs ys k x y e f
-
-pub drop_over : {X : Type 0} (xs : List X) (i : ℕ) → length xs ≤ i → drop i xs ≡ []
-drop_over [] zero b = refl
-drop_over [] (suc i) b = refl
-drop_over (x ∷ xs) zero b = absurd (omega arith)
-drop_over (x ∷ xs) (suc i) b = drop_over xs i (omega arith)
-
--- past the end of one of the two lists there are no pairs
-pub zip_over : {X Y : Type 0} (xs : List X) (ys : List Y) (k : ℕ) → min (length xs) (length ys) ≤ k → drop k (zip xs ys) ≡ []
-zip_over [] ys zero b = refl
-zip_over [] ys (suc k) b = refl
-zip_over (x ∷ xs) [] zero b = refl
-zip_over (x ∷ xs) [] (suc k) b = refl
-zip_over (x ∷ xs) (y ∷ ys) zero b = absurd (omega arith)
-zip_over (x ∷ xs) (y ∷ ys) (suc k) b = zip_over xs ys k (omega arith)
+use Rattle.indexmap.proofs.ReorderLemmas.{slice_get-zip_some}
 
 -- ---- one pair
 -- the task and the instance that were read at a place
 pub pair_there : (g : Dag) (hs : List Held) (n : ℕ) (t : TaskSpec) (h : Held) → n < length g.tasks → n < length hs → t ≡ task_of g n → h ≡ get_or hs n h → slice_get (zip g.tasks hs) n ≡ Some (t, h)
 pair_there g hs n t h within inside task item =
-    zip_at g.tasks hs n t h (slice_get-get_or g.tasks n no_task within ∙ ap (λ (u : TaskSpec). Some u) (sym task)) (slice_get_read hs _ n h refl inside item)
+    slice_get-zip_some g.tasks hs n t h (slice_get-get_or g.tasks n no_task within ∙ ap (λ (u : TaskSpec). Some u) (sym task)) (slice_get_read hs _ n h refl inside item)
 
 abbrev Test : Type 0
 Test = ℕ → TaskSpec × Held → Bool

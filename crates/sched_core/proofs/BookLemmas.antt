@@ -37,6 +37,8 @@ use Rattle.sched_draft.proofs.BookLemmas.{has_is}
 use Rattle.sched_core.specs.Books.{IsCounted, IsHeld}
 use Rattle.sched_core.specs.Inside.{row_in}
 use Rattle.sched_core.specs.Views.{pool_row, pool_rows}
+use Rattle.sched_laws.proofs.RankLemmas.{less_is}
+use Rattle.sched_laws.proofs.ResizeLemmas.{resize_other}
 
 -- ---- the same tries take the same slots
 counted_same : (a b : Schedule) → open_tries b ≡ open_tries a → IsCounted a → IsCounted b
@@ -100,32 +102,24 @@ book_taken a es counted book name p there = book.taken name p there ∙ min-eq_l
 apart_by : (x y : List ℕ) (k : Ordering) → name_cmp x y ≡ k → same x y ≡ is_eq k
 apart_by x y k e = sym (is_eq-slice_cmp x y) ∙ ap is_eq e
 
-less_name : (k : Ordering) → is_less k ≡ true → k ≡ Less
-less_name Less e = refl
-less_name Equal e = absurd (true≢false (sym e))
-less_name Greater e = absurd (true≢false (sym e))
-
 -- no pool after a name has it
 none_after : (x : List ℕ) (qs : List Pool) → list_all (λ (q : Pool). is_less (name_cmp x q.name)) qs ≡ true → list_any (λ (q : Pool). same q.name x) qs ≡ false
 none_after x [] e = refl
 none_after x (q ∷ qs) e =
-    let other : same q.name x ≡ false = nat_list_eq_equiv.symm q.name x ∙ apart_by x q.name Less (less_name _ (and_left (is_less (name_cmp x q.name)) _ e)) in
+    let other : same q.name x ≡ false = nat_list_eq_equiv.symm q.name x ∙ apart_by x q.name Less (less_is _ (and_left (is_less (name_cmp x q.name)) _ e)) in
     rw other (none_after x qs (and_right (is_less (name_cmp x q.name)) _ e))
 
 -- what stands after a name stands after one before it
 later_after : (x y : List ℕ) (qs : List Pool) → name_cmp x y ≡ Less → list_all (λ (q : Pool). is_less (name_cmp y q.name)) qs ≡ true → list_all (λ (q : Pool). is_less (name_cmp x q.name)) qs ≡ true
 later_after x y [] e f = refl
 later_after x y (q ∷ qs) e f =
-    let here : is_less (name_cmp x q.name) ≡ true = ap is_less (nat_list_cmp_total.trans x y q.name e (less_name _ (and_left (is_less (name_cmp y q.name)) _ f))) in
+    let here : is_less (name_cmp x q.name) ≡ true = ap is_less (nat_list_cmp_total.trans x y q.name e (less_is _ (and_left (is_less (name_cmp y q.name)) _ f))) in
     rw here (later_after x y qs e (and_right (is_less (name_cmp y q.name)) _ f))
-
-other_stays : (name : List ℕ) (size : ℕ) (q : Pool) → same q.name name ≡ false → resize_pool name size q ≡ q
-other_stays name size q e = ap (λ b. cond b (record q { size = size }) q) e
 
 others_stay : (name : List ℕ) (size : ℕ) (qs : List Pool) → list_any (λ (q : Pool). same q.name name) qs ≡ false → map (resize_pool name size) qs ≡ qs
 others_stay name size [] e = refl
 others_stay name size (q ∷ qs) e =
-    ap (λ w. w ∷ map (resize_pool name size) qs) (other_stays name size q (or_left (same q.name name) _ e))
+    ap (λ w. w ∷ map (resize_pool name size) qs) (resize_other name size q (or_left (same q.name name) _ e))
     ∙ ap (λ ws. q ∷ ws) (others_stay name size qs (or_right (same q.name name) _ e))
 
 -- ---- a pool of a book gets another size
@@ -137,7 +131,7 @@ among name es = list_any (λ (q : Pool). same q.name name) (pools_in es)
 
 -- behind a pool of another name
 behind : (name : List ℕ) (size : ℕ) (q : Pool) (qs : List Pool) (b : Bool) → same q.name name ≡ false → pool_before (new_pool name size) q ≡ false → q ∷ with_pool b name size qs ≡ with_pool b name size (q ∷ qs)
-behind name size q qs true e f = ap (λ w. w ∷ map (resize_pool name size) qs) (sym (other_stays name size q e))
+behind name size q qs true e f = ap (λ w. w ∷ map (resize_pool name size) qs) (sym (resize_other name size q e))
 behind name size q qs false e f = ap (λ b. elim b [ true ↦ new_pool name size ∷ q ∷ qs | false ↦ q ∷ insert_by pool_before (new_pool name size) qs ]) (sym f)
 
 put : (name : List ℕ) (size taken : ℕ) (es : Entries) → rises pool_before (pools_in es) ≡ true

@@ -1,38 +1,20 @@
 -- A graph among those that stand by id: how it is found, replaced and put in, and that no run is of one that is not there.
 use Rattle.std.proofs.Common.{◌≡◌, refl, sym, ap, ◌∙◌, ℕ, zero, suc, List, [], ◌∷◌, true, false, cond, map, find, is_some, Option, Some, None, slice_get, slice_set, true≢false}
 use Rattle.std.specs.List.{list_any, list_all}
-use Rattle.std.proofs.lemmas.Map.Text.{is_eq-slice_cmp}
+use Rattle.std.proofs.lemmas.Bool.{false_from_ne_true}
 use Rattle.dag_check.specs.Graphs.{Dag}
-use Rattle.sched_state.specs.Lists.{same, name_cmp, insert_by}
+use Rattle.sched_state.specs.Lists.{same, insert_by}
 use Rattle.sched_state.specs.declared.graphs.Graph.{Graph}
 use Rattle.sched_state.specs.declared.runs.Run.{Run}
-use Rattle.sched_state.proofs.OrderLemmas.{and_left, and_right, not_true, less_no_tie}
-use Rattle.sched_state.proofs.NameLemmas.{same_is, same_itself, find_any}
+use Rattle.sched_state.proofs.OrderLemmas.{and_left, and_right}
+use Rattle.sched_state.proofs.NameLemmas.{same_is, find_any}
 use Rattle.sched_model.specs.Lists.{rises}
 use Rattle.sched_model.specs.Schedule.{Schedule, graph_before, has_runs}
 use Rattle.sched_model.specs.Changes.{reloaded, new_graph, with_graph}
 use Rattle.sched_model.specs.Sound.{IsSound, is_sound_run}
 use Rattle.sched_laws.proofs.ListLemmas.{all_get, all_impl}
-
-reloaded_other : (text : List ℕ) (dag : Dag) (g : Graph) → same g.dag.spec.dag_id dag.spec.dag_id ≡ false → reloaded text dag g ≡ g
-reloaded_other text dag g e = ap (λ b. cond b (record { text = text; dag = dag; paused = g.paused }) g) e
-
-reloaded_named : (text : List ℕ) (dag : Dag) (g : Graph) → same g.dag.spec.dag_id dag.spec.dag_id ≡ true → reloaded text dag g ≡ record { text = text; dag = dag; paused = g.paused }
-reloaded_named text dag g e = ap (λ b. cond b (record { text = text; dag = dag; paused = g.paused }) g) e
-
-pub flip_same : (x y : List ℕ) → same x y ≡ false → same y x ≡ false
-flip_same x y e = not_true _ (λ f. true≢false (sym (same_itself x) ∙ (ap (same x) (sym (same_is y x f)) ∙ e)))
-
-pub before_apart : (g h : Graph) → graph_before g h ≡ true → same g.dag.spec.dag_id h.dag.spec.dag_id ≡ false
-before_apart g h e = sym (is_eq-slice_cmp g.dag.spec.dag_id h.dag.spec.dag_id) ∙ less_no_tie (name_cmp g.dag.spec.dag_id h.dag.spec.dag_id) e
-
-others_stay : (text : List ℕ) (dag : Dag) (g : Graph) → same g.dag.spec.dag_id dag.spec.dag_id ≡ true → (gs : List Graph) → list_all (graph_before g) gs ≡ true → map (reloaded text dag) gs ≡ gs
-others_stay text dag g e [] after = refl
-others_stay text dag g e (h ∷ hs) after =
-    let apart : same h.dag.spec.dag_id dag.spec.dag_id ≡ false =
-    flip_same dag.spec.dag_id h.dag.spec.dag_id (ap (λ n. same n h.dag.spec.dag_id) (sym (same_is _ _ e)) ∙ before_apart g h (and_left (graph_before g h) _ after)) in
-    let rest : map (reloaded text dag) hs ≡ hs = others_stay text dag g e hs (and_right (graph_before g h) _ after) in
-    ap (λ k. k ∷ map (reloaded text dag) hs) (reloaded_other text dag h apart) ∙ ap (λ ks. h ∷ ks) rest
+use Rattle.sched_laws.proofs.GraphLemmas.{reloaded_other}
+use Rattle.sched_laws.proofs.LoadLemmas.{before_apart, others_stay, reloaded_named}
 
 -- a known graph takes the text in at its place, and all others stay
 pub replaced_at : (text : List ℕ) (dag : Dag) (gs : List Graph) (i : ℕ) (g : Graph) → slice_get gs i ≡ Some g → same g.dag.spec.dag_id dag.spec.dag_id ≡ true → rises graph_before gs ≡ true
@@ -89,7 +71,7 @@ none_known : (gs : List Graph) (id : List ℕ) → list_any (λ (g : Graph). sam
     → list_all (λ (r : Run). is_some (find (λ (g : Graph). same g.dag.spec.dag_id r.graph) gs)) rs ≡ true → list_any (λ (r : Run). same r.graph id) rs ≡ false
 none_known gs id unknown [] known = refl
 none_known gs id unknown (r ∷ rs) known =
-    let here : same r.graph id ≡ false = not_true _ (λ e. true≢false (
+    let here : same r.graph id ≡ false = false_from_ne_true _ (λ e. true≢false (
     sym (and_left (is_some (find (λ (g : Graph). same g.dag.spec.dag_id r.graph) gs)) _ known)
     ∙ (find_any (λ (g : Graph). same g.dag.spec.dag_id r.graph) gs
     ∙ (ap (λ n. list_any (λ (g : Graph). same g.dag.spec.dag_id n) gs) (same_is r.graph id e) ∙ unknown)))) in

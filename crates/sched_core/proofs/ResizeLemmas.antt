@@ -19,16 +19,13 @@ use Rattle.sched_draft.specs.Books.{pools_in}
 use Rattle.sched_draft.proofs.BookLemmas.{has_is}
 use Rattle.sched_core.specs.Inside.{over}
 use Rattle.sched_core.proofs.BookLemmas.{resized_pools}
+use Rattle.sched_laws.proofs.SeenLemmas.{is_some_map}
 
 -- ---- whether the pool is there
-some_mapped : {X Y : Type 0} (f : X → Y) (o : Option X) → is_some (option_map f o) ≡ is_some o
-some_mapped f None = refl
-some_mapped f (Some x) = refl
-
 -- by the size that was looked up
 pub known_by : (a : Schedule) (es : Entries) (name : List ℕ) (o : Option ℕ) (none : Bool) → pools_in es ≡ a.pools → o ≡ option_map (λ (p : PoolUse). p.size) (pool_of name es) → is_some o ≡ not none → has_pool a name ≡ not none
 known_by a es name o none pools found is =
-    has_is a es name pools ∙ (sym (ap is_some found ∙ some_mapped (λ (p : PoolUse). p.size) (pool_of name es)) ∙ is)
+    has_is a es name pools ∙ (sym (ap is_some found ∙ is_some_map (λ (p : PoolUse). p.size) (pool_of name es)) ∙ is)
 
 -- ---- the cause
 pub too_many : (a : Schedule) (es : Entries) (name : List ℕ) (size : ℕ) → pools_in es ≡ a.pools → has_pool a name ≡ false → a.limits.pools ≤ length es → refused a (Resize name size) ≡ Some (refusal.PoolFault TooManyPools)

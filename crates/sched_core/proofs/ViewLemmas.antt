@@ -16,7 +16,7 @@ use Rattle.sched_state.proofs.OrderLemmas.{and_left, and_right, not_false}
 use Rattle.sched_model.specs.Lists.{all_pairs}
 use Rattle.sched_model.specs.Schedule.{Schedule, dag_among, dag_named, graph_named, no_dag, tasks_of, is_at}
 use Rattle.sched_state.specs.Lists.{same}
-use Rattle.sched_state.proofs.NameLemmas.{same_is}
+use Rattle.sched_state.proofs.NameLemmas.{same_is, find_passes}
 use Rattle.sched_model.specs.States.{is_open, open_of, in_flight}
 use Rattle.sched_model.specs.Causes.{tries_of}
 use Rattle.sched_model.specs.Handout.{last_serial}
@@ -125,17 +125,10 @@ beside {X} {Y} q (x ∷ xs) (y ∷ ys) =
 pub found_beside : {X Y : Type 0} (q : X → Bool) (xs : List X) (ys : List Y) → option_map (λ (e : X × Y). e.1) (find (λ (e : X × Y). q e.0) (zip xs ys)) ≡ option_and_then (slice_get ys) (position q xs)
 found_beside q xs ys = beside q xs ys ∙ ap (option_and_then (slice_get ys)) (sym (position_from-zero q xs))
 
-passes : {X : Type 0} (p : X → Bool) (xs : List X) (x : X) → find p xs ≡ Some x → p x ≡ true
-passes {X} p [] x e = absurd (let c : ◌≡◌ {A = Option X} None (Some x) = e in cc)
-passes {X} p (y ∷ ys) x e = elim (p y) as (λ b. p y ≡ b → cond b (Some y) (find p ys) ≡ Some x → p x ≡ true) [
-  | true ↦ λ h f. let c : ◌≡◌ {A = Option X} (Some y) (Some x) = f in let is : y ≡ x = cc in ap p (sym is) ∙ h
-  | false ↦ λ h f. passes p ys x f
-] refl e
-
 run_here : (a : Schedule) (id : List ℕ) (date : ℕ) (task : List ℕ) (r : Run) → find (is_at id date) a.runs ≡ Some r
     → instance_of a id date task ≡ option_and_then (slice_get r.instances) (position (λ (t : TaskSpec). same t.task_id task) (dag_named a id).tasks)
 run_here a id date task r e =
-    let graph : r.graph ≡ id = same_is r.graph id (and_left (same r.graph id) _ (passes (is_at id date) a.runs r e)) in
+    let graph : r.graph ≡ id = same_is r.graph id (and_left (same r.graph id) _ (find_passes (is_at id date) a.runs r e)) in
     ap (option_and_then (instance_in a task)) e
     ∙ (found_beside (λ (t : TaskSpec). same t.task_id task) (tasks_of a r) r.instances
     ∙ ap (λ (n : List ℕ). option_and_then (slice_get r.instances) (position (λ (t : TaskSpec). same t.task_id task) (dag_named a n).tasks)) graph)

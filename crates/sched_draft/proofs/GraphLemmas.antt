@@ -1,6 +1,7 @@
 -- What a draft shows of its graphs is what stands in them, but for the pause of one.
-use Rattle.std.proofs.Common.{◌≡◌, ◌∙◌, refl, sym, ap, ℕ, suc, List, [], ◌∷◌, length, map, true, false, cond, not, ◌&&◌, Option, Some, None, option_map, option_and_then, slice_get}
+use Rattle.std.proofs.Common.{◌≡◌, ◌∙◌, refl, sym, ap, ℕ, List, [], ◌∷◌, length, map, true, false, cond, not, ◌&&◌, Option, Some, None, option_map, option_and_then, slice_get}
 use Rattle.std.proofs.lemmas.Option.{slice_get-map}
+use Rattle.std.proofs.lemmas.List.{length-map}
 use Rattle.dag_check.specs.Graphs.{Dag}
 use Rattle.sched_state.specs.Lists.{same}
 use Rattle.sched_state.specs.declared.graphs.Graph.{Graph}
@@ -33,13 +34,9 @@ found id other (g ∷ gs) =
     ])
 
 -- ---- beside the graphs that a draft was made of
-length_map : {X Y : Type 0} (f : X → Y) (xs : List X) → length (map f xs) ≡ length xs
-length_map f [] = refl
-length_map f (x ∷ xs) = ap suc (length_map f xs)
-
 pub count_is : (u : Option (List ℕ)) (gs : List Graph) → length (with_unpaused u gs) ≡ length gs
 count_is None gs = refl
-count_is (Some id) gs = length_map (pause_graph id false) gs
+count_is (Some id) gs = length-map gs (pause_graph id false)
 
 pub position_is : (u : Option (List ℕ)) (gs : List Graph) (id : List ℕ) (o : Option ℕ) → option_and_then (slice_get gs) o ≡ graph_among gs id
     → option_and_then (slice_get (with_unpaused u gs)) o ≡ graph_among (with_unpaused u gs) id

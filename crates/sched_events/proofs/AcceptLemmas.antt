@@ -1,5 +1,5 @@
 -- What follows of an event that is accepted: its own change keeps the schedule.
-use Rattle.std.proofs.Common.{◌≡◌, ◌∙◌, refl, sym, ap, subst, ℕ, ◌≤◌, List, [], ◌∷◌, Bool, true, false, not, ◌&&◌, ◌||◌, cond, length, find, is_some, nat_lt, Option, Some, None, option_map, Result, Ok, Err, true≢false}
+use Rattle.std.proofs.Common.{◌≡◌, ◌∙◌, refl, sym, ap, subst, ℕ, ◌≤◌, List, [], ◌∷◌, Bool, true, false, not, ◌&&◌, ◌||◌, cond, length, find, is_some, nat_lt, Option, Some, None, Result, Ok, Err, true≢false}
 use Rattle.std.specs.List.{list_all, list_any}
 use Rattle.std.proofs.lemmas.Bool.{ltb-false}
 use Rattle.graph_file.specs.Graphs.{graph_of}
@@ -37,6 +37,7 @@ use Rattle.sched_events.specs.declared.refusals.Refusal.{Refusal}
 use Rattle.sched_events.specs.declared.refusals.Refusal.TheVariants as refusal
 use Rattle.sched_events.proofs.CauseLemmas.{no_when, no_map, within, some_there}
 use Rattle.sched_events.proofs.RepairLemmas.{backfill_over, clear_over, set_back_kept}
+use Rattle.graph_file.proofs.ListLemmas.{mapped_none}
 
 -- ---- what is found, and what is not
 -- nothing is found, so all pass
@@ -47,16 +48,12 @@ none_fails {X} p (x ∷ xs) e = elim (p x) as (λ b. cond (not b) (Some x) (find
   | false ↦ λ f. absurd (let c : ◌≡◌ {A = Option X} (Some x) None = f in cc)
 ] e
 
-unmapped : {X Y : Type 0} (f : X → Y) (o : Option X) → option_map f o ≡ None → o ≡ None
-unmapped f None e = refl
-unmapped {X} {Y} f (Some x) e = absurd (let c : ◌≡◌ {A = Option Y} (Some (f x)) None = e in cc)
-
 doubly : (b : Bool) → (not b && true) ≡ false → b ≡ true
 doubly true e = refl
 doubly false e = absurd (true≢false e)
 
 no_task_left : (a : Schedule) (spec : GraphSpec) → unknown_pool a spec ≡ None → list_all (λ (t : TaskSpec). has_pool a t.pool) spec.tasks ≡ true
-no_task_left a spec e = none_fails (λ (t : TaskSpec). has_pool a t.pool) spec.tasks (unmapped (λ (t : TaskSpec). t.pool) (find (λ (t : TaskSpec). not (has_pool a t.pool)) spec.tasks) e)
+no_task_left a spec e = none_fails (λ (t : TaskSpec). has_pool a t.pool) spec.tasks (mapped_none (λ (t : TaskSpec). t.pool) (find (λ (t : TaskSpec). not (has_pool a t.pool)) spec.tasks) e)
 
 -- ---- a text
 -- a text that says a graph, against which there is no cause

@@ -11,7 +11,8 @@ use Rattle.sched_model.specs.Schedule.{Schedule, dag_named}
 use Rattle.sched_model.specs.Handout.{Offer, offers, offers_in, offers_at, offer_of, fits, ranks_before, best_offer, is_ready}
 use Rattle.sched_handout.specs.Choices.{choose, choose_all, offer_if_ready}
 use Rattle.sched_state.proofs.ElementLemmas.{element_at}
-use Rattle.sched_handout.proofs.ListLemmas.{enumerate_at, zip_at}
+use Rattle.sched_handout.proofs.ListLemmas.{enumerate_at}
+use Rattle.indexmap.proofs.ReorderLemmas.{slice_get-zip_some}
 
 pub choose_append : (a : Schedule) (os ps : List Offer) (best : Option Offer) → choose_all a (os ++ ps) best ≡ choose_all a os (choose_all a ps best)
 choose_append a [] ps best = refl
@@ -67,5 +68,5 @@ place_before a n place clock r g first later best got now named some tasks insta
     let t : slice_get g.tasks (place - 1) ≡ Some (task_of g (place - 1)) = slice_get-get_or g.tasks (place - 1) no_task (omega arith) in
     let e : got ≡ offer_if_ready a.now n r (dag_named a r.graph) (place - 1) (task_of g (place - 1)) i.0 =
     offer i.0 i.1 ∙ (ap (λ k. offer_if_ready k n r g (place - 1) (task_of g (place - 1)) i.0) now ∙ ap (λ (h : Dag). offer_if_ready a.now n r h (place - 1) (task_of g (place - 1)) i.0) named) in
-    choose_before a (offers_at a n r) (zip g.tasks r.instances) place (task_of g (place - 1), i.0) first later best some (zip_at g.tasks r.instances (place - 1) _ _ t i.1) was
+    choose_before a (offers_at a n r) (zip g.tasks r.instances) place (task_of g (place - 1), i.0) first later best some (slice_get-zip_some g.tasks r.instances (place - 1) _ _ t i.1) was
     (is ∙ (ap (λ o. with_offer a o later) e ∙ sym (offer_list a (offer_of a n r (place - 1) (task_of g (place - 1))) (is_ready a.now (task_of g (place - 1)) i.0) later)))

@@ -6,7 +6,7 @@ use Rattle.std.specs.Ordering.{nat_cmp, is_eq, ordering_then}
 use Rattle.std.specs.declared.cmp.Ordering.{Ordering}
 use Rattle.std.proofs.lemmas.Cmp.{nat_cmp_total, nat_list_cmp_total}
 use Rattle.std.proofs.lemmas.Map.Text.{is_eq-slice_cmp}
-use Rattle.std.proofs.lemmas.Bool.{le-leb, ltb-false}
+use Rattle.std.proofs.lemmas.Bool.{le-leb, ltb-false, and_from, or_from}
 use Rattle.graph_file.specs.declared.task_specs.TaskSpec.{TaskSpec}
 use Rattle.dag_check.specs.Orders.{repeated}
 use Rattle.instance_machine.specs.Instances.{new_instance}
@@ -20,10 +20,10 @@ use Rattle.sched_state.specs.declared.runs.Run.{Run}
 use Rattle.sched_model.specs.NamedRuns.{Named, is_for, queued_run, insert_runs, add_runs}
 use Rattle.sched_model.specs.Causes.{is_full_with}
 use Rattle.sched_model.specs.Sound.{IsSound, is_sound_in, is_sound_instance, is_sound_run, is_new, are_new, is_used, serials_of}
-use Rattle.sched_laws.proofs.ListLemmas.{both}
 use Rattle.sched_laws.proofs.InstanceLemmas.{of_parts}
 use Rattle.sched_laws.proofs.RunLemmas.{serials_in, run_serials, listed, serials_listed, goes_on}
 use Rattle.sched_laws.proofs.GraphLemmas.{insert_rises, insert_length, tie_flips}
+use Rattle.sched_laws.proofs.SeenLemmas.{any_same}
 
 -- ---- a new run
 blank_sound : (t : TaskSpec) → is_sound_instance t new_instance ≡ true
@@ -31,10 +31,10 @@ blank_sound t = of_parts t new_instance (record { decided = refl; within = omega
 
 blank_pairs : (ts : List TaskSpec) → all_pairs (is_sound_in phase.Queued) ts (replicate (length ts) new_instance) ≡ true
 blank_pairs [] = refl
-blank_pairs (t ∷ ts) = both _ _ (goes_on phase.Queued t new_instance refl (blank_sound t)) (blank_pairs ts)
+blank_pairs (t ∷ ts) = and_from _ _ (goes_on phase.Queued t new_instance refl (blank_sound t)) (blank_pairs ts)
 
 queued_sound : (a : Schedule) (n : Named) → is_new a n ≡ true → is_sound_run a.graphs (queued_run a n) ≡ true
-queued_sound a n e = both _ _ (and_left _ _ (and_left _ _ e)) (both _ _ (and_right (is_some (graph_named a n.graph) && not (has_run_at a n.graph n.logical)) _ e) (blank_pairs (dag_among a.graphs n.graph).tasks))
+queued_sound a n e = and_from _ _ (and_left _ _ (and_left _ _ e)) (and_from _ _ (and_right (is_some (graph_named a n.graph) && not (has_run_at a n.graph n.logical)) _ e) (blank_pairs (dag_among a.graphs n.graph).tasks))
 
 no_serials : (n : ℕ) → flat_map serials_in (replicate n new_instance) ≡ []
 no_serials zero = refl
@@ -60,13 +60,6 @@ key_ties n r =
     ∙ tie_then (name_cmp r.graph n.graph) (nat_cmp r.logical n.logical)
     ∙ ap (λ b. b && is_eq (nat_cmp r.logical n.logical)) (is_eq-slice_cmp r.graph n.graph)
     ∙ ap (λ b. same r.graph n.graph && b) (nat_tie r.logical n.logical)
-
-any_same : {Y : Type 0} (q p : Y → Bool) → ((y : Y) → p y ≡ q y) → (ys : List Y) → list_any p ys ≡ list_any q ys
-any_same q p h [] = refl
-any_same q p h (y ∷ ys) = rw (h y, any_same q p h ys) refl
-
-or_false : (b c : Bool) → b ≡ false → c ≡ false → (b || c) ≡ false
-or_false b c e f = rw (e, f) refl
 
 abbrev pub added : Schedule → List Named → List Run
 added a ns = insert_runs (map (queued_run a) ns) a.runs
@@ -103,7 +96,7 @@ added_order a (n ∷ ns) e s =
     let free : has_run_at a n.graph n.logical ≡ false = not_false _ (and_right (is_some (graph_named a n.graph)) _ (and_left _ _ (and_left _ _ e))) in
     let other : list_any (is_for n.graph n.logical) ns ≡ false = not_false _ (and_left _ _ rest) in
     insert_rises run_cmp run_total (queued_run a n) (added a ns)
-    (any_same (is_at n.graph n.logical) (λ (r : Run). is_eq (run_cmp (queued_run a n) r)) (key_ties (queued_run a n)) (added a ns) ∙ added_keys a ns n.graph n.logical ∙ or_false _ _ other free)
+    (any_same (is_at n.graph n.logical) (λ (r : Run). is_eq (run_cmp (queued_run a n) r)) (key_ties (queued_run a n)) (added a ns) ∙ added_keys a ns n.graph n.logical ∙ or_from _ _ other free)
     (added_order a ns (and_right (not (list_any (is_for n.graph n.logical) ns)) _ rest) s)
 
 pub add_sound : (ns : List Named) (a : Schedule) → are_new a ns ≡ true → is_full_with a ns ≡ false → IsSound a → IsSound (add_runs ns a)

@@ -120,8 +120,3 @@ fits_beside a ts o = nat_le (sum_by (slots_in o.pool) ts + o.slots) (size_of a o
 -- the first in rank of the offers that fit beside these tries
 abbrev pub best_with : Schedule → List (TaskSpec × Try) → List Offer → Option Offer
 best_with a ts os = best_by ranks_before (filter (fits_beside a ts) os)
-
--- what is nothing after a function was nothing before
-pub map_none : {A B : Type 0} (f : A → B) (o : Option A) → option_map f o ≡ None → o ≡ None
-map_none f None e = refl
-map_none {A} {B} f (Some x) e = absurd (let c : ◌≡◌ {A = Option B} (Some (f x)) None = e in cc)

@@ -13,10 +13,7 @@ use Rattle.sched_model.specs.NamedRuns.{is_for, run_from, named_by_backfill, pre
 use Rattle.sched_model.specs.Schedule.{Schedule, dates_of, has_run_at}
 use Rattle.sched_laws.proofs.KeyLemmas.{advance_keys}
 use Rattle.sched_laws.proofs.NamedLemmas.{filtered_date}
-
-and_false : (b : Bool) → (b && false) ≡ false
-and_false true = refl
-and_false false = refl
+use Rattle.std.proofs.Math.Bool.{and-false}
 
 -- the intervals of a date that pass a test of dates
 dated_and : (f : ℕ → Bool) (date : ℕ) (is : List Interval) → list_any (λ (i : Interval). i.start == date) (filter (λ (i : Interval). f i.start) is) ≡ (has_date (starts is) date && f date)
@@ -27,7 +24,7 @@ dated_and f date (i ∷ is) = by (f i.start) (i.start == date) refl refl (dated_
         → list_any (λ (j : Interval). j.start == date) (cond b (i ∷ filter (λ (j : Interval). f j.start) is) (filter (λ (j : Interval). f j.start) is)) ≡ ((c || has_date (starts is) date) && f date)
     by true true e g ih = rw g (sym (ap f (sym (eqb-true i.start date g)) ∙ e))
     by true false e g ih = rw g ih
-    by false true e g ih = let none : f date ≡ false = ap f (sym (eqb-true i.start date g)) ∙ e in ih ∙ (ap (λ b. has_date (starts is) date && b) none ∙ (and_false (has_date (starts is) date) ∙ sym none))
+    by false true e g ih = let none : f date ≡ false = ap f (sym (eqb-true i.start date g)) ∙ e in ih ∙ (ap (λ b. has_date (starts is) date && b) none ∙ (and-false (has_date (starts is) date) ∙ sym none))
     by false false e g ih = ih
 
 for_one : (id : List ℕ) (date : ℕ) (is : List Interval) → list_any (is_for id date) (map (run_from Backfill id) is) ≡ list_any (λ (i : Interval). i.start == date) is

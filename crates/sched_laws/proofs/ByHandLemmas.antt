@@ -1,7 +1,7 @@
 -- The runs by hand and of a backfill are new: of a graph that is there, no two for one date, and dated by moments.
 use Rattle.std.proofs.Common.{◌≡◌, ◌∙◌, refl, sym, ap, ℕ, ◌<◌, ◌≤◌, List, [], ◌∷◌, true, false, not, map, length, ◌+◌, is_some, nat_le, Some, None, arith}
 use Rattle.std.specs.List.{list_all}
-use Rattle.std.proofs.lemmas.Bool.{ltb-true}
+use Rattle.std.proofs.lemmas.Bool.{ltb-true, and_from}
 use Rattle.moment_core.specs.Moments.{seconds_end}
 use Rattle.cron_timetable.specs.declared.timetables.Interval.{Interval}
 use Rattle.cron_timetable.specs.declared.timetables.Timetable.{Timetable}
@@ -16,12 +16,12 @@ use Rattle.sched_state.proofs.OrderLemmas.{and_left, and_right}
 use Rattle.sched_model.specs.NamedRuns.{manual_run, named_by_hand, named_by_backfill, spanned}
 use Rattle.sched_model.specs.Schedule.{Schedule, dag_named, graph_named, dates_of, has_run_at}
 use Rattle.sched_model.specs.Sound.{IsSound, is_moment, are_new}
-use Rattle.sched_laws.proofs.ListLemmas.{both, all_impl}
+use Rattle.sched_laws.proofs.ListLemmas.{all_impl}
 use Rattle.sched_laws.proofs.NamedLemmas.{is_dated, dated, all_filter, all_last, due_dated, filtered_date, one_graph}
 
 -- ---- by hand
 empty_dated : (t : ℕ) → t < seconds_end → list_all is_dated (record { start = t; end = t } ∷ []) ≡ true
-empty_dated t range = both _ _ (dated t (record { start = t; end = t }) range (omega arith) (omega arith)) refl
+empty_dated t range = and_from _ _ (dated t (record { start = t; end = t }) range (omega arith) (omega arith)) refl
 
 manual_dated : (s : Timetable) (t : ℕ) → t < seconds_end → list_all is_dated (manual_intervals s t) ≡ true
 manual_dated (Cron c) t range = all_last is_dated (due_intervals (Cron c) 0 None t) (due_dated (Cron c) 0 t None range)
@@ -48,7 +48,7 @@ one_new : (a : Schedule) (id : List ℕ) (is : List Interval) → (is ≡ last_a
 one_new a id [] alone known free now moments = refl
 one_new a id (i ∷ []) alone known free now moments =
     let ends = and_right (is_moment i.start) _ (and_left (is_dated i) _ moments) in
-    both _ _ (both _ _ (both (is_some (graph_named a id)) (not (has_run_at a id a.now)) known (ap not free)) (both (is_moment a.now) _ now ends)) refl
+    and_from _ _ (and_from _ _ (and_from (is_some (graph_named a id)) (not (has_run_at a id a.now)) known (ap not free)) (and_from (is_moment a.now) _ now ends)) refl
 one_new a id (i ∷ j ∷ is) alone known free now moments = let e = ap length alone in absurd (too_long (j ∷ is) (omega (arith, e)) (omega arith))
 
 manual_alone : (s : Timetable) (t : ℕ) → manual_intervals s t ≡ last_alone (manual_intervals s t)

@@ -15,11 +15,12 @@ use Rattle.sched_model.specs.States.{is_open}
 use Rattle.sched_model.specs.Clearing.{Naming, cleared, clear_pair, pairs_of, named_in, requeued, clear_if, clear_run, clear, named_pairs}
 use Rattle.sched_model.specs.Causes.{open_serials, least_in_flight}
 use Rattle.sched_model.specs.Sound.{IsSound, is_sound_in, is_sound_instance, is_sound_run, has_end}
-use Rattle.sched_laws.proofs.ListLemmas.{both, all_front, all_back}
+use Rattle.sched_laws.proofs.ListLemmas.{all_front, all_back}
 use Rattle.sched_laws.proofs.InstanceLemmas.{cleared_sound}
 use Rattle.sched_laws.proofs.RunLemmas.{key, serials_in, run_serials, flat_by, paired_sound, pairs_of_run, goes_on}
 use Rattle.sched_laws.proofs.SoundLemmas.{runs_changed}
 use Rattle.sched_laws.proofs.RankLemmas.{some_of_cons}
+use Rattle.std.proofs.lemmas.Bool.{and_from}
 
 -- ---- no named try is open
 abbrev all_over : List (TaskSpec × Held) → Bool
@@ -27,7 +28,7 @@ all_over es = list_all (λ (e : TaskSpec × Held). list_all has_end e.1.tries) e
 
 all_flat : {X Y : Type 0} (p : Y → Bool) (f : X → List Y) (xs : List X) → list_all p (flat_map f xs) ≡ true → list_all (λ x. list_all p (f x)) xs ≡ true
 all_flat p f [] e = refl
-all_flat p f (x ∷ xs) e = both _ _ (all_front p (f x) (flat_map f xs) e) (all_flat p f xs (all_back p (f x) (flat_map f xs) e))
+all_flat p f (x ∷ xs) e = and_from _ _ (all_front p (f x) (flat_map f xs) e) (all_flat p f xs (all_back p (f x) (flat_map f xs) e))
 
 best_empty : {X : Type 0} (before : X → X → Bool) (xs : List X) → best_by before xs ≡ None → xs ≡ []
 best_empty before [] e = refl
@@ -41,7 +42,7 @@ none_open : (ts : List Try) → open_serials ts ≡ [] → list_all has_end ts �
 none_open [] e = refl
 none_open (t ∷ ts) e = elim (is_open t) as (λ b. is_open t ≡ b → map (λ (u : Try). u.serial) (cond b (t ∷ filter is_open ts) (filter is_open ts)) ≡ [] → list_all has_end (t ∷ ts) ≡ true) [
   | true ↦ λ q f. absurd (let c : ◌≡◌ {A = List ℕ} (t.serial ∷ map (λ (u : Try). u.serial) (filter is_open ts)) [] = f in cc)
-  | false ↦ λ q f. both _ _ (closed_end t.ended q) (none_open ts f)
+  | false ↦ λ q f. and_from _ _ (closed_end t.ended q) (none_open ts f)
 ] refl e
 
 named_over : (a : Schedule) (named : Naming) → least_in_flight a named ≡ None → list_all (λ r. all_over (named_in a named r)) a.runs ≡ true
@@ -70,9 +71,9 @@ cleared_pairs named ph k (t ∷ ts) (i ∷ is) o e =
     let se : all_pairs (is_sound_in ph) ts is ≡ true = and_right (is_sound_in ph t i) _ e in
     elim (named k (t, i)) as (λ b. all_over (map (λ (x : ℕ × (TaskSpec × Held)). x.1) (cond b ((k, (t, i)) ∷ filter (λ (x : ℕ × (TaskSpec × Held)). named x.0 x.1) (enumerate_from (k + 1) (zip ts is))) (filter (λ (x : ℕ × (TaskSpec × Held)). named x.0 x.1) (enumerate_from (k + 1) (zip ts is))))) ≡ true
     → (is_sound_in (requeued ph) t (cond b (cleared i) i) && all_pairs (is_sound_in (requeued ph)) ts (map_places (clear_pair named) (k + 1) (zip ts is))) ≡ true) [
-      | true ↦ λ q. both _ _ (goes_on (requeued ph) t (cleared i) (requeued_goes_on ph) (cleared_sound t i si (and_left _ _ q)))
+      | true ↦ λ q. and_from _ _ (goes_on (requeued ph) t (cleared i) (requeued_goes_on ph) (cleared_sound t i si (and_left _ _ q)))
           (cleared_pairs named ph (k + 1) ts is (and_right (list_all has_end i.tries) _ q) se)
-      | false ↦ λ q. both _ _ (goes_on (requeued ph) t i (requeued_goes_on ph) si) (cleared_pairs named ph (k + 1) ts is q se)
+      | false ↦ λ q. and_from _ _ (goes_on (requeued ph) t i (requeued_goes_on ph) si) (cleared_pairs named ph (k + 1) ts is q se)
     ] o
 
 cleared_serials : (named : ℕ → TaskSpec × Held → Bool) (p : TaskSpec → Held → Bool) (k : ℕ) (ts : List TaskSpec) (is : List Held) → all_pairs p ts is ≡ true
@@ -105,7 +106,7 @@ one_key a named r (x ∷ es) = refl
 -- ---- all runs
 all_sound : (a : Schedule) (named : Naming) (rs : List Run) → list_all (λ r. all_over (named_in a named r)) rs ≡ true → list_all (is_sound_run a.graphs) rs ≡ true → list_all (is_sound_run a.graphs) (map (clear_run a named) rs) ≡ true
 all_sound a named [] o e = refl
-all_sound a named (r ∷ rs) o e = both _ _ (one_sound a named r (named_in a named r) (and_left _ _ o) (and_left _ _ e))
+all_sound a named (r ∷ rs) o e = and_from _ _ (one_sound a named r (named_in a named r) (and_left _ _ o) (and_left _ _ e))
     (all_sound a named rs (and_right (all_over (named_in a named r)) _ o) (and_right (is_sound_run a.graphs r) _ e))
 
 all_serials : (a : Schedule) (named : Naming) (rs : List Run) → list_all (is_sound_run a.graphs) rs ≡ true → map run_serials (map (clear_run a named) rs) ≡ map run_serials rs

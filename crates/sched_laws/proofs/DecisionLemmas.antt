@@ -4,7 +4,7 @@ use Rattle.sched_laws.proofs.AddLemmas.{run_total}
 use Rattle.sched_laws.proofs.ListLemmas.{all_get}
 use Rattle.std.proofs.Common.{◌≡◌, refl, sym, ap, subst, ◌∙◌, ℕ, zero, suc, ◌+◌, ◌<◌, ◌≤◌, List, [], ◌∷◌, Bool, true, false, cond, not, ◌&&◌, ◌||◌, inl, inr, Option, Some, None, option_map, option_and_then, unwrap_or, slice_get, arith, true≢false, nat_lt, nat_eq, sum_by, slice_index_or}
 use Rattle.std.specs.List.{list_all}
-use Rattle.std.proofs.lemmas.Bool.{eqb-true, eqb-false, ltb-true, ltb-false}
+use Rattle.std.proofs.lemmas.Bool.{eqb-true, eqb-false, ltb-true, ltb-false, or_left, or_right}
 use Rattle.std.specs.Ordering.{nat_cmp, is_eq}
 use Rattle.std.specs.declared.cmp.Ordering.{Ordering}
 use Rattle.std.specs.declared.cmp.Ordering.TheVariants.{Less, Equal, Greater}
@@ -200,13 +200,6 @@ least_clean dirty a n p c h m q b = by_decision {C = decision a m q ≡ None} a 
 stays_without : (b c : Bool) → b ≡ true → c ≡ false → (b && not c) ≡ true
 stays_without b c e f = rw (e, f) refl
 
-or_first : (b c : Bool) → b ≡ true → (b || c) ≡ true
-or_first b c e = rw e refl
-
-or_second : (b c : Bool) → c ≡ true → (b || c) ≡ true
-or_second true c e = refl
-or_second false c e = e
-
 pub passed_over : (dirty : ℕ → ℕ → Bool) (a : Schedule) (n p : ℕ) → Covers dirty a → decision a n p ≡ None → Covers (without n p dirty) a
 passed_over dirty a n p c e m q j f = stays_without (dirty m q) (is_position n p m q) (c m q j f)
     (by_bool {C = is_position n p m q ≡ false} (is_position n p m q) (λ g. not_some (decision a m q) j (at_same a n p m q g ∙ e) f) (λ g. g))
@@ -216,18 +209,18 @@ decided_marks dirty a n p j c e m q k f =
     by_bool {C = marked a n p dirty m q ≡ true} (is_position n p m q)
     (λ g. not_some (decision (put j n p a) m q) k (at_same (put j n p a) n p m q g ∙ decided_once a n p j e) f)
     (λ g. by_bool {C = marked a n p dirty m q ≡ true} (looks a m q n p)
-    (λ l. or_second (without n p dirty m q) (looks a m q n p) l)
-    (λ l. or_first (without n p dirty m q) (looks a m q n p)
+    (λ l. or_right (without n p dirty m q) (looks a m q n p) l)
+    (λ l. or_left (without n p dirty m q) (looks a m q n p)
     (stays_without (dirty m q) (is_position n p m q) (c m q k (sym (unlooked a (λ i. j) n p m q l g) ∙ f)) g)))
 
 -- a change of one instance, whatever it is, marks it and what looks at it
 pub change_marks : (dirty : ℕ → ℕ → Bool) (a : Schedule) (g : Held → Held) (n p : ℕ) → Covers dirty a → Covers (touched a n p dirty) (change_at g n p a)
 change_marks dirty a g n p c m q k f =
     by_bool {C = touched a n p dirty m q ≡ true} (is_position n p m q)
-    (λ e. or_second (dirty m q) (is_position n p m q || looks a m q n p) (or_first (is_position n p m q) (looks a m q n p) e))
+    (λ e. or_right (dirty m q) (is_position n p m q || looks a m q n p) (or_left (is_position n p m q) (looks a m q n p) e))
     (λ e. by_bool {C = touched a n p dirty m q ≡ true} (looks a m q n p)
-    (λ l. or_second (dirty m q) (is_position n p m q || looks a m q n p) (or_second (is_position n p m q) (looks a m q n p) l))
-    (λ l. or_first (dirty m q) (is_position n p m q || looks a m q n p) (c m q k (sym (unlooked a g n p m q l e) ∙ f))))
+    (λ l. or_right (dirty m q) (is_position n p m q || looks a m q n p) (or_right (is_position n p m q) (looks a m q n p) l))
+    (λ l. or_left (dirty m q) (is_position n p m q || looks a m q n p) (c m q k (sym (unlooked a g n p m q l e) ∙ f))))
 
 -- ---- later positions
 

@@ -8,12 +8,12 @@ use Rattle.std.specs.declared.cmp.Ordering.{Ordering}
 use Rattle.std.specs.declared.cmp.Ordering.TheVariants.{Less, Equal, Greater}
 use Rattle.std.proofs.lemmas.Cmp.{nat_list_cmp_total}
 use Rattle.std.proofs.lemmas.Map.Text.{is_eq-slice_cmp}
-use Rattle.std.proofs.lemmas.Bool.{le-leb}
+use Rattle.std.proofs.lemmas.Bool.{le-leb, and_from, false_from_ne_true}
 use Rattle.std.proofs.lemmas.List.{length-map}
 use Rattle.dag_check.specs.Graphs.{Dag}
 use Rattle.sched_state.specs.Lists.{same, name_cmp, is_less, insert_by}
 use Rattle.sched_state.specs.declared.graphs.Graph.{Graph}
-use Rattle.sched_state.proofs.OrderLemmas.{and_left, and_right, or_left, or_right, not_true, eq_flips, on_total, all_insert, map_keeps}
+use Rattle.sched_state.proofs.OrderLemmas.{and_left, and_right, or_left, or_right, eq_flips, on_total, all_insert, map_keeps}
 use Rattle.sched_state.proofs.NameLemmas.{same_is, find_any, same_itself}
 use Rattle.sched_model.specs.Lists.{all_pairs, rises}
 use Rattle.sched_model.specs.Schedule.{Schedule, graph_among, dag_among, no_dag, has_runs, graph_before}
@@ -21,15 +21,11 @@ use Rattle.sched_state.specs.declared.runs.Run.{Run}
 use Rattle.sched_model.specs.Changes.{reloaded, new_graph, with_graph, load_graph, pause_graph, set_paused}
 use Rattle.sched_model.specs.Causes.{has_too_many_graphs}
 use Rattle.sched_model.specs.Sound.{IsSound, is_sound_graph, is_sound_dag, has_pools, is_sound_run, is_sound_in, is_moment}
-use Rattle.sched_laws.proofs.ListLemmas.{both, all_impl, all_under}
+use Rattle.sched_laws.proofs.ListLemmas.{all_impl, all_under}
 use Rattle.sched_laws.proofs.RunLemmas.{rises_map}
+use Rattle.sched_laws.proofs.RankLemmas.{less_is}
 
 -- ---- a list that rises, with an element put in that ties with none
-less_is : (k : Ordering) → is_less k ≡ true → k ≡ Less
-less_is Less e = refl
-less_is Equal e = absurd (true≢false (sym e))
-less_is Greater e = absurd (true≢false (sym e))
-
 back : (k : Ordering) → is_less k ≡ false → is_eq k ≡ false → is_less (ordering_reverse k) ≡ true
 back Less e f = absurd (true≢false e)
 back Equal e f = absurd (true≢false f)
@@ -37,7 +33,7 @@ back Greater e f = refl
 
 below_all : {X : Type 0} (R : X → X → Ordering) → IsTotalOrder R → (x y : X) → R x y ≡ Less → (zs : List X) → list_all (λ z. is_less (R y z)) zs ≡ true → list_all (λ z. is_less (R x z)) zs ≡ true
 below_all R o x y e [] f = refl
-below_all R o x y e (z ∷ zs) f = both _ _ (ap is_less (o.trans x y z e (less_is _ (and_left _ _ f)))) (below_all R o x y e zs (and_right (is_less (R y z)) _ f))
+below_all R o x y e (z ∷ zs) f = and_from _ _ (ap is_less (o.trans x y z e (less_is _ (and_left _ _ f)))) (below_all R o x y e zs (and_right (is_less (R y z)) _ f))
 
 pub insert_rises : {X : Type 0} (R : X → X → Ordering) → IsTotalOrder R → (x : X) (xs : List X) → list_any (λ y. is_eq (R x y)) xs ≡ false → rises (λ u v. is_less (R u v)) xs ≡ true
     → rises (λ u v. is_less (R u v)) (insert_by (λ u v. is_less (R u v)) x xs) ≡ true
@@ -160,7 +156,7 @@ find_reloaded text dag id other (g ∷ gs) =
     ∙ elim (same g.dag.spec.dag_id id) as (λ b. same g.dag.spec.dag_id id ≡ b → cond b (Some (reloaded text dag g)) (graph_among (map (reloaded text dag) gs) id) ≡ cond b (Some g) (graph_among gs id)) [
       | true ↦ λ e.
           let apart : same g.dag.spec.dag_id dag.spec.dag_id ≡ false =
-          not_true _ (λ f. true≢false (sym e ∙ ap (λ n. same n id) (same_is _ _ f) ∙ other)) in
+          false_from_ne_true _ (λ f. true≢false (sym e ∙ ap (λ n. same n id) (same_is _ _ f) ∙ other)) in
           ap (λ h. Some h) (reloaded_other text dag g apart)
       | false ↦ λ e. find_reloaded text dag id other gs
     ] refl
@@ -184,7 +180,7 @@ find_loaded text dag gs id other =
     ]
 
 pub flip_same : (x y : List ℕ) → same x y ≡ false → same y x ≡ false
-flip_same x y e = not_true _ (λ f. true≢false (sym (same_itself x) ∙ (ap (same x) (sym (same_is y x f)) ∙ e)))
+flip_same x y e = false_from_ne_true _ (λ f. true≢false (sym (same_itself x) ∙ (ap (same x) (sym (same_is y x f)) ∙ e)))
 
 graph_cmp : Graph → Graph → Ordering
 graph_cmp g h = name_cmp (id_of g) (id_of h)
@@ -200,7 +196,7 @@ run_apart : (text : List ℕ) (dag : Dag) (gs : List Graph) (rs : List Run) → 
 run_apart text dag gs [] n e = refl
 run_apart text dag gs (r ∷ rs) n e =
     let f : graph_among (with_graph text dag gs) r.graph ≡ graph_among gs r.graph = find_loaded text dag gs r.graph (flip_same r.graph dag.spec.dag_id (or_left _ _ n)) in
-    both _ _ (alike_sound gs (with_graph text dag gs) r (ap is_some f) (ap (λ o. unwrap_or (option_map (λ (g : Graph). g.dag) o) no_dag) f) ∙ and_left _ _ e)
+    and_from _ _ (alike_sound gs (with_graph text dag gs) r (ap is_some f) (ap (λ o. unwrap_or (option_map (λ (g : Graph). g.dag) o) no_dag) f) ∙ and_left _ _ e)
     (run_apart text dag gs rs (or_right (same r.graph dag.spec.dag_id) _ n) (and_right (is_sound_run gs r) _ e))
 
 chosen_sound : (a : Schedule) (text : List ℕ) (dag : Dag) (g : Graph) (b : Bool) → is_sound_graph a (new_graph text dag) ≡ true → is_sound_graph a g ≡ true → is_sound_graph a (cond b (record { text = text; dag = dag; paused = g.paused }) g) ≡ true

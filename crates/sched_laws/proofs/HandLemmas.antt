@@ -1,6 +1,6 @@
 -- What one hand-out changes: nothing that the moves see, and the counts by the new try.
-use Rattle.std.proofs.Common.{◌≡◌, refl, sym, ap, subst, ◌∙◌, ℕ, zero, suc, ◌+◌, ◌<◌, ◌≤◌, List, [], ◌∷◌, ◌++◌, Bool, true, false, cond, ◌&&◌, ◌⊎◌, inl, inr, filter, flat_map, map, length, drop, sum_by, Option, Some, None, option_map, slice_get, arith, true≢false, leb-true, nat_le, nat_lt, ◌-◌, ◌||◌, if◌then◌else◌}
-use Rattle.std.proofs.lemmas.Bool.{ltb-true}
+use Rattle.std.proofs.Common.{◌≡◌, refl, sym, ap, subst, ◌∙◌, ℕ, zero, suc, ◌+◌, ◌<◌, ◌≤◌, List, [], ◌∷◌, ◌++◌, Bool, true, false, cond, ◌&&◌, ◌⊎◌, inl, inr, filter, flat_map, map, length, drop, sum_by, Option, Some, None, slice_get, arith, true≢false, leb-true, nat_le, nat_lt, ◌-◌, if◌then◌else◌}
+use Rattle.std.proofs.lemmas.Bool.{ltb-true, false_from_ne_true, or_cases}
 use Rattle.std.specs.List.{zip}
 use Rattle.std.proofs.lemmas.List.Sums.{sum_by-append}
 use Rattle.std.proofs.lemmas.List.{length-append}
@@ -27,6 +27,7 @@ use Rattle.sched_laws.proofs.HandOutLemmas.{hand_falls}
 use Rattle.sched_state.proofs.RepeatLemmas.{repeat_done, repeat_more}
 use Rattle.sched_laws.proofs.SettleLemmas.{map_some}
 use Rattle.sched_state.proofs.OrderLemmas.{and_left, and_right}
+use Rattle.graph_file.proofs.ListLemmas.{mapped_none}
 
 -- ---- lists
 
@@ -124,13 +125,9 @@ pub come_due : (now : ℕ) (b : Bool) (o : Option ℕ) → has_come now (if b th
 come_due now true o e = refl
 come_due now false o e = absurd (true≢false (sym e))
 
-pub either : (b c : Bool) → (b || c) ≡ true → (b ≡ true) ⊎ (c ≡ true)
-either true c e = inl refl
-either false c e = inr e
-
 -- what is ready is scheduled or up for retry
 pub ready_cases : (now : ℕ) (t : TaskSpec) (i : Held) → is_ready now t i ≡ true → (is_scheduled (state_of t i) ≡ true) ⊎ (is_up_for_retry (state_of t i) ≡ true)
-ready_cases now t i e = elim (either (is_scheduled (state_of t i)) (has_come now (retry_at t i)) e) [
+ready_cases now t i e = elim (or_cases (is_scheduled (state_of t i)) (has_come now (retry_at t i)) e) [
   | inl f ↦ inl f
   | inr f ↦ inr (come_due now (is_up_for_retry (state_of t i)) (retry_of (last_of (recent i)) t.retry_delay) f)
 ]
@@ -245,16 +242,8 @@ within_bounds a o h f =
     let v : size_of (hand a o) o.pool ≡ size_of a o.pool = refl in
     record { pool = omega arith; lanes = l; lanes_after = omega arith; serial = n }
 
-map_none : {A B : Type 0} (f : A → B) (o : Option A) → option_map f o ≡ None → o ≡ None
-map_none f None e = refl
-map_none {A} {B} f (Some x) e = absurd (let c : ◌≡◌ {A = Option B} (Some (f x)) None = e in cc)
-
-pub not_fitting : (b : Bool) → (b ≡ true → ⊥) → b ≡ false
-not_fitting true f = absurd (f refl)
-not_fitting false f = refl
-
 pub none_fits : (a : Schedule) → hand_one a ≡ None → (x : Offer) → IsEligible a x → fits a x ≡ false
-none_fits a e x h = not_fitting (fits a x) (λ f. best_none ranks_before (filter (fits a) (offers a)) x (map_none (hand a) (best_offer a) e) (into_filter (fits a) x (offers a) (offered a x h) f))
+none_fits a e x h = false_from_ne_true (fits a x) (λ f. best_none ranks_before (filter (fits a) (offers a)) x (mapped_none (hand a) (best_offer a) e) (into_filter (fits a) x (offers a) (offered a x h) f))
 
 turns_hand : (n : ℕ) (a : Schedule) → serials_left a ≤ n → HandsOut a (repeat n hand_one a)
 turns_hand zero a l = elim (hand_one a) as (λ o. hand_one a ≡ o → HandsOut a (repeat zero hand_one a)) [

@@ -1,7 +1,7 @@
 -- A sound instance stays so: when it is decided, handed out, reported of, lost or cleared.
 use Rattle.std.proofs.Common.{◌≡◌, refl, sym, ap, subst, ◌∙◌, ℕ, ◌+◌, ◌≤◌, List, [], ◌∷◌, ◌++◌, Bool, true, false, cond, not, ◌||◌, inl, inr, map, length, drop, Option, Some, None, arith, true≢false, leb-true, is_some, nat_le}
 use Rattle.std.specs.List.{list_all}
-use Rattle.std.proofs.lemmas.Bool.{le-leb, eq-eqb}
+use Rattle.std.proofs.lemmas.Bool.{le-leb, eq-eqb, and_from, or_left, or_right}
 use Rattle.std.proofs.lemmas.List.{length-append, length-map, take-append-le, drop-append-le, take-map, drop-map}
 use Rattle.std.proofs.Math.Seq.{take-length, drop-length}
 use Rattle.graph_file.specs.declared.task_specs.TaskSpec.{TaskSpec}
@@ -21,7 +21,7 @@ use Rattle.sched_model.specs.Handout.{is_ready, is_scheduled, new_try, with_try}
 use Rattle.instance_machine.specs.Instances.{map_tries}
 use Rattle.sched_model.specs.Clearing.{cleared}
 use Rattle.sched_model.specs.Sound.{is_sound_try, is_sound_instance, has_end, has_failed, is_failure, is_failure_if, is_run, is_wait, is_empty, earlier}
-use Rattle.sched_laws.proofs.ListLemmas.{both, or_true, all_impl, all_under, all_join, but_last_snoc, but_last_map, last_split, last_none}
+use Rattle.sched_laws.proofs.ListLemmas.{all_impl, all_under, all_join, but_last_snoc, but_last_map, last_split, last_none}
 use Rattle.sched_laws.proofs.HandLemmas.{ready_cases}
 
 -- ---- the parts of soundness
@@ -52,16 +52,12 @@ parts_of t i e =
     }
 
 pub of_parts : (t : TaskSpec) (i : Held) → Parts t i → is_sound_instance t i ≡ true
-of_parts t i p = both _ _ p.decided (both _ _ (le-leb _ _ p.within) (both _ _ p.tries (both _ _ p.over (both _ _ p.let_run (both _ _ (le-leb _ _ p.few) p.failed)))))
+of_parts t i p = and_from _ _ p.decided (and_from _ _ (le-leb _ _ p.within) (and_from _ _ p.tries (and_from _ _ p.over (and_from _ _ p.let_run (and_from _ _ (le-leb _ _ p.few) p.failed)))))
 
 -- ---- decided
 empty_is : {X : Type 0} (xs : List X) → (is_empty xs || false) ≡ true → is_empty xs ≡ true
 empty_is [] e = refl
 empty_is (x ∷ xs) e = e
-
-or_first : (b c : Bool) → b ≡ true → (b || c) ≡ true
-or_first true c e = refl
-or_first false c e = absurd (true≢false (sym e))
 
 pub decided_sound : (t : TaskSpec) (s : ℕ) (ts : List Try) (v : Verdict) → is_wait (Some v) ≡ false
     → is_sound_instance t (record { verdict = None; since = s; tries = ts }) ≡ true → is_sound_instance t (record { verdict = Some v; since = s; tries = ts }) ≡ true
@@ -72,7 +68,7 @@ decided_sound t s ts v w e =
       within = p.within;
       tries = p.tries;
       over = p.over;
-      let_run = or_first _ _ (empty_is (drop s ts) p.let_run);
+      let_run = or_left _ _ (empty_is (drop s ts) p.let_run);
       few = p.few;
       failed = p.failed;
     })
@@ -163,7 +159,7 @@ retry_waits t i p e = elim (last_of (recent i)) as (λ o. last_of (recent i) ≡
       record {
         let_run = not_empty_runs (but_last (recent i)) u (is_run i.verdict) (subst (λ (ts : List Try). (is_empty ts || is_run i.verdict) ≡ true) z p.let_run);
         room = leb-true _ _ g.0;
-        failed = ap (list_all has_failed) z ∙ all_join has_failed (but_last (recent i)) (u ∷ []) p.failed (both _ _ g.1 refl);
+        failed = ap (list_all has_failed) z ∙ all_join has_failed (but_last (recent i)) (u ∷ []) p.failed (and_from _ _ g.1 refl);
       }
 ] refl e
 
@@ -181,9 +177,9 @@ handed_sound now t i n r e =
     of_parts t (with_try u i) (record {
       decided = p.decided;
       within = omega arith;
-      tries = all_join (is_sound_try t.pool_slots) i.tries (u ∷ []) p.tries (both _ _ (both _ _ (eq-eqb t.pool_slots t.pool_slots refl) refl) refl);
+      tries = all_join (is_sound_try t.pool_slots) i.tries (u ∷ []) p.tries (and_from _ _ (and_from _ _ (eq-eqb t.pool_slots t.pool_slots refl) refl) refl);
       over = ap (list_all has_end) (take-append-le i.since i.tries (u ∷ []) p.within) ∙ p.over;
-      let_run = or_true _ _ w.let_run;
+      let_run = or_right _ _ w.let_run;
       few = omega arith;
       failed = ap (λ ts. list_all has_failed (but_last ts)) k ∙ ap (list_all has_failed) (but_last_snoc (recent i) u) ∙ w.failed;
     })
@@ -240,7 +236,7 @@ finished_over t i p e = elim (last_of (recent i)) as (λ o. last_of (recent i) �
   | Some u ↦ λ q f.
       let g : has_end u ≡ true = try_finished (nat_le (length (recent i)) t.retries) u.started u.ended f in
       ap (list_all has_end) (last_split (recent i) u q)
-      ∙ all_join has_end (but_last (recent i)) (u ∷ []) (all_impl has_failed has_end failed_end (but_last (recent i)) p.failed) (both _ _ g refl)
+      ∙ all_join has_end (but_last (recent i)) (u ∷ []) (all_impl has_failed has_end failed_end (but_last (recent i)) p.failed) (and_from _ _ g refl)
 ] refl e
 
 pub changed_finished : (f : Try → Try) → IsQuiet f → (t : TaskSpec) (i : Held) → is_sound_instance t i ≡ true → is_finished (state_of t i) ≡ true → is_finished (state_of t (map_tries f i)) ≡ true
@@ -259,7 +255,7 @@ cleared_sound t i e o =
       within = omega arith;
       tries = p.tries;
       over = ap (list_all has_end) (take-length i.tries) ∙ o;
-      let_run = or_first _ _ (ap is_empty r);
+      let_run = or_left _ _ (ap is_empty r);
       few = omega arith;
       failed = ap (λ ts. list_all has_failed (but_last ts)) r;
     })

@@ -3,7 +3,7 @@ use Rattle.std.specs.Ordering.{ordering_then}
 use Rattle.sched_laws.proofs.GraphLemmas.{tie_flips}
 use Rattle.std.proofs.Common.{◌≡◌, refl, sym, ap, subst, ◌∙◌, ℕ, zero, suc, ◌<◌, List, [], ◌∷◌, Bool, true, false, ◌&&◌, ◌||◌, ◌==◌, map, Option, Some, None, slice_get, true≢false, nat_cmp}
 use Rattle.std.specs.List.{list_any, list_all}
-use Rattle.std.proofs.lemmas.Bool.{eq-eqb}
+use Rattle.std.proofs.lemmas.Bool.{eq-eqb, and_from}
 use Rattle.dag_check.specs.Orders.{is_in, repeated}
 use Rattle.instance_machine.specs.declared.tries.Try.{Try}
 use Rattle.sched_state.specs.Lists.{same, repeat, name_cmp}
@@ -19,7 +19,7 @@ use Rattle.sched_model.specs.NamedRuns.{Named, is_for, add_runs}
 use Rattle.sched_model.specs.Changes.{advance, map_tries_of, map_all_tries}
 use Rattle.sched_model.specs.Clearing.{Naming, clear}
 use Rattle.sched_model.specs.Sound.{IsSound, serials_of, is_used}
-use Rattle.sched_laws.proofs.ListLemmas.{both, all_get}
+use Rattle.sched_laws.proofs.ListLemmas.{all_get}
 use Rattle.sched_laws.proofs.SettleLemmas.{map_some}
 use Rattle.sched_laws.proofs.RunLemmas.{Key, key, move_kin}
 use Rattle.sched_laws.proofs.SoundLemmas.{map_at, used_below}
@@ -100,7 +100,7 @@ serials_below a i s h e = used_below a.next s (all_get (is_used a.next) (serials
 -- what ties does not stand before
 not_before : (r q : Run) → run_before r q ≡ true → r.graph ≡ q.graph → r.logical ≡ q.logical → ⊥
 not_before r q e f g =
-    let k : is_at q.graph q.logical r ≡ true = both _ _ (ap (λ n. same n q.graph) f ∙ same_itself q.graph) (eq-eqb r.logical q.logical g) in
+    let k : is_at q.graph q.logical r ≡ true = and_from _ _ (ap (λ n. same n q.graph) f ∙ same_itself q.graph) (eq-eqb r.logical q.logical g) in
     true≢false (sym (tie_flips run_total r q ∙ key_ties q r ∙ k) ∙ less_no_tie (ordering_then (name_cmp r.graph q.graph) (nat_cmp r.logical q.logical)) e)
 
 date_at : (rs : List Run) (i j : ℕ) (r q : Run) → rises run_before rs ≡ true → slice_get rs i ≡ Some r → slice_get rs j ≡ Some q → r.graph ≡ q.graph → r.logical ≡ q.logical → i ≡ j

@@ -1,35 +1,28 @@
 -- Lists: pairs that pass, the last element, and what a change of one element keeps.
-use Rattle.std.proofs.Common.{◌≡◌, refl, sym, ap, subst, ◌∙◌, ℕ, zero, suc, ◌+◌, ◌-◌, ◌<◌, List, [], ◌∷◌, ◌++◌, Bool, true, false, ◌&&◌, ◌||◌, map, length, Option, Some, None, option_map, slice_get, arith, true≢false}
+use Rattle.std.proofs.Common.{◌≡◌, refl, sym, ap, subst, ◌∙◌, ℕ, zero, suc, ◌+◌, ◌-◌, ◌<◌, List, [], ◌∷◌, ◌++◌, Bool, true, false, map, length, Option, Some, None, option_map, slice_get, arith, true≢false}
 use Rattle.std.specs.List.{list_all}
 use Rattle.instance_machine.specs.Instances.{last_of}
 use Rattle.sched_state.specs.Lists.{change_from}
 use Rattle.sched_state.proofs.OrderLemmas.{and_left, and_right}
 use Rattle.sched_model.specs.Lists.{at, all_pairs, but_last}
-
--- ---- tests
-pub both : (b c : Bool) → b ≡ true → c ≡ true → (b && c) ≡ true
-both b c e f = rw (e, f) refl
-
-pub or_true : (b c : Bool) → c ≡ true → (b || c) ≡ true
-or_true true c e = refl
-or_true false c e = e
+use Rattle.std.proofs.lemmas.Bool.{and_from}
 
 -- ---- elements that pass
 pub all_impl : {X : Type 0} (p q : X → Bool) → ((x : X) → p x ≡ true → q x ≡ true) → (xs : List X) → list_all p xs ≡ true → list_all q xs ≡ true
 all_impl p q h [] e = refl
-all_impl p q h (x ∷ xs) e = both _ _ (h x (and_left _ _ e)) (all_impl p q h xs (and_right (p x) _ e))
+all_impl p q h (x ∷ xs) e = and_from _ _ (h x (and_left _ _ e)) (all_impl p q h xs (and_right (p x) _ e))
 
 pub all_under : {X Y : Type 0} (p : X → Bool) (q : Y → Bool) (f : X → Y) → ((x : X) → p x ≡ true → q (f x) ≡ true) → (xs : List X) → list_all p xs ≡ true → list_all q (map f xs) ≡ true
 all_under p q f h [] e = refl
-all_under p q f h (x ∷ xs) e = both _ _ (h x (and_left _ _ e)) (all_under p q f h xs (and_right (p x) _ e))
+all_under p q f h (x ∷ xs) e = and_from _ _ (h x (and_left _ _ e)) (all_under p q f h xs (and_right (p x) _ e))
 
 pub all_join : {X : Type 0} (p : X → Bool) (xs ys : List X) → list_all p xs ≡ true → list_all p ys ≡ true → list_all p (xs ++ ys) ≡ true
 all_join p [] ys e f = f
-all_join p (x ∷ xs) ys e f = both _ _ (and_left _ _ e) (all_join p xs ys (and_right (p x) _ e) f)
+all_join p (x ∷ xs) ys e f = and_from _ _ (and_left _ _ e) (all_join p xs ys (and_right (p x) _ e) f)
 
 pub all_front : {X : Type 0} (p : X → Bool) (xs ys : List X) → list_all p (xs ++ ys) ≡ true → list_all p xs ≡ true
 all_front p [] ys e = refl
-all_front p (x ∷ xs) ys e = both _ _ (and_left _ _ e) (all_front p xs ys (and_right (p x) _ e))
+all_front p (x ∷ xs) ys e = and_from _ _ (and_left _ _ e) (all_front p xs ys (and_right (p x) _ e))
 
 pub all_back : {X : Type 0} (p : X → Bool) (xs ys : List X) → list_all p (xs ++ ys) ≡ true → list_all p ys ≡ true
 all_back p [] ys e = e
@@ -45,8 +38,8 @@ pub all_at : {X : Type 0} (p : X → Bool) (g : X → X) (n : ℕ) (xs : List X)
 all_at {X} p g n [] x e f h = refl
 all_at {X} p g zero (y ∷ ys) x e f h =
     let c : ◌≡◌ {A = Option X} (Some y) (Some x) = f in let r : x ≡ y = cc in
-    both _ _ (subst (λ (z : X). p (g z) ≡ true) r h) (and_right (p y) _ e)
-all_at p g (suc n) (y ∷ ys) x e f h = both _ _ (and_left _ _ e) (all_at p g n ys x (and_right (p y) _ e) f h)
+    and_from _ _ (subst (λ (z : X). p (g z) ≡ true) r h) (and_right (p y) _ e)
+all_at p g (suc n) (y ∷ ys) x e f h = and_from _ _ (and_left _ _ e) (all_at p g n ys x (and_right (p y) _ e) f h)
 
 -- ---- what change_from keeps
 abbrev pub change_here : {X : Type 0} → (ℕ → X → Option X) → ℕ → X → List X → Option X → Option (List X)
@@ -59,13 +52,13 @@ change_all {X} p f h i [] ys e a = absurd (let c : ◌≡◌ {A = Option (List X
 change_all {X} p f h i (x ∷ xs) ys e a =
     elim (f i x) as (λ o. f i x ≡ o → change_here f i x xs o ≡ Some ys → list_all p ys ≡ true) [
       | Some y ↦ λ q r. let s : ys ≡ y ∷ xs = cc in
-          subst (λ (zs : List X). list_all p zs ≡ true) (sym s) (both _ _ (h i x y q (and_left _ _ a)) (and_right (p x) _ a))
+          subst (λ (zs : List X). list_all p zs ≡ true) (sym s) (and_from _ _ (h i x y q (and_left _ _ a)) (and_right (p x) _ a))
       | None ↦ λ q. elim (change_from f (i + 1) xs) as (λ o. change_from f (i + 1) xs ≡ o → option_map (λ zs. x ∷ zs) o ≡ Some ys → list_all p ys ≡ true) [
         | None ↦ λ s t. absurd (let c : ◌≡◌ {A = Option (List X)} None (Some ys) = t in cc)
         | Some zs ↦ λ s t.
             let c : ◌≡◌ {A = Option (List X)} (Some (x ∷ zs)) (Some ys) = t in
             let r : ys ≡ x ∷ zs = cc in
-            subst (λ (ws : List X). list_all p ws ≡ true) (sym r) (both _ _ (and_left _ _ a) (change_all p f h (i + 1) xs zs s (and_right (p x) _ a)))
+            subst (λ (ws : List X). list_all p ws ≡ true) (sym r) (and_from _ _ (and_left _ _ a) (change_all p f h (i + 1) xs zs s (and_right (p x) _ a)))
       ] refl
     ] refl e
 
@@ -92,13 +85,13 @@ pairs_change p f h i [] (y ∷ ys) zs e a = absurd (true≢false (sym a))
 pairs_change {X} {Y} p f h i (x ∷ xs) (y ∷ ys) zs e a =
     elim (f i y) as (λ o. f i y ≡ o → change_here f i y ys o ≡ Some zs → all_pairs p (x ∷ xs) zs ≡ true) [
       | Some w ↦ λ q r. let s : zs ≡ w ∷ ys = cc in
-          subst (λ (vs : List Y). all_pairs p (x ∷ xs) vs ≡ true) (sym s) (both _ _ (h x i y w q (and_left _ _ a)) (and_right (p x y) _ a))
+          subst (λ (vs : List Y). all_pairs p (x ∷ xs) vs ≡ true) (sym s) (and_from _ _ (h x i y w q (and_left _ _ a)) (and_right (p x y) _ a))
       | None ↦ λ q. elim (change_from f (i + 1) ys) as (λ o. change_from f (i + 1) ys ≡ o → option_map (λ vs. y ∷ vs) o ≡ Some zs → all_pairs p (x ∷ xs) zs ≡ true) [
         | None ↦ λ s t. absurd (let c : ◌≡◌ {A = Option (List Y)} None (Some zs) = t in cc)
         | Some vs ↦ λ s t.
             let c : ◌≡◌ {A = Option (List Y)} (Some (y ∷ vs)) (Some zs) = t in
             let r : zs ≡ y ∷ vs = cc in
-            subst (λ (ws : List Y). all_pairs p (x ∷ xs) ws ≡ true) (sym r) (both _ _ (and_left _ _ a) (pairs_change p f h (i + 1) xs ys vs s (and_right (p x y) _ a)))
+            subst (λ (ws : List Y). all_pairs p (x ∷ xs) ws ≡ true) (sym r) (and_from _ _ (and_left _ _ a) (pairs_change p f h (i + 1) xs ys vs s (and_right (p x y) _ a)))
       ] refl
     ] refl e
 
@@ -106,13 +99,13 @@ pub pairs_impl : {X Y : Type 0} (p q : X → Y → Bool) → ((x : X) (y : Y) �
 pairs_impl p q h [] [] e = refl
 pairs_impl p q h [] (y ∷ ys) e = absurd (true≢false (sym e))
 pairs_impl p q h (x ∷ xs) [] e = absurd (true≢false (sym e))
-pairs_impl p q h (x ∷ xs) (y ∷ ys) e = both _ _ (h x y (and_left _ _ e)) (pairs_impl p q h xs ys (and_right (p x y) _ e))
+pairs_impl p q h (x ∷ xs) (y ∷ ys) e = and_from _ _ (h x y (and_left _ _ e)) (pairs_impl p q h xs ys (and_right (p x y) _ e))
 
 pub pairs_under : {X Y : Type 0} (p q : X → Y → Bool) (g : Y → Y) → ((x : X) (y : Y) → p x y ≡ true → q x (g y) ≡ true) → (xs : List X) (ys : List Y) → all_pairs p xs ys ≡ true → all_pairs q xs (map g ys) ≡ true
 pairs_under p q g h [] [] e = refl
 pairs_under p q g h [] (y ∷ ys) e = absurd (true≢false (sym e))
 pairs_under p q g h (x ∷ xs) [] e = absurd (true≢false (sym e))
-pairs_under p q g h (x ∷ xs) (y ∷ ys) e = both _ _ (h x y (and_left _ _ e)) (pairs_under p q g h xs ys (and_right (p x y) _ e))
+pairs_under p q g h (x ∷ xs) (y ∷ ys) e = and_from _ _ (h x y (and_left _ _ e)) (pairs_under p q g h xs ys (and_right (p x y) _ e))
 
 pub pairs_at : {X Y : Type 0} (p : X → Y → Bool) (g : Y → Y) (n : ℕ) (xs : List X) (ys : List Y) (x : X) (y : Y) → slice_get xs n ≡ Some x → slice_get ys n ≡ Some y
     → all_pairs p xs ys ≡ true → p x (g y) ≡ true → all_pairs p xs (at g n ys) ≡ true
@@ -122,8 +115,8 @@ pairs_at {X} {Y} p g n (v ∷ xs) [] x y e f a h = absurd (true≢false (sym a))
 pairs_at {X} {Y} p g zero (v ∷ xs) (w ∷ ys) x y e f a h =
     let c : ◌≡◌ {A = Option X} (Some v) (Some x) = e in let r : x ≡ v = cc in
     let d : ◌≡◌ {A = Option Y} (Some w) (Some y) = f in let s : y ≡ w = cc in
-    both _ _ (subst (λ (z : X). p z (g w) ≡ true) r (subst (λ (z : Y). p x (g z) ≡ true) s h)) (and_right (p v w) _ a)
-pairs_at p g (suc n) (v ∷ xs) (w ∷ ys) x y e f a h = both _ _ (and_left _ _ a) (pairs_at p g n xs ys x y e f (and_right (p v w) _ a) h)
+    and_from _ _ (subst (λ (z : X). p z (g w) ≡ true) r (subst (λ (z : Y). p x (g z) ≡ true) s h)) (and_right (p v w) _ a)
+pairs_at p g (suc n) (v ∷ xs) (w ∷ ys) x y e f a h = and_from _ _ (and_left _ _ a) (pairs_at p g n xs ys x y e f (and_right (p v w) _ a) h)
 
 pub pairs_get : {X Y : Type 0} (p : X → Y → Bool) (n : ℕ) (xs : List X) (ys : List Y) (x : X) (y : Y) → slice_get xs n ≡ Some x → slice_get ys n ≡ Some y → all_pairs p xs ys ≡ true → p x y ≡ true
 pairs_get {X} {Y} p n [] ys x y e f a = absurd (let c : ◌≡◌ {A = Option X} None (Some x) = e in cc)

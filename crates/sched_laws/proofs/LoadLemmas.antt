@@ -22,7 +22,8 @@ use Rattle.sched_model.specs.Sound.{IsSound, Says, AllSay}
 use Rattle.sched_laws.specs.Seen.{Sight, sight_of, can_decide_in, can_start_seen, can_finish, can_move}
 use Rattle.sched_laws.proofs.GraphLemmas.{find_loaded, flip_same, reloaded_other}
 use Rattle.sched_laws.proofs.SeenLemmas.{move_seen, none_from}
-use Rattle.sched_laws.proofs.AlikeLemmas.{AllDags, same_sights, deciding_alike, open_alike, start_by, offers_by, best_with, map_none}
+use Rattle.sched_laws.proofs.AlikeLemmas.{AllDags, same_sights, deciding_alike, open_alike, start_by, offers_by, best_with}
+use Rattle.graph_file.proofs.ListLemmas.{mapped_none}
 
 -- ---- runs whose graphs are found as before
 abbrev AllFound : List Graph → List Graph → List Run → Type 0
@@ -92,16 +93,16 @@ pub load_no_hand : (text : List ℕ) (dag : Dag) (a : Schedule) → has_runs a d
 unfolding with_graphs
 load_no_hand text dag a none still =
     ap (option_map (hand (load_graph text dag a)))
-    (best_alike a (with_graph text dag a.graphs) (found_after text dag a.graphs a.runs none) ∙ map_none (hand a) (best_offer a) still)
+    (best_alike a (with_graph text dag a.graphs) (found_after text dag a.graphs a.runs none) ∙ mapped_none (hand a) (best_offer a) still)
 
 -- ---- the same text
-reloaded_named : (text : List ℕ) (dag : Dag) (g : Graph) → same g.dag.spec.dag_id dag.spec.dag_id ≡ true → reloaded text dag g ≡ record { text = text; dag = dag; paused = g.paused }
+pub reloaded_named : (text : List ℕ) (dag : Dag) (g : Graph) → same g.dag.spec.dag_id dag.spec.dag_id ≡ true → reloaded text dag g ≡ record { text = text; dag = dag; paused = g.paused }
 reloaded_named text dag g e = ap (λ b. cond b (record { text = text; dag = dag; paused = g.paused }) g) e
 
 pub before_apart : (g h : Graph) → graph_before g h ≡ true → same g.dag.spec.dag_id h.dag.spec.dag_id ≡ false
 before_apart g h e = sym (is_eq-slice_cmp g.dag.spec.dag_id h.dag.spec.dag_id) ∙ less_no_tie (name_cmp g.dag.spec.dag_id h.dag.spec.dag_id) e
 
-others_stay : (text : List ℕ) (dag : Dag) (g : Graph) → same g.dag.spec.dag_id dag.spec.dag_id ≡ true → (gs : List Graph) → list_all (graph_before g) gs ≡ true → map (reloaded text dag) gs ≡ gs
+pub others_stay : (text : List ℕ) (dag : Dag) (g : Graph) → same g.dag.spec.dag_id dag.spec.dag_id ≡ true → (gs : List Graph) → list_all (graph_before g) gs ≡ true → map (reloaded text dag) gs ≡ gs
 others_stay text dag g e [] after = refl
 others_stay text dag g e (h ∷ hs) after =
     let apart : same h.dag.spec.dag_id dag.spec.dag_id ≡ false =

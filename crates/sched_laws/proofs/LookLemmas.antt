@@ -2,7 +2,7 @@
 use Rattle.sched_laws.proofs.SeenLemmas.{map_else}
 use Rattle.dag_check.specs.Graphs.{ups}
 use Rattle.std.proofs.Common.{◌≡◌, refl, sym, ap, subst, ◌∙◌, ℕ, zero, suc, ◌+◌, List, [], ◌∷◌, Bool, true, false, cond, not, ◌&&◌, ◌||◌, ◌⊎◌, inl, inr, map, Option, Some, None, option_map, option_and_then, unwrap_or, slice_get, arith, true≢false, nat_eq}
-use Rattle.std.proofs.lemmas.Bool.{eqb-true, eq-eqb, eqb-false}
+use Rattle.std.proofs.lemmas.Bool.{eqb-true, eq-eqb, eqb-false, false_from_ne_true}
 use Rattle.trigger_rules.specs.declared.verdicts.Verdict.{Verdict}
 use Rattle.trigger_rules.specs.declared.states.State.TheVariants as state
 use Rattle.sched_model.specs.Lists.{at, zip_with, last_passing, or_else}
@@ -19,13 +19,13 @@ use Rattle.sched_model.specs.States.{state_at, past_is_open, previous, is_earlie
 use Rattle.sched_model.specs.Settle.{decides, decide_task, decide_instance, upstream_states, decided_verdict}
 use Rattle.sched_model.specs.Handout.{in_instance}
 use Rattle.sched_laws.specs.Sweep.{decision_in, decision, change_at, last_place, previous_at, is_place, looks, looks_in, looks_from}
-use Rattle.sched_state.proofs.OrderLemmas.{or_left, or_right, not_true}
+use Rattle.sched_state.proofs.OrderLemmas.{or_left, or_right}
 
 -- ---- lists
 
 -- of numbers that differ by one more
 apart_down : (m n : ℕ) → nat_eq (suc m) (suc n) ≡ false → nat_eq m n ≡ false
-apart_down m n e = not_true (nat_eq m n) (λ f. eqb-false (suc m) (suc n) e (ap suc (eqb-true m n f)))
+apart_down m n e = false_from_ne_true (nat_eq m n) (λ f. eqb-false (suc m) (suc n) e (ap suc (eqb-true m n f)))
 
 pub get_at : {X : Type 0} (f : X → X) (n : ℕ) (xs : List X) → slice_get (at f n xs) n ≡ option_map f (slice_get xs n)
 get_at f n [] = refl

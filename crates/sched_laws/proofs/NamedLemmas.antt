@@ -1,7 +1,7 @@
 -- The runs that a tick names are new: of graphs that are there, no two for one date, and dated by moments.
 use Rattle.std.proofs.Common.{◌≡◌, refl, sym, ap, ◌∙◌, ℕ, ◌<◌, ◌≤◌, List, [], ◌∷◌, ◌++◌, Bool, true, false, cond, not, ◌&&◌, ◌||◌, ◌==◌, map, filter, take, flat_map, is_some, Option, nat_lt, nat_le, arith, leb-true}
 use Rattle.std.specs.List.{list_any, list_all, Contains}
-use Rattle.std.proofs.lemmas.Bool.{ltb-true, lt-ltb, le-leb, eqb-true}
+use Rattle.std.proofs.lemmas.Bool.{ltb-true, lt-ltb, le-leb, eqb-true, and_from, false_from_ne_true, or_right}
 use Rattle.moment_core.specs.Moments.{seconds_end}
 use Rattle.cron_timetable.specs.Fields.{Fields}
 use Rattle.cron_timetable.specs.declared.timetables.Interval.{Interval}
@@ -17,23 +17,20 @@ use Rattle.sched_state.specs.Lists.{same}
 use Rattle.sched_state.specs.declared.graphs.Graph.{Graph}
 use Rattle.sched_state.specs.declared.runs.Kind.{Kind}
 use Rattle.sched_state.specs.declared.runs.Kind.TheVariants.{Scheduled}
-use Rattle.sched_state.proofs.OrderLemmas.{and_left, and_right, not_true, not_false}
-use Rattle.sched_state.proofs.NameLemmas.{same_itself, find_any, or_assoc, or_right_true}
+use Rattle.sched_state.proofs.OrderLemmas.{and_left, and_right, not_false}
+use Rattle.sched_state.proofs.NameLemmas.{same_itself, find_any, or_assoc}
 use Rattle.sched_model.specs.Lists.{rises}
 use Rattle.sched_model.specs.Schedule.{Schedule, graph_among, graph_named, graph_before, dates_of, has_run_at, is_at}
 use Rattle.sched_state.specs.declared.runs.Run.{Run}
 use Rattle.sched_model.specs.NamedRuns.{Named, is_for, run_from, runs_per_tick, wanted_by, named_of, named_by_tick}
 use Rattle.sched_model.specs.Sound.{IsSound, is_moment, is_new, are_new}
-use Rattle.sched_laws.proofs.ListLemmas.{both, all_impl}
+use Rattle.sched_laws.proofs.ListLemmas.{all_impl}
 use Rattle.sched_laws.proofs.GraphLemmas.{flip_same}
 use Rattle.sched_laws.proofs.LoadLemmas.{before_apart}
+use Rattle.std.proofs.Math.Bool.{and-false}
 
 not_is : (b : Bool) → b ≡ false → not b ≡ true
 not_is b e = ap not e
-
-and_false : (b : Bool) → (b && false) ≡ false
-and_false true = refl
-and_false false = refl
 
 -- ---- intervals that have ended
 -- from a moment up to one, and not back
@@ -44,17 +41,17 @@ pub dated : (t : ℕ) (i : Interval) → t < seconds_end → i.start ≤ i.end �
 dated t i range rising ended =
     let starts : i.start < seconds_end = omega arith in
     let ends : i.end < seconds_end = omega arith in
-    both _ _ (lt-ltb i.start seconds_end starts) (both _ _ (lt-ltb i.end seconds_end ends) (le-leb i.start i.end rising))
+    and_from _ _ (lt-ltb i.start seconds_end starts) (and_from _ _ (lt-ltb i.end seconds_end ends) (le-leb i.start i.end rising))
 
 all_members : {X : Type 0} (p : X → Bool) (xs : List X) → ((x : X) → Contains xs x → p x ≡ true) → list_all p xs ≡ true
 all_members p [] h = refl
-all_members p (x ∷ xs) h = both (p x) _ (h x (contains_head x xs)) (all_members p xs (λ y there. h y (contains_tail x xs y there)))
+all_members p (x ∷ xs) h = and_from (p x) _ (h x (contains_head x xs)) (all_members p xs (λ y there. h y (contains_tail x xs y there)))
 
 pub all_filter : {X : Type 0} (p q : X → Bool) (xs : List X) → list_all q xs ≡ true → list_all q (filter p xs) ≡ true
 all_filter p q [] e = refl
 all_filter p q (x ∷ xs) e =
     elim (p x) as (λ b. list_all q (cond b (x ∷ filter p xs) (filter p xs)) ≡ true) [
-      | true ↦ both (q x) _ (and_left (q x) _ e) (all_filter p q xs (and_right (q x) _ e))
+      | true ↦ and_from (q x) _ (and_left (q x) _ e) (all_filter p q xs (and_right (q x) _ e))
       | false ↦ all_filter p q xs (and_right (q x) _ e)
     ]
 
@@ -70,7 +67,7 @@ once_dated : (first t : ℕ) (last : Option ℕ) (b : Bool) → t < seconds_end 
 once_dated first t last false range e = refl
 once_dated first t last true range e =
     let ended : first ≤ t = leb-true first t (and_right (is_up_to last first) _ e) in
-    both _ _ (dated t (record { start = first; end = first }) range (omega arith) ended) refl
+    and_from _ _ (dated t (record { start = first; end = first }) range (omega arith) ended) refl
 
 pub due_dated : (timetable : Timetable) (first t : ℕ) (last : Option ℕ) → t < seconds_end → list_all is_dated (due_intervals timetable first last t) ≡ true
 unfolding due_intervals
@@ -105,19 +102,19 @@ later_apart : (k : Kind) (id : List ℕ) (date : ℕ) (is : List Interval) → l
 later_apart k id date [] e = refl
 later_apart k id date (i ∷ is) e =
     let later : date < i.start = ltb-true date i.start (and_left (nat_lt date i.start) _ e) in
-    let other : (i.start == date) ≡ false = not_true _ (λ f. let at : i.start ≡ date = eqb-true i.start date f in absurd (omega arith)) in
-    let here : is_for id date (run_from k id i) ≡ false = ap (λ b. same id id && b) other ∙ and_false (same id id) in
+    let other : (i.start == date) ≡ false = false_from_ne_true _ (λ f. let at : i.start ≡ date = eqb-true i.start date f in absurd (omega arith)) in
+    let here : is_for id date (run_from k id i) ≡ false = ap (λ b. same id id && b) other ∙ and-false (same id id) in
     rw (here, later_apart k id date is (and_right (nat_lt date i.start) _ e)) refl
 
 pub one_graph : (a : Schedule) (k : Kind) (id : List ℕ) (is : List Interval) → is_some (graph_named a id) ≡ true → list_all (λ (i : Interval). not (has_run_at a id i.start)) is ≡ true → list_all is_dated is ≡ true → starts_rise is ≡ true
     → are_new a (map (run_from k id) is) ≡ true
 one_graph a k id [] known free moments rising = refl
 one_graph a k id (i ∷ is) known free moments rising =
-    both (is_new a (run_from k id i)) _
-    (both (is_some (graph_named a id) && not (has_run_at a id i.start)) _
-    (both (is_some (graph_named a id)) (not (has_run_at a id i.start)) known (and_left (not (has_run_at a id i.start)) _ free))
+    and_from (is_new a (run_from k id i)) _
+    (and_from (is_some (graph_named a id) && not (has_run_at a id i.start)) _
+    (and_from (is_some (graph_named a id)) (not (has_run_at a id i.start)) known (and_left (not (has_run_at a id i.start)) _ free))
     (and_left (is_dated i) _ moments))
-    (both (not (list_any (is_for id i.start) (map (run_from k id) is))) _
+    (and_from (not (list_any (is_for id i.start) (map (run_from k id) is))) _
     (not_is _ (later_apart k id i.start is (and_left _ _ rising)))
     (one_graph a k id is known (and_right (not (has_run_at a id i.start)) _ free) (and_right (is_dated i) _ moments) (and_right (list_all (λ (j : Interval). nat_lt i.start j.start) is) _ rising)))
 
@@ -132,8 +129,8 @@ new_append a (n ∷ ns) ms e f apart =
     let rest = and_right (is_new a n) _ e in
     let among : list_any (is_for n.graph n.logical) ns ≡ false = not_false _ (and_left (not (list_any (is_for n.graph n.logical) ns)) _ rest) in
     let beside : list_any (is_for n.graph n.logical) ms ≡ false = not_false _ (and_left (not (list_any (is_for n.graph n.logical) ms)) _ apart) in
-    both (is_new a n) _ (and_left (is_new a n) _ e)
-    (both (not (list_any (is_for n.graph n.logical) (ns ++ ms))) _
+    and_from (is_new a n) _ (and_left (is_new a n) _ e)
+    (and_from (not (list_any (is_for n.graph n.logical) (ns ++ ms))) _
     (not_is _ (any_append (is_for n.graph n.logical) ns ms ∙ (ap (λ b. b || list_any (is_for n.graph n.logical) ms) among ∙ beside)))
     (new_append a ns ms (and_right (not (list_any (is_for n.graph n.logical) ns)) _ rest) f (and_right (not (list_any (is_for n.graph n.logical) ms)) _ apart)))
 
@@ -151,7 +148,7 @@ later_graphs a t g date (h ∷ hs) e =
 
 all_of_graph : (p : Named → Bool) (id : List ℕ) → ((i : Interval) → p (scheduled id i) ≡ true) → (is : List Interval) → list_all p (map (scheduled id) is) ≡ true
 all_of_graph p id h [] = refl
-all_of_graph p id h (i ∷ is) = both (p (scheduled id i)) _ (h i) (all_of_graph p id h is)
+all_of_graph p id h (i ∷ is) = and_from (p (scheduled id i)) _ (h i) (all_of_graph p id h is)
 
 -- ---- what a tick wants of a graph
 unless_paused : (b : Bool) (p : List Interval → Bool) (is : List Interval) → p [] ≡ true → p is ≡ true → p (elim b as (λ c. List Interval) [ true ↦ [] | false ↦ is ]) ≡ true
@@ -191,9 +188,9 @@ there_from : (all gs : List Graph) → ((id : List ℕ) → list_any (λ (h : Gr
     → list_all (λ (g : Graph). is_some (graph_among all g.dag.spec.dag_id)) gs ≡ true
 there_from all [] inside = refl
 there_from all (g ∷ gs) inside =
-    both (is_some (graph_among all g.dag.spec.dag_id)) _
+    and_from (is_some (graph_among all g.dag.spec.dag_id)) _
     (find_any (λ (h : Graph). same h.dag.spec.dag_id g.dag.spec.dag_id) all ∙ inside g.dag.spec.dag_id (ap (λ b. b || list_any (λ (h : Graph). same h.dag.spec.dag_id g.dag.spec.dag_id) gs) (same_itself g.dag.spec.dag_id)))
-    (there_from all gs (λ id e. inside id (or_right_true (same g.dag.spec.dag_id id) _ e)))
+    (there_from all gs (λ id e. inside id (or_right (same g.dag.spec.dag_id id) _ e)))
 
 pub named_new : (a : Schedule) (t : ℕ) → IsSound a → is_moment t ≡ true → are_new a (named_by_tick a t) ≡ true
 named_new a t s range = new_from a t a.graphs (ltb-true t seconds_end range) s.graphs_by_id (there_from a.graphs a.graphs (λ id e. e))

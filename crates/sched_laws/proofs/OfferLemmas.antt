@@ -6,6 +6,8 @@ use Rattle.sched_model.specs.Handout.{Offer, offer_of, offers, offers_in, offers
 use Rattle.sched_laws.specs.Offered.{IsEligible}
 pub use Rattle.sched_laws.specs.Passing.{In}
 use Rattle.sched_state.proofs.OrderLemmas.{and_left, and_right}
+use Rattle.indexmap.proofs.ReorderLemmas.{slice_get-zip_some}
+use Rattle.std.proofs.lemmas.Bool.{not-true, and_from, not_from_false}
 
 -- ---- members
 
@@ -68,24 +70,11 @@ zip_get {X} {Y} (x ∷ xs) [] k e q = absurd (let c : ◌≡◌ {A = Option (X �
 zip_get {X} {Y} (x ∷ xs) (y ∷ ys) zero e q = let c : ◌≡◌ {A = Option (X × Y)} (Some (x, y)) (Some e) = q in let r : (x, y) ≡ e = cc in (ap (λ p. Some p.0) r, ap (λ p. Some p.1) r)
 zip_get (x ∷ xs) (y ∷ ys) (suc k) e q = zip_get xs ys k e q
 
-get_zip : {X Y : Type 0} (xs : List X) (ys : List Y) (k : ℕ) (x : X) (y : Y) → slice_get xs k ≡ Some x → slice_get ys k ≡ Some y → slice_get (zip xs ys) k ≡ Some (x, y)
-get_zip {X} [] ys k x y e f = absurd (let c : ◌≡◌ {A = Option X} None (Some x) = e in cc)
-get_zip {X} {Y} (z ∷ xs) [] k x y e f = absurd (let c : ◌≡◌ {A = Option Y} None (Some y) = f in cc)
-get_zip {X} {Y} (z ∷ xs) (w ∷ ys) zero x y e f =
-    let c : ◌≡◌ {A = Option X} (Some z) (Some x) = e in let d : ◌≡◌ {A = Option Y} (Some w) (Some y) = f in
-    let p : z ≡ x = cc in let q : w ≡ y = cc in
-    cc
-get_zip (z ∷ xs) (w ∷ ys) (suc k) x y e f = get_zip xs ys k x y e f
-
 -- ---- offers
 
 when_true : {X : Type 0} (y : X) (b : Bool) (xs : List X) → In y (elim b [ true ↦ xs | false ↦ [] ]) → (b ≡ true) × In y xs
 when_true y true xs i = (refl, i)
 when_true y false xs i = absurd i
-
-not_true : (b : Bool) → not b ≡ true → b ≡ false
-not_true true e = absurd (true≢false (sym e))
-not_true false e = refl
 
 pub eligible : (a : Schedule) (o : Offer) → In o (offers a) → IsEligible a o
 eligible a o i =
@@ -108,7 +97,7 @@ eligible a o i =
       task_is = subst (λ (k : ℕ). slice_get (tasks_of a r) k ≡ Some w.1.0) ep z.0;
       instance_is = subst (λ (k : ℕ). slice_get r.instances k ≡ Some w.1.1) ep z.1;
       running = and_left _ _ u.0;
-      unpaused = not_true _ (and_right _ _ u.0);
+      unpaused = not-true _ (and_right _ _ u.0);
       ready = v.0;
       offer_is = subst (λ (k : ℕ). o ≡ offer_of a k r o.place w.1.0) (sym at_run) (subst (λ (k : ℕ). o ≡ offer_of a (0 + t.0) r k w.1.0) (sym at_place) same);
     }
@@ -117,9 +106,6 @@ is_true_when : {X : Type 0} (y : X) (b : Bool) (xs : List X) → b ≡ true → 
 is_true_when y true xs e i = i
 is_true_when y false xs e i = absurd (true≢false (sym e))
 
-both : (b c : Bool) → b ≡ true → c ≡ false → (b && not c) ≡ true
-both b c e f = rw (e, f) refl
-
 pub offered : (a : Schedule) (o : Offer) → IsEligible a o → In o (offers a)
 offered a o h =
     let same : offer_of a o.run h.run o.place h.task ≡ o = sym h.offer_is in
@@ -127,8 +113,8 @@ offered a o h =
     let zp : 0 + o.place ≡ o.place = omega arith in
     let i0 : In o (offers_at a o.run h.run (o.place, (h.task, h.instance))) = is_true_when o _ _ h.ready (inl same) in
     let i1 : In o (offers_in a (o.run, h.run)) =
-    is_true_when o _ _ (both _ _ h.running h.unpaused)
+    is_true_when o _ _ (and_from _ _ h.running (not_from_false _ h.unpaused))
     (into_enumerated (offers_at a o.run h.run) o 0 o.place (h.task, h.instance) (zip (tasks_of a h.run) h.run.instances)
-    (get_zip (tasks_of a h.run) h.run.instances o.place h.task h.instance h.task_is h.instance_is)
+    (slice_get-zip_some (tasks_of a h.run) h.run.instances o.place h.task h.instance h.task_is h.instance_is)
     (subst (λ (k : ℕ). In o (offers_at a o.run h.run (k, (h.task, h.instance)))) (sym zp) i0)) in
     into_enumerated (offers_in a) o 0 o.run h.run a.runs h.run_is (subst (λ (k : ℕ). In o (offers_in a (k, h.run))) (sym zr) i1)

@@ -1,11 +1,11 @@
 -- Hand-out is one pass over the ready list.
 use Rattle.sched_laws.proofs.InstanceLemmas.{parts_of}
 use Rattle.sched_laws.proofs.RunLemmas.{pairs_of_run}
-use Rattle.sched_laws.proofs.ListLemmas.{all_get, pairs_some, both}
+use Rattle.sched_laws.proofs.ListLemmas.{all_get, pairs_some}
 use Rattle.sched_model.specs.Sound.{IsSound, is_sound_run, is_sound_in}
 use Rattle.std.proofs.Common.{◌≡◌, refl, sym, ap, subst, ◌∙◌, ℕ, zero, suc, ◌+◌, ◌<◌, ◌≤◌, List, [], ◌∷◌, ◌++◌, Bool, true, false, ◌&&◌, inl, inr, length, drop, filter, Option, Some, None, option_map, slice_get, arith, true≢false, leb-true, nat_le, nat_lt, nat_eq, ◌||◌, if◌then◌else◌}
 use Rattle.std.specs.List.{list_all}
-use Rattle.std.proofs.lemmas.Bool.{ltb-true, lt-ltb, le-leb, eqb-true, eq-eqb}
+use Rattle.std.proofs.lemmas.Bool.{ltb-true, lt-ltb, le-leb, eqb-true, eq-eqb, and_from, false_from_ne_true}
 use Rattle.std.proofs.lemmas.List.{length-append}
 use Rattle.trigger_rules.specs.declared.states.State.TheVariants as state
 use Rattle.sched_model.specs.Lists.{at}
@@ -22,12 +22,10 @@ use Rattle.sched_laws.specs.Passing.{In, IsReadyList, IsWithin, pass}
 use Rattle.sched_laws.proofs.OfferLemmas.{offered, into_filter}
 use Rattle.sched_laws.proofs.RankLemmas.{rank_total, not_itself, best_none}
 use Rattle.sched_laws.proofs.HandOutLemmas.{hand_still, hand_moved}
-use Rattle.sched_laws.proofs.HandLemmas.{hand_occupied, hand_in_flight, best_next, not_fitting, last_snoc}
+use Rattle.sched_laws.proofs.HandLemmas.{hand_occupied, hand_in_flight, best_next, last_snoc}
 use Rattle.sched_laws.proofs.LookLemmas.{get_at, get_apart}
 use Rattle.sched_state.proofs.OrderLemmas.{and_left, and_right}
-
-by_bool : {C : Type 0} (b : Bool) → (b ≡ true → C) → (b ≡ false → C) → C
-by_bool {C} b f g = elim b as (λ c. b ≡ c → C) [ true ↦ λ e. f e | false ↦ λ e. g e ] refl
+use Rattle.sched_laws.proofs.DecisionLemmas.{by_bool}
 
 -- what fits after a hand-out fitted before it
 pub fitted : (a : Schedule) (o x : Offer) → IsEligible a o → fits (hand a o) x ≡ true → fits a x ≡ true
@@ -41,11 +39,11 @@ fitted a o x h f =
     let p' : occupied a x.pool + x.slots ≤ size_of a x.pool = omega arith in
     let l' : in_flight a < a.lanes = omega arith in
     let n' : a.next ≤ last_serial = omega arith in
-    both _ _ (le-leb _ _ p') (both _ _ (lt-ltb _ _ l') (le-leb _ _ n'))
+    and_from _ _ (le-leb _ _ p') (and_from _ _ (lt-ltb _ _ l') (le-leb _ _ n'))
 
 -- what does not fit is passed over for good
 pub passed_over : (a : Schedule) (o x : Offer) → IsEligible a o → fits a x ≡ false → fits (hand a o) x ≡ false
-passed_over a o x h e = not_fitting (fits (hand a o) x) (λ f. true≢false (sym (fitted a o x h f) ∙ e))
+passed_over a o x h e = false_from_ne_true (fits (hand a o) x) (λ f. true≢false (sym (fitted a o x h f) ∙ e))
 
 -- an instance with a new try is not ready
 drop_within : {X : Type 0} (n : ℕ) (xs : List X) (x : X) → n ≤ length xs → drop n (xs ++ x ∷ []) ≡ drop n xs ++ x ∷ []
@@ -171,7 +169,7 @@ first_before o x (y ∷ os) e (inl f) = ap (ranks_before o) (sym f) ∙ and_left
 first_before o x (y ∷ os) e (inr i) = first_before o x os (and_right (ranks_before o y) _ e) i
 
 at_itself : (o x : Offer) → o ≡ x → is_at o x ≡ true
-at_itself o x e = both _ _ (eq-eqb x.run o.run (ap (λ (z : Offer). z.run) (sym e))) (eq-eqb x.place o.place (ap (λ (z : Offer). z.place) (sym e)))
+at_itself o x e = and_from _ _ (eq-eqb x.run o.run (ap (λ (z : Offer). z.run) (sym e))) (eq-eqb x.place o.place (ap (λ (z : Offer). z.place) (sym e)))
 
 -- one offer at a position
 same_offer : (a : Schedule) (o x : Offer) → IsEligible a o → IsEligible a x → is_at o x ≡ true → o ≡ x
@@ -189,7 +187,7 @@ same_offer a o x h k e =
     ∙ sym k.offer_is
 
 apart : (a : Schedule) (o x : Offer) (os : List Offer) → IsReadyList a (o ∷ os) → In x os → is_at o x ≡ false
-apart a o x os l i = not_fitting (is_at o x) (λ e.
+apart a o x os l i = false_from_ne_true (is_at o x) (λ e.
     let s : o ≡ x = same_offer a o x (l.eligible o (inl refl)) (l.eligible x (inr i)) e in
     let b : ranks_before o x ≡ true = first_before o x os (and_left (list_all (ranks_before o) os) _ l.ranked) i in
     true≢false (sym b ∙ ap (ranks_before o) (sym s) ∙ not_itself rank_total o))

@@ -19,8 +19,10 @@ use Rattle.sched_laws.specs.Seen.{Sight, sight_of, can_decide_in, can_start_seen
 use Rattle.sched_laws.proofs.GraphLemmas.{find_under, dag_under, paused_dag, flip_same}
 use Rattle.sched_laws.proofs.RankLemmas.{some_of_cons}
 use Rattle.sched_laws.proofs.SeenLemmas.{move_seen, none_from}
-use Rattle.sched_laws.proofs.AlikeLemmas.{AllDags, same_sights, deciding_alike, open_alike, start_by, offers_by, fits_beside, best_with, map_none}
+use Rattle.sched_laws.proofs.AlikeLemmas.{AllDags, same_sights, deciding_alike, open_alike, start_by, offers_by, fits_beside, best_with}
 use Rattle.sched_laws.proofs.LoadLemmas.{before_apart}
+use Rattle.graph_file.proofs.ListLemmas.{mapped_none}
+use Rattle.std.proofs.Math.Bool.{and-false}
 
 -- ---- what is found after a pause
 -- the graph with this id is the one that was found, with its pause
@@ -44,17 +46,12 @@ pub any_less : {X : Type 0} (p q : X → Bool) → ((x : X) → p x ≡ false �
 any_less p q h [] e = refl
 any_less p q h (x ∷ xs) e = rw (h x (or_left _ _ e), any_less p q h xs (or_right (p x) _ e)) refl
 
--- nothing passes beside a test that fails
-and_never : (b : Bool) → (b && false) ≡ false
-and_never true = refl
-and_never false = refl
-
 -- no run starts that could not start before: not by the graph that is found for it
 start_less : (id : List ℕ) (vs : List Sight) (v : Sight) (o : Option Graph) → start_by vs v o ≡ false → start_by vs v (option_map (pause_graph id true) o) ≡ false
 start_less id vs v None e = e
 start_less id vs v (Some g) e =
     elim (same g.dag.spec.dag_id id) as (λ b. start_by vs v (Some (cond b (record g { paused = true }) g)) ≡ false) [
-      | true ↦ and_never _
+      | true ↦ and-false _
       | false ↦ e
     ]
 
@@ -127,7 +124,7 @@ all_offers_less p id a n (r ∷ rs) e =
 -- pausing enables no hand-out
 pub pause_no_hand : (id : List ℕ) (a : Schedule) → hand_one a ≡ None → hand_one (set_paused id true a) ≡ None
 pause_no_hand id a still =
-    let none : list_any (fits_beside a (open_tries a)) (offers a) ≡ false = none_passes ranks_before (fits_beside a (open_tries a)) (offers a) (map_none (hand a) (best_offer a) still) in
+    let none : list_any (fits_beside a (open_tries a)) (offers a) ≡ false = none_passes ranks_before (fits_beside a (open_tries a)) (offers a) (mapped_none (hand a) (best_offer a) still) in
     ap (option_map (hand (set_paused id true a)))
     (ap (λ (ts : List (TaskSpec × Try)). best_with a ts (offers (set_paused id true a))) (open_alike a.graphs (map (pause_graph id true) a.graphs) a.runs (dags_paused id true a.graphs a.runs))
     ∙ no_best ranks_before (fits_beside a (open_tries a)) (offers (set_paused id true a)) (all_offers_less (fits_beside a (open_tries a)) id a 0 a.runs none))

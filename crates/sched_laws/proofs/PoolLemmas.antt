@@ -5,7 +5,7 @@ use Rattle.std.specs.Ordering.{is_eq}
 use Rattle.std.specs.declared.cmp.Ordering.{Ordering}
 use Rattle.std.proofs.lemmas.Cmp.{nat_list_cmp_total}
 use Rattle.std.proofs.lemmas.Map.Text.{is_eq-slice_cmp}
-use Rattle.std.proofs.lemmas.Bool.{le-leb, leb-false}
+use Rattle.std.proofs.lemmas.Bool.{le-leb, leb-false, and_from, or_right as or_true}
 use Rattle.std.proofs.lemmas.List.{length-map}
 use Rattle.graph_file.specs.Names.{is_name}
 use Rattle.graph_file.specs.declared.task_specs.TaskSpec.{TaskSpec}
@@ -17,7 +17,7 @@ use Rattle.sched_model.specs.Schedule.{Schedule, Pool, has_pool, pool_before, de
 use Rattle.sched_model.specs.Changes.{resize_pool, new_pool, with_pool, resize}
 use Rattle.sched_model.specs.Causes.{has_too_many_pools}
 use Rattle.sched_model.specs.Sound.{IsSound, is_sound_graph, is_sound_dag, is_sound_pool}
-use Rattle.sched_laws.proofs.ListLemmas.{both, or_true, all_impl, all_under}
+use Rattle.sched_laws.proofs.ListLemmas.{all_impl, all_under}
 use Rattle.sched_laws.proofs.RunLemmas.{rises_map}
 use Rattle.sched_laws.proofs.GraphLemmas.{insert_rises, insert_length, tie_flips}
 
@@ -35,7 +35,7 @@ pub resized_name : (name : List ℕ) (size : ℕ) (q : Pool) → (resize_pool na
 resized_name name size q = chosen_name (same q.name name) size q
 
 chosen_sound : (b : Bool) (size : ℕ) (q : Pool) → nat_le size 1000000 ≡ true → is_sound_pool q ≡ true → is_sound_pool (cond b (record q { size = size }) q) ≡ true
-chosen_sound true size q e s = both _ _ (and_left _ _ s) e
+chosen_sound true size q e s = and_from _ _ (and_left _ _ s) e
 chosen_sound false size q e s = s
 
 -- with other pools, where each that was there is there
@@ -52,7 +52,7 @@ with_pools a qs o n p k s = record {
   few_pools = n;
   few_runs = s.few_runs;
   graphs = all_impl (is_sound_graph a) (is_sound_graph (record a { pools = qs }))
-      (λ (g : Graph) e. both _ _ (and_left _ _ e)
+      (λ (g : Graph) e. and_from _ _ (and_left _ _ e)
       (all_impl (λ (t : TaskSpec). has_pool a t.pool) (λ (t : TaskSpec). has_pool (record a { pools = qs }) t.pool) (λ (t : TaskSpec) f. k t.pool f) g.dag.tasks
       (and_right (is_sound_dag a.limits.tasks a.limits.edges g.dag) _ e))) a.graphs s.graphs;
   pools = p;

@@ -4,23 +4,16 @@ use Rattle.std.specs.Cmp.{IsTotalOrder}
 use Rattle.std.specs.Ordering.{ordering_reverse}
 use Rattle.std.specs.declared.cmp.Ordering.{Ordering}
 use Rattle.std.specs.declared.cmp.Ordering.TheVariants.{Less, Equal, Greater}
-use Rattle.std.proofs.lemmas.Cmp.{nat_cmp_total, nat_list_cmp_total, tied_itself}
+use Rattle.std.proofs.lemmas.Cmp.{nat_cmp_total, nat_list_cmp_total, tied_itself, back_total}
 use Rattle.sched_state.specs.Lists.{is_less}
 use Rattle.sched_model.specs.Lists.{best_by, better}
 use Rattle.sched_model.specs.Handout.{Offer, rank}
 use Rattle.sched_laws.proofs.OfferLemmas.{In}
 use Rattle.sched_state.proofs.OrderLemmas.{then_total, on_total}
 
--- to the right of a tie
-tied_right : {X : Type 0} {R : X → X → Ordering} → IsTotalOrder R → (x y z : X) → R y z ≡ Equal → R x z ≡ R x y
-tied_right {R = R} o x y z e = o.antisymm x z ∙ ap ordering_reverse (sym (o.congr y z x e)) ∙ sym (o.antisymm x y)
-
-pub flip_total : {X : Type 0} {R : X → X → Ordering} → IsTotalOrder R → IsTotalOrder (λ (x y : X). R y x)
-flip_total r = record { antisymm = λ x y. r.antisymm y x; trans = λ x y z g h. r.trans z y x h g; congr = λ x y z e. tied_right r z y x e }
-
 pub rank_total : IsTotalOrder rank
 rank_total =
-    then_total (flip_total (on_total (λ (o : Offer). o.weight) nat_cmp_total))
+    then_total (back_total (on_total (λ (o : Offer). o.weight) nat_cmp_total))
     (then_total (on_total (λ (o : Offer). o.logical) nat_cmp_total)
     (then_total (on_total (λ (o : Offer). o.graph) nat_list_cmp_total) (on_total (λ (o : Offer). o.task) nat_list_cmp_total)))
 
@@ -33,7 +26,7 @@ less_back Greater e = absurd (true≢false (sym e))
 pub not_both : {X : Type 0} {R : X → X → Ordering} → IsTotalOrder R → (x y : X) → is_less (R x y) ≡ true → is_less (R y x) ≡ false
 not_both {R = R} o x y e = ap is_less (o.antisymm y x) ∙ less_back (R x y) e
 
-less_is : (k : Ordering) → is_less k ≡ true → k ≡ Less
+pub less_is : (k : Ordering) → is_less k ≡ true → k ≡ Less
 less_is Less e = refl
 less_is Equal e = absurd (true≢false (sym e))
 less_is Greater e = absurd (true≢false (sym e))

@@ -1,11 +1,11 @@
 -- A pool that gets another size: what is found of the pools then, what fits, and when nothing is changed.
 use Rattle.std.proofs.Common.{◌≡◌, ◌∙◌, refl, sym, ap, ℕ, ◌+◌, ◌<◌, ◌≤◌, List, [], ◌∷◌, Bool, true, false, cond, ◌&&◌, ◌||◌, map, find, Option, Some, None, option_map, unwrap_or, arith, leb-true, true≢false, nat_le, nat_lt}
 use Rattle.std.specs.List.{list_all, list_any}
-use Rattle.std.proofs.lemmas.Bool.{le-leb}
+use Rattle.std.proofs.lemmas.Bool.{le-leb, and_from, false_from_ne_true}
 use Rattle.std.proofs.lemmas.Map.Text.{is_eq-slice_cmp}
 use Rattle.sched_state.specs.Lists.{same, name_cmp, insert_by}
 use Rattle.sched_state.proofs.NameLemmas.{same_is, same_itself}
-use Rattle.sched_state.proofs.OrderLemmas.{and_left, and_right, or_left, or_right, any_insert, any_map, less_no_tie, not_true}
+use Rattle.sched_state.proofs.OrderLemmas.{and_left, and_right, or_left, or_right, any_insert, any_map, less_no_tie}
 use Rattle.sched_model.specs.Changes.{resize_pool, new_pool, with_pool, resize}
 use Rattle.sched_model.specs.Handout.{Offer, fits, best_offer, hand, hand_one, last_serial}
 use Rattle.sched_model.specs.Lists.{rises}
@@ -14,12 +14,12 @@ use Rattle.sched_model.specs.Settle.{move, move_runs, with_runs}
 use Rattle.sched_model.specs.Sound.{IsSound}
 use Rattle.sched_model.specs.States.{occupied, in_flight}
 use Rattle.sched_laws.specs.Offered.{IsEligible}
-use Rattle.sched_laws.proofs.AlikeLemmas.{map_none}
 use Rattle.sched_laws.proofs.GraphLemmas.{flip_same}
 use Rattle.sched_laws.proofs.HandLemmas.{best_eligible, none_fits}
-use Rattle.sched_laws.proofs.ListLemmas.{all_get, both}
+use Rattle.sched_laws.proofs.ListLemmas.{all_get}
 use Rattle.sched_laws.proofs.PoolLemmas.{resized_name}
 use Rattle.sched_laws.proofs.SlotLemmas.{pool_is_there, dag_pools, apart}
+use Rattle.graph_file.proofs.ListLemmas.{mapped_none}
 
 -- ---- the sizes
 abbrev found_in : List Pool → List ℕ → Option Pool
@@ -30,7 +30,7 @@ abbrev size_in : Option Pool → ℕ
 size_in o = unwrap_or (option_map (λ (q : Pool). q.size) o) 0
 
 -- a pool of another name stays, and so does one that has the size already
-resize_other : (name : List ℕ) (size : ℕ) (q : Pool) → same q.name name ≡ false → resize_pool name size q ≡ q
+pub resize_other : (name : List ℕ) (size : ℕ) (q : Pool) → same q.name name ≡ false → resize_pool name size q ≡ q
 resize_other name size q e = ap (λ b. cond b (record q { size = size }) q) e
 
 resize_this : (name : List ℕ) (size : ℕ) (q : Pool) → q.size ≡ size → resize_pool name size q ≡ q
@@ -48,7 +48,7 @@ other_resized name size p other [] = refl
 other_resized name size p other (q ∷ qs) =
     ap (λ n. cond (same n p) (Some (resize_pool name size q)) (found_in (map (resize_pool name size) qs) p)) (resized_name name size q)
     ∙ elim (same q.name p) as (λ b. same q.name p ≡ b → cond b (Some (resize_pool name size q)) (found_in (map (resize_pool name size) qs) p) ≡ cond b (Some q) (found_in qs p)) [
-      | true ↦ λ e. ap (λ w. Some w) (resize_other name size q (not_true _ (λ f. true≢false (sym (two_same q.name name p f e) ∙ other))))
+      | true ↦ λ e. ap (λ w. Some w) (resize_other name size q (false_from_ne_true _ (λ f. true≢false (sym (two_same q.name name p f e) ∙ other))))
       | false ↦ λ e. other_resized name size p other qs
     ] refl
 
@@ -107,7 +107,7 @@ there_after name size a p = there_by name size a p (has_pool a name) refl
 
 -- ---- moves
 pub resize_still : (name : List ℕ) (size : ℕ) (a : Schedule) → move a ≡ None → move (resize name size a) ≡ None
-resize_still name size a e = ap (option_map (with_runs (resize name size a))) (map_none (with_runs a) (move_runs a) e)
+resize_still name size a e = ap (option_map (with_runs (resize name size a))) (mapped_none (with_runs a) (move_runs a) e)
 
 -- ---- what fits
 -- the offer fits into a pool of this size
@@ -121,7 +121,7 @@ fits_after name size a o = ap (fits_into a o) (size_after name size a o.pool)
 fits_larger : (a : Schedule) (o : Offer) (m n : ℕ) → m ≤ n → fits_into a o m ≡ true → fits_into a o n ≡ true
 fits_larger a o m n l e =
     let taken : occupied a o.pool + o.slots ≤ m = leb-true _ _ (and_left _ _ e) in
-    both _ _ (le-leb _ _ (omega arith)) (and_right (nat_le (occupied a o.pool + o.slots) m) _ e)
+    and_from _ _ (le-leb _ _ (omega arith)) (and_right (nat_le (occupied a o.pool + o.slots) m) _ e)
 
 no_larger : (name : List ℕ) (size : ℕ) (a : Schedule) (p : List ℕ) → size ≤ size_of a name → cond (same name p) size (size_of a p) ≤ size_of a p
 no_larger name size a p l = elim (same name p) as (λ b. same name p ≡ b → cond b size (size_of a p) ≤ size_of a p) [
@@ -138,7 +138,7 @@ pub others_after : (name : List ℕ) (size : ℕ) (a : Schedule) (o : Offer) →
 others_after name size a o e = fits_after name size a o ∙ ap (λ b. fits_into a o (cond b size (size_of a o.pool))) e
 
 pub full_after : (name : List ℕ) (size : ℕ) (a : Schedule) (o : Offer) → o.pool ≡ name → size < occupied a name + o.slots → fits (resize name size a) o ≡ false
-full_after name size a o is more = not_true _ (λ e.
+full_after name size a o is more = false_from_ne_true _ (λ e.
     let this : same name o.pool ≡ true = ap (same name) is ∙ same_itself name in
     let into : fits_into a o size ≡ true = ap (λ b. fits_into a o (cond b size (size_of a o.pool))) (sym this) ∙ (sym (fits_after name size a o) ∙ e) in
     let taken : occupied a o.pool + o.slots ≤ size = leb-true _ _ (and_left _ _ into) in

@@ -21,9 +21,10 @@ use Rattle.sched_model.specs.Schedule.{Schedule, graph_among, dag_among, tasks_o
 use Rattle.sched_state.specs.declared.runs.Run.{Run}
 use Rattle.sched_model.specs.Settle.{decides, decided_verdict, decide_task, decide_instance, decide_run, has_bad_leaf, finish_run, start_run, move_runs}
 use Rattle.sched_model.specs.Sound.{is_sound_instance, is_sound_in, is_sound_run, is_moment, is_wait, serials_of}
-use Rattle.sched_laws.proofs.ListLemmas.{both, change_all, change_keeps, pairs_change, pairs_impl}
+use Rattle.sched_laws.proofs.ListLemmas.{change_all, change_keeps, pairs_change, pairs_impl}
 use Rattle.sched_laws.proofs.InstanceLemmas.{decided_sound}
 use Rattle.sched_laws.proofs.SettleLemmas.{map_some, and_then_some, when_some}
+use Rattle.std.proofs.lemmas.Bool.{and_from}
 
 -- ---- keys and serials
 pub record Key : Type 0 where
@@ -102,7 +103,7 @@ pub paired_sound : (gs : List Graph) (r : Run) (ph : Phase) (is : List Held) →
     → is_sound_run gs (record r { phase = ph; instances = is }) ≡ true
 paired_sound gs r ph is e p =
     let e1 = and_right (is_some (graph_among gs r.graph)) _ e in
-    both _ _ (and_left _ _ e) (both _ _ (and_left _ _ e1) p)
+    and_from _ _ (and_left _ _ e) (and_from _ _ (and_left _ _ e1) p)
 
 pub pairs_of_run : (gs : List Graph) (r : Run) → is_sound_run gs r ≡ true → all_pairs (is_sound_in r.phase) (dag_among gs r.graph).tasks r.instances ≡ true
 pairs_of_run gs r e = and_right (is_moment r.logical && (is_moment r.interval.end && nat_le r.interval.start r.interval.end)) _ (and_right (is_some (graph_among gs r.graph)) _ e)
@@ -145,7 +146,7 @@ running_goes_on phase.Failed e = absurd (true≢false (sym e))
 
 -- in a run that goes on an instance is sound by itself
 pub goes_on : (ph : Phase) (t : TaskSpec) (i : Held) → is_ended ph ≡ false → is_sound_instance t i ≡ true → is_sound_in ph t i ≡ true
-goes_on ph t i e s = both _ _ s (ap (λ b. not b || is_finished (state_of t i)) e)
+goes_on ph t i e s = and_from _ _ s (ap (λ b. not b || is_finished (state_of t i)) e)
 
 guarded : (a : Schedule) (r q : Run) (b : Bool) → is_running r.phase ≡ b
     → (elim b [ true ↦ option_map (λ is. record r { instances = is }) (change_from (decide_instance a r) 0 r.instances) | false ↦ None ]) ≡ Some q → Kin a.graphs r q
@@ -171,7 +172,7 @@ pairs_finished ph to [] (i ∷ is) e f = e
 pairs_finished ph to (t ∷ ts) [] e f = e
 pairs_finished ph to (t ∷ ts) (i ∷ is) e f =
     let g : is_finished (state_of t i) ≡ true = and_left _ _ f in
-    both _ _ (both _ _ (and_left _ _ (and_left _ _ e)) (or_last (not (is_ended to)) _ g)) (pairs_finished ph to ts is (and_right (is_sound_in ph t i) _ e) (and_right (is_finished (state_of t i)) _ f))
+    and_from _ _ (and_from _ _ (and_left _ _ (and_left _ _ e)) (or_last (not (is_ended to)) _ g)) (pairs_finished ph to ts is (and_right (is_sound_in ph t i) _ e) (and_right (is_finished (state_of t i)) _ f))
   where
     or_last : (b c : Bool) → c ≡ true → (b || c) ≡ true
     or_last true c e = refl

@@ -1,8 +1,8 @@
 -- The graph that a text says is sound where it lies within the limits and its pools are there.
 use Rattle.std.proofs.Common.{◌≡◌, ◌≢◌, refl, sym, ap, subst, ◌∙◌, ℕ, zero, suc, ◌+◌, ◌<◌, ◌≤◌, List, [], ◌∷◌, Bool, true, false, cond, not, ◌&&◌, ◌||◌, ◌==◌, map, length, get_or, take, sum_by, nat_lt, nat_le, arith, inl, inr, take-suc}
 use Rattle.std.specs.List.{list_all}
-use Rattle.std.proofs.lemmas.Bool.{or_parts, or_from, or_cases, or_left, or_right, ne_eqb, eq-eqb, eqb-true, lt-ltb, le-leb, false≢true, cases_lt}
-use Rattle.std.proofs.lemmas.List.{get_or-map, take_all}
+use Rattle.std.proofs.lemmas.Bool.{or_parts, or_from, or_cases, or_left, or_right, ne_eqb, eq-eqb, eqb-true, lt-ltb, le-leb, false≢true, cases_lt, and_from, false_from_ne_true}
+use Rattle.std.proofs.lemmas.List.{get_or-map, take_all, get_or_past}
 use Rattle.std.proofs.lemmas.List.Sums.{sum_by-cons}
 use Rattle.graph_file.specs.declared.task_specs.TaskSpec.{TaskSpec}
 use Rattle.graph_file.specs.declared.graph_specs.GraphSpec.{GraphSpec}
@@ -13,13 +13,12 @@ use Rattle.dag_check.proofs.LawLemmas.{at-place}
 use Rattle.dag_check.proofs.NameLemmas.{length-map', repeated-push}
 use Rattle.dag_check.proofs.PlainLemmas.{in-map, all-below, double-same, once-in, placed-down}
 use Rattle.sched_state.specs.Lists.{same}
-use Rattle.sched_state.proofs.OrderLemmas.{and_left, and_right, not_true}
+use Rattle.sched_state.proofs.OrderLemmas.{and_left, and_right}
 use Rattle.sched_state.proofs.NameLemmas.{same_is, same_itself}
 use Rattle.sched_model.specs.Lists.{map_places}
 use Rattle.sched_model.specs.Schedule.{Schedule, has_pool}
 use Rattle.sched_model.specs.Changes.{new_graph}
 use Rattle.sched_model.specs.Sound.{Says, is_sound_row, is_sound_dag, is_sound_graph, has_pools}
-use Rattle.sched_laws.proofs.ListLemmas.{both}
 use Rattle.sched_laws.proofs.UpstreamLemmas.{short}
 
 -- ---- each position has one place
@@ -175,7 +174,7 @@ ids_once tasks [] none once below = refl
 ids_once tasks (x ∷ xs) none once below =
     let parts = or_parts (is_in xs x) (repeated xs) once in
     or_from (has (ids_of (map (task_at tasks) xs)) (task_at tasks x).task_id) (repeats (ids_of (map (task_at tasks) xs)))
-    (not_true _ (λ e.
+    (false_from_ne_true _ (λ e.
     let r = has_from tasks xs (task_at tasks x).task_id e in
     places_apart tasks x r.0 none (below x (or_left (x == x) (is_in xs x) (eq-eqb x x refl))) (below r.0 (or_right (x == r.0) (is_in xs r.0) r.1))
     (λ f. false≢true (sym parts.0 ∙ subst (λ (y : ℕ). is_in xs y ≡ true) (sym f) r.1)) r.2))
@@ -188,7 +187,7 @@ mapped_once f (x ∷ xs) apart once =
     let parts = or_parts (is_in xs x) (repeated xs) once in
     let here : is_in (x ∷ xs) x ≡ true = or_left (x == x) (is_in xs x) (eq-eqb x x refl) in
     or_from (is_in (map f xs) (f x)) (repeated (map f xs))
-    (not_true _ (λ e.
+    (false_from_ne_true _ (λ e.
     let u = in-map f xs (f x) e in
     let one : u.0 ≡ x = apart u.0 x (or_right (x == u.0) (is_in xs u.0) u.1) here u.2 in
     false≢true (sym parts.0 ∙ subst (λ (y : ℕ). is_in xs y ≡ true) one u.1)))
@@ -196,7 +195,7 @@ mapped_once f (x ∷ xs) apart once =
 
 all_of : (p : ℕ → Bool) (us : List ℕ) → ((u : ℕ) → is_in us u ≡ true → p u ≡ true) → list_all p us ≡ true
 all_of p [] h = refl
-all_of p (u ∷ us) h = both (p u) (list_all p us) (h u (or_left (u == u) (is_in us u) (eq-eqb u u refl))) (all_of p us (λ v there. h v (or_right (u == v) (is_in us v) there)))
+all_of p (u ∷ us) h = and_from (p u) (list_all p us) (h u (or_left (u == u) (is_in us u) (eq-eqb u u refl))) (all_of p us (λ v there. h v (or_right (u == v) (is_in us v) there)))
 
 -- the row of a place has nothing twice
 row_once : (tasks : List TaskSpec) (order : List ℕ) → NoneBelow (is_unknown tasks) (length tasks) → NoneBelow (is_double_edge tasks) (length tasks) → IsPlacement (up_of tasks) (length tasks) order → (k : ℕ) → k < length order
@@ -217,7 +216,7 @@ row_sound : (tasks : List TaskSpec) (order : List ℕ) → NoneBelow (is_unknown
     → is_sound_row k (get_or (placed_rows (up_of tasks) order) k []) ≡ true
 row_sound tasks order known single h k below =
     let row : List ℕ = get_or (placed_rows (up_of tasks) order) k [] in
-    both (list_all (λ u. nat_lt u k) row) (not (repeated row))
+    and_from (list_all (λ u. nat_lt u k) row) (not (repeated row))
     (all_of (λ u. nat_lt u k) row (λ u there. lt-ltb u k (placed-down (up_of tasks) (length tasks) order h k u there)))
     (ap not (row_once tasks order known single h k below))
 
@@ -225,7 +224,7 @@ all_rows : (i : ℕ) (rows : List (List ℕ)) → ((k : ℕ) → k < length rows
 all_rows i [] h = refl
 all_rows i (us ∷ rows) h =
     let e : i + 0 ≡ i = omega arith in
-    both (is_sound_row i us) _ (subst (λ (k : ℕ). is_sound_row k us ≡ true) e (h 0 (omega arith)))
+    and_from (is_sound_row i us) _ (subst (λ (k : ℕ). is_sound_row k us ≡ true) e (h 0 (omega arith)))
     (all_rows (i + 1) rows (λ k below. let f : i + suc k ≡ (i + 1) + k = omega arith in subst (λ (m : ℕ). is_sound_row m (get_or rows k []) ≡ true) f (h (suc k) (omega arith))))
 
 -- ---- pools
@@ -237,7 +236,7 @@ all_at p d (x ∷ xs) (suc k) below e = all_at p d xs k (omega arith) (and_right
 all_placed : (p : TaskSpec → Bool) (tasks : List TaskSpec) (xs : List ℕ) → ((y : ℕ) → is_in xs y ≡ true → y < length tasks) → list_all p tasks ≡ true → list_all p (map (task_at tasks) xs) ≡ true
 all_placed p tasks [] below e = refl
 all_placed p tasks (x ∷ xs) below e =
-    both (p (task_at tasks x)) _ (all_at p no_task tasks x (below x (or_left (x == x) (is_in xs x) (eq-eqb x x refl))) e)
+    and_from (p (task_at tasks x)) _ (all_at p no_task tasks x (below x (or_left (x == x) (is_in xs x) (eq-eqb x x refl))) e)
     (all_placed p tasks xs (λ y there. below y (or_right (x == y) (is_in xs y) there)) e)
 
 -- ---- the graph
@@ -256,12 +255,12 @@ placed_sound a text spec g h tasks edges pools =
     let few : sum_by length (placed_rows up order) ≤ sum_by (λ (t : TaskSpec). length t.upstream) spec.tasks = edges_few spec.tasks order once in
     let few_tasks : length (map (task_at spec.tasks) order) ≤ a.limits.tasks = omega arith in
     let few_edges : sum_by length (placed_rows up order) ≤ a.limits.edges = omega arith in
-    both (is_sound_dag a.limits.tasks a.limits.edges (dag_of spec)) (has_pools a (dag_of spec))
-    (both (nat_le (length (map (task_at spec.tasks) order)) a.limits.tasks && nat_le (sum_by length (placed_rows up order)) a.limits.edges) _
-    (both (nat_le (length (map (task_at spec.tasks) order)) a.limits.tasks) _ (le-leb _ _ few_tasks) (le-leb _ _ few_edges))
-    (both (not (repeats (ids_of (map (task_at spec.tasks) order)))) _
+    and_from (is_sound_dag a.limits.tasks a.limits.edges (dag_of spec)) (has_pools a (dag_of spec))
+    (and_from (nat_le (length (map (task_at spec.tasks) order)) a.limits.tasks && nat_le (sum_by length (placed_rows up order)) a.limits.edges) _
+    (and_from (nat_le (length (map (task_at spec.tasks) order)) a.limits.tasks) _ (le-leb _ _ few_tasks) (le-leb _ _ few_edges))
+    (and_from (not (repeats (ids_of (map (task_at spec.tasks) order)))) _
     (ap not (ids_once spec.tasks order h.plain.names once below))
-    (both (length (placed_rows up order) == length (map (task_at spec.tasks) order)) _
+    (and_from (length (placed_rows up order) == length (map (task_at spec.tasks) order)) _
     (eq-eqb _ _ (rows_long ∙ sym tasks_long))
     (all_rows 0 (placed_rows up order) (λ k inside.
     let e : k ≡ 0 + k = omega arith in
@@ -274,17 +273,12 @@ said_sound a text dag said tasks edges pools =
     ap (λ (d : Dag). is_sound_graph a (new_graph text d)) said.checked.is ∙ placed_sound a text dag.spec dag said.checked tasks edges pools
 
 -- ---- few upstreams
-past_end : (xs : List (List ℕ)) (k : ℕ) → length xs ≤ k → get_or xs k [] ≡ []
-past_end [] k above = refl
-past_end (x ∷ xs) zero above = absurd (omega arith)
-past_end (x ∷ xs) (suc k) above = past_end xs k (omega arith)
-
 placed_once : (spec : GraphSpec) (g : Dag) → IsGraphOf spec g → (k : ℕ) → repeated (ups (dag_of spec) k) ≡ false
 placed_once spec g h k =
     let rows_long : length (placed_rows (up_of spec.tasks) (places spec)) ≡ length (places spec) = length-map' (λ p. map (place_in (places spec)) (up_of spec.tasks p)) (places spec) in
     elim (cases_lt k (length (places spec))) [
       | inl below ↦ row_once spec.tasks (places spec) h.plain.known h.plain.edges h.placed k below
-      | inr past ↦ ap repeated (past_end (placed_rows (up_of spec.tasks) (places spec)) k (omega arith))
+      | inr past ↦ ap repeated (get_or_past (placed_rows (up_of spec.tasks) (places spec)) k [] (omega arith))
     ]
 
 pub graph_ups_short : (spec : GraphSpec) (g : Dag) (p : ℕ) → IsGraphOf spec g → length (ups g p) ≤ p

@@ -3,7 +3,7 @@ use Rattle.dag_check.specs.Graphs.{ups}
 use Rattle.instance_machine.specs.States.{opens_gate}
 use Rattle.sched_model.specs.Lists.{last_passing, or_else}
 use Rattle.std.proofs.Common.{◌≡◌, refl, sym, ap, ◌∙◌, ℕ, ◌+◌, List, [], ◌∷◌, Bool, true, false, cond, not, ◌&&◌, ◌||◌, map, Option, Some, None, option_map, option_and_then, unwrap_or, slice_get, is_some, is_none, count_by, nat_lt}
-use Rattle.std.specs.List.{list_any, list_all, fold}
+use Rattle.std.specs.List.{list_any, fold}
 use Rattle.std.proofs.lemmas.Option.{slice_get-map}
 use Rattle.trigger_rules.specs.declared.verdicts.Verdict.{Verdict}
 use Rattle.sched_state.specs.declared.runs.Phase.{Phase}
@@ -24,16 +24,10 @@ use Rattle.instance_machine.specs.declared.tries.Try.{Try}
 use Rattle.sched_state.specs.declared.graphs.Graph.{Graph}
 use Rattle.sched_model.specs.States.{states, state_at, past_is_open, previous, is_earlier}
 use Rattle.sched_laws.specs.Seen.{seen, Sight, sight_of, sights, seen_at, seen_before, seen_past, seen_verdict, has_verdict, any_from, can_decide, can_decide_in, can_finish, can_move, can_start_seen, is_seen_earlier}
+use Rattle.sched_laws.proofs.ListLemmas.{change_here}
+use Rattle.sched_state.proofs.OrderLemmas.{all_map, any_map}
 
 -- ---- lists
-
-pub all_map : {X Y : Type 0} (q : Y → Bool) (p : X → Bool) (f : Y → X) → ((y : Y) → p (f y) ≡ q y) → (ys : List Y) → list_all p (map f ys) ≡ list_all q ys
-all_map q p f h [] = refl
-all_map q p f h (y ∷ ys) = rw (h y, all_map q p f h ys) refl
-
-pub any_map : {X Y : Type 0} (q : Y → Bool) (p : X → Bool) (f : Y → X) → ((y : Y) → p (f y) ≡ q y) → (ys : List Y) → list_any p (map f ys) ≡ list_any q ys
-any_map q p f h [] = refl
-any_map q p f h (y ∷ ys) = rw (h y, any_map q p f h ys) refl
 
 pub any_same : {Y : Type 0} (q p : Y → Bool) → ((y : Y) → p y ≡ q y) → (ys : List Y) → list_any p ys ≡ list_any q ys
 any_same q p h [] = refl
@@ -166,7 +160,7 @@ verdict_seen a r p t =
 
 -- ---- the moves
 
-is_some_map : {A B : Type 0} (f : A → B) (o : Option A) → is_some (option_map f o) ≡ is_some o
+pub is_some_map : {A B : Type 0} (f : A → B) (o : Option A) → is_some (option_map f o) ≡ is_some o
 is_some_map f None = refl
 is_some_map f (Some x) = refl
 
@@ -191,11 +185,7 @@ pub decide_seen : (a : Schedule) (r : Run) (p : ℕ) (i : Held) → is_some (dec
 decide_seen a r p i = undecided_seen a r p i.verdict i.since i.tries
 
 -- a change is possible where f changes some element
-abbrev here : {X : Type 0} → (ℕ → X → Option X) → ℕ → X → List X → Option X → Option (List X)
-here f i x xs (Some y) = Some (y ∷ xs)
-here f i x xs None = option_map (λ ys. x ∷ ys) (change_from f (i + 1) xs)
-
-here_some : {X : Type 0} (f : ℕ → X → Option X) (i : ℕ) (x : X) (xs : List X) (o : Option X) → is_some (here f i x xs o) ≡ (is_some o || is_some (change_from f (i + 1) xs))
+here_some : {X : Type 0} (f : ℕ → X → Option X) (i : ℕ) (x : X) (xs : List X) (o : Option X) → is_some (change_here f i x xs o) ≡ (is_some o || is_some (change_from f (i + 1) xs))
 here_some f i x xs (Some y) = refl
 here_some f i x xs None = is_some_map (λ ys. x ∷ ys) (change_from f (i + 1) xs)
 

@@ -13,16 +13,9 @@ use Rattle.sched_model.specs.Lists.{map_places}
 use Rattle.sched_model.specs.Schedule.{Schedule, tasks_of}
 use Rattle.sched_model.specs.Clearing.{Naming, cleared, clear_pair, pairs_of, named_in, requeued, with_cleared, clear_if, clear_run, clear}
 use Rattle.sched_laws.specs.Repairs.{instance_at}
+use Rattle.indexmap.proofs.ReorderLemmas.{slice_get-zip_some}
 
 -- ---- lists
-pairs_at : {X Y : Type 0} (xs : List X) (ys : List Y) (p : ℕ) (x : X) (y : Y) → slice_get xs p ≡ Some x → slice_get ys p ≡ Some y → slice_get (zip xs ys) p ≡ Some (x, y)
-pairs_at {X} [] ys p x y e f = absurd (let c : ◌≡◌ {A = Option X} None (Some x) = e in cc)
-pairs_at {X} {Y} (z ∷ xs) [] p x y e f = absurd (let c : ◌≡◌ {A = Option Y} None (Some y) = f in cc)
-pairs_at {X} {Y} (z ∷ xs) (w ∷ ys) zero x y e f =
-    let c : ◌≡◌ {A = Option X} (Some z) (Some x) = e in let d : ◌≡◌ {A = Option Y} (Some w) (Some y) = f in
-    let g : z ≡ x = cc in let h : w ≡ y = cc in ap (λ u. Some (u, w)) g ∙ ap (λ v. Some (x, v)) h
-pairs_at (z ∷ xs) (w ∷ ys) (suc p) x y e f = pairs_at xs ys p x y e f
-
 pair_back : {X Y : Type 0} (xs : List X) (ys : List Y) (p : ℕ) (x : X) (y : Y) → slice_get (zip xs ys) p ≡ Some (x, y) → (slice_get xs p ≡ Some x) × (slice_get ys p ≡ Some y)
 pair_back {X} {Y} [] ys p x y e = absurd (let c : ◌≡◌ {A = Option (X × Y)} None (Some (x, y)) = e in cc)
 pair_back {X} {Y} (z ∷ xs) [] p x y e = absurd (let c : ◌≡◌ {A = Option (X × Y)} None (Some (x, y)) = e in cc)
@@ -65,7 +58,7 @@ empty_map f [] e = refl
 empty_map {X} {Y} f (x ∷ xs) e = absurd (let c : ◌≡◌ {A = List Y} (f x ∷ map f xs) [] = e in cc)
 
 pair_at : (a : Schedule) (r : Run) (p : ℕ) (t : TaskSpec) (i : Held) → slice_get (tasks_of a r) p ≡ Some t → slice_get r.instances p ≡ Some i → slice_get (pairs_of a r) p ≡ Some (t, i)
-pair_at a r p t i e f = pairs_at (tasks_of a r) r.instances p t i e f
+pair_at a r p t i e f = slice_get-zip_some (tasks_of a r) r.instances p t i e f
 
 -- where one is named some are
 some_named : (a : Schedule) (named : Naming) (r : Run) (p : ℕ) (t : TaskSpec) (i : Held) → slice_get (tasks_of a r) p ≡ Some t → slice_get r.instances p ≡ Some i → named r p (t, i) ≡ true

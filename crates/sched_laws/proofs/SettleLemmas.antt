@@ -1,5 +1,5 @@
 -- Settling ends, and a move made first changes nothing.
-use Rattle.std.proofs.Common.{◌≡◌, refl, sym, subst, ◌∙◌, ℕ, zero, suc, ◌+◌, ◌<◌, ◌≤◌, List, [], ◌∷◌, Bool, true, false, cond, ◌&&◌, Option, Some, None, option_map, option_and_then, sum_by, slice_get, arith, true≢false}
+use Rattle.std.proofs.Common.{◌≡◌, refl, sym, subst, ◌∙◌, ℕ, zero, suc, ◌+◌, ◌<◌, ◌≤◌, List, [], ◌∷◌, Bool, true, false, cond, Option, Some, None, option_map, option_and_then, sum_by, slice_get, arith, true≢false}
 use Rattle.trigger_rules.specs.declared.verdicts.Verdict.{Verdict}
 use Rattle.sched_state.specs.declared.runs.Phase.{Phase}
 use Rattle.sched_state.specs.declared.runs.Phase.TheVariants as phase
@@ -11,6 +11,7 @@ use Rattle.sched_state.specs.declared.runs.Run.{Run}
 use Rattle.instance_machine.specs.declared.tries.Try.{Try}
 use Rattle.sched_model.specs.Settle.{decide_task, decide_instance, decide_run, finish_run, start_run, move_runs, move, settle, Settles, still, moved, moves_left, moves_left_of, decisions_left, has_bad_leaf, moves_left_in}
 use Rattle.sched_state.proofs.RepeatLemmas.{Falls, repeat_done, repeat_ends, repeat_enough, repeat_more, repeat_turn, change_falls}
+use Rattle.sched_state.proofs.OrderLemmas.{and_left}
 
 pub map_some : {A B : Type 0} (f : A → B) (o : Option A) (y : B) → option_map f o ≡ Some y → (x : A) × (o ≡ Some x) × (f x ≡ y)
 map_some f None y e = cc
@@ -58,10 +59,6 @@ decide_run_falls a r q e = decided_run a r q r.phase e
 pub when_some : {A : Type 0} (b : Bool) (x y : A) → when b x ≡ Some y → (b ≡ true) × (x ≡ y)
 when_some true x y e = (refl, cc)
 when_some {A} false x y e = absurd (let n : ◌≡◌ {A = Option A} None (Some y) = e in cc)
-
-and_left : (b c : Bool) → (b && c) ≡ true → b ≡ true
-and_left true c e = refl
-and_left false c e = e
 
 running_work : (ph : Phase) → is_running ph ≡ true → moves_left_in ph ≡ 1
 running_work phase.Running e = refl

@@ -2,6 +2,7 @@
 use Rattle.std.proofs.Common.{◌≡◌, ◌∙◌, refl, sym, ap, subst, ℕ, ◌+◌, ◌≤◌, List, [], ◌∷◌, ◌++◌, Bool, true, false, cond, map, filter, flat_map, sum_by, Option, Some, None, option_map, unwrap_or, slice_get, inl, inr, arith, true≢false}
 use Rattle.std.specs.List.{list_all, zip}
 use Rattle.std.proofs.lemmas.List.Sums.{sum_by-append}
+use Rattle.std.proofs.lemmas.Bool.{false_from_ne_true}
 use Rattle.graph_file.specs.declared.task_specs.TaskSpec.{TaskSpec}
 use Rattle.instance_machine.specs.Instances.{Held}
 use Rattle.instance_machine.specs.declared.tries.Try.{Try}
@@ -10,7 +11,7 @@ use Rattle.sched_state.specs.Lists.{same, change_from, first_change}
 use Rattle.sched_state.specs.declared.graphs.Graph.{Graph}
 use Rattle.sched_state.specs.declared.runs.Run.{Run}
 use Rattle.sched_state.proofs.NameLemmas.{same_is}
-use Rattle.sched_state.proofs.OrderLemmas.{and_left, and_right, not_true}
+use Rattle.sched_state.proofs.OrderLemmas.{and_left, and_right}
 use Rattle.sched_model.specs.Handout.{Offer, hand, hand_out}
 use Rattle.sched_model.specs.Schedule.{Schedule, graph_among, dag_among, no_dag, tasks_of, has_pool, size_of, is_running}
 use Rattle.sched_model.specs.Settle.{decide_task, decide_instance, decide_run, decided_verdict, finish_run, start_run, move_runs, move, with_runs, settle, Settles, still, moved}
@@ -137,7 +138,7 @@ none_of_task p t (x ∷ xs) e =
 
 -- a pool that is there is not one that isn't
 pub apart : (a : Schedule) (p : List ℕ) → has_pool a p ≡ false → (q : List ℕ) → has_pool a q ≡ true → same q p ≡ false
-apart a p none q there = not_true (same q p) (λ e. true≢false (sym there ∙ (ap (has_pool a) (same_is q p e) ∙ none)))
+apart a p none q there = false_from_ne_true (same q p) (λ e. true≢false (sym there ∙ (ap (has_pool a) (same_is q p e) ∙ none)))
 
 none_of_tasks : (a : Schedule) (p : List ℕ) → has_pool a p ≡ false → (ts : List TaskSpec) (is : List Held) → list_all (pool_is_there a) ts ≡ true → sum_in p (flat_map open_of (zip ts is)) ≡ 0
 none_of_tasks a p none [] [] e = refl

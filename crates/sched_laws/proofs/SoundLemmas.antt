@@ -2,7 +2,7 @@
 use Rattle.sched_model.specs.States.{in_flight, occupied}
 use Rattle.std.proofs.Common.{◌≡◌, refl, sym, ap, subst, ◌∙◌, ℕ, zero, suc, ◌+◌, ◌<◌, ◌≤◌, List, [], ◌∷◌, ◌++◌, Bool, true, false, not, ◌||◌, ◌==◌, flat_map, map, length, Option, Some, None, slice_get, arith, leb-true, nat_le, nat_lt}
 use Rattle.std.specs.List.{list_all, list_any}
-use Rattle.std.proofs.lemmas.Bool.{le-leb, lt-ltb, ltb-true, ltb-false, eqb-true}
+use Rattle.std.proofs.lemmas.Bool.{le-leb, lt-ltb, ltb-true, ltb-false, eqb-true, and_from, false_from_ne_true}
 use Rattle.std.proofs.lemmas.List.{length-map, append_assoc, append-nil}
 use Rattle.graph_file.specs.declared.task_specs.TaskSpec.{TaskSpec}
 use Rattle.dag_check.specs.Orders.{is_in, repeated}
@@ -13,7 +13,7 @@ use Rattle.instance_machine.specs.declared.tries.Try.{Try}
 use Rattle.instance_machine.specs.declared.tries.Stage.{Stage}
 use Rattle.sched_state.specs.Lists.{repeat}
 use Rattle.sched_state.specs.declared.runs.Phase.{Phase}
-use Rattle.sched_state.proofs.OrderLemmas.{and_left, and_right, or_left, or_right, not_false, not_true, map_keeps}
+use Rattle.sched_state.proofs.OrderLemmas.{and_left, and_right, or_left, or_right, not_false, map_keeps}
 use Rattle.sched_state.proofs.RepeatLemmas.{repeat_done, repeat_more}
 use Rattle.sched_model.specs.Lists.{at, rises}
 use Rattle.sched_model.specs.Schedule.{Schedule, dag_among, is_ended, size_of}
@@ -26,7 +26,7 @@ use Rattle.instance_machine.specs.Reports.{reported_try, lost_try}
 use Rattle.sched_model.specs.Causes.{has_too_many_lanes}
 use Rattle.sched_model.specs.Sound.{IsSound, is_sound_in, is_sound_run, is_sound_instance, is_used, is_moment, serials_of}
 use Rattle.sched_laws.specs.Offered.{IsEligible}
-use Rattle.sched_laws.proofs.ListLemmas.{both, all_impl, all_under, all_at, all_get, pairs_under, pairs_at, pairs_get}
+use Rattle.sched_laws.proofs.ListLemmas.{all_impl, all_under, all_at, all_get, pairs_under, pairs_at, pairs_get}
 use Rattle.sched_laws.proofs.InstanceLemmas.{IsQuiet, handed_sound, changed_sound, changed_finished}
 use Rattle.sched_laws.proofs.RunLemmas.{key, key_before, rises_map, serials_in, run_serials, listed, map_append, flat_by, serials_listed, KinAll, paired_sound, pairs_of_run, goes_on, running_goes_on, move_kin}
 use Rattle.sched_laws.proofs.SettleLemmas.{map_some}
@@ -106,8 +106,8 @@ splice_at {X} f g n zero (y ∷ ys) x e s =
 splice_at f g n (suc k) (y ∷ ys) x e s = splice_before n (flat_map f ys) (flat_map f (at g k ys)) (f y) (splice_at f g n k ys x e s)
 
 all_spliced : {X : Type 0} (p : X → Bool) (x : X) (ls rs : List X) → p x ≡ true → list_all p (ls ++ rs) ≡ true → list_all p (ls ++ x ∷ rs) ≡ true
-all_spliced p x [] rs e f = both _ _ e f
-all_spliced p x (l ∷ ls) rs e f = both _ _ (and_left _ _ f) (all_spliced p x ls rs e (and_right (p l) _ f))
+all_spliced p x [] rs e f = and_from _ _ e f
+all_spliced p x (l ∷ ls) rs e f = and_from _ _ (and_left _ _ f) (all_spliced p x ls rs e (and_right (p l) _ f))
 
 absent_spliced : {X : Type 0} (p : X → Bool) (x : X) (ls rs : List X) → p x ≡ false → list_any p (ls ++ rs) ≡ false → list_any p (ls ++ x ∷ rs) ≡ false
 absent_spliced p x [] rs e f = rw e f
@@ -123,7 +123,7 @@ absent : (n : ℕ) (xs : List ℕ) → list_all (is_used n) xs ≡ true → is_i
 absent n [] e = refl
 absent n (x ∷ xs) e =
     let l : x < n = used_below n x (and_left _ _ e) in
-    let h : (x == n) ≡ false = not_true (x == n) (λ f. let q : x ≡ n = eqb-true x n f in omega arith) in
+    let h : (x == n) ≡ false = false_from_ne_true (x == n) (λ f. let q : x ≡ n = eqb-true x n f in omega arith) in
     let ih : is_in xs n ≡ false = absent n xs (and_right (is_used n x) _ e) in
     rw (h, ih) refl
 
@@ -131,13 +131,13 @@ once_spliced : (n : ℕ) (ls rs : List ℕ) → repeated (ls ++ rs) ≡ false �
 once_spliced n [] rs d b = let h : is_in rs n ≡ false = absent n rs b in rw (h, d) refl
 once_spliced n (l ∷ ls) rs d b =
     let bl : l < n = used_below n l (and_left _ _ b) in
-    let h : (n == l) ≡ false = not_true (n == l) (λ f. let q : n ≡ l = eqb-true n l f in omega arith) in
+    let h : (n == l) ≡ false = false_from_ne_true (n == l) (λ f. let q : n ≡ l = eqb-true n l f in omega arith) in
     let g : is_in (ls ++ n ∷ rs) l ≡ false = absent_spliced (λ z. z == l) n ls rs h (or_left _ _ d) in
     let ih : repeated (ls ++ n ∷ rs) ≡ false = once_spliced n ls rs (or_right (is_in (ls ++ rs) l) _ d) (and_right (is_used n l) _ b) in
     rw (g, ih) refl
 
 used_more : (n s : ℕ) → is_used n s ≡ true → is_used (n + 1) s ≡ true
-used_more n s e = let l : s < n = used_below n s e in let l' : s < n + 1 = omega arith in both _ _ (and_left _ _ e) (lt-ltb s (n + 1) l')
+used_more n s e = let l : s < n = used_below n s e in let l' : s < n + 1 = omega arith in and_from _ _ (and_left _ _ e) (lt-ltb s (n + 1) l')
 
 pub map_at : {X Y : Type 0} (h : X → Y) (g : X → X) (n : ℕ) (xs : List X) → ((x : X) → h (g x) ≡ h x) → map h (at g n xs) ≡ map h xs
 map_at h g n [] e = refl
@@ -177,7 +177,7 @@ hand_sound a o h f s =
       runs_by_key = same_order a.runs after keys s.runs_by_key;
       clock = s.clock;
       lanes = s.lanes;
-      serials = both _ _ (le-leb 1 (a.next + 1) up) (le-leb (a.next + 1) (last_serial + 1) top);
+      serials = and_from _ _ (le-leb 1 (a.next + 1) up) (le-leb (a.next + 1) (last_serial + 1) top);
       few_graphs = s.few_graphs;
       few_pools = s.few_pools;
       few_runs = ap (λ m. nat_le m a.limits.runs) (same_count a.runs after keys) ∙ s.few_runs;
@@ -187,7 +187,7 @@ hand_sound a o h f s =
       runs = all_at (is_sound_run a.graphs) (in_instance g o.place) o.run a.runs h.run s.runs h.run_is (paired_sound a.graphs h.run h.run.phase (at g o.place h.run.instances) rs sp);
       serials_once = ap (λ xs. not (repeated xs)) is ∙ ap not (once_spliced a.next i2.left i2.right d b);
       serials_used = ap (list_all (is_used (a.next + 1))) is
-          ∙ all_spliced (is_used (a.next + 1)) a.next i2.left i2.right (both _ _ (le-leb 1 a.next one) (lt-ltb a.next (a.next + 1) below)) (all_impl (is_used a.next) (is_used (a.next + 1)) (used_more a.next) (i2.left ++ i2.right) b);
+          ∙ all_spliced (is_used (a.next + 1)) a.next i2.left i2.right (and_from _ _ (le-leb 1 a.next one) (lt-ltb a.next (a.next + 1) below)) (all_impl (is_used a.next) (is_used (a.next + 1)) (used_more a.next) (i2.left ++ i2.right) b);
     }
 
 hands_sound : (n : ℕ) (a : Schedule) → IsSound a → IsSound (repeat n hand_one a)
@@ -211,7 +211,7 @@ or_under false c d h e = h e
 changed_in : (f : Try → Try) → IsQuiet f → (ph : Phase) (t : TaskSpec) (i : Held) → is_sound_in ph t i ≡ true → is_sound_in ph t (map_tries f i) ≡ true
 changed_in f q ph t i e =
     let s : is_sound_instance t i ≡ true = and_left _ _ e in
-    both _ _ (changed_sound f q t i s)
+    and_from _ _ (changed_sound f q t i s)
     (or_under (not (is_ended ph)) (is_finished (state_of t i)) (is_finished (state_of t (map_tries f i))) (changed_finished f q t i s) (and_right (is_sound_instance t i) _ e))
 
 pub tries_changed : (f : Try → Try) → IsQuiet f → (a : Schedule) → IsSound a → IsSound (map_all_tries f a)

@@ -5,7 +5,7 @@ use Rattle.std.specs.List.{list_all, fold}
 use Rattle.std.specs.Ordering.{is_eq}
 use Rattle.std.proofs.lemmas.Cmp.{nat_list_cmp_total, tied_itself}
 use Rattle.std.proofs.lemmas.Map.Text.{is_eq-slice_cmp}
-use Rattle.std.proofs.lemmas.Bool.{eqb-true}
+use Rattle.std.proofs.lemmas.Bool.{eqb-true, or_left, or_right}
 use Rattle.sched_state.specs.declared.runs.Phase.{Phase}
 use Rattle.sched_state.specs.declared.runs.Phase.TheVariants as phase
 use Rattle.sched_model.specs.Handout.{in_instance}
@@ -28,6 +28,7 @@ use Rattle.sched_laws.proofs.LookLemmas.{get_at, get_apart, in_same, given_run, 
 use Rattle.sched_laws.proofs.DecisionLemmas.{decided, no_decision, at_known, guarded_run, by_decision, by_bool, one_falls}
 use Rattle.sched_laws.proofs.SweepLemmas.{sweep_all, sound_ordered}
 use Rattle.sched_model.specs.Sound.{IsSound}
+use Rattle.graph_file.proofs.ListLemmas.{mapped_none}
 
 -- ---- a move is the first of the three
 
@@ -97,14 +98,10 @@ ended_quiet a ph n q e =
 
 -- ---- quiet schedules
 
-map_none : {A B : Type 0} (f : A → B) (o : Option A) → option_map f o ≡ None → o ≡ None
-map_none f None e = refl
-map_none {A} {B} f (Some x) e = absurd (let c : ◌≡◌ {A = Option B} (Some (f x)) None = e in cc)
-
 head_quiet : {X : Type 0} (f : ℕ → X → Option X) (i : ℕ) (x : X) (xs : List X) → change_from f i (x ∷ xs) ≡ None → (f i x ≡ None) × (change_from f (i + 1) xs ≡ None)
 head_quiet {X} f i x xs e = elim (f i x) as (λ o. f i x ≡ o → change_here f i x xs o ≡ None → (f i x ≡ None) × (change_from f (i + 1) xs ≡ None)) [
   | Some y ↦ λ p q. absurd (let c : ◌≡◌ {A = Option (List X)} (Some (y ∷ xs)) None = q in cc)
-  | None ↦ λ p q. (p, map_none (λ ys. x ∷ ys) (change_from f (i + 1) xs) q)
+  | None ↦ λ p q. (p, mapped_none (λ ys. x ∷ ys) (change_from f (i + 1) xs) q)
 ] refl e
 
 -- where no element is changed, f changes none
@@ -123,9 +120,9 @@ no_decision_at a e n p = by_decision {C = decision a n p ≡ None} a n p (λ f. 
     let d = decided a n p j f in
     let zn : 0 + n ≡ n = omega arith in
     let zp : 0 + p ≡ p = omega arith in
-    let r : decide_run a d.run ≡ None = quiet_each (λ i x. decide_run a x) 0 n a.runs d.run (map_none (λ rs. record a { runs = rs }) (first_change (decide_run a) a.runs) e) d.run_is in
+    let r : decide_run a d.run ≡ None = quiet_each (λ i x. decide_run a x) 0 n a.runs d.run (mapped_none (λ rs. record a { runs = rs }) (first_change (decide_run a) a.runs) e) d.run_is in
     let c : change_from (decide_instance a d.run) 0 d.run.instances ≡ None =
-    map_none (λ is. record d.run { instances = is }) (change_from (decide_instance a d.run) 0 d.run.instances)
+    mapped_none (λ is. record d.run { instances = is }) (change_from (decide_instance a d.run) 0 d.run.instances)
     (sym (guarded_run (is_running d.run.phase) (option_map (λ is. record d.run { instances = is }) (change_from (decide_instance a d.run) 0 d.run.instances)) d.running) ∙ r) in
     let q : decide_instance a d.run p d.instance ≡ None = subst (λ (y : ℕ). decide_instance a d.run y d.instance ≡ None) zp (quiet_each (decide_instance a d.run) 0 p d.run.instances d.instance c d.instance_is) in
     absurd (let u : ◌≡◌ {A = Option Held} None (Some j) = sym q ∙ d.decided in cc))
@@ -192,7 +189,7 @@ all_ended a i (r ∷ rs) e =
 
 ends_none : (a : Schedule) → decide_one a ≡ None → finish_one a ≡ None → AllEnded a (finish_every a)
 ends_none a d f =
-    let h : finish_every a ≡ a = ap (λ rs. record a { runs = rs }) (all_ended a 0 a.runs (map_none (λ rs. record a { runs = rs }) (first_change (finish_run a) a.runs) f)) in
+    let h : finish_every a ≡ a = ap (λ rs. record a { runs = rs }) (all_ended a 0 a.runs (mapped_none (λ rs. record a { runs = rs }) (first_change (finish_run a) a.runs) f)) in
     subst (AllEnded a) (sym h) (record { settles = refl; decided = d; ended = f })
 
 ends_same : (a b : Schedule) → finish_one a ≡ Some b → finish_every b ≡ finish_every a
@@ -281,24 +278,17 @@ end_alone a b r e = ap (λ gs. finish_run (record a { graphs = gs }) r) e
 
 -- ---- what ends and starts look at
 
-or_first : (b c : Bool) → b ≡ true → (b || c) ≡ true
-or_first b c e = rw e refl
-
-or_second : (b c : Bool) → c ≡ true → (b || c) ≡ true
-or_second true c e = refl
-or_second false c e = e
-
 -- a change of an instance marks its run's end
 pub change_ends : (marked : ℕ → Bool) (a : Schedule) (g : Held → Held) (n p : ℕ) → CoversEnds marked a → CoversEnds (also_run n marked) (change_at g n p a)
 change_ends marked a g n p c m r q e f = by_bool {C = (marked m || nat_eq m n) ≡ true} (nat_eq m n)
-    (λ k. or_second (marked m) (nat_eq m n) k)
-    (λ k. or_first (marked m) (nat_eq m n) (c m r q (sym (get_apart (in_instance g p) n m a.runs k) ∙ e) f))
+    (λ k. or_right (marked m) (nat_eq m n) k)
+    (λ k. or_left (marked m) (nat_eq m n) (c m r q (sym (get_apart (in_instance g p) n m a.runs k) ∙ e) f))
 
 -- a change of phase marks its run's end
 pub phase_ends : (marked : ℕ → Bool) (a : Schedule) (ph : Phase) (n : ℕ) → CoversEnds marked a → CoversEnds (also_run n marked) (phase_at ph n a)
 phase_ends marked a ph n c m r q e f = by_bool {C = (marked m || nat_eq m n) ≡ true} (nat_eq m n)
-    (λ k. or_second (marked m) (nat_eq m n) k)
-    (λ k. or_first (marked m) (nat_eq m n) (c m r q (sym (get_apart (in_phase ph) n m a.runs k) ∙ e) f))
+    (λ k. or_right (marked m) (nat_eq m n) k)
+    (λ k. or_left (marked m) (nat_eq m n) (c m r q (sym (get_apart (in_phase ph) n m a.runs k) ∙ e) f))
 
 -- counting over a list of which one element is changed
 count_at : {X : Type 0} (test : X → Bool) (g : X → X) (k n : ℕ) (xs : List X) → ((x : X) → slice_get xs n ≡ Some x → test (g x) ≡ test x)
@@ -341,6 +331,6 @@ other_graph a ph n m w r e k s = by_bool {C = nat_eq m n ≡ false} (nat_eq m n)
 -- a change of the phase of run n, which is w, marks its graph
 pub phase_covers_starts : (marked : List ℕ → Bool) (a : Schedule) (ph : Phase) (n : ℕ) (w : Run) → slice_get a.runs n ≡ Some w → CoversStarts marked a → CoversStarts (also_graph w.graph marked) (phase_at ph n a)
 phase_covers_starts marked a ph n w e c m r q k f = by_bool {C = (marked r.graph || same w.graph r.graph) ≡ true} (same w.graph r.graph)
-    (λ s. or_second (marked r.graph) (same w.graph r.graph) s)
-    (λ s. or_first (marked r.graph) (same w.graph r.graph)
+    (λ s. or_right (marked r.graph) (same w.graph r.graph) s)
+    (λ s. or_left (marked r.graph) (same w.graph r.graph)
     (c m r q (sym (get_apart (in_phase ph) n m a.runs (other_graph a ph n m w r e k s)) ∙ k) (sym (phase_starts a ph n w r e s) ∙ f)))

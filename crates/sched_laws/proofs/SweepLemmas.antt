@@ -1,12 +1,11 @@
 -- One sweep over all positions makes all decisions.
 use Rattle.dag_check.specs.Names.{repeats, ids_of}
 use Rattle.dag_check.specs.Graphs.{Dag}
-use Rattle.sched_laws.proofs.ListLemmas.{both, all_impl}
+use Rattle.sched_laws.proofs.ListLemmas.{all_impl}
 use Rattle.std.proofs.Common.{◌≡◌, refl, sym, ap, subst, ◌∙◌, ℕ, zero, suc, ◌+◌, ◌-◌, ◌<◌, ◌≤◌, List, [], ◌∷◌, true, false, not, ◌&&◌, inl, inr, map, length, Option, Some, None, option_map, option_and_then, slice_get, arith, true≢false, nat_lt, nat_eq, sum_by, nat_le, ◌==◌}
-use Rattle.std.proofs.lemmas.Bool.{eq-eqb, eqb-false, ltb-true, ltb-false}
+use Rattle.std.proofs.lemmas.Bool.{eq-eqb, eqb-false, ltb-true, ltb-false, and_from}
 use Rattle.std.proofs.lemmas.Option.{slice_get_past, slice_get-map}
 use Rattle.sched_laws.proofs.RunLemmas.{key, key_before, rises_map}
-use Rattle.sched_laws.proofs.ListLemmas.{both}
 use Rattle.sched_laws.proofs.HandLemmas.{map_at}
 use Rattle.dag_check.specs.Names.{repeats}
 use Rattle.sched_model.specs.Lists.{at, rises}
@@ -59,7 +58,7 @@ next_place {C} n p m q b f g = by_bool {C = C} (nat_eq m n && nat_eq q p) f (λ 
       inr (
         k,
         by_bool {C = q < p} (nat_eq q p)
-            (λ h. absurd (true≢false (sym (both _ _ (eq-eqb m n k) h) ∙ e)))
+            (λ h. absurd (true≢false (sym (and_from _ _ (eq-eqb m n k) h) ∙ e)))
             (λ h. let z : q ≡ p → ⊥ = eqb-false q p h in omega arith),
       )
 ]) e)

@@ -10,8 +10,8 @@ use Rattle.instance_machine.specs.declared.tries.Outcome.TheVariants as outcome
 use Rattle.sched_state.proofs.OrderLemmas.{and_left, and_right}
 use Rattle.instance_machine.specs.Reports.{reported_try, lost_if, lost_try}
 use Rattle.sched_model.specs.Sound.{is_sound_try, is_sound_end, is_moment, has_end}
-use Rattle.sched_laws.proofs.ListLemmas.{both}
 use Rattle.sched_laws.proofs.InstanceLemmas.{IsQuiet}
+use Rattle.std.proofs.lemmas.Bool.{and_from}
 
 abbrev try_of : ℕ → ℕ → Option ℕ → Option End → Try
 try_of s k b e = record { serial = s; slots = k; started = b; ended = e }
@@ -28,14 +28,14 @@ stays u = record { over = λ e. refl; sound = λ k e. e; serial = refl }
 starts : (s k now : ℕ) → is_moment now ≡ true → Comes (try_of s k None None) (try_of s k (Some now) None)
 starts s k now m = record {
   over = λ e. absurd (true≢false (sym e));
-  sound = λ n e. both _ _ (and_left _ _ e) (both _ _ m refl);
+  sound = λ n e. and_from _ _ (and_left _ _ e) (and_from _ _ m refl);
   serial = refl;
 }
 
 ends : (s k b now : ℕ) (o : Outcome) → is_sound_end (Some b) (Some (record { moment = now; outcome = o })) ≡ true → Comes (try_of s k (Some b) None) (try_of s k (Some b) (Some (record { moment = now; outcome = o })))
 ends s k b now o m = record {
   over = λ e. absurd (true≢false (sym e));
-  sound = λ n e. both _ _ (and_left _ _ e) (both _ _ (and_left _ _ (and_right (k == n) _ e)) m);
+  sound = λ n e. and_from _ _ (and_left _ _ e) (and_from _ _ (and_left _ _ (and_right (k == n) _ e)) m);
   serial = refl;
 }
 
@@ -44,9 +44,9 @@ reports stage now m s k b (Some x) = stays (try_of s k b (Some x))
 reports Started now m s k None None = starts s k now m
 reports Started now m s k (Some b) None = stays (try_of s k (Some b) None)
 reports (Ended o) now m s k None None = stays (try_of s k None None)
-reports (Ended outcome.Success) now m s k (Some b) None = ends s k b now outcome.Success (both _ _ m refl)
-reports (Ended outcome.Skipped) now m s k (Some b) None = ends s k b now outcome.Skipped (both _ _ m refl)
-reports (Ended outcome.Failed) now m s k (Some b) None = ends s k b now outcome.Failed (both _ _ m refl)
+reports (Ended outcome.Success) now m s k (Some b) None = ends s k b now outcome.Success (and_from _ _ m refl)
+reports (Ended outcome.Skipped) now m s k (Some b) None = ends s k b now outcome.Skipped (and_from _ _ m refl)
+reports (Ended outcome.Failed) now m s k (Some b) None = ends s k b now outcome.Failed (and_from _ _ m refl)
 reports (Ended outcome.Lost) now m s k (Some b) None = stays (try_of s k (Some b) None)
 
 chosen : (b : Bool) (u v : Try) → Comes u v → Comes u (if b then v else u)
@@ -60,7 +60,7 @@ lost_comes : (now : ℕ) → is_moment now ≡ true → (s k : ℕ) (b : Option 
 lost_comes now m s k b (Some x) = stays (try_of s k b (Some x))
 lost_comes now m s k b None = record {
   over = λ e. absurd (true≢false (sym e));
-  sound = λ n e. both _ _ (and_left _ _ e) (both _ _ (and_left _ _ (and_right (k == n) _ e)) (both _ _ m refl));
+  sound = λ n e. and_from _ _ (and_left _ _ e) (and_from _ _ (and_left _ _ (and_right (k == n) _ e)) (and_from _ _ m refl));
   serial = refl;
 }
 

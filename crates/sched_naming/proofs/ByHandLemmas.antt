@@ -1,5 +1,5 @@
 -- What is planned by hand and for a span is what the definitions name.
-use Rattle.std.proofs.Common.{◌≡◌, ◌∙◌, ◌⊎◌, inl, inr, refl, sym, ap, ℕ, zero, suc, List, [], ◌∷◌, Bool, true, false, not, map, take, filter, length, nat_lt, Result, Ok, Err, Option, Some, None, option_map, unwrap_or, is_none, find, cond, subst}
+use Rattle.std.proofs.Common.{◌≡◌, ◌∙◌, ◌⊎◌, inl, inr, refl, sym, ap, ℕ, zero, suc, List, [], ◌∷◌, true, false, not, map, take, length, nat_lt, Result, Ok, Err, Some, None, option_map, unwrap_or, is_none, subst}
 use Rattle.std.proofs.lemmas.List.{length-map}
 use Rattle.std.specs.Cmp.Lexicographic.{same_text}
 use Rattle.cron_timetable.specs.declared.timetables.Interval.{Interval}
@@ -24,7 +24,8 @@ use Rattle.sched_model.specs.NamedRuns.{Named, manual_run, named_by_hand, named_
 use Rattle.sched_laws.proofs.NamedLemmas.{filtered_date}
 use Rattle.sched_naming.specs.NewRuns.{new_run, run_of}
 use Rattle.sched_naming.specs.ByHand.{IsPlanned, IsByHand, fault_of}
-use Rattle.sched_naming.proofs.NamingLemmas.{queued_is}
+use Rattle.sched_naming.proofs.NamingLemmas.{queued_is, filter_same}
+use Rattle.sched_state.proofs.NameLemmas.{find_passes}
 
 -- the index has the dates of the graph's runs
 abbrev pub Alike : Schedule → List ℕ → List ℕ → Type 0
@@ -76,17 +77,6 @@ map_take : {X Y : Type 0} (f : X → Y) (n : ℕ) (xs : List X) → map f (take 
 map_take f zero xs = refl
 map_take f (suc n) [] = refl
 map_take f (suc n) (x ∷ xs) = ap (λ ys. f x ∷ ys) (map_take f n xs)
-
-find_passes : {X : Type 0} (p : X → Bool) (xs : List X) (x : X) → find p xs ≡ Some x → p x ≡ true
-find_passes {X} p [] x e = absurd (let c : ◌≡◌ {A = Option X} None (Some x) = e in cc)
-find_passes {X} p (y ∷ xs) x e = elim (p y) as (λ b. p y ≡ b → cond b (Some y) (find p xs) ≡ Some x → p x ≡ true) [
-  | true ↦ λ f g. let c : ◌≡◌ {A = Option X} (Some y) (Some x) = g in let is : y ≡ x = cc in subst (λ z. p z ≡ true) is f
-  | false ↦ λ f g. find_passes p xs x g
-] refl e
-
-filter_same : {X : Type 0} (p q : X → Bool) → ((x : X) → p x ≡ q x) → (xs : List X) → filter p xs ≡ filter q xs
-filter_same p q h [] = refl
-filter_same p q h (x ∷ xs) = rw (h x, filter_same p q h xs) refl
 
 abbrev span : Schedule → Dag → ℕ → ℕ → List Interval
 span a g low high = span_intervals g.spec low high a.now

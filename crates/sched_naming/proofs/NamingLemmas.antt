@@ -4,6 +4,7 @@ use Rattle.std.specs.List.{list_all, list_any}
 use Rattle.std.proofs.lemmas.Grind.{flat_map-append}
 use Rattle.std.proofs.lemmas.List.{map-append, append-nil}
 use Rattle.std.proofs.lemmas.List.Folds.{list_any-append}
+use Rattle.std.proofs.Math.Bool.{or-false}
 use Rattle.cron_timetable.specs.declared.timetables.Interval.{Interval}
 use Rattle.graph_file.specs.declared.graph_specs.GraphSpec.{GraphSpec}
 use Rattle.dag_check.specs.Graphs.{Dag}
@@ -41,7 +42,7 @@ found_dag : (a : Schedule) (n : ℕ) (g : Graph) → rises graph_before a.graphs
 found_dag a n g up there = ap (λ (o : Option Graph). unwrap_or (option_map (λ (k : Graph). k.dag) o) no_dag) (found a.graphs n g up there)
 
 -- ---- its runs
-filter_same : {X : Type 0} (p q : X → Bool) → ((x : X) → p x ≡ q x) → (xs : List X) → filter p xs ≡ filter q xs
+pub filter_same : {X : Type 0} (p q : X → Bool) → ((x : X) → p x ≡ q x) → (xs : List X) → filter p xs ≡ filter q xs
 filter_same p q h [] = refl
 filter_same p q h (x ∷ xs) = rw (h x, filter_same p q h xs) refl
 
@@ -100,10 +101,6 @@ paused_there a t n g there closed =
     named_none a t g cc
 
 -- ---- one more graph
-or_false : (b : Bool) → (b || false) ≡ b
-or_false true = refl
-or_false false = refl
-
 take_more : {X : Type 0} (xs : List X) (n : ℕ) (x : X) → slice_get xs n ≡ Some x → take (n + 1) xs ≡ take n xs ++ x ∷ []
 take_more {X} [] n x there = absurd (let c : ◌≡◌ {A = Option X} None (Some x) = there in cc)
 take_more {X} (y ∷ xs) zero x there = let c : ◌≡◌ {A = Option X} (Some y) (Some x) = there in let is : y ≡ x = cc in ap (λ z. z ∷ []) is
@@ -122,7 +119,7 @@ named_more a t n g before here after there old new is =
 pub left_more : (a : Schedule) (t n : ℕ) (g : Graph) (before here after : Bool) → slice_get a.graphs n ≡ Some g → before ≡ list_any (leaves_some a t) (take n a.graphs)
     → here ≡ leaves_some a t g → after ≡ (before || here) → after ≡ list_any (leaves_some a t) (take (n + 1) a.graphs)
 left_more a t n g before here after there old new is =
-    is ∙ (ap (λ b. b || here) old ∙ (ap (λ b. list_any (leaves_some a t) (take n a.graphs) || b) (new ∙ sym (or_false (leaves_some a t g)))
+    is ∙ (ap (λ b. b || here) old ∙ (ap (λ b. list_any (leaves_some a t) (take n a.graphs) || b) (new ∙ sym (or-false (leaves_some a t g)))
     ∙ (sym (list_any-append (leaves_some a t) (take n a.graphs) (g ∷ [])) ∙ ap (list_any (leaves_some a t)) (sym (take_more a.graphs n g there)))))
 
 pub or_taken : (b c : Bool) → b ≡ true → b ≡ (b || c)

@@ -1,9 +1,9 @@
 -- What a decision looks at, and one sweep of decisions.
-use Rattle.std.proofs.Common.{◌≡◌, ◌∙◌, refl, sym, ap, ℕ, zero, suc, ◌+◌, ◌<◌, ◌≤◌, List, [], ◌∷◌, ◌++◌, Bool, true, false, not, ◌&&◌, ◌||◌, map, take, drop, length, get_or, slice_get, Option, Some, None, option_map, option_and_then, unwrap_or, arith}
+use Rattle.std.proofs.Common.{◌≡◌, ◌∙◌, refl, sym, ap, ℕ, zero, suc, ◌+◌, ◌<◌, ◌≤◌, List, [], ◌∷◌, ◌++◌, Bool, true, false, not, ◌||◌, map, take, drop, length, get_or, slice_get, Option, Some, None, option_map, option_and_then, unwrap_or}
 use Rattle.graph_file.specs.declared.task_specs.TaskSpec.{TaskSpec}
 use Rattle.graph_file.specs.Lists.{when}
 use Rattle.dag_check.specs.Graphs.{Dag, ups}
-use Rattle.std.proofs.lemmas.List.{length-map, take_more}
+use Rattle.std.proofs.lemmas.List.{length-map, take_more, drop_all}
 use Rattle.std.proofs.lemmas.Option.{slice_get-map}
 use Rattle.trigger_rules.specs.Rules.{rule_verdict}
 use Rattle.trigger_rules.specs.declared.verdicts.Verdict.{Verdict}
@@ -22,12 +22,10 @@ use Rattle.sched_laws.proofs.DecisionLemmas.{at_known}
 use Rattle.sched_laws.proofs.SweepLemmas.{lens, put_lens}
 use Rattle.sched_draft.specs.Parts.{decided_as, instances_at}
 use Rattle.sched_settling.specs.States.{state_in, Decides}
+use Rattle.sched_state.proofs.OrderLemmas.{and_left}
+use Rattle.sched_state.proofs.ElementLemmas.{drop_at, element_at}
 
 -- ---- the past
-and_front : (b c : Bool) → (b && c) ≡ true → b ≡ true
-and_front true c e = refl
-and_front false c e = e
-
 or_chain : {X : Type 0} (a b c : Option X) → or_else (or_else a b) c ≡ or_else a (or_else b c)
 or_chain (Some a) b c = refl
 or_chain None b c = refl
@@ -72,7 +70,7 @@ pub past_some : (a : Schedule) (r q : Run) (g : Dag) (t : TaskSpec) (p : ℕ) �
     → opens_gate (Some (state_in g q p)) ≡ past_is_open a r t p
 past_some a r q g t p looks before is =
     let earlier : is_earlier r q ≡ true = last_passes (is_earlier r) a.runs q (sym before) in
-    let named : q.graph ≡ r.graph = same_is q.graph r.graph (and_front _ _ earlier) in
+    let named : q.graph ≡ r.graph = same_is q.graph r.graph (and_left _ _ earlier) in
     let dag : g ≡ dag_named a q.graph = sym is ∙ ap (dag_named a) (sym named) in
     held_back t.depends_on_past _ _ looks
     (ap (λ (h : Dag). opens_gate (Some (state_in h q p))) dag ∙ ap (λ (o : Option Run). opens_gate (option_map (λ (x : Run). state_at a x p) o)) before)
@@ -130,31 +128,15 @@ places_lens (suc k) n p a = places_lens k n (p + 1) (decide_at n p a) ∙ decide
 long_at : (n : ℕ) (a : Schedule) → instances_at n a ≡ unwrap_or (slice_get (lens a) n) 0
 long_at n a = ap (λ o. unwrap_or o 0) (sym (slice_get-map (λ (r : Run). length r.instances) a.runs n))
 
-drop_get : {X : Type 0} (xs : List X) (n : ℕ) (x : X) → slice_get xs n ≡ Some x → drop n xs ≡ x ∷ drop (n + 1) xs
-drop_get {X} [] n x e = absurd (let c : ◌≡◌ {A = Option X} None (Some x) = e in cc)
-drop_get {X} (y ∷ xs) zero x e = let c : ◌≡◌ {A = Option X} (Some y) (Some x) = e in let i : y ≡ x = cc in ap (λ z. z ∷ xs) i
-drop_get (y ∷ xs) (suc n) x e = let k : suc n + 1 ≡ suc (n + 1) = omega arith in rw k (drop_get xs n x e)
-
-some_at : {X : Type 0} (xs : List X) (n : ℕ) → n < length xs → (x : X) × (slice_get xs n ≡ Some x)
-some_at [] n l = absurd (omega arith)
-some_at (x ∷ xs) zero l = (x, refl)
-some_at (x ∷ xs) (suc n) l = some_at xs n (omega arith)
-
 pub run_step : (rs : List Run) (n : ℕ) (start a b : Schedule) → rs ≡ start.runs → n < length rs → lens a ≡ lens start → b ≡ sweep_places (instances_at n a) n 0 a
     → sweep_runs (drop (n + 1) rs) (n + 1) b ≡ sweep_runs (drop n rs) n a
 run_step rs n start a b these inside same is =
-    let t = some_at rs n inside in
+    let t = element_at rs n inside in
     let long : instances_at n a ≡ length (t.0).instances =
     long_at n a ∙ (ap (λ ls. unwrap_or (slice_get ls n) 0) same
     ∙ (sym (long_at n start) ∙ ap (λ (o : Option Run). unwrap_or (option_map (λ (r : Run). length r.instances) o) 0) (ap (λ xs. slice_get xs n) (sym these) ∙ t.1))) in
     ap (sweep_runs (drop (n + 1) rs) (n + 1)) (is ∙ ap (λ (k : ℕ). sweep_places k n 0 a) long)
-    ∙ ap (λ (xs : List Run). sweep_runs xs n a) (sym (drop_get rs n t.0 t.1))
-
-drop_over : (rs : List Run) (n : ℕ) → length rs ≤ n → drop n rs ≡ []
-drop_over [] zero l = refl
-drop_over [] (suc n) l = refl
-drop_over (r ∷ rs) zero l = absurd (omega arith)
-drop_over (r ∷ rs) (suc n) l = drop_over rs n (omega arith)
+    ∙ ap (λ (xs : List Run). sweep_runs xs n a) (sym (drop_at rs n t.0 t.1))
 
 pub runs_over : (rs : List Run) (n : ℕ) (a : Schedule) → length rs ≤ n → a ≡ sweep_runs (drop n rs) n a
-runs_over rs n a l = ap (λ (xs : List Run). sweep_runs xs n a) (sym (drop_over rs n l))
+runs_over rs n a l = ap (λ (xs : List Run). sweep_runs xs n a) (sym (drop_all n rs l))

@@ -2,6 +2,7 @@
 use Rattle.std.proofs.Common.{◌≡◌, ◌∙◌, refl, sym, ap, ℕ, zero, suc, ◌+◌, ◌<◌, ◌≤◌, List, [], ◌∷◌, Bool, true, false, ◌&&◌, ◌||◌, length, get_or, set, slice_get, Some, None, unwrap_or, arith}
 use Rattle.std.specs.List.{list_all, list_any}
 use Rattle.std.proofs.lemmas.List.{set-get_or}
+use Rattle.std.proofs.lemmas.Bool.{and_from, and_right, or_from, or_right}
 use Rattle.trigger_rules.specs.declared.states.State.{State}
 use Rattle.trigger_rules.specs.declared.states.State.TheVariants as state
 use Rattle.graph_file.proofs.WriteLemmas.{written, written_set}
@@ -17,31 +18,15 @@ use Rattle.sched_draft.proofs.AtLemmas.{set_at}
 abbrev nth : List State → ℕ → State
 nth xs k = unwrap_or (slice_get xs k) state.None
 
-and_both : (b c : Bool) → b ≡ true → c ≡ true → (b && c) ≡ true
-and_both true c e f = f
-and_both false c e f = e
-
-and_none : (b c : Bool) → c ≡ false → (b && c) ≡ false
-and_none true c e = e
-and_none false c e = refl
-
-or_neither : (b c : Bool) → b ≡ false → c ≡ false → (b || c) ≡ false
-or_neither false c e f = f
-or_neither true c e f = e
-
-or_second : (b c : Bool) → c ≡ true → (b || c) ≡ true
-or_second true c e = refl
-or_second false c e = e
-
 pub all_states : (p : State → Bool) (xs : List State) (n : ℕ) → ((k : ℕ) → k < n → p (unwrap_or (slice_get xs k) state.None) ≡ true) → length xs ≤ n → list_all p xs ≡ true
 all_states p [] n h l = refl
 all_states p (x ∷ xs) zero h l = absurd (omega arith)
-all_states p (x ∷ xs) (suc n) h l = and_both (p x) _ (h 0 (omega arith)) (all_states p xs n (λ k b. h (suc k) (omega arith)) (omega arith))
+all_states p (x ∷ xs) (suc n) h l = and_from (p x) _ (h 0 (omega arith)) (all_states p xs n (λ k b. h (suc k) (omega arith)) (omega arith))
 
 pub not_all : (p : State → Bool) (xs : List State) (k : ℕ) → k < length xs → p (unwrap_or (slice_get xs k) state.None) ≡ false → list_all p xs ≡ false
 not_all p [] k l e = absurd (omega arith)
 not_all p (x ∷ xs) zero l e = ap (λ b. b && list_all p xs) e
-not_all p (x ∷ xs) (suc k) l e = and_none (p x) _ (not_all p xs k (omega arith) e)
+not_all p (x ∷ xs) (suc k) l e = and_right (p x) _ (not_all p xs k (omega arith) e)
 
 shift : (f : ℕ → State → Bool) (b : Bool) (i k : ℕ) (s : State) → f (i + suc k) s ≡ b → f ((i + 1) + k) s ≡ b
 shift f b i k s e = let n : (i + 1) + k ≡ i + suc k = omega arith in ap (λ m. f m s) n ∙ e
@@ -54,14 +39,14 @@ no_place : (f : ℕ → State → Bool) (i : ℕ) (xs : List State) (n : ℕ) �
 no_place f i [] n h l = refl
 no_place f i (x ∷ xs) zero h l = absurd (omega arith)
 no_place f i (x ∷ xs) (suc n) h l =
-    or_neither (f i x) _ (start f false i x (h 0 (omega arith)))
+    or_from (f i x) _ (start f false i x (h 0 (omega arith)))
     (no_place f (i + 1) xs n (λ k b. shift f false i k (nth xs k) (h (suc k) (omega arith))) (omega arith))
 
 some_place : (f : ℕ → State → Bool) (i : ℕ) (xs : List State) (k : ℕ) → k < length xs → f (i + k) (unwrap_or (slice_get xs k) state.None) ≡ true
     → list_any (λ b. b) (map_places f i xs) ≡ true
 some_place f i [] k l e = absurd (omega arith)
 some_place f i (x ∷ xs) zero l e = ap (λ b. b || list_any (λ c. c) (map_places f (i + 1) xs)) (start f true i x e)
-some_place f i (x ∷ xs) (suc k) l e = or_second (f i x) _ (some_place f (i + 1) xs k (omega arith) (shift f true i k (nth xs k) e))
+some_place f i (x ∷ xs) (suc k) l e = or_right (f i x) _ (some_place f (i + 1) xs k (omega arith) (shift f true i k (nth xs k) e))
 
 from_zero : (f : ℕ → State → Bool) (b : Bool) (k : ℕ) (s : State) → f k s ≡ b → f (0 + k) s ≡ b
 from_zero f b k s e = let n : 0 + k ≡ k = omega arith in ap (λ m. f m s) n ∙ e

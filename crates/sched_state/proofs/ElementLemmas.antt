@@ -1,5 +1,8 @@
 -- Reading one element of a list beside what comes after it.
-use Rattle.std.proofs.Common.{◌≡◌, refl, ap, ℕ, zero, suc, ◌+◌, ◌<◌, List, [], ◌∷◌, length, drop, Bool, true, Option, Some, None, slice_get, find, arith}
+use Rattle.std.proofs.Common.{◌≡◌, refl, ap, ℕ, zero, suc, ◌+◌, ◌<◌, ◌≤◌, List, [], ◌∷◌, length, drop, min, Bool, true, Option, Some, None, slice_get, find, arith}
+use Rattle.std.proofs.lemmas.List.{drop_all}
+use Rattle.std.proofs.lemmas.Slice.Zip.{length-zip}
+use Rattle.std.specs.List.{zip}
 
 drop_suc : {X : Type 0} (xs : List X) (i : ℕ) (x : X) → slice_get xs i ≡ Some x → drop i xs ≡ x ∷ drop (suc i) xs
 drop_suc {X} [] i x e = absurd (let c : ◌≡◌ {A = Option X} None (Some x) = e in cc)
@@ -18,3 +21,7 @@ pub element_at : {X : Type 0} (xs : List X) (i : ℕ) → i < length xs → (x :
 element_at [] i b = absurd (omega arith)
 element_at (x ∷ xs) zero b = (x, refl)
 element_at (x ∷ xs) (suc i) b = element_at xs i (omega arith)
+
+-- past the end of one of the two lists there are no pairs
+pub zip_over : {X Y : Type 0} (xs : List X) (ys : List Y) (k : ℕ) → min (length xs) (length ys) ≤ k → drop k (zip xs ys) ≡ []
+zip_over xs ys k b = let long = length-zip xs ys in drop_all k (zip xs ys) (omega (arith, long, b))

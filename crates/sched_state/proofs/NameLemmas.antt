@@ -1,5 +1,5 @@
 -- Names that are the same, and what is found among elements.
-use Rattle.std.proofs.Common.{◌≡◌, refl, ℕ, List, [], ◌∷◌, Bool, true, false, cond, ◌||◌, find, Some, is_some}
+use Rattle.std.proofs.Common.{◌≡◌, ◌∙◌, refl, sym, ap, ℕ, List, [], ◌∷◌, Bool, true, false, cond, ◌||◌, find, Option, Some, None, is_some}
 use Rattle.std.specs.List.{list_any}
 use Rattle.std.proofs.lemmas.Slice.Eq.{bytes_eq-Decides}
 use Rattle.sched_state.specs.Lists.{same}
@@ -18,10 +18,14 @@ find_any p (x ∷ xs) = elim (p x) as (λ b. is_some (cond b (Some x) (find p xs
   | false ↦ find_any p xs
 ]
 
+-- what is found passes
+pub find_passes : {X : Type 0} (p : X → Bool) (xs : List X) (x : X) → find p xs ≡ Some x → p x ≡ true
+find_passes {X} p [] x e = absurd (let c : ◌≡◌ {A = Option X} None (Some x) = e in cc)
+find_passes {X} p (y ∷ ys) x e = elim (p y) as (λ b. p y ≡ b → cond b (Some y) (find p ys) ≡ Some x → p x ≡ true) [
+  | true ↦ λ h f. let c : ◌≡◌ {A = Option X} (Some y) (Some x) = f in let is : y ≡ x = cc in ap p (sym is) ∙ h
+  | false ↦ λ h f. find_passes p ys x f
+] refl e
+
 pub or_assoc : (a b c : Bool) → (a || (b || c)) ≡ ((a || b) || c)
 or_assoc true b c = refl
 or_assoc false b c = refl
-
-pub or_right_true : (b c : Bool) → c ≡ true → (b || c) ≡ true
-or_right_true true c e = refl
-or_right_true false c e = e

@@ -5,7 +5,8 @@ use Rattle.std.specs.Cmp.{IsTotalOrder}
 use Rattle.std.specs.Ordering.{nat_cmp, ordering_reverse, is_eq, ordering_then}
 use Rattle.std.specs.declared.cmp.Ordering.{Ordering}
 use Rattle.std.specs.declared.cmp.Ordering.TheVariants.{Less, Equal, Greater}
-use Rattle.std.proofs.lemmas.Bool.{ltb-true, eqb-true}
+use Rattle.std.proofs.lemmas.Bool.{ltb-true, eqb-true, false_from_ne_true}
+use Rattle.graph_file.proofs.ListLemmas.{or_swap}
 use Rattle.sched_state.specs.Lists.{is_less, insert_by}
 
 -- ---- tests
@@ -28,16 +29,6 @@ or_right false c e = e
 pub not_false : (b : Bool) → not b ≡ true → b ≡ false
 not_false true e = absurd (true≢false (sym e))
 not_false false e = refl
-
-pub not_true : (b : Bool) → (b ≡ true → ⊥) → b ≡ false
-not_true true f = absurd (f refl)
-not_true false f = refl
-
-swap_or : (a b c : Bool) → (a || (b || c)) ≡ (b || (a || c))
-swap_or true true c = refl
-swap_or true false c = refl
-swap_or false true c = refl
-swap_or false false c = refl
 
 -- ---- total orders
 then_reverse : (a b : Ordering) → ordering_then (ordering_reverse a) (ordering_reverse b) ≡ ordering_reverse (ordering_then a b)
@@ -82,7 +73,7 @@ tie_nat false true h = refl
 tie_nat false false h = refl
 
 pub nat_tie : (x y : ℕ) → is_eq (nat_cmp x y) ≡ nat_eq x y
-nat_tie x y = tie_nat (nat_lt x y) (nat_eq x y) (λ e. not_true (nat_eq x y) (λ f. let l : x < y = ltb-true x y e in let q : x ≡ y = eqb-true x y f in omega arith))
+nat_tie x y = tie_nat (nat_lt x y) (nat_eq x y) (λ e. false_from_ne_true (nat_eq x y) (λ f. let l : x < y = ltb-true x y e in let q : x ≡ y = eqb-true x y f in omega arith))
 
 pub tie_then : (a b : Ordering) → is_eq (ordering_then a b) ≡ (is_eq a && is_eq b)
 tie_then Less b = refl
@@ -124,7 +115,7 @@ pub any_insert : {X : Type 0} (before : X → X → Bool) (p : X → Bool) (x : 
 any_insert before p x [] = refl
 any_insert before p x (y ∷ ys) = elim (before x y) as (λ b. list_any p (elim b [ true ↦ x ∷ y ∷ ys | false ↦ y ∷ insert_by before x ys ]) ≡ (p x || (p y || list_any p ys))) [
   | true ↦ refl
-  | false ↦ rw (any_insert before p x ys) (swap_or (p y) (p x) (list_any p ys))
+  | false ↦ rw (any_insert before p x ys) (or_swap (p y) (p x) (list_any p ys))
 ]
 
 -- what ties with none may be put in

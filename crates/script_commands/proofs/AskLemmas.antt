@@ -3,6 +3,7 @@ use Rattle.std.proofs.Common.{◌≡◌, ◌<◌, ◌≤◌, ◌==◌, ◌&&◌,
 use Rattle.std.proofs.lemmas.Bool.{lt-ltb, le-ltb, ne_eqb, true≢false}
 use Rattle.std.specs.List.{list_all}
 use Rattle.std.specs.Str.{is_utf8}
+use Rattle.std.proofs.Math.Bool.{or-true}
 use Rattle.text_words.specs.Words.{is_blank, words}
 use Rattle.text_words.proofs.WordLemmas.{words-blank, words-some}
 use Rattle.script_lines.specs.Lines.{line_limit}
@@ -11,10 +12,6 @@ use Rattle.script_commands.specs.Commands.{asked_of, is_bad, is_comment, is_skip
 use Rattle.script_commands.specs.declared.asked.Asked.{Asked}
 use Rattle.script_commands.specs.declared.asked.Asked.TheVariants.{Nothing, Fault}
 use Rattle.script_commands.specs.declared.commands.UsageFault.TheVariants.{BadLine}
-
-pub not_true : (b : Bool) → (b ≡ true → ⊥) → b ≡ false
-not_true true h = absurd (h refl)
-not_true false h = refl
 
 -- a beginning tells a comment
 pub comment-take : (n : ℕ) (line : List ℕ) → is_comment (take (suc n) line) ≡ is_comment line
@@ -36,10 +33,6 @@ bad-at : (s b : Bool) (x y z : Asked) → s ≡ false → b ≡ true → y ≡ c
 bad-at true b x y z h k = absurd (true≢false h)
 bad-at false true x y z h k = refl
 bad-at false false x y z h k = absurd (true≢false (sym k))
-
-or-true : (b : Bool) → (b || true) ≡ true
-or-true true = refl
-or-true false = refl
 
 -- a line that is passed over asks for nothing
 pub asked-skipped : (line : List ℕ) → is_skipped line ≡ true → Nothing ≡ asked_of line

@@ -1,14 +1,14 @@
 -- The part with which words begin.
 use Rattle.std.proofs.Common.{◌≡◌, ◌∙◌, ℕ, true, false, List, [], ◌∷◌, map, Option, Some, None, option_map, option_and_then, codes, refl, sym, ap, true≢false}
 use Rattle.std.proofs.lemmas.Slice.Eq.{bytes_eq-Decides}
+use Rattle.std.proofs.lemmas.Bool.{false_from_ne_true}
 use Rattle.text_words.specs.Words.{words}
 use Rattle.script_commands.specs.Options.{Options, Part, Word, value, flag, given, flags_of, givens_of, values_of, is_among, is_valued, no_options, parts, said, said_by, taken, values_alone, with_next, with_option}
 use Rattle.script_commands.specs.Values.{is_option, ends_options, values}
-use Rattle.script_commands.proofs.AskLemmas.{not_true}
 
 -- a value is no end of the options
 value-goes_on : (w : Word) → is_option w ≡ false → ends_options w ≡ false
-value-goes_on w e = not_true (ends_options w) (λ ends. true≢false (sym (ap is_option ((bytes_eq-Decides w (codes "--")).0 ends)) ∙ e))
+value-goes_on w e = false_from_ne_true (ends_options w) (λ ends. true≢false (sym (ap is_option ((bytes_eq-Decides w (codes "--")).0 ends)) ∙ e))
 
 value-first : (o : Options) (w : Word) (ws : List Word) → is_option w ≡ false → parts o (w ∷ ws) ≡ option_map (λ (ps : List Part). value w ∷ ps) (parts o ws)
 value-first o w ws e = rw (value-goes_on w e, e) refl

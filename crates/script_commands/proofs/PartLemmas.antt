@@ -1,12 +1,13 @@
 -- The parts of a command's words, while they are read.
 use Rattle.std.proofs.Common.{◌≡◌, ◌<◌, is_some, unwrap_or, ◌∙◌, Bool, true, false, not, ◌&&◌, ◌||◌, nat_le, List, [], ◌∷◌, ◌++◌, length, Option, Some, None, option_map, append_assoc, append-nil, refl, sym, ap, subst, arith, true≢false}
 use Rattle.std.proofs.lemmas.Slice.Eq.{bytes_eq-Decides}
-use Rattle.std.proofs.lemmas.Bool.{lt-leb}
+use Rattle.std.proofs.lemmas.Bool.{lt-leb, false_from_ne_true}
 use Rattle.std.proofs.lemmas.List.{length-append}
 use Rattle.std.specs.List.{slice_get}
 use Rattle.std.specs.Option.{option_copied}
 use Rattle.std.specs.Borrow.{Bor}
 use Rattle.std.specs.Str.{bytes_eq}
+use Rattle.std.proofs.Math.Bool.{and-false, or-true}
 use Rattle.sched_state.proofs.OrderLemmas.{and_left, and_right, or_left, or_right, not_false}
 use Rattle.script_commands.specs.Holding.{Goes, Holds, AreRefused, IsRefused, has, with_flag, items_of, list_of, word_of}
 use Rattle.script_commands.specs.Options.{Part, Word, value, flag, given, values_of, flags_of, givens_of, is_among, are_once, said}
@@ -15,7 +16,7 @@ use Rattle.script_commands.specs.declared.options.Flag.{Flag}
 use Rattle.script_commands.specs.declared.options.Flag.TheVariants.{Reset, Upstream, Downstream, OnlyFailed}
 use Rattle.script_commands.specs.declared.options.Flags.{Flags}
 use Rattle.script_commands.specs.declared.options.Parts.{Parts}
-use Rattle.script_commands.proofs.AskLemmas.{not_true}
+use Rattle.graph_file.proofs.ListLemmas.{or_swap}
 
 -- ---- the parts of each kind of two lists
 pub values-append : (ps qs : List Part) → values_of (ps ++ qs) ≡ values_of ps ++ values_of qs
@@ -37,15 +38,10 @@ givens-append (flag f ∷ ps) qs = givens-append ps qs
 givens-append (given v ∷ ps) qs = ap (λ (vs : List Word). v ∷ vs) (givens-append ps qs)
 
 -- ---- flags, once each
-swap : (a b c : Bool) → a || (b || c) ≡ b || (a || c)
-swap true true c = refl
-swap true false c = refl
-swap false b c = refl
-
 pub among-more : (f g : Word) (ws : List Word) → is_among f (ws ++ g ∷ []) ≡ bytes_eq f g || is_among f ws
 among-more f g [] = elim (bytes_eq f g) as (λ b. b || false ≡ b || false) [ true ↦ refl | false ↦ refl ]
 among-more f g (w ∷ ws) =
-    ap (λ b. bytes_eq f w || b) (among-more f g ws) ∙ swap (bytes_eq f w) (bytes_eq f g) (is_among f ws)
+    ap (λ b. bytes_eq f w || b) (among-more f g ws) ∙ or_swap (bytes_eq f w) (bytes_eq f g) (is_among f ws)
 
 pub flag-more : (fs : Flags) (f g : Flag) → has (with_flag fs f) g ≡ bytes_eq (word_of g) (word_of f) || has fs g
 flag-more fs Reset Reset = refl
@@ -65,17 +61,9 @@ flag-more fs OnlyFailed Upstream = refl
 flag-more fs OnlyFailed Downstream = refl
 flag-more fs OnlyFailed OnlyFailed = refl
 
-and_none : (b : Bool) → b && false ≡ false
-and_none true = refl
-and_none false = refl
-
-or_true : (b : Bool) → b || true ≡ true
-or_true true = refl
-or_true false = refl
-
 among-append : (f : Word) (ws vs : List Word) → is_among f (f ∷ []) ≡ true → is_among f (ws ++ f ∷ vs) ≡ true
 among-append f [] vs e = elim (bytes_eq f f) as (λ b. b || false ≡ true → b || is_among f vs ≡ true) [ true ↦ λ h. refl | false ↦ λ h. absurd (true≢false (sym h)) ] e
-among-append f (w ∷ ws) vs e = ap (λ b. bytes_eq f w || b) (among-append f ws vs e) ∙ or_true (bytes_eq f w)
+among-append f (w ∷ ws) vs e = ap (λ b. bytes_eq f w || b) (among-append f ws vs e) ∙ or-true (bytes_eq f w)
 
 same-among : (f : Word) → is_among f (f ∷ []) ≡ true
 same-among f = ap (λ b. b || false) ((bytes_eq-Decides f f).1 refl)
@@ -88,14 +76,14 @@ once-not f (w ∷ ws) vs e = elim (bytes_eq f w) as (λ b. bytes_eq f w ≡ b �
       let same : f ≡ w = (bytes_eq-Decides f w).0 h in
       let there : is_among w (ws ++ f ∷ vs) ≡ true = subst (λ (x : Word). is_among x (ws ++ f ∷ vs) ≡ true) same (among-append f ws vs (same-among f)) in
       ap (λ b. not b && are_once (ws ++ f ∷ vs)) there
-  | false ↦ λ h k. ap (λ b. not (is_among w (ws ++ f ∷ vs)) && b) (once-not f ws vs k) ∙ and_none (not (is_among w (ws ++ f ∷ vs)))
+  | false ↦ λ h k. ap (λ b. not (is_among w (ws ++ f ∷ vs)) && b) (once-not f ws vs k) ∙ and-false (not (is_among w (ws ++ f ∷ vs)))
 ] refl e
 
 -- one that does not
 pub once-more : (f : Word) (ws : List Word) → are_once ws ≡ true → is_among f ws ≡ false → are_once (ws ++ f ∷ []) ≡ true
 once-more f [] once none = refl
 once-more f (w ∷ ws) once none =
-    let other : bytes_eq w f ≡ false = not_true (bytes_eq w f) (λ e. true≢false (sym ((bytes_eq-Decides f w).1 (sym ((bytes_eq-Decides w f).0 e))) ∙ or_left (bytes_eq f w) (is_among f ws) none)) in
+    let other : bytes_eq w f ≡ false = false_from_ne_true (bytes_eq w f) (λ e. true≢false (sym ((bytes_eq-Decides f w).1 (sym ((bytes_eq-Decides w f).0 e))) ∙ or_left (bytes_eq f w) (is_among f ws) none)) in
     let here : is_among w (ws ++ f ∷ []) ≡ false = among-more w f ws ∙ (ap (λ b. b || is_among w ws) other ∙ not_false (is_among w ws) (and_left (not (is_among w ws)) (are_once ws) once)) in
     let rest : are_once (ws ++ f ∷ []) ≡ true = once-more f ws (and_right (not (is_among w ws)) (are_once ws) once) (or_right (bytes_eq f w) (is_among f ws) none) in
     ap (λ b. not b && are_once (ws ++ f ∷ [])) here ∙ rest
@@ -137,7 +125,7 @@ pub refused-given : (ps : List Part) (v : Word) → 0 < length (givens_of ps) �
 refused-given ps v there qs =
     let all : givens_of ((ps ++ given v ∷ []) ++ qs) ≡ givens_of ps ++ (v ∷ givens_of qs) = ap givens_of (append_assoc ps (given v ∷ []) qs) ∙ givens-append ps (given v ∷ qs) in
     let many : 1 < length (givens_of ((ps ++ given v ∷ []) ++ qs)) = omega (arith, ap length all, length-append (givens_of ps) (v ∷ givens_of qs), there) in
-    refused-test ((ps ++ given v ∷ []) ++ qs) (ap (λ b. are_once (flags_of ((ps ++ given v ∷ []) ++ qs)) && b) (lt-leb (length (givens_of ((ps ++ given v ∷ []) ++ qs))) 1 many) ∙ and_none (are_once (flags_of ((ps ++ given v ∷ []) ++ qs))))
+    refused-test ((ps ++ given v ∷ []) ++ qs) (ap (λ b. are_once (flags_of ((ps ++ given v ∷ []) ++ qs)) && b) (lt-leb (length (givens_of ((ps ++ given v ∷ []) ++ qs))) 1 many) ∙ and-false (are_once (flags_of ((ps ++ given v ∷ []) ++ qs))))
 
 -- ---- what is kept
 pub held-value : (ps : List Part) (p q : Parts) (v : Word) → Holds ps p → list_of q.values ≡ list_of p.values ++ v ∷ [] → q.task ≡ p.task → q.flags ≡ p.flags → Holds (ps ++ value v ∷ []) q

@@ -2,14 +2,13 @@
 use Rattle.std.proofs.Common.{◌≡◌, ◌∙◌, refl, sym, ap, ℕ, zero, suc, ◌<◌, ◌≤◌, ◌^◌, ◌==◌, ◌&&◌, true, false, cond, nat_le, List, [], ◌∷◌, length, drop, slice_index, Option, Some, None, MatchOption, IsUtf8, arith, leb-true}
 use Rattle.std.specs.Str.{all_ascii_digits}
 use Rattle.std.specs.Str.Parse.{IsNumeral, digits_value, without_leading_plus}
-use Rattle.std.proofs.lemmas.Bool.{eqb-true, le-leb}
+use Rattle.std.proofs.lemmas.Bool.{eqb-true, le-leb, false_from_ne_true}
 use Rattle.std.proofs.lemmas.Str.{IsUtf8-from_ascii}
 use Rattle.std.proofs.lemmas.Str.Parse.{IsNumeralModel, numerals_by_value, tells_all_ascii_digits}
 use Rattle.graph_file.specs.Lists.{when}
 use Rattle.pool_book.specs.Limits.{slot_limit}
 use Rattle.sched_state.proofs.OrderLemmas.{and_left, and_right}
 use Rattle.script_commands.specs.Sizes.{slots_in_range, slots_of}
-use Rattle.script_commands.proofs.AskLemmas.{not_true}
 
 numerals : IsNumeralModel (λ ds. all_ascii_digits ds ≡ true) (digits_value 10)
 numerals = numerals_by_value _ tells_all_ascii_digits
@@ -22,13 +21,13 @@ is_numeral ds e =
 
 -- what is not read is no size
 pub unread : (ds : List ℕ) → (IsNumeral 10 ds × (digits_value 10 ds < 2 ^ 32) → ⊥) → slots_in_range ds ≡ None
-unread ds unlike = ap (λ b. when b (digits_value 10 ds)) (not_true _ (λ e.
+unread ds unlike = ap (λ b. when b (digits_value 10 ds)) (false_from_ne_true _ (λ e.
     let low : digits_value 10 ds ≤ 1000000 = leb-true _ _ (and_right (nat_le 1 (length ds) && all_ascii_digits ds) _ e) in
     unlike (is_numeral ds (and_left _ _ e), omega arith)))
 
 -- what is read is a size where it is in the range
 pub read_in_range : (ds : List ℕ) (n : ℕ) (r : Option ℕ) → IsNumeral 10 ds → n ≡ digits_value 10 ds → MatchOption r (slot_limit < n) (λ s. (s ≡ n) × (n ≤ slot_limit)) → r ≡ slots_in_range ds
-read_in_range ds n None numeral is over = sym (ap (λ b. when b (digits_value 10 ds)) (not_true _ (λ e.
+read_in_range ds n None numeral is over = sym (ap (λ b. when b (digits_value 10 ds)) (false_from_ne_true _ (λ e.
     let low : digits_value 10 ds ≤ 1000000 = leb-true _ _ (and_right (nat_le 1 (length ds) && all_ascii_digits ds) _ e) in
     absurd (omega arith))))
 read_in_range ds n (Some s) numeral is (same, low) =
@@ -56,5 +55,5 @@ low_bytes (b ∷ bs) e i = elim (b == 43) as (λ t. (b == 43) ≡ t → all_asci
 ] refl e
 
 pub no_text : (word : List ℕ) → (IsUtf8 word → ⊥) → slots_of word ≡ None
-no_text word unlike = ap (λ b. when b (digits_value 10 (without_leading_plus word))) (not_true _ (λ e.
+no_text word unlike = ap (λ b. when b (digits_value 10 (without_leading_plus word))) (false_from_ne_true _ (λ e.
     unlike (IsUtf8-from_ascii word (low_bytes word (and_right (nat_le 1 (length (without_leading_plus word))) _ (and_left _ _ e))))))

@@ -1,11 +1,12 @@
 -- A graph's text while its lines are read.
 use Rattle.std.proofs.Common.{◌≡◌, ◌<◌, ◌∙◌, ℕ, Bool, true, false, cond, List, [], length, Option, Some, None, Err, refl, sym, ap, subst, arith, inl, codes}
 use Rattle.std.proofs.lemmas.Slice.Eq.{bytes_eq-Decides}
+use Rattle.std.proofs.lemmas.Bool.{false_from_ne_true}
 use Rattle.script_lines.specs.Lines.{lines_of, line_limit, IsFirstLine}
 use Rattle.script_commands.specs.Commands.{Request, IsFirst, IsGiven, commands_from, commands_in, ends_text, is_bad, load_of, with_line, with_newline}
 use Rattle.script_commands.specs.Commands.Place.{Inside}
 use Rattle.script_commands.specs.Gathered.{Gathers}
-use Rattle.script_commands.proofs.AskLemmas.{bad-long, not_true}
+use Rattle.script_commands.proofs.AskLemmas.{bad-long}
 use Rattle.script_commands.specs.declared.commands.CommandFault.TheVariants.{Source}
 use Rattle.script_commands.specs.declared.commands.SourceFault.TheVariants.{NoEnd}
 use Rattle.script_commands.specs.declared.graph_texts.Gathered.{Gathered}
@@ -77,4 +78,4 @@ long-line text line h = bad-at (is_bad line) None (with_newline text line) (bad-
 
 -- and does not end it
 pub long-goes_on : (line : List ℕ) → line_limit < length line → ends_text line ≡ false
-long-goes_on line h = not_true (ends_text line) (λ e. let same : line ≡ codes "." = (bytes_eq-Decides line (codes ".")).0 e in omega (arith, ap length same))
+long-goes_on line h = false_from_ne_true (ends_text line) (λ e. let same : line ≡ codes "." = (bytes_eq-Decides line (codes ".")).0 e in omega (arith, ap length same))

@@ -1,9 +1,9 @@
 use Rattle.std.proofs.Common.{◌≡◌, ◌∙◌, ◌-◌, ◌<◌, ◌+◌, ◌||◌, ℕ, Bool, false, List, [], length, map, get_or, ap, sym, arith, Vec, Global}
 use Rattle.std.proofs.Common.{subst}
-use Rattle.std.proofs.lemmas.Bool.{eq-eqb}
+use Rattle.std.proofs.lemmas.Bool.{eq-eqb, or_right}
 use Rattle.std.proofs.lemmas.List.{get_or-map, get_or_default}
 use Rattle.dag_check.specs.Orders.{is_in}
-use Rattle.dag_check.proofs.ReachLemmas.{IsMarking, marking-on, or-right}
+use Rattle.dag_check.proofs.ReachLemmas.{IsMarking, marking-on}
 use Rattle.dag_check.proofs.reaching.reach_down.Goals as goal
 use Rattle.dag_check.proofs.reaching.reach_down.Goals.{then-place-start-via-then-place-start, then-place-start-via-else-place-start+then-index}
 
@@ -30,7 +30,7 @@ loop-place-preserved-in-loop-place c =
           (subst (λ (n : ℕ). IsMarking (λ j. get_or (map (λ v. v.items) c.args.next.now) j []) c.args.start n (λ y. get_or c.loop-place.marks.items y false)) one c.loop-place.invariant.marking)
           (elim c.then-place-start.branch [
             | then-place-start-via-then-place-start w ↦ ap (λ (b : Bool). b || get_or c.loop-place.marks.items (c.loop-place.place - 1) false) (eq-eqb _ _ w.if-place-start.true)
-            | then-place-start-via-else-place-start+then-index w ↦ or-right _ _ (get_or_default c.loop-place.marks.items (c.loop-place.place - 1) false w.index.result.now (omega (arith, c.loop-place.marks.ok.0, c.loop-place.invariant.long)) ∙ (sym w.index.ensures ∙ w.if-index.true))
+            | then-place-start-via-else-place-start+then-index w ↦ or_right _ _ (get_or_default c.loop-place.marks.items (c.loop-place.place - 1) false w.index.result.now (omega (arith, c.loop-place.marks.ok.0, c.loop-place.invariant.long)) ∙ (sym w.index.ensures ∙ w.if-index.true))
           ])
           (λ y. c.mark_all.ensures.marks y ∙ ap (λ (ys : List ℕ). get_or c.loop-place.marks.items y false || is_in ys y) (c.deref.ensures.value ∙ sym e));
     }

@@ -4,9 +4,10 @@ use Rattle.dag_check.specs.Graphs.{Dag}
 use Rattle.instance_machine.specs.Instances.{Held}
 use Rattle.sched_clearing.specs.Namings.{names_instance}
 use Rattle.sched_clearing.specs.Passing.{passing_from, was_set}
-use Rattle.sched_clearing.proofs.PassLemmas.{pair_there, count_yes, count_no, zip_over}
+use Rattle.sched_clearing.proofs.PassLemmas.{pair_there, count_yes, count_no}
 use Rattle.sched_clearing.proofs.clearing.count_in.Goals as goal
 use Rattle.sched_clearing.proofs.clearing.count_in.Goals.{then-counts, else-counts}
+use Rattle.sched_state.proofs.ElementLemmas.{zip_over}
 
 pub loop-place-preserved : goal.loop-place-preserved
 loop-place-preserved c =

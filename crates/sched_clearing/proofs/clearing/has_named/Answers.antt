@@ -5,8 +5,9 @@ use Rattle.instance_machine.specs.Instances.{Held}
 use Rattle.sched_model.specs.Sound.{is_empty}
 use Rattle.sched_clearing.specs.Namings.{names_instance}
 use Rattle.sched_clearing.specs.Passing.{passing_from}
-use Rattle.sched_clearing.proofs.PassLemmas.{pair_there, pass_no, one_passes, none_passes, zip_over}
+use Rattle.sched_clearing.proofs.PassLemmas.{pair_there, pass_no, one_passes, none_passes}
 use Rattle.sched_clearing.proofs.clearing.has_named.Goals as goal
+use Rattle.sched_state.proofs.ElementLemmas.{zip_over}
 
 pub returns-then-picks : goal.returns-then-picks
 returns-then-picks c =

@@ -1,5 +1,6 @@
 use Rattle.std.proofs.Common.{◌≡◌, ◌∙◌, refl, ap, sym, arith, ℕ, List, [], drop, flat_map, length, Some, slice_get}
 use Rattle.std.proofs.lemmas.Option.{slice_get_read}
+use Rattle.std.proofs.lemmas.List.{drop_all}
 use Rattle.sched_state.specs.declared.runs.Run.{Run}
 use Rattle.sched_model.specs.Clearing.{named_in}
 use Rattle.sched_model.specs.Schedule.{Schedule}
@@ -7,7 +8,6 @@ use Rattle.sched_clearing.specs.Namings.{naming_of}
 use Rattle.sched_clearing.specs.Passing.{least_serial, lesser}
 use Rattle.sched_clearing.proofs.LeastLemmas.{lesser_none, run_turn}
 use Rattle.sched_clearing.proofs.NamingLemmas.{named_by_dag}
-use Rattle.sched_clearing.proofs.PassLemmas.{drop_over}
 use Rattle.sched_clearing.proofs.in_flight.least_in_flight.Goals as goal
 use Rattle.sched_clearing.proofs.in_flight.least_in_flight.Goals.{in-Some, in_default}
 
@@ -33,5 +33,5 @@ returns c =
     let n : ℕ = c.loop-run.run-index in
     let l = c.loop-run.least in
     let long = ap length c.runs-run-items.ensures in
-    let over : drop n a.runs ≡ [] = drop_over a.runs n (omega (arith, long, c.loop-run-test.false)) in
+    let over : drop n a.runs ≡ [] = drop_all n a.runs (omega (arith, long, c.loop-run-test.false)) in
     sym (lesser_none l) ∙ (ap (λ (rs : List Run). lesser l (least_serial (flat_map (named_in a (naming_of c.args.naming.now)) rs))) (sym over) ∙ c.loop-run.invariant)

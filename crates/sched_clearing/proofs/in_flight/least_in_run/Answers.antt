@@ -7,10 +7,11 @@ use Rattle.sched_model.specs.Causes.{open_serials}
 use Rattle.sched_model.specs.Lists.{least}
 use Rattle.sched_clearing.specs.Namings.{names_instance}
 use Rattle.sched_clearing.specs.Passing.{passing_from, least_serial, lesser}
-use Rattle.sched_clearing.proofs.PassLemmas.{pair_there, zip_over}
+use Rattle.sched_clearing.proofs.PassLemmas.{pair_there}
 use Rattle.sched_clearing.proofs.LeastLemmas.{lesser_none, pair_named, pair_passed}
 use Rattle.sched_clearing.proofs.in_flight.least_in_run.Goals as goal
 use Rattle.sched_clearing.proofs.in_flight.least_in_run.Goals.{then-picks, else-picks}
+use Rattle.sched_state.proofs.ElementLemmas.{zip_over}
 
 pub loop-place-preserved : goal.loop-place-preserved
 loop-place-preserved c =

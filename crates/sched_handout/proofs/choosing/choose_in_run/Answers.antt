@@ -1,8 +1,8 @@
 use Rattle.std.proofs.Common.{◌≡◌, ◌∙◌, refl, sym, [], drop, Some, None, arith}
 use Rattle.std.specs.List.{zip}
-use Rattle.sched_handout.proofs.ListLemmas.{zip_over}
 use Rattle.sched_handout.proofs.ChoiceLemmas.{place_before}
 use Rattle.sched_handout.proofs.choosing.choose_in_run.Goals as goal
+use Rattle.sched_state.proofs.ElementLemmas.{zip_over}
 
 pub loop-place-init : goal.loop-place-init
 loop-place-init c =

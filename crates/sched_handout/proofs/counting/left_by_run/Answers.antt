@@ -6,9 +6,10 @@ use Rattle.dag_check.specs.Graphs.{no_task}
 use Rattle.instance_machine.specs.Instances.{Held}
 use Rattle.sched_model.specs.States.{open_of}
 use Rattle.sched_handout.specs.Rooms.{left_by}
-use Rattle.sched_handout.proofs.ListLemmas.{zip_at, zip_over}
 use Rattle.sched_handout.proofs.RoomLemmas.{left_turn}
 use Rattle.sched_handout.proofs.counting.left_by_run.Goals as goal
+use Rattle.indexmap.proofs.ReorderLemmas.{slice_get-zip_some}
+use Rattle.sched_state.proofs.ElementLemmas.{zip_over}
 
 pub loop-place-preserved : goal.loop-place-preserved
 loop-place-preserved c =
@@ -20,7 +21,7 @@ loop-place-preserved c =
     let task : slice_get tasks n ≡ Some c.task.result.now = slice_get-get_or tasks n no_task within ∙ ap (λ (t : TaskSpec). Some t) (sym c.task.ensures) in
     let instance : slice_get instances n ≡ Some c.index-instances-place.result = slice_get_read instances _ n _ refl inside c.index-instances-place.is in
     left_turn open_of (zip tasks instances) n (c.task.result.now, c.index-instances-place.result) c.loop-place.left c.left_by_instance-left.result
-    (zip_at tasks instances n _ _ task instance) c.left_by_instance-left.ensures ∙ c.loop-place.invariant
+    (slice_get-zip_some tasks instances n _ _ task instance) c.left_by_instance-left.ensures ∙ c.loop-place.invariant
 
 pub returns : goal.returns
 returns c =

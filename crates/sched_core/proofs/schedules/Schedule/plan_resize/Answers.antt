@@ -1,13 +1,13 @@
 use Rattle.std.proofs.Common.{◌≡◌, ◌∙◌, refl, sym, ap, subst, inl, inr, true, false, not, length, nat_le, None, Err, arith}
 use Rattle.std.proofs.lemmas.Bool.Decides.{nat_tests}
 use Rattle.std.proofs.lemmas.Result.{err_from_is_err_and}
+use Rattle.std.proofs.lemmas.Bool.{and_from}
 use Rattle.graph_file.specs.Names.{is_name}
 use Rattle.pool_book.specs.Limits.{pool_limit}
 use Rattle.pool_book.specs.Pools.{Entries}
 use Rattle.sched_model.specs.Changes.{new_pool, resize}
 use Rattle.sched_model.specs.Schedule.{Schedule}
 use Rattle.sched_model.specs.Sound.{is_sound_pool}
-use Rattle.sched_laws.proofs.ListLemmas.{both}
 use Rattle.sched_events.specs.Causes.{refused}
 use Rattle.sched_events.specs.Kept.{IsKept}
 use Rattle.sched_events.specs.declared.events.Event.TheVariants.{Resize}
@@ -64,7 +64,7 @@ over-requires-clause-sound c =
     let is : over c.resize.new.self.pools a ≡ resize c.args.name.now c.args.size a =
     over_is a es c.in_ok-pools.pools.pools c.resize.new.self.pools c.args.name.now c.in_ok-name.name c.args.size pools kept.sound.pools_by_name c.in_ok-pools.ensures c.in_ok-name.ensures c.in_ok-resize.ensures.pools in
     let short : nat_le c.args.size 1000000 ≡ true = grind (arith, nat_tests, c.get-size.ensures.value, c.get-size.ensures.high) in
-    let ranged : is_sound_pool (new_pool c.args.name.now c.args.size) ≡ true = both _ _ (ap is_name (sym c.as_str-name.ensures.text) ∙ c.as_str-name.ensures.name) short in
+    let ranged : is_sound_pool (new_pool c.args.name.now c.args.size) ≡ true = and_from _ _ (ap is_name (sym c.as_str-name.ensures.text) ∙ c.as_str-name.ensures.name) short in
     draft_sound (Resize c.args.name.now c.args.size) a (over c.resize.new.self.pools a) ranged accepted kept is
 
 pub over-requires-clause-kept : goal.over-requires-clause-kept
@@ -85,7 +85,7 @@ over-requires-clause-kept c =
     let is : over c.resize.new.self.pools a ≡ resize c.args.name.now c.args.size a =
     over_is a es c.in_ok-pools.pools.pools c.resize.new.self.pools c.args.name.now c.in_ok-name.name c.args.size pools kept.sound.pools_by_name c.in_ok-pools.ensures c.in_ok-name.ensures c.in_ok-resize.ensures.pools in
     let short : nat_le c.args.size 1000000 ≡ true = grind (arith, nat_tests, c.get-size.ensures.value, c.get-size.ensures.high) in
-    let ranged : is_sound_pool (new_pool c.args.name.now c.args.size) ≡ true = both _ _ (ap is_name (sym c.as_str-name.ensures.text) ∙ c.as_str-name.ensures.name) short in
+    let ranged : is_sound_pool (new_pool c.args.name.now c.args.size) ≡ true = and_from _ _ (ap is_name (sym c.as_str-name.ensures.text) ∙ c.as_str-name.ensures.name) short in
     draft_kept (Resize c.args.name.now c.args.size) a (over c.resize.new.self.pools a) ranged accepted kept is
 
 pub returns-clause-accepted : goal.returns-clause-accepted
