@@ -25,8 +25,6 @@ mod pools;
 mod refusals;
 mod runs;
 mod tasks;
-#[cfg(test)]
-mod tests;
 
 pub use answers::{put_answer, put_ok};
 pub use faults::put_fault;

@@ -13,8 +13,6 @@ mod instances;
 mod laws;
 mod reports;
 mod states;
-#[cfg(test)]
-mod tests;
 mod tries;
 
 pub use instances::Instance;

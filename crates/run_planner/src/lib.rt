@@ -20,11 +20,7 @@ mod latest;
 mod laws;
 mod planning;
 mod run_index;
-#[cfg(test)]
-mod span_tests;
 mod spans;
-#[cfg(test)]
-mod tests;
 
 pub use backfills::backfill;
 pub use by_hand::{PlanFault, manual};

@@ -8,8 +8,6 @@ mod clearing;
 mod in_flight;
 mod marks;
 mod namings;
-#[cfg(test)]
-mod tests;
 
 pub use clearing::clear;
 pub use in_flight::least_in_flight;

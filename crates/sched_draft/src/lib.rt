@@ -9,7 +9,5 @@ mod graphs;
 mod jobs;
 mod ordering;
 mod reporting;
-#[cfg(test)]
-mod tests;
 
 pub use drafts::Draft;

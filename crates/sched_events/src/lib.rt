@@ -10,8 +10,6 @@ mod events;
 mod laws;
 mod refusals;
 mod rows;
-#[cfg(test)]
-mod tests;
 
 pub use answers::{Answer, RunId};
 pub use events::Event;

@@ -11,8 +11,6 @@ mod counting;
 mod handing;
 mod offering;
 mod ranking;
-#[cfg(test)]
-mod tests;
 mod weighing;
 
 pub use handing::hand_out;

@@ -9,8 +9,6 @@ mod backfills;
 mod by_hand;
 mod dates;
 mod new_runs;
-#[cfg(test)]
-mod tests;
 mod ticks;
 
 pub use adding::add;

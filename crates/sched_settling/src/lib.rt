@@ -9,7 +9,5 @@ mod ending;
 mod settling;
 mod starting;
 mod states;
-#[cfg(test)]
-mod tests;
 
 pub use settling::settle;

@@ -10,8 +10,6 @@ mod clearings;
 mod graphs;
 mod jobs;
 mod runs;
-#[cfg(test)]
-mod tests;
 mod texts;
 
 pub use bounds::Limits;

@@ -27,14 +27,10 @@ mod commands;
 mod graph_texts;
 mod laws;
 mod names;
-#[cfg(test)]
-mod option_tests;
 mod options;
 mod pool_sizes;
 mod repairs;
 mod requests;
-#[cfg(test)]
-mod tests;
 mod words;
 
 pub use asked::Asked;

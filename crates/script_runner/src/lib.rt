@@ -11,22 +11,10 @@
 #![tactic(auto)]
 
 mod answering;
-#[cfg(test)]
-mod graph_tests;
-#[cfg(test)]
-mod instance_tests;
 mod laws;
 mod listing;
-#[cfg(test)]
-mod pause_tests;
-#[cfg(test)]
-mod pool_tests;
-#[cfg(test)]
-mod repair_tests;
 mod running;
 mod serial;
-#[cfg(test)]
-mod tests;
 
 pub use laws::{a_script_steps_its_events, what_is_set_back_is_told};
 pub use running::run_script;

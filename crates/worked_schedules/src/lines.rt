@@ -1,0 +1,85 @@
+//! What a line is: a title, a remark, limits, an event that no script has words for, or a line of a script.
+use instance_machine::{Outcome, Stage};
+use sched_core::Event;
+use sched_state::Limits;
+use std::str;
+
+/// What a line is.
+#[derive(Drop)]
+pub enum Line {
+    /// `== TITLE`: a new schedule begins, within the greatest limits.
+    Title,
+    /// A comment, or a line without a byte.
+    Remark,
+    /// `limits GRAPHS TASKS EDGES POOLS RUNS LANES`: a new schedule begins within these limits, where there are such.
+    Limits(Option<Limits>),
+    /// `restart LANES`, or `report SERIAL STAGE`, where the stage is `started` or how the try ended.
+    Event(Event),
+    /// A line of a script.
+    Script,
+}
+
+impl Line {
+    /// What this line is, which has no newline.
+    pub fn of(line: &[u8]) -> Line {
+        match str::from_utf8(line) {
+            Ok(text) => of_text(text),
+            Err(_) => Line::Script,
+        }
+    }
+}
+
+fn of_text(text: &str) -> Line {
+    if text.is_empty() || text.starts_with("#") {
+        return Line::Remark;
+    }
+    if text.starts_with("== ") {
+        return Line::Title;
+    }
+    match text.split_once(' ') {
+        Some(("limits", rest)) => Line::Limits(limits_of(rest)),
+        Some((name, rest)) => event_of(name, rest).map_or(Line::Script, Line::Event),
+        None => Line::Script,
+    }
+}
+
+// The limits of six numbers.
+fn limits_of(text: &str) -> Option<Limits> {
+    let mut numbers = text.split(' ');
+    let graphs = number(numbers.next())?;
+    let tasks = number(numbers.next())?;
+    let edges = number(numbers.next())?;
+    let pools = number(numbers.next())?;
+    let runs = number(numbers.next())?;
+    let lanes = number(numbers.next())?;
+    Limits::new(graphs, tasks, edges, pools, runs, lanes)
+}
+
+fn number(word: Option<&str>) -> Option<u32> {
+    word?.parse::<u32>().ok()
+}
+
+// The event of this name and words, where it is one that no script has words for.
+fn event_of(name: &str, rest: &str) -> Option<Event> {
+    match name {
+        "restart" => Some(Event::Restart(number(Some(rest))?)),
+        "report" => report_of(rest),
+        _ => None,
+    }
+}
+
+fn report_of(text: &str) -> Option<Event> {
+    let (serial, stage) = text.split_once(' ')?;
+    Some(Event::Report(serial.parse::<u64>().ok()?, stage_of(stage)?))
+}
+
+fn stage_of(word: &str) -> Option<Stage> {
+    match word {
+        "started" => Some(Stage::Started),
+        "success" => Some(Stage::Ended(Outcome::Success)),
+        "failed" => Some(Stage::Ended(Outcome::Failed)),
+        "skipped" => Some(Stage::Ended(Outcome::Skipped)),
+        "lost" => Some(Stage::Ended(Outcome::Lost)),
+        _ => None,
+    }
+}

@@ -1,0 +1,123 @@
+//! The lines of a text, one after another.
+use crate::answering::answer;
+use crate::lines::Line;
+use crate::stepping::{new_schedule, step};
+use sched_core::Schedule;
+use sched_state::Limits;
+use script_commands::{Command, CommandFault, next_command};
+use script_lines::LineReader;
+use std::alloc::Global;
+use std::io::{self, Write};
+use std::str;
+
+/// Does what the lines say, and writes what comes of each.
+pub fn play<W: Write>(alloc: Global, text: &[u8], output: &mut W) -> io::Result<()> {
+    let mut lines = LineReader::new(alloc)?;
+    let mut schedule = new_schedule(alloc, Limits::full())?;
+    let mut left = text;
+    for _line in 0..text.len() {
+        if left.is_empty() {
+            break;
+        }
+        left = play_line(alloc, &mut schedule, &mut lines, left, output)?;
+    }
+    Ok(())
+}
+
+// Does what the first line says, and answers the text after it.
+fn play_line<'a, W: Write>(
+    alloc: Global,
+    schedule: &mut Schedule,
+    lines: &mut LineReader,
+    text: &'a [u8],
+    output: &mut W,
+) -> io::Result<&'a [u8]> {
+    let (line, rest) = first_line(text);
+    match Line::of(line) {
+        Line::Remark => put_remark(line, output)?,
+        Line::Title => {
+            *schedule = new_schedule(alloc, Limits::full())?;
+            put_remark(line, output)?;
+        }
+        Line::Limits(limits) => {
+            echo(line, output)?;
+            limit(alloc, schedule, limits, output)?;
+        }
+        Line::Event(event) => {
+            echo(line, output)?;
+            step(alloc, schedule, &event, output)?;
+        }
+        Line::Script => return play_script(alloc, schedule, lines, text, output),
+    }
+    Ok(rest)
+}
+
+// The first line of a text, without its newline, and the text after it.
+fn first_line(text: &[u8]) -> (&[u8], &[u8]) {
+    match text.iter().position(|byte| *byte == b'\n') {
+        Some(end) => (&text[..end], &text[end + 1..]),
+        None => (text, b"".as_slice()),
+    }
+}
+
+fn put_remark<W: Write>(line: &[u8], output: &mut W) -> io::Result<()> {
+    output.write_all(line)?;
+    output.write_all(b"\n")
+}
+
+// Begins a new schedule within the limits.
+fn limit<W: Write>(
+    alloc: Global,
+    schedule: &mut Schedule,
+    limits: Option<Limits>,
+    output: &mut W,
+) -> io::Result<()> {
+    match limits {
+        Some(limits) => {
+            *schedule = new_schedule(alloc, limits)?;
+            output.write_all(b"ok\n")
+        }
+        None => output.write_all(b"no limits\n"),
+    }
+}
+
+// Does the next command of a script, and answers the text after it. The command is read again where memory ran out.
+fn play_script<'a, W: Write>(
+    alloc: Global,
+    schedule: &mut Schedule,
+    lines: &mut LineReader,
+    text: &'a [u8],
+    output: &mut W,
+) -> io::Result<&'a [u8]> {
+    let (mut request, left) = next_request(alloc, lines, text)?;
+    if matches!(request, Some(Err(CommandFault::Memory))) {
+        (request, _) = next_request(alloc, lines, text)?;
+    }
+    let read = text.len().saturating_sub(left.len());
+    echo(&text[..read], output)?;
+    if let Some(request) = request {
+        answer(alloc, schedule, request, output)?;
+    }
+    Ok(left)
+}
+
+// What the next command of a script asks for, and the text after it.
+fn next_request<'a>(
+    alloc: Global,
+    lines: &mut LineReader,
+    text: &'a [u8],
+) -> io::Result<(Option<Result<Command, CommandFault>>, &'a [u8])> {
+    let mut left = text;
+    let request = next_command(alloc, lines, &mut left)?;
+    Ok((request, left))
+}
+
+// Writes these lines with `> ` before each.
+fn echo<W: Write>(text: &[u8], output: &mut W) -> io::Result<()> {
+    if let Ok(text) = str::from_utf8(text) {
+        for line in text.lines() {
+            writeln!(output, "> {line}")?;
+        }
+    }
+    Ok(())
+}

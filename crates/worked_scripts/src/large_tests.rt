@@ -1,0 +1,86 @@
+//! Graphs and schedules of the greatest size.
+use instance_machine::{Outcome, Stage};
+use moment_core::Moment;
+use sched_core::{Event, Schedule};
+use sched_state::{Limits, Text};
+use script_runner::run_serial;
+use std::alloc::{AllocError, Global};
+use std::test::Fail;
+
+// The file of a graph of so many tasks, each after the one before it where they are a chain.
+fn file(alloc: Global, tasks: u32, is_chain: bool) -> Result<String, AllocError> {
+    let mut text = String::from_str(
+        alloc,
+        "dag_id = \"one\"\nschedule = \"@daily\"\nstart_date = \"2024-01-01\"\n",
+    )?;
+    for task in 0..tasks {
+        write!(
+            text,
+            "[[task]]\ntask_id = \"t{task}\"\noperator = \"noop\"\n"
+        )?;
+        if is_chain && task > 0 {
+            let before = task - 1;
+            writeln!(text, "upstream = [\"t{before}\"]")?;
+        }
+    }
+    Ok(text)
+}
+
+// What a script that loads a chain of so many tasks prints.
+fn loaded(alloc: Global, tasks: u32) -> Result<String, Fail> {
+    let text = file(alloc, tasks, true)?;
+    let script = format!(in alloc; "load inline\n{text}.\n")?;
+    let mut output = Vec::new(alloc);
+    let ended = run_serial(alloc, 0, script.as_bytes(), &mut output);
+    ended.map_err(|_| "refused")?;
+    Ok(String::from_utf8(output).map_err(|_| "no text")?)
+}
+
+#[test]
+fn a_graph_may_have_256_tasks(rt: HostRuntime) -> Result<(), Fail> {
+    let most = loaded(rt.alloc(), 256)?;
+    assert_eq!(rt; most.as_str(), "ok\n");
+    let more = loaded(rt.alloc(), 257)?;
+    assert_eq!(rt; more.as_str(), "refused 1 GraphFault 9 TooMany\n");
+    Ok(())
+}
+
+fn step(alloc: Global, schedule: &mut Schedule, event: &Event) -> Result<(), Fail> {
+    schedule.step(alloc, event).map_err(|_| "refused")?;
+    Ok(())
+}
+
+// The schedule of a graph of 256 tasks with a hundred days, of which 64 tries are in flight.
+fn hundred_days(alloc: Global) -> Result<Schedule, Fail> {
+    let mut schedule = Schedule::new(alloc, Limits::full())?;
+    step(alloc, &mut schedule, &Event::Restart(64))?;
+    let text = Text::from_string(file(alloc, 256, false)?);
+    step(alloc, &mut schedule, &Event::Load(text))?;
+    let day = Moment::read("2024-04-10").map_err(|_| "no moment")?;
+    for _tick in 0..10 {
+        step(alloc, &mut schedule, &Event::Tick(day))?;
+    }
+    Ok(schedule)
+}
+
+// How many runs the schedule has, how many tries are in flight, and the next serial.
+fn counts(schedule: &Schedule) -> (usize, usize, u64) {
+    (
+        schedule.runs().len(),
+        schedule.in_flight(),
+        schedule.next_serial(),
+    )
+}
+
+// This is to end in seconds.
+#[test]
+fn a_large_schedule_is_gone_through(rt: HostRuntime) -> Result<(), Fail> {
+    let alloc = rt.alloc();
+    let mut schedule = hundred_days(alloc)?;
+    assert_eq!(rt; counts(&schedule), (100, 64, 65));
+    for stage in [Stage::Started, Stage::Ended(Outcome::Success)] {
+        step(alloc, &mut schedule, &Event::Report(1, stage))?;
+    }
+    assert_eq!(rt; counts(&schedule), (100, 64, 66));
+    Ok(())
+}

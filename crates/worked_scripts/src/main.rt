@@ -1,0 +1,85 @@
+//! Worked scripts: each from an empty schedule, with what it prints and its status.
+//!
+//! Standard input has headings, `== LANES TITLE`, and below each the lines of a script. Standard output has the same, with `> ` before each
+//! line of a script, and after them what the script prints and its status. So the output reads as one page.
+//!
+//! The tests beside it are of what no stored run reaches: readers and writers that fail, want of memory, long lines, large graphs, and what
+//! is asked of a schedule that has it not.
+//!
+//! ```text
+//! == 4 pools are sized and listed
+//! > resize p 3
+//! > list pools
+//! ok
+//! default_pool 128 0 128
+//! p 3 0 3
+//! ok
+//! status 0
+//! ```
+#![tactic(auto)]
+
+#[cfg(test)]
+mod failing;
+#[cfg(test)]
+mod large_tests;
+#[cfg(test)]
+mod line_tests;
+#[cfg(test)]
+mod memory_tests;
+mod sections;
+#[cfg(test)]
+mod stream_tests;
+#[cfg(test)]
+mod view_tests;
+
+use script_runner::run_serial;
+use sections::{Section, next_section};
+use std::alloc::Global;
+use std::io::{self, BufWriter, ErrorKind, Read, Write};
+
+fn main(rt: HostRuntime) -> io::Result<()> {
+    let alloc = rt.alloc();
+    let mut text = Vec::new(alloc);
+    rt.stdin().read_to_end(&mut text)?;
+    let mut output = BufWriter::new(alloc, rt.stdout())?;
+    run_all(alloc, text.as_slice(), &mut output)?;
+    output.flush()
+}
+
+// Runs the scripts of a text, one after another.
+fn run_all<W: Write + Drop>(alloc: Global, text: &[u8], output: &mut W) -> io::Result<()> {
+    let mut left = text;
+    for _section in 0..text.len() {
+        let Some((section, rest)) = next_section(left) else {
+            break;
+        };
+        run(alloc, &section, output)?;
+        left = rest;
+    }
+    Ok(())
+}
+
+fn run<W: Write + Drop>(alloc: Global, section: &Section<'_>, output: &mut W) -> io::Result<()> {
+    put_line(section.heading, output)?;
+    echo(section.script, output)?;
+    let ended = run_serial(alloc, section.lanes(), section.script, &mut *output);
+    let (_schedule, status) = ended.map_err(|_| ErrorKind::OutOfMemory)?;
+    writeln!(output, "status {status}\n")
+}
+
+fn put_line<W: Write>(line: &[u8], output: &mut W) -> io::Result<()> {
+    output.write_all(line)?;
+    output.write_all(b"\n")
+}
+
+// Writes the lines of a script with `> ` before each. A last line may lack its newline.
+fn echo<W: Write>(script: &[u8], output: &mut W) -> io::Result<()> {
+    let mut lines = script.split(|byte| *byte == b'\n').peekable();
+    while let Some(line) = lines.next() {
+        if lines.peek().is_some() || !line.is_empty() {
+            output.write_all(b"> ")?;
+            put_line(line, output)?;
+        }
+    }
+    Ok(())
+}

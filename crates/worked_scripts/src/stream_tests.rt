@@ -1,0 +1,84 @@
+//! Scripts whose input or output fails.
+use crate::failing::Failing;
+use answer_lines::put_refusal;
+use cron_timetable::CronFault;
+use graph_file::GraphFault;
+use moment_core::Moment;
+use sched_core::Refusal;
+use script_commands::next_command;
+use script_lines::LineReader;
+use script_runner::run_serial;
+use std::alloc::Global;
+use std::io::{BufReader, ErrorKind};
+use std::test::Fail;
+
+const TICKS: &[u8; 32] = b"tick 2024-01-02\ntick 2024-01-01\n";
+
+// The status of a script of two ticks whose reads fail after so many, and whether its clock was set and something was written.
+fn read_in(alloc: Global, calls: usize) -> Result<(u8, bool, bool), Fail> {
+    let text = TICKS.as_slice();
+    let input = BufReader::with_capacity(alloc, 1, Failing { text, calls })?;
+    let mut output = Vec::new(alloc);
+    let (schedule, status) = run_serial(alloc, 0, input, &mut output).map_err(|_| "refused")?;
+    Ok((status, schedule.now() > Moment::at(0), !output.is_empty()))
+}
+
+#[test]
+fn a_failed_read_ends_the_script(rt: HostRuntime) -> Result<(), Fail> {
+    for calls in 0..33 {
+        let found = read_in(rt.alloc(), calls)?;
+        let is_done = calls >= 16;
+        assert_eq!(rt; found, (4, is_done, is_done), "at {calls}");
+    }
+    Ok(())
+}
+
+// The status of the same script where writes fail after so many, the moment that it leaves, and how many writes are left.
+fn written_in(alloc: Global, calls: usize) -> Result<(u8, Moment, usize), Fail> {
+    let mut writer = Failing { text: b"", calls };
+    let ended = run_serial(alloc, 0, TICKS.as_slice(), &mut writer);
+    let (schedule, status) = ended.map_err(|_| "refused")?;
+    Ok((status, schedule.now(), writer.calls))
+}
+
+#[test]
+fn a_failed_write_ends_the_script(rt: HostRuntime) -> Result<(), Fail> {
+    let (status, now, left) = written_in(rt.alloc(), 1_000)?;
+    assert_eq!(rt; (status, now), (1, Moment::at(1_704_153_600)));
+    for calls in 0..1_000usize.saturating_sub(left) {
+        let (status, _, left) = written_in(rt.alloc(), calls)?;
+        assert_eq!(rt; (status, left), (4, 0), "at {calls}");
+    }
+    Ok(())
+}
+
+#[test]
+fn a_failed_read_is_no_command(rt: HostRuntime) -> Result<(), Fail> {
+    let text = b"load inline\na\n.\n".as_slice();
+    for calls in 0..16 {
+        let mut lines = LineReader::new(rt.alloc())?;
+        let read = next_command(rt.alloc(), &mut lines, &mut Failing { text, calls });
+        let kind = read.err().ok_or("read")?.kind();
+        assert_eq!(rt; kind, ErrorKind::BrokenPipe, "after {calls} reads");
+    }
+    Ok(())
+}
+
+// A line of 41 bytes, of which each write takes one.
+#[test]
+fn a_failed_write_is_an_error(rt: HostRuntime) -> Result<(), Fail> {
+    let refusal = Refusal::GraphFault(GraphFault::Cron(CronFault::NeverFires));
+    for calls in 0..41 {
+        let ended = put_refusal(&mut Failing { text: b"", calls }, &refusal);
+        let kind = ended.err().ok_or("written")?.kind();
+        assert_eq!(rt; kind, ErrorKind::BrokenPipe, "at {calls}");
+    }
+    put_refusal(
+        &mut Failing {
+            text: b"",
+            calls: 41,
+        },
+        &refusal,
+    )?;
+    Ok(())
+}

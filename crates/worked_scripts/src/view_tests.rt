@@ -1,0 +1,62 @@
+//! What is asked of a schedule that has it not.
+use graph_file::Name;
+use moment_core::Moment;
+use sched_core::{Refusal, Schedule};
+use script_runner::run_serial;
+use std::alloc::Global;
+use std::test::Fail;
+
+const SCRIPT: &str = "load inline
+dag_id = \"one\"
+schedule = \"@daily\"
+start_date = \"2024-01-01\"
+task = [{ task_id = \"t\", operator = \"noop\" }]
+.
+tick 2024-01-02
+";
+
+fn name(alloc: Global, text: &str) -> Result<Name, Fail> {
+    Ok(Name::read(alloc, text).map_err(|_| "no name")?)
+}
+
+// The schedule of the script, with one lane.
+fn schedule(alloc: Global) -> Result<Schedule, Fail> {
+    let mut output = Vec::new(alloc);
+    let ended = run_serial(alloc, 1, SCRIPT.as_bytes(), &mut output);
+    let (schedule, _status) = ended.map_err(|_| "refused")?;
+    Ok(schedule)
+}
+
+// How many tries the instance of a task has in the run of a graph.
+fn tries(
+    alloc: Global,
+    schedule: &Schedule,
+    (graph, date, task): (&str, &str, &str),
+) -> Result<Option<usize>, Fail> {
+    let (graph, task) = (name(alloc, graph)?, name(alloc, task)?);
+    let date = Moment::read(date).map_err(|_| "no moment")?;
+    let found = schedule.instance_of(&graph, date, &task);
+    Ok(found.map(|instance| instance.tries().len()))
+}
+
+#[test]
+fn an_instance_is_found_by_its_key(rt: HostRuntime) -> Result<(), Fail> {
+    let schedule = schedule(rt.alloc())?;
+    for (key, wanted) in [
+        (("one", "2024-01-01", "t"), Some(1)),
+        (("one", "2024-01-01", "one"), None),
+        (("t", "2024-01-01", "t"), None),
+        (("one", "2024-01-02", "t"), None),
+    ] {
+        assert_eq!(rt; tries(rt.alloc(), &schedule, key)?, wanted);
+    }
+    Ok(())
+}
+
+#[test]
+fn a_script_has_64_lanes_at_most(rt: HostRuntime) -> Result<(), Fail> {
+    let mut output = Vec::new(rt.alloc());
+    let ended = run_serial(rt.alloc(), 65, b"".as_slice(), &mut output);
+    assert!(rt; matches!(ended, Err(Refusal::LanesTooMany)));
+    Ok(())
+}
