@@ -141,10 +141,11 @@ class Runs:
             started.kill()
             started.wait()
 
-    def start(self, key, words, cwd, log, stdin=subprocess.DEVNULL, env=None):
-        with open(log, "wb") as out:
+    def start(self, key, words, cwd, log, stdin=subprocess.DEVNULL, stdout=None, env=None):
+        """Starts a command, whose words go into the file log; its standard output alone goes into stdout, where that is given."""
+        with open(log, "wb") as said:
             # a group of its own, so that Ctrl-C reaches this script alone, which then ends rt, and rt what it started
-            how = {"cwd": cwd, "stdin": stdin, "stdout": out, "stderr": subprocess.STDOUT, "start_new_session": True, "env": env}
+            how = {"cwd": cwd, "stdin": stdin, "stdout": stdout or said, "stderr": said, "start_new_session": True, "env": env}
             self.running[key] = subprocess.Popen(words, **how), log, time.time()
 
     def next_end(self):
