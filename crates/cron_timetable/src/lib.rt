@@ -23,8 +23,6 @@ mod reading;
 #[cfg(test)]
 mod search_tests;
 mod searches;
-#[cfg(test)]
-mod tests;
 mod timetables;
 
 pub use expressions::Cron;

@@ -1,101 +1,11 @@
-//! The searches beside a plain walk by minutes, and the number of their turns.
+//! The number of turns of the searches.
 ghost use Rattle.std.specs.Prelude.{◌<◌};
 
 use crate::Cron;
 use crate::field_sets::FieldSet;
 use crate::reading::fields;
 use moment_core::{END, Moment};
-use std::process::Abort;
 use std::test::Fail;
-
-// How far the plain walk goes: sixty days, over the end of two months.
-const WALKED: u64 = 60 * 86_400;
-
-// The first tick from the first second on to before the last one, minute by minute.
-fn walk(cron: &Cron, first: u64, last: u64) -> Option<Moment> {
-    for minute in first.div_ceil(60)..last.div_ceil(60) {
-        let at = Moment::at(0).checked_plus(minute * 60)?;
-        if cron.fires(at) {
-            return Some(at);
-        }
-    }
-    None
-}
-
-// The last such tick.
-fn walk_back(cron: &Cron, first: u64, last: u64) -> Option<Moment> {
-    for minute in (first.div_ceil(60)..last.div_ceil(60)).rev() {
-        let at = Moment::at(0).checked_plus(minute * 60)?;
-        if cron.fires(at) {
-            return Some(at);
-        }
-    }
-    None
-}
-
-// Asserts that the searches find what the walk finds, as far as it goes.
-fn assert_walked(rt: &impl Abort, text: &str, at: Moment) -> Result<(), Fail> {
-    let cron = Cron::read(text).map_err(|_| "refused")?;
-    let secs = at.secs();
-    let end = (secs + WALKED).min(END);
-    let start = secs.saturating_sub(WALKED);
-    let before_end = |tick: &Moment| tick.secs() < end;
-    let from_start = |tick: &Moment| tick.secs() >= start;
-    assert_eq!(rt;
-        cron.next_at_or_after(at).filter(before_end),
-        walk(&cron, secs, end),
-        "{text} {secs}"
-    );
-    assert_eq!(rt;
-        cron.next_after(at).filter(before_end),
-        walk(&cron, secs + 1, end),
-        "{text} {secs}"
-    );
-    assert_eq!(rt;
-        cron.last_at_or_before(at).filter(from_start),
-        walk_back(&cron, start, secs + 1),
-        "{text} {secs}"
-    );
-    assert_eq!(rt;
-        cron.last_before(at).filter(from_start),
-        walk_back(&cron, start, secs),
-        "{text} {secs}"
-    );
-    Ok(())
-}
-
-#[test]
-fn finds_what_a_plain_walk_finds(rt: HostRuntime) -> Result<(), Fail> {
-    let texts = [
-        "* * * * *",
-        "*/7 * * * *",
-        "59 23 * * *",
-        "0 0 31 * *",
-        "30 4 1,15 * 5",
-        "0 0 13 * 5",
-        "0 12 29 2 *",
-        "5 4 * * SUN",
-        "0 12 * 1-3,11 MON-FRI",
-        "0 0 */2 * TUE",
-        "7 9-17/4 28-31 * *",
-        "0 22 30 4,6,9,11 6",
-    ];
-    let moments = [
-        "1970-01-01",
-        "1970-01-31T23:59:59Z",
-        "2024-02-28T23:59:30Z",
-        "2023-12-31T23:00:00Z",
-        "2100-02-28T12:34:56Z",
-        "2199-12-31T23:59:59Z",
-    ];
-    for text in texts {
-        for moment in moments {
-            let at = Moment::read(moment).map_err(|_| "no moment")?;
-            assert_walked(&rt, text, at)?;
-        }
-    }
-    Ok(())
-}
 
 #[test]
 fn finds_a_leap_day_in_few_turns(rt: HostRuntime) -> Result<(), Fail> {

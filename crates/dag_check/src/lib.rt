@@ -22,8 +22,6 @@ mod layouts;
 mod orders;
 mod positions;
 mod reaching;
-#[cfg(test)]
-mod tests;
 
 pub use faults::DagFault;
 pub use graphs::{Direction, Graph, check};

@@ -19,8 +19,6 @@ mod arguments;
 mod bounded;
 mod building;
 mod classes;
-#[cfg(test)]
-mod fault_tests;
 mod faults;
 mod finding;
 mod graph_specs;
@@ -34,10 +32,6 @@ mod sequences;
 mod tables;
 mod task_lists;
 mod task_specs;
-#[cfg(test)]
-mod task_tests;
-#[cfg(test)]
-mod tests;
 
 pub use actions::{Action, Argument};
 pub use bounded::Bounded;

@@ -16,8 +16,6 @@ mod laws;
 mod moments;
 mod printing;
 mod reading;
-#[cfg(test)]
-mod tests;
 
 pub use calendar::{Civil, Date, date_at, month_end, month_start};
 pub use laws::{

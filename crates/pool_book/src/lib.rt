@@ -20,8 +20,6 @@ mod pool_uses;
 mod pools;
 mod ready;
 mod slots;
-#[cfg(test)]
-mod tests;
 
 pub use keys::Key;
 pub use laws::{

@@ -9,8 +9,6 @@
 #![tactic(auto)]
 
 mod laws;
-#[cfg(test)]
-mod tests;
 mod weights;
 
 pub use laws::a_place_has_one_weight;

@@ -17,8 +17,6 @@
 mod bytes;
 mod laws;
 mod lines;
-#[cfg(test)]
-mod tests;
 
 pub use laws::the_limit_is_that_of_the_definitions;
 pub use lines::{Found, LINE_LIMIT, LineReader};

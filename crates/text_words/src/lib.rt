@@ -9,8 +9,6 @@
 //! ```
 #![tactic(auto)]
 
-#[cfg(test)]
-mod tests;
 mod words;
 
 pub use words::{is_blank, next_word};

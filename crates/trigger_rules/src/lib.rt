@@ -15,8 +15,6 @@
 mod counts;
 mod laws;
 mod states;
-#[cfg(test)]
-mod tests;
 mod verdicts;
 
 pub use counts::Counts;

@@ -1,0 +1,51 @@
+//! Worked values: what the crates below the schedule answer to questions that are lines of standard input.
+//!
+//! A question is `SUBJECT WORD REST`; it is printed with its answer behind ` => `. A line that begins with `#` and an empty line are printed
+//! as they are, so that the output reads as a page. Each subject has a file.
+#![tactic(auto)]
+
+mod books;
+mod dag_files;
+mod dags;
+mod expressions;
+mod graphs;
+mod moments;
+mod tasks;
+mod terms;
+mod texts;
+
+use std::io;
+
+fn main(rt: HostRuntime) -> io::Result<()> {
+    let text = io::read_to_string(rt.alloc(), rt.reader())?;
+    for line in text.as_str().lines() {
+        write_line(&rt, line)?;
+    }
+    Ok(())
+}
+
+// Writes a line of the page.
+fn write_line(rt: &HostRuntime, line: &str) -> io::Result<()> {
+    if line.is_empty() || line.starts_with('#') {
+        return rt.println(line);
+    }
+    print!(rt; "{line} => ")?;
+    write_answer(rt, line)?;
+    rt.println("")
+}
+
+// Writes the answer to a question.
+fn write_answer(rt: &HostRuntime, line: &str) -> io::Result<()> {
+    let (subject, rest) = line.split_once(' ').unwrap_or((line, ""));
+    let (word, rest) = rest.split_once(' ').unwrap_or((rest, ""));
+    match subject {
+        "moment" => moments::write_answer(rt, word, rest),
+        "cron" => expressions::write_answer(rt, word, rest),
+        "term" => terms::write_answer(rt, word, rest),
+        "file" => graphs::write_answer(rt, word, rest),
+        "dag" => dags::write_answer(rt, word, rest),
+        "text" => texts::write_answer(rt, word, rest),
+        "book" => books::write_answer(rt, word, rest),
+        _ => rt.print("no such subject"),
+    }
+}
