@@ -45,22 +45,25 @@ fn a_graph_may_have_256_tasks(rt: HostRuntime) -> Result<(), Fail> {
     Ok(())
 }
 
-fn step(alloc: Global, schedule: &mut Schedule, event: &Event) -> Result<(), Fail> {
-    schedule.step(alloc, event).map_err(|_| "refused")?;
-    Ok(())
+// The events by which a graph of 256 tasks gets a hundred days.
+fn hundred_days(alloc: Global) -> Result<Vec<Event>, Fail> {
+    let day = Moment::read("2024-04-10").map_err(|_| "no moment")?;
+    let text = Text::from_string(file(alloc, 256, false)?);
+    let mut events = vec![in alloc; Event::Restart(64), Event::Load(text)]?;
+    for _tick in 0..10 {
+        events.push(Event::Tick(day))?;
+    }
+    Ok(events)
 }
 
-// The schedule of a graph of 256 tasks with a hundred days, of which 64 tries are in flight.
-fn hundred_days(alloc: Global) -> Result<Schedule, Fail> {
-    let mut schedule = Schedule::new(alloc, Limits::full())?;
-    step(alloc, &mut schedule, &Event::Restart(64))?;
-    let text = Text::from_string(file(alloc, 256, false)?);
-    step(alloc, &mut schedule, &Event::Load(text))?;
-    let day = Moment::read("2024-04-10").map_err(|_| "no moment")?;
-    for _tick in 0..10 {
-        step(alloc, &mut schedule, &Event::Tick(day))?;
+// Whether the events are accepted, one after another.
+fn are_accepted(alloc: Global, schedule: &mut Schedule, events: &[Event]) -> bool {
+    for event in events {
+        if schedule.step(alloc, event).is_err() {
+            return false;
+        }
     }
-    Ok(schedule)
+    true
 }
 
 // How many runs the schedule has, how many tries are in flight, and the next serial.
@@ -75,12 +78,13 @@ fn counts(schedule: &Schedule) -> (usize, usize, u64) {
 // This is to end in seconds.
 #[test]
 fn a_large_schedule_is_gone_through(rt: HostRuntime) -> Result<(), Fail> {
-    let alloc = rt.alloc();
-    let mut schedule = hundred_days(alloc)?;
+    let events = hundred_days(rt.alloc())?;
+    let mut schedule = Schedule::new(rt.alloc(), Limits::full())?;
+    assert!(rt; are_accepted(rt.alloc(), &mut schedule, events.as_slice()));
     assert_eq!(rt; counts(&schedule), (100, 64, 65));
-    for stage in [Stage::Started, Stage::Ended(Outcome::Success)] {
-        step(alloc, &mut schedule, &Event::Report(1, stage))?;
-    }
+    let started = Event::Report(1, Stage::Started);
+    let ended = Event::Report(1, Stage::Ended(Outcome::Success));
+    assert!(rt; are_accepted(rt.alloc(), &mut schedule, &[started, ended]));
     assert_eq!(rt; counts(&schedule), (100, 64, 66));
     Ok(())
 }

@@ -19,6 +19,8 @@
 #![tactic(auto)]
 
 #[cfg(test)]
+mod cycle_tests;
+#[cfg(test)]
 mod failing;
 #[cfg(test)]
 mod large_tests;
