@@ -89,7 +89,11 @@ def copy_crates(room, crates, names):
 @contextmanager
 def room_for(what):
     """A folder outside the repository, which is gone when the block ends."""
-    room = tempfile.mkdtemp(prefix=f"{what}-")
+    place = tempfile.gettempdir()
+    if os.stat(place).st_dev != os.stat(TOP).st_dev and os.access("/var/tmp", os.W_OK):
+        # what cannot be linked is copied, and that may be too much for a folder in memory
+        place = "/var/tmp"
+    room = tempfile.mkdtemp(prefix=f"{what}-", dir=place)
     try:
         yield room
     finally:
@@ -102,12 +106,13 @@ def room_for(what):
 
 
 def lines_of(name):
-    """Returns how many lines of code the crate has."""
+    """Returns how many lines the crate has, those of its definitions and proofs too."""
     found = 0
-    for at, _, files in os.walk(f"{TOP}/crates/{name}/src"):
-        for file in files:
-            with open(f"{at}/{file}", "rb") as it:
-                found += it.read().count(b"\n")
+    for part in PARTS:
+        for at, _, files in os.walk(f"{TOP}/crates/{name}/{part}"):
+            for file in files:
+                with open(f"{at}/{file}", "rb") as it:
+                    found += it.read().count(b"\n")
     return found
 
 
