@@ -45,7 +45,7 @@ fn write_read(rt: &HostRuntime, word: &str, task: &str, text: &str) -> io::Resul
 fn write_checked(rt: &HostRuntime, word: &str, task: &str, spec: GraphSpec) -> io::Result<()> {
     match check(rt.alloc(), spec) {
         Ok(graph) => write_of(rt, word, task, &graph),
-        Err((spec, fault)) => write_refused(rt, &spec, &fault),
+        Err((spec, fault)) => write_refused(rt, &spec, fault),
     }
 }
 
@@ -61,21 +61,21 @@ fn write_of(rt: &HostRuntime, word: &str, task: &str, graph: &Graph) -> io::Resu
     }
 }
 
-fn write_fault(rt: &HostRuntime, fault: &DagFault) -> io::Result<()> {
+fn write_fault(rt: &HostRuntime, fault: DagFault) -> io::Result<()> {
     match fault {
         DagFault::DoubleTask(i) => print!(rt; "DoubleTask {i}"),
         DagFault::UnknownUpstream(i) => print!(rt; "UnknownUpstream {i}"),
         DagFault::DoubleEdge(i) => print!(rt; "DoubleEdge {i}"),
         DagFault::Cycle(names) => {
             rt.print("Cycle")?;
-            write_names(rt, names.as_slice())
+            write_names(rt, names.into_vec().as_slice())
         }
         DagFault::Memory => rt.print("Memory"),
     }
 }
 
 // The fault, and the tasks of the file that comes back.
-fn write_refused(rt: &HostRuntime, spec: &GraphSpec, fault: &DagFault) -> io::Result<()> {
+fn write_refused(rt: &HostRuntime, spec: &GraphSpec, fault: DagFault) -> io::Result<()> {
     write_fault(rt, fault)?;
     rt.print(" of")?;
     for task in spec.tasks.as_slice() {

@@ -110,7 +110,7 @@ fn write_runs(rt: &HostRuntime, graph: &GraphSpec) -> io::Result<()> {
 // What each task of a file says, or the fault of the file.
 fn write_tasks_of(rt: &HostRuntime, text: &str) -> io::Result<()> {
     match read_graph(rt.alloc(), text) {
-        Ok(graph) => write_tasks(rt, graph.tasks.as_slice()),
+        Ok(graph) => write_tasks(rt, graph.tasks.into_vec().as_slice()),
         Err(fault) => print!(rt; "{fault:?}"),
     }
 }

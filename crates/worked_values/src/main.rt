@@ -13,6 +13,7 @@ mod moments;
 mod tasks;
 mod terms;
 mod texts;
+mod turns;
 
 use std::io;
 
@@ -46,6 +47,7 @@ fn write_answer(rt: &HostRuntime, line: &str) -> io::Result<()> {
         "dag" => dags::write_answer(rt, word, rest),
         "text" => texts::write_answer(rt, word, rest),
         "book" => books::write_answer(rt, word, rest),
+        "instance" => turns::write_answer(rt, word, rest),
         _ => rt.print("no such subject"),
     }
 }
