@@ -3,9 +3,6 @@
 //! Standard input has headings, `== LANES TITLE`, and below each the lines of a script. Standard output has the same, with `> ` before each
 //! line of a script, and after them what the script prints and its status. So the output reads as one page.
 //!
-//! The tests beside it are of what no stored run reaches: readers and writers that fail, want of memory, long lines, large graphs, and what
-//! is asked of a schedule that has it not.
-//!
 //! ```text
 //! == 4 pools are sized and listed
 //! > resize p 3
@@ -18,21 +15,7 @@
 //! ```
 #![tactic(auto)]
 
-#[cfg(test)]
-mod cycle_tests;
-#[cfg(test)]
-mod failing;
-#[cfg(test)]
-mod large_tests;
-#[cfg(test)]
-mod line_tests;
-#[cfg(test)]
-mod memory_tests;
 mod sections;
-#[cfg(test)]
-mod stream_tests;
-#[cfg(test)]
-mod view_tests;
 
 use script_runner::run_serial;
 use sections::{Section, next_section};
