@@ -165,7 +165,7 @@ planned_same a text dag i g kept said accepted there named text_is =
     load_step a text dag said
     ∙ (ap (λ (b : Schedule). hand_out (settle b)) (load_again text dag a g said kept.sound kept.said found text_is)
     ∙ (ap hand_out (settle_still a kept.settled) ∙ hand_still a kept.handed)) in
-    record { accepted = accepted; before = refl; after = sym is; answer = quiet_answer a a text is refl }
+    record { ranged = tt; accepted = accepted; before = refl; after = sym is; answer = quiet_answer a a text is refl }
 
 -- a text that takes no run's graph is taken in, and nothing moves
 pub loaded_kept : (a : Schedule) (text : List ℕ) (dag : Dag) → IsKept a → IsTaken a text dag → has_runs a dag.spec.dag_id ≡ false → refused a (Load text) ≡ None → IsKept (load_graph text dag a)
@@ -188,7 +188,7 @@ planned_load a text dag kept said quiet accepted =
     let b : Schedule = load_graph text dag a in
     let is : step (Load text) a ≡ b =
     load_step a text dag said ∙ (ap hand_out (settle_still b (load_still text dag a quiet kept.settled)) ∙ hand_still b (load_no_hand text dag a quiet kept.handed)) in
-    record { accepted = accepted; before = refl; after = sym is; answer = quiet_answer a b text is refl }
+    record { ranged = tt; accepted = accepted; before = refl; after = sym is; answer = quiet_answer a b text is refl }
 
 -- ---- by a draft
 pub draft_sound : (e : Event) (a b : Schedule) → IsInRange e → refused a e ≡ None → IsKept a → b ≡ add_runs (named_by e a) (change_by e a) → IsSound b
@@ -211,14 +211,14 @@ told_by e a q ids more count quiet ids_is more_is count_is =
     ∙ (ap (λ m. record no_runs { made = map id_of (named_by e a); more = m; cleared = count }) more_is
     ∙ ap (λ n. record no_runs { made = map id_of (named_by e a); more = leaves_more_by e a; cleared = n }) count_is))
 
-pub draft_planned : (e : Event) (a b : Schedule) (answer : Answer) (c : Planned) → refused a e ≡ None → b ≡ add_runs (named_by e a) (change_by e a) → answer ≡ told e a
+pub draft_planned : (e : Event) (a b : Schedule) (answer : Answer) (c : Planned) → IsInRange e → refused a e ≡ None → b ≡ add_runs (named_by e a) (change_by e a) → answer ≡ told e a
     → c ≡ record { before = a; after = hand_out (settle b); answer = record answer { jobs = handed a (hand_out (settle b)) } } → IsPlanned a e c
 unfolding step
-draft_planned e a b answer c accepted is answer_is planned =
+draft_planned e a b answer c ranged accepted is answer_is planned =
     let after : hand_out (settle b) ≡ step e a = ap (λ (s : Schedule). hand_out (settle s)) is in
     let given : ◌≡◌ {A = Answer} (record answer { jobs = handed a (hand_out (settle b)) }) (answer_to e a) =
     ap (λ (t : Answer). record t { jobs = handed a (hand_out (settle b)) }) answer_is ∙ ap (λ (s : Schedule). record (told e a) { jobs = handed a s }) after in
-    subst (IsPlanned a e) (sym planned) (record { accepted = accepted; before = refl; after = after; answer = given })
+    subst (IsPlanned a e) (sym planned) (record { ranged = ranged; accepted = accepted; before = refl; after = after; answer = given })
 
 -- the tick's causes
 two_none : (b c : Bool) (x y : Refusal) → b ≡ false → c ≡ false → first_some (when b x ∷ when c y ∷ []) ≡ None
@@ -276,6 +276,7 @@ pub planned_pause : (a : Schedule) (id : List ℕ) → IsKept a → is_none (gra
 planned_pause a id kept there =
     let is : step (Pause id) a ≡ set_paused id true a = pause_step id a kept in
     record {
+      ranged = tt;
       accepted = pause_accepted a id there;
       before = refl;
       after = sym is;

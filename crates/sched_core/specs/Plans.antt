@@ -2,6 +2,7 @@
 use Rattle.std.specs.Prelude.{◌≡◌, [], false, None}
 use Rattle.sched_model.specs.Schedule.{Schedule}
 use Rattle.sched_events.specs.Causes.{refused}
+use Rattle.sched_events.specs.Events.{IsInRange}
 use Rattle.sched_events.specs.Steps.{step, answer_to}
 use Rattle.sched_events.specs.declared.answers.Answer.{Answer}
 use Rattle.sched_events.specs.declared.answers.RunId.{RunId}
@@ -9,8 +10,9 @@ use Rattle.sched_state.specs.declared.runs.Run.{Run}
 use Rattle.sched_events.specs.declared.events.Event.{Event}
 use Rattle.sched_core.specs.Changes.{Planned}
 
--- the event is accepted, and the change is its step, with its answer
+-- the event is within its ranges and accepted, and the change is its step, with its answer
 pub record IsPlanned (a : Schedule) (e : Event) (c : Planned) : Type 0 where
+  pub ranged : IsInRange e
   pub accepted : refused a e ≡ None
   pub before : c.before ≡ a
   pub after : c.after ≡ step e a

@@ -1,4 +1,6 @@
 //! The core of the scheduler: an event is refused, or planned, reserved and committed.
+//!
+//! What events, answers and rows are made of is offered here too, so that a crate above names this one alone.
 #![tactic(auto)]
 
 mod changes;
@@ -17,7 +19,12 @@ mod triggering;
 mod views;
 
 pub use changes::Change;
+pub use graph_file::Name;
+pub use instance_machine::{Instance, Outcome, Stage, Try};
+pub use moment_core::Moment;
+pub use pool_book::Slots;
 pub use pool_rows::PoolRows;
 pub use rows::Instances;
-pub use sched_events::{Answer, Event, InstanceRow, PoolRow, Refusal, RunId};
+pub use sched_events::{Answer, Event, InstanceRow, PoolRow, Refusal, RunId, State};
+pub use sched_state::{Clearing, Graph, Job, Kind, Limits, Phase, Run, Text};
 pub use schedules::Schedule;

@@ -1,4 +1,5 @@
 pub mod StepLemmas
+pub mod PromiseLemmas
 pub mod AcceptLemmas
 pub mod CauseLemmas
 pub mod RepairLemmas

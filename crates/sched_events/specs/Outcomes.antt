@@ -9,6 +9,7 @@ use Rattle.pool_book.specs.declared.pools.PoolFault.{PoolFault}
 use Rattle.pool_book.specs.declared.pools.PoolFault.TheVariants as pool
 use Rattle.sched_model.specs.Schedule.{Schedule}
 use Rattle.sched_events.specs.Causes.{refused}
+use Rattle.sched_events.specs.Events.{IsInRange}
 use Rattle.sched_events.specs.Steps.{step, answer_to}
 use Rattle.sched_events.specs.declared.answers.Answer.{Answer}
 use Rattle.sched_events.specs.declared.events.Event.{Event}
@@ -29,8 +30,9 @@ abbrev pub refusal_of_pool : PoolFault → Refusal
 refusal_of_pool pool.TooManyPools = refusal.PoolFault pool.TooManyPools
 refusal_of_pool pool.Memory = refusal.Memory
 
--- the event is accepted, the schedule after it is its step, and this is its answer
+-- the event is within its ranges and accepted, the schedule after it is its step, and this is its answer
 pub record IsStepped (a : Schedule) (e : Event) (b : Schedule) (given : Answer) : Type 0 where
+  pub ranged : IsInRange e
   pub accepted : refused a e ≡ None
   pub after : b ≡ step e a
   pub answer : given ≡ answer_to e a

@@ -1,5 +1,6 @@
 -- The step that an accepted event makes, and its answer.
-use Rattle.std.specs.Prelude.{◌≡◌, List, [], ◌∷◌, ◌++◌, map, None}
+use Rattle.std.specs.Prelude.{◌≡◌, List, [], ◌∷◌, ◌++◌, map, flat_map, None, Some}
+use Rattle.sched_state.specs.declared.jobs.Job.{Job}
 use Rattle.sched_model.specs.Schedule.{Schedule}
 use Rattle.sched_model.specs.NamedRuns.{Named}
 use Rattle.sched_model.specs.Changes.{advance}
@@ -24,6 +25,11 @@ abbrev pub AreAccepted : List Event → Schedule → Type 0
 AreAccepted [] a = Unit {0}
 AreAccepted (e ∷ es) a = IsInRange e × (refused a e ≡ None) × AreAccepted es (step e a)
 
+-- of a list of events those that are accepted, each at the schedule that it comes to
+abbrev pub accepted_among : List Event → Schedule → List Event
+accepted_among [] a = []
+accepted_among (e ∷ es) a = elim (refused a e) [ None ↦ e ∷ accepted_among es (step e a) | Some r ↦ accepted_among es a ]
+
 -- the runs that a list of events names, each at the schedule that it comes to
 abbrev pub named_along : List Event → Schedule → List Named
 named_along [] a = []
@@ -36,3 +42,11 @@ id_of n = record { graph = n.graph; logical = n.logical; kind = n.kind }
 -- of the instances that were set back were not none, and the tries handed out
 abbrev pub answer_to : Event → Schedule → Answer
 answer_to e a = record { made = map id_of (named_by e a); more = leaves_more_by e a; cleared = count_in (set_back_by e a) a; jobs = handed a (step e a) }
+
+-- the answers to a list of events, each at the schedule that it comes to, and the tries that they hand out
+abbrev pub answers_along : List Event → Schedule → List Answer
+answers_along [] a = []
+answers_along (e ∷ es) a = answer_to e a ∷ answers_along es (step e a)
+
+abbrev pub handed_along : List Event → Schedule → List Job
+handed_along es a = flat_map (λ (answer : Answer). answer.jobs) (answers_along es a)

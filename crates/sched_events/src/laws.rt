@@ -1,22 +1,29 @@
 //! Laws of the steps.
-ghost use Rattle.std.specs.Prelude.{◌≡◌, ℕ, ◌||◌, ◌++◌, ◌≤◌, List, Bool, [], None, Some, Ok, IsTrue, true, false};
-ghost use Rattle.std.specs.List.{list_any};
+ghost use Rattle.std.specs.Prelude.{◌≡◌, ℕ, ◌-◌, ◌||◌, ◌++◌, ◌≤◌, List, Bool, [], ◌∷◌, None, Some, Ok, IsTrue, true, false};
+ghost use Rattle.std.specs.List.{list_any, range_with_len};
+ghost use Rattle.std.specs.List.Sorted.{IsPermutation};
 ghost use Rattle.graph_file.specs.Graphs.{graph_of};
 ghost use Rattle.graph_file.specs.declared.graph_specs.GraphSpec.{GraphSpec};
 ghost use Rattle.run_planner.specs.Index.{has_date};
 ghost use Rattle.run_planner.specs.Spans.{starts};
+ghost use Rattle.instance_machine.specs.declared.tries.Try.{Try};
 ghost use Rattle.sched_state.specs.declared.clearings.Clearing.{Clearing};
+ghost use Rattle.sched_state.specs.Limits.{Bounds};
 ghost use Rattle.sched_state.specs.Lists.{same};
 ghost use Rattle.sched_state.specs.declared.graphs.Graph.{Graph};
-ghost use Rattle.sched_model.specs.Schedule.{Schedule, graph_named, has_pool, has_run_at, size_of};
+ghost use Rattle.sched_model.specs.Schedule.{Schedule, empty_schedule, graph_named, has_pool, has_run_at, size_of};
 ghost use Rattle.sched_model.specs.Settle.{move};
 ghost use Rattle.sched_model.specs.Handout.{hand_one};
+ghost use Rattle.sched_model.specs.Jobs.{handed};
 ghost use Rattle.sched_model.specs.Clearing.{cleared_by, named_pairs};
 ghost use Rattle.sched_model.specs.NamedRuns.{is_for, named_by_backfill, spanned};
 ghost use Rattle.sched_model.specs.Changes.{set_paused, resize};
+ghost use Rattle.sched_laws.specs.Runs.{runs_named};
+ghost use Rattle.sched_laws.specs.Tries.{GoesOn, try_at};
 ghost use Rattle.sched_events.specs.Events.{named_by, IsInRange};
 ghost use Rattle.sched_events.specs.Causes.{refused};
-ghost use Rattle.sched_events.specs.Steps.{step, steps, named_along, AreAccepted};
+ghost use Rattle.sched_events.specs.Promises.{serials_in, AreDistinct, IsReached, KeepsPromises};
+ghost use Rattle.sched_events.specs.Steps.{step, steps, named_along, handed_along, AreAccepted};
 ghost use Rattle.sched_events.specs.Kept.{IsKept};
 ghost use Rattle.sched_events.specs.declared.events.Event.{Event};
 ghost use Rattle.sched_events.specs.declared.events.Event.TheVariants.{Load, Backfill, Clear, Pause, Unpause, Resize};
@@ -29,9 +36,11 @@ pub fn steps_keep_the_schedule()
     ensures kept { (e : Event) (a : Schedule) → IsInRange e → refused a e ≡ None → IsKept a → IsKept (step e a) }
 {}
 
-/// The runs after a step are those before it and the named ones, by graph and logical date.
+/// The runs after a step are those before it and the named ones, each with its graph, its logical date, its interval, and how it came to be.
+/// So a graph has a run for a date where it had one, or one is named.
 pub fn steps_add_the_named_runs()
-    ensures { (e : Event) (a : Schedule) (id : List ℕ) (date : ℕ) →
+    ensures runs { (e : Event) (a : Schedule) → IsPermutation (named_by e a ++ runs_named a) (runs_named (step e a)) }
+    ensures dates { (e : Event) (a : Schedule) (id : List ℕ) (date : ℕ) →
         has_run_at (step e a) id date ≡ (list_any (is_for id date) (named_by e a) || has_run_at a id date) }
 {}
 
@@ -74,11 +83,48 @@ pub fn lists_of_steps_keep_the_schedule()
     ensures { (es : List Event) (a : Schedule) → AreAccepted es a → IsKept a → IsKept (steps es a) }
 {}
 
-/// The runs after a list of events are those before it and those that the events name, each at the schedule that it comes to, by
-/// graph and logical date.
+/// The runs after a list of events are those before it and those that the events name, each event at the schedule that it comes to.
 pub fn lists_of_steps_add_their_runs()
-    ensures { (es : List Event) (a : Schedule) (id : List ℕ) (date : ℕ) →
+    ensures runs { (es : List Event) (a : Schedule) → IsPermutation (named_along es a ++ runs_named a) (runs_named (steps es a)) }
+    ensures dates { (es : List Event) (a : Schedule) (id : List ℕ) (date : ℕ) →
         has_run_at (steps es a) id date ≡ (list_any (is_for id date) (named_along es a) || has_run_at a id date) }
+{}
+
+/// Each try that is there stays, in its run and its instance and with its number: with its serial and its slots, and with its start and its
+/// end once they are there.
+pub fn tries_go_on()
+    ensures step { (e : Event) (a : Schedule) (id : List ℕ) (date place n : ℕ) (t : Try) → IsInRange e → refused a e ≡ None → IsKept a
+        → try_at a id date place n ≡ Some t → (u : Try) × (try_at (step e a) id date place n ≡ Some u) × GoesOn t u }
+    ensures steps { (es : List Event) (a : Schedule) (id : List ℕ) (date place n : ℕ) (t : Try) → AreAccepted es a → IsKept a
+        → try_at a id date place n ≡ Some t → (u : Try) × (try_at (steps es a) id date place n ≡ Some u) × GoesOn t u }
+{}
+
+/// The next serial never falls, and the serials of the tries that accepted events hand out are those that were next, one after another. So a
+/// serial is never used twice: of the answers to a list of accepted events at most one has it among its jobs, and once.
+pub fn each_serial_is_handed_out_once()
+    ensures rises { (e : Event) (a : Schedule) → a.next ≤ (step e a).next }
+    ensures rises_along { (es : List Event) (a : Schedule) → a.next ≤ (steps es a).next }
+    ensures handed { (e : Event) (a : Schedule) → IsInRange e → refused a e ≡ None → IsKept a
+        → serials_in (handed a (step e a)) ≡ range_with_len a.next ((step e a).next - a.next) }
+    ensures handed_along { (es : List Event) (a : Schedule) → AreAccepted es a → IsKept a
+        → serials_in (handed_along es a) ≡ range_with_len a.next ((steps es a).next - a.next) }
+    ensures once { (es : List Event) (a : Schedule) → AreAccepted es a → IsKept a → AreDistinct (serials_in (handed_along es a)) }
+{}
+
+/// A step is its event's own change, with the runs that the event names; then moves, each the first that is possible, until none is; then
+/// hand-outs, each of the first in rank of the eligible that fit, within the bounds, until nothing eligible fits.
+pub fn steps_end_in_hand_outs()
+    ensures { (e : Event) (a : Schedule) → IsReached e a (step e a) }
+{}
+
+/// The promise of the scheduler, one event after another: after each accepted event the runs are those before it and the named ones; the
+/// schedule is settled, and nothing eligible fits; at each hand-out the bounds held; serials of tries are distinct and below the next one; each
+/// try goes on; and the tries that the answer hands out have the serials that were next. From the empty schedule on this holds of every list
+/// of accepted events.
+pub fn accepted_events_keep_the_promises()
+    ensures each { (e : Event) (a : Schedule) → IsInRange e → refused a e ≡ None → IsKept a → KeepsPromises e a (step e a) }
+    ensures from_the_first { (limits : Bounds) (es : List Event) (e : Event) → 1 ≤ limits.pools → AreAccepted (es ++ e ∷ []) (empty_schedule limits)
+        → KeepsPromises e (steps es (empty_schedule limits)) (step e (steps es (empty_schedule limits))) }
 {}
 
 /// A list of events in two parts is the one and then the other.

@@ -6,7 +6,9 @@ use Rattle.std.specs.Ordering.{nat_cmp, is_eq, ordering_then}
 use Rattle.std.specs.declared.cmp.Ordering.{Ordering}
 use Rattle.std.proofs.lemmas.Cmp.{nat_cmp_total, nat_list_cmp_total}
 use Rattle.std.proofs.lemmas.Map.Text.{is_eq-slice_cmp}
+use Rattle.std.specs.List.Sorted.{IsPermutation}
 use Rattle.std.proofs.lemmas.Bool.{le-leb, ltb-false, and_from, or_from}
+use Rattle.std.proofs.lemmas.List.Sorted.{IsPermutation-refl, IsPermutation-trans, IsPermutation-middle, IsPermutation-cons}
 use Rattle.graph_file.specs.declared.task_specs.TaskSpec.{TaskSpec}
 use Rattle.dag_check.specs.Orders.{repeated}
 use Rattle.instance_machine.specs.Instances.{new_instance}
@@ -19,7 +21,8 @@ use Rattle.sched_model.specs.Schedule.{Schedule, dag_among, graph_named, has_run
 use Rattle.sched_state.specs.declared.runs.Run.{Run}
 use Rattle.sched_model.specs.NamedRuns.{Named, is_for, queued_run, insert_runs, add_runs}
 use Rattle.sched_model.specs.Causes.{is_full_with}
-use Rattle.sched_model.specs.Sound.{IsSound, is_sound_in, is_sound_instance, is_sound_run, is_new, are_new, is_used, serials_of}
+use Rattle.sched_model.specs.Sound.{IsSound, is_sound_in, is_sound_instance, is_sound_run, is_new, are_new, is_used, tries_rise, all_tries_rise, serials_of}
+use Rattle.sched_laws.specs.Runs.{named_as, runs_named}
 use Rattle.sched_laws.proofs.InstanceLemmas.{of_parts}
 use Rattle.sched_laws.proofs.RunLemmas.{serials_in, run_serials, listed, serials_listed, goes_on}
 use Rattle.sched_laws.proofs.GraphLemmas.{insert_rises, insert_length, tie_flips}
@@ -72,6 +75,22 @@ added_keys a (n ∷ ns) id date =
     ∙ ap (λ b. is_for id date n || b) (added_keys a ns id date)
     ∙ or_assoc (is_for id date n) (list_any (is_for id date) ns) (has_run_at a id date)
 
+-- ---- the names of runs
+insert_names : (r : Run) (rs : List Run) → IsPermutation (named_as r ∷ map named_as rs) (map named_as (insert_by run_before r rs))
+insert_names r [] = IsPermutation-refl (named_as r ∷ [])
+insert_names r (q ∷ qs) = elim (run_before r q) as (λ b. IsPermutation (named_as r ∷ named_as q ∷ map named_as qs) (map named_as (elim b [ true ↦ r ∷ q ∷ qs | false ↦ q ∷ insert_by run_before r qs ]))) [
+  | true ↦ IsPermutation-refl (named_as r ∷ named_as q ∷ map named_as qs)
+  | false ↦ IsPermutation-trans (named_as r ∷ named_as q ∷ map named_as qs) (named_as q ∷ named_as r ∷ map named_as qs) (named_as q ∷ map named_as (insert_by run_before r qs))
+      (IsPermutation-middle (named_as r ∷ []) (named_as q) (map named_as qs))
+      (IsPermutation-cons (named_as q) (named_as r ∷ map named_as qs) (map named_as (insert_by run_before r qs)) (insert_names r qs))
+]
+
+pub added_names : (a : Schedule) (ns : List Named) → IsPermutation (ns ++ runs_named a) (map named_as (added a ns))
+added_names a [] = IsPermutation-refl (runs_named a)
+added_names a (n ∷ ns) = IsPermutation-trans (n ∷ (ns ++ runs_named a)) (n ∷ map named_as (added a ns)) (map named_as (added a (n ∷ ns)))
+    (IsPermutation-cons n (ns ++ runs_named a) (map named_as (added a ns)) (added_names a ns))
+    (insert_names (queued_run a n) (added a ns))
+
 added_count : (a : Schedule) (ns : List Named) → length (added a ns) ≡ length a.runs + length ns
 added_count a [] = omega arith
 added_count a (n ∷ ns) =
@@ -82,6 +101,14 @@ added_count a (n ∷ ns) =
 added_serials : (a : Schedule) (ns : List Named) → listed (added a ns) ≡ listed a.runs
 added_serials a [] = refl
 added_serials a (n ∷ ns) = flat_insert run_before run_serials (queued_run a n) (added a ns) (no_serials (length (dag_among a.graphs n.graph).tasks)) ∙ added_serials a ns
+
+blank_rise : (n : ℕ) → list_all tries_rise (replicate n new_instance) ≡ true
+blank_rise zero = refl
+blank_rise (suc n) = blank_rise n
+
+added_rise : (a : Schedule) (ns : List Named) → list_all all_tries_rise a.runs ≡ true → list_all all_tries_rise (added a ns) ≡ true
+added_rise a [] e = e
+added_rise a (n ∷ ns) e = all_insert run_before all_tries_rise (queued_run a n) (added a ns) (blank_rise (length (dag_among a.graphs n.graph).tasks)) (added_rise a ns e)
 
 added_sound : (a : Schedule) (ns : List Named) → are_new a ns ≡ true → IsSound a → list_all (is_sound_run a.graphs) (added a ns) ≡ true
 added_sound a [] e s = s.runs
@@ -118,4 +145,5 @@ add_sound ns a e few s =
       runs = added_sound a ns e s;
       serials_once = ap (λ xs. not (repeated xs)) q ∙ s.serials_once;
       serials_used = ap (list_all (is_used a.next)) q ∙ s.serials_used;
+      tries_by_serial = added_rise a ns s.tries_by_serial;
     }

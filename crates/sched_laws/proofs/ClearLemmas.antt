@@ -15,9 +15,9 @@ use Rattle.sched_model.specs.States.{is_open}
 use Rattle.sched_model.specs.Clearing.{Naming, cleared, clear_pair, pairs_of, named_in, requeued, clear_if, clear_run, clear, named_pairs}
 use Rattle.sched_model.specs.Causes.{open_serials, least_in_flight}
 use Rattle.sched_model.specs.Sound.{IsSound, is_sound_in, is_sound_instance, is_sound_run, has_end}
-use Rattle.sched_laws.proofs.ListLemmas.{all_front, all_back}
+use Rattle.sched_laws.proofs.ListLemmas.{all_flat}
 use Rattle.sched_laws.proofs.InstanceLemmas.{cleared_sound}
-use Rattle.sched_laws.proofs.RunLemmas.{key, serials_in, run_serials, flat_by, paired_sound, pairs_of_run, goes_on}
+use Rattle.sched_laws.proofs.RunLemmas.{key, try_lists, serials_of_tries, paired_sound, pairs_of_run, goes_on}
 use Rattle.sched_laws.proofs.SoundLemmas.{runs_changed}
 use Rattle.sched_laws.proofs.RankLemmas.{some_of_cons}
 use Rattle.std.proofs.lemmas.Bool.{and_from}
@@ -25,10 +25,6 @@ use Rattle.std.proofs.lemmas.Bool.{and_from}
 -- ---- no named try is open
 abbrev all_over : List (TaskSpec × Held) → Bool
 all_over es = list_all (λ (e : TaskSpec × Held). list_all has_end e.1.tries) es
-
-all_flat : {X Y : Type 0} (p : Y → Bool) (f : X → List Y) (xs : List X) → list_all p (flat_map f xs) ≡ true → list_all (λ x. list_all p (f x)) xs ≡ true
-all_flat p f [] e = refl
-all_flat p f (x ∷ xs) e = and_from _ _ (all_front p (f x) (flat_map f xs) e) (all_flat p f xs (all_back p (f x) (flat_map f xs) e))
 
 best_empty : {X : Type 0} (before : X → X → Bool) (xs : List X) → best_by before xs ≡ None → xs ≡ []
 best_empty before [] e = refl
@@ -76,16 +72,17 @@ cleared_pairs named ph k (t ∷ ts) (i ∷ is) o e =
       | false ↦ λ q. and_from _ _ (goes_on (requeued ph) t i (requeued_goes_on ph) si) (cleared_pairs named ph (k + 1) ts is q se)
     ] o
 
-cleared_serials : (named : ℕ → TaskSpec × Held → Bool) (p : TaskSpec → Held → Bool) (k : ℕ) (ts : List TaskSpec) (is : List Held) → all_pairs p ts is ≡ true
-    → map serials_in (map_places (clear_pair named) k (zip ts is)) ≡ map serials_in is
-cleared_serials named p k [] [] e = refl
-cleared_serials named p k [] (i ∷ is) e = absurd (true≢false (sym e))
-cleared_serials named p k (t ∷ ts) [] e = refl
-cleared_serials named p k (t ∷ ts) (i ∷ is) e =
-    let ih : map serials_in (map_places (clear_pair named) (k + 1) (zip ts is)) ≡ map serials_in is = cleared_serials named p (k + 1) ts is (and_right (p t i) _ e) in
-    elim (named k (t, i)) as (λ b. serials_in (cond b (cleared i) i) ∷ map serials_in (map_places (clear_pair named) (k + 1) (zip ts is)) ≡ serials_in i ∷ map serials_in is) [
-      | true ↦ ap (λ zs. serials_in i ∷ zs) ih
-      | false ↦ ap (λ zs. serials_in i ∷ zs) ih
+cleared_tries : (named : ℕ → TaskSpec × Held → Bool) (p : TaskSpec → Held → Bool) (k : ℕ) (ts : List TaskSpec) (is : List Held) → all_pairs p ts is ≡ true
+    → map (λ (i : Held). i.tries) (map_places (clear_pair named) k (zip ts is)) ≡ map (λ (i : Held). i.tries) is
+cleared_tries named p k [] [] e = refl
+cleared_tries named p k [] (i ∷ is) e = absurd (true≢false (sym e))
+cleared_tries named p k (t ∷ ts) [] e = refl
+cleared_tries named p k (t ∷ ts) (i ∷ is) e =
+    let tries : Held → List Try = λ j. j.tries in
+    let ih : map tries (map_places (clear_pair named) (k + 1) (zip ts is)) ≡ map tries is = cleared_tries named p (k + 1) ts is (and_right (p t i) _ e) in
+    elim (named k (t, i)) as (λ b. tries (cond b (cleared i) i) ∷ map tries (map_places (clear_pair named) (k + 1) (zip ts is)) ≡ i.tries ∷ map tries is) [
+      | true ↦ ap (λ zs. i.tries ∷ zs) ih
+      | false ↦ ap (λ zs. i.tries ∷ zs) ih
     ]
 
 one_sound : (a : Schedule) (named : Naming) (r : Run) (es : List (TaskSpec × Held)) → all_over (named_in a named r) ≡ true → is_sound_run a.graphs r ≡ true → is_sound_run a.graphs (clear_if a named r es) ≡ true
@@ -94,10 +91,9 @@ one_sound a named r (x ∷ es) o e =
     paired_sound a.graphs r (requeued r.phase) (map_places (clear_pair (named r)) 0 (pairs_of a r)) e
     (cleared_pairs (named r) r.phase 0 (dag_among a.graphs r.graph).tasks r.instances o (pairs_of_run a.graphs r e))
 
-one_serials : (a : Schedule) (named : Naming) (r : Run) (es : List (TaskSpec × Held)) → is_sound_run a.graphs r ≡ true → run_serials (clear_if a named r es) ≡ run_serials r
-one_serials a named r [] e = refl
-one_serials a named r (x ∷ es) e = flat_by serials_in (map_places (clear_pair (named r)) 0 (pairs_of a r)) r.instances
-    (cleared_serials (named r) (is_sound_in r.phase) 0 (dag_among a.graphs r.graph).tasks r.instances (pairs_of_run a.graphs r e))
+one_tries : (a : Schedule) (named : Naming) (r : Run) (es : List (TaskSpec × Held)) → is_sound_run a.graphs r ≡ true → try_lists (clear_if a named r es) ≡ try_lists r
+one_tries a named r [] e = refl
+one_tries a named r (x ∷ es) e = cleared_tries (named r) (is_sound_in r.phase) 0 (dag_among a.graphs r.graph).tasks r.instances (pairs_of_run a.graphs r e)
 
 one_key : (a : Schedule) (named : Naming) (r : Run) (es : List (TaskSpec × Held)) → key (clear_if a named r es) ≡ key r
 one_key a named r [] = refl
@@ -109,11 +105,11 @@ all_sound a named [] o e = refl
 all_sound a named (r ∷ rs) o e = and_from _ _ (one_sound a named r (named_in a named r) (and_left _ _ o) (and_left _ _ e))
     (all_sound a named rs (and_right (all_over (named_in a named r)) _ o) (and_right (is_sound_run a.graphs r) _ e))
 
-all_serials : (a : Schedule) (named : Naming) (rs : List Run) → list_all (is_sound_run a.graphs) rs ≡ true → map run_serials (map (clear_run a named) rs) ≡ map run_serials rs
-all_serials a named [] e = refl
-all_serials a named (r ∷ rs) e =
-    ap (λ (x : List ℕ). x ∷ map run_serials (map (clear_run a named) rs)) (one_serials a named r (named_in a named r) (and_left _ _ e))
-    ∙ ap (λ xs. run_serials r ∷ xs) (all_serials a named rs (and_right (is_sound_run a.graphs r) _ e))
+pub all_tries : (a : Schedule) (named : Naming) (rs : List Run) → list_all (is_sound_run a.graphs) rs ≡ true → map try_lists (map (clear_run a named) rs) ≡ map try_lists rs
+all_tries a named [] e = refl
+all_tries a named (r ∷ rs) e =
+    ap (λ (x : List (List Try)). x ∷ map try_lists (map (clear_run a named) rs)) (one_tries a named r (named_in a named r) (and_left _ _ e))
+    ∙ ap (λ xs. try_lists r ∷ xs) (all_tries a named rs (and_right (is_sound_run a.graphs r) _ e))
 
 pub all_keys : (a : Schedule) (named : Naming) (rs : List Run) → map key (map (clear_run a named) rs) ≡ map key rs
 all_keys a named [] = refl
@@ -122,6 +118,6 @@ all_keys a named (r ∷ rs) = ap (λ k. k ∷ map key (map (clear_run a named) r
 pub clear_sound : (named : Naming) (a : Schedule) → least_in_flight a named ≡ None → IsSound a → IsSound (clear named a)
 clear_sound named a n s = runs_changed a (map (clear_run a named) a.runs) (record {
   keys = all_keys a named a.runs;
-  serials = flat_by run_serials (map (clear_run a named) a.runs) a.runs (all_serials a named a.runs s.runs);
+  serials = serials_of_tries a.runs (map (clear_run a named) a.runs) (all_tries a named a.runs s.runs);
   sound = λ h. all_sound a named a.runs (named_over a named n) h;
 }) s

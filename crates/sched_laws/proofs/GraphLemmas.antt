@@ -97,6 +97,7 @@ with_graphs a gs o n g r s = record {
   runs = r;
   serials_once = s.serials_once;
   serials_used = s.serials_used;
+  tries_by_serial = s.tries_by_serial;
 }
 
 -- ---- pausing

@@ -1,8 +1,9 @@
 -- The runs after an event are those before it and the named ones; and no two have one key.
 use Rattle.std.specs.Ordering.{ordering_then}
 use Rattle.sched_laws.proofs.GraphLemmas.{tie_flips}
-use Rattle.std.proofs.Common.{◌≡◌, refl, sym, ap, subst, ◌∙◌, ℕ, zero, suc, ◌<◌, List, [], ◌∷◌, Bool, true, false, ◌&&◌, ◌||◌, ◌==◌, map, Option, Some, None, slice_get, true≢false, nat_cmp}
+use Rattle.std.proofs.Common.{◌≡◌, refl, sym, ap, subst, ◌∙◌, ℕ, zero, suc, ◌<◌, List, [], ◌∷◌, ◌++◌, Bool, true, false, ◌&&◌, ◌||◌, ◌==◌, map, Option, Some, None, slice_get, true≢false, nat_cmp}
 use Rattle.std.specs.List.{list_any, list_all}
+use Rattle.std.specs.List.Sorted.{IsPermutation}
 use Rattle.std.proofs.lemmas.Bool.{eq-eqb, and_from}
 use Rattle.dag_check.specs.Orders.{is_in, repeated}
 use Rattle.instance_machine.specs.declared.tries.Try.{Try}
@@ -19,14 +20,15 @@ use Rattle.sched_model.specs.NamedRuns.{Named, is_for, add_runs}
 use Rattle.sched_model.specs.Changes.{advance, map_tries_of, map_all_tries}
 use Rattle.sched_model.specs.Clearing.{Naming, clear}
 use Rattle.sched_model.specs.Sound.{IsSound, serials_of, is_used}
+use Rattle.sched_laws.specs.Runs.{runs_named}
 use Rattle.sched_laws.proofs.ListLemmas.{all_get}
 use Rattle.sched_laws.proofs.SettleLemmas.{map_some}
 use Rattle.sched_laws.proofs.RunLemmas.{Key, key, move_kin}
 use Rattle.sched_laws.proofs.SoundLemmas.{map_at, used_below}
 use Rattle.sched_laws.proofs.ClearLemmas.{all_keys}
-use Rattle.sched_laws.proofs.AddLemmas.{added_keys, run_total, key_ties}
+use Rattle.sched_laws.proofs.AddLemmas.{added_keys, added_names, run_total, key_ties}
 
-abbrev is_key : List ℕ → ℕ → Key → Bool
+abbrev pub is_key : List ℕ → ℕ → Key → Bool
 is_key id date k = same k.graph id && k.logical == date
 
 pub by_keys : (a b : Schedule) → map key b.runs ≡ map key a.runs → (id : List ℕ) (date : ℕ) → has_run_at b id date ≡ has_run_at a id date
@@ -60,6 +62,19 @@ advance_keys ns a id date =
     by_keys (settle b) (advance ns a) (hands_keys (serials_left (settle b)) (settle b)) id date
     ∙ by_keys b (settle b) (turns_keys (moves_left b) b) id date
     ∙ added_keys a ns id date
+
+-- the runs as they were named
+advance_kept : (ns : List Named) (a : Schedule) → runs_named (advance ns a) ≡ runs_named (add_runs ns a)
+advance_kept ns a = let b : Schedule = add_runs ns a in hands_keys (serials_left (settle b)) (settle b) ∙ turns_keys (moves_left b) b
+
+pub advance_names : (ns : List Named) (a : Schedule) → IsPermutation (ns ++ runs_named a) (runs_named (advance ns a))
+advance_names ns a = subst (IsPermutation (ns ++ runs_named a)) (sym (advance_kept ns a)) (added_names a ns)
+
+pub tries_names : (f : Try → Try) (a : Schedule) → runs_named (map_all_tries f a) ≡ runs_named a
+tries_names f a = map_keeps key (map_tries_of f) (λ r. refl) a.runs
+
+pub clear_names : (named : Naming) (a : Schedule) → runs_named (clear named a) ≡ runs_named a
+clear_names named a = all_keys a named a.runs
 
 pub tries_keys : (f : Try → Try) (a : Schedule) (id : List ℕ) (date : ℕ) → has_run_at (map_all_tries f a) id date ≡ has_run_at a id date
 tries_keys f a id date = by_keys a (map_all_tries f a) (map_keeps key (map_tries_of f) (λ r. refl) a.runs) id date

@@ -33,3 +33,6 @@ pub mod ResizeLemmas
 pub mod SetBackLemmas
 pub mod BackfillLemmas
 pub mod ByHandLemmas
+pub mod GoingLemmas
+pub mod SerialLemmas
+pub mod RuleLemmas

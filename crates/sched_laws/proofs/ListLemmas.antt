@@ -1,5 +1,5 @@
 -- Lists: pairs that pass, the last element, and what a change of one element keeps.
-use Rattle.std.proofs.Common.{◌≡◌, refl, sym, ap, subst, ◌∙◌, ℕ, zero, suc, ◌+◌, ◌-◌, ◌<◌, List, [], ◌∷◌, ◌++◌, Bool, true, false, map, length, Option, Some, None, option_map, slice_get, arith, true≢false}
+use Rattle.std.proofs.Common.{◌≡◌, refl, sym, ap, subst, ◌∙◌, ℕ, zero, suc, ◌+◌, ◌-◌, ◌<◌, List, [], ◌∷◌, ◌++◌, Bool, true, flat_map, map, length, Option, Some, None, option_map, slice_get, arith, true≢false}
 use Rattle.std.specs.List.{list_all}
 use Rattle.instance_machine.specs.Instances.{last_of}
 use Rattle.sched_state.specs.Lists.{change_from}
@@ -32,6 +32,11 @@ pub all_get : {X : Type 0} (p : X → Bool) (xs : List X) (n : ℕ) (x : X) → 
 all_get {X} p [] n x e f = absurd (let c : ◌≡◌ {A = Option X} None (Some x) = f in cc)
 all_get {X} p (y ∷ ys) zero x e f = let c : ◌≡◌ {A = Option X} (Some y) (Some x) = f in let r : y ≡ x = cc in ap p (sym r) ∙ and_left _ _ e
 all_get p (y ∷ ys) (suc n) x e f = all_get p ys n x (and_right (p y) _ e) f
+
+-- what passes in all lists passes in each
+pub all_flat : {X Y : Type 0} (p : Y → Bool) (f : X → List Y) (xs : List X) → list_all p (flat_map f xs) ≡ true → list_all (λ x. list_all p (f x)) xs ≡ true
+all_flat p f [] e = refl
+all_flat p f (x ∷ xs) e = and_from _ _ (all_front p (f x) (flat_map f xs) e) (all_flat p f xs (all_back p (f x) (flat_map f xs) e))
 
 -- one element is changed, and passes
 pub all_at : {X : Type 0} (p : X → Bool) (g : X → X) (n : ℕ) (xs : List X) (x : X) → list_all p xs ≡ true → slice_get xs n ≡ Some x → p (g x) ≡ true → list_all p (at g n xs) ≡ true

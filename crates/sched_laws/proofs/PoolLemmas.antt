@@ -60,6 +60,7 @@ with_pools a qs o n p k s = record {
   runs = s.runs;
   serials_once = s.serials_once;
   serials_used = s.serials_used;
+  tries_by_serial = s.tries_by_serial;
 }
 
 known_sound : (name : List ℕ) (size : ℕ) (a : Schedule) → nat_le size 1000000 ≡ true → IsSound a → IsSound (record a { pools = map (resize_pool name size) a.pools })

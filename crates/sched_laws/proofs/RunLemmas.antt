@@ -1,5 +1,5 @@
 -- Sound runs stay so, with their keys and serials, when moves are made.
-use Rattle.std.proofs.Common.{◌≡◌, refl, sym, ap, subst, ◌∙◌, ℕ, List, [], ◌∷◌, ◌++◌, Bool, true, false, cond, not, ◌&&◌, ◌||◌, ◌⊎◌, inl, inr, flat_map, map, Option, Some, None, option_map, slice_get, true≢false, is_some, nat_le}
+use Rattle.std.proofs.Common.{◌≡◌, refl, sym, ap, subst, ◌∙◌, ℕ, List, [], ◌∷◌, ◌++◌, Bool, true, false, cond, not, ◌&&◌, ◌||◌, ◌⊎◌, inl, inr, flat_map, map, Option, Some, None, option_map, slice_get, true≢false, is_some, nat_le, nat_lt}
 use Rattle.std.specs.List.{list_all}
 use Rattle.std.specs.Ordering.{nat_cmp, ordering_then}
 use Rattle.std.specs.declared.cmp.Ordering.{Ordering}
@@ -20,19 +20,21 @@ use Rattle.sched_model.specs.Lists.{all_pairs, zip_with, rises}
 use Rattle.sched_model.specs.Schedule.{Schedule, graph_among, dag_among, tasks_of, is_running, is_ended}
 use Rattle.sched_state.specs.declared.runs.Run.{Run}
 use Rattle.sched_model.specs.Settle.{decides, decided_verdict, decide_task, decide_instance, decide_run, has_bad_leaf, finish_run, start_run, move_runs}
-use Rattle.sched_model.specs.Sound.{is_sound_instance, is_sound_in, is_sound_run, is_moment, is_wait, serials_of}
+use Rattle.sched_model.specs.Sound.{is_sound_instance, is_sound_in, is_sound_run, is_moment, is_wait, tries_rise, all_tries_rise, serials_of}
+use Rattle.sched_model.specs.NamedRuns.{Named}
+use Rattle.sched_laws.specs.Runs.{named_as}
 use Rattle.sched_laws.proofs.ListLemmas.{change_all, change_keeps, pairs_change, pairs_impl}
 use Rattle.sched_laws.proofs.InstanceLemmas.{decided_sound}
 use Rattle.sched_laws.proofs.SettleLemmas.{map_some, and_then_some, when_some}
 use Rattle.std.proofs.lemmas.Bool.{and_from}
 
 -- ---- keys and serials
-pub record Key : Type 0 where
-  pub graph : List ℕ
-  pub logical : ℕ
+-- a run's key, with what else stays of it
+abbrev pub Key : Type 0
+Key = Named
 
 abbrev pub key : Run → Key
-key r = record { graph = r.graph; logical = r.logical }
+key r = named_as r
 
 abbrev pub key_cmp : Key → Key → Ordering
 key_cmp k m = ordering_then (name_cmp k.graph m.graph) (nat_cmp k.logical m.logical)
@@ -52,6 +54,13 @@ run_serials r = flat_map serials_in r.instances
 
 abbrev pub listed : List Run → List ℕ
 listed rs = flat_map run_serials rs
+
+-- the serials of each instance, and the tries
+abbrev pub serial_lists : Run → List (List ℕ)
+serial_lists r = map serials_in r.instances
+
+abbrev pub try_lists : Run → List (List Try)
+try_lists r = map (λ (i : Held). i.tries) r.instances
 
 pub map_append : {X Y : Type 0} (f : X → Y) (xs ys : List X) → map f (xs ++ ys) ≡ map f xs ++ map f ys
 map_append f [] ys = refl
@@ -78,23 +87,59 @@ serials_listed a =
     ∙ flat_same (λ (r : Run). map (λ (t : Try). t.serial) (flat_map (λ (i : Held). i.tries) r.instances)) run_serials
     (λ r. map_flat (λ (t : Try). t.serial) (λ (i : Held). i.tries) r.instances) a.runs
 
+map_map : {X Y Z : Type 0} (g : Y → Z) (f : X → Y) (xs : List X) → map g (map f xs) ≡ map (λ x. g (f x)) xs
+map_map g f [] = refl
+map_map g f (x ∷ xs) = ap (λ zs. g (f x) ∷ zs) (map_map g f xs)
+
+map_same : {X Y : Type 0} (f g : X → Y) → ((x : X) → f x ≡ g x) → (xs : List X) → map f xs ≡ map g xs
+map_same f g h [] = refl
+map_same f g h (x ∷ xs) = rw (h x, map_same f g h xs) refl
+
+-- where the serials of each instance stay, those of all stay
+pub listed_same : (rs qs : List Run) → map serial_lists qs ≡ map serial_lists rs → listed qs ≡ listed rs
+listed_same rs qs e = flat_by run_serials qs rs (by_lists qs ∙ ap (map (flat_map (λ (zs : List ℕ). zs))) e ∙ sym (by_lists rs))
+  where
+    by_lists : (ps : List Run) → map run_serials ps ≡ map (flat_map (λ (zs : List ℕ). zs)) (map serial_lists ps)
+    by_lists ps = map_same run_serials (λ r. flat_map (λ (zs : List ℕ). zs) (serial_lists r)) (λ r. sym (flat_of_map (λ zs. zs) serials_in r.instances)) ps ∙ sym (map_map (flat_map (λ (zs : List ℕ). zs)) serial_lists ps)
+
+-- and where their tries stay
+pub serials_of_tries : (rs qs : List Run) → map try_lists qs ≡ map try_lists rs → map serial_lists qs ≡ map serial_lists rs
+serials_of_tries rs qs e = by_tries qs ∙ ap (map (map (map (λ (t : Try). t.serial)))) e ∙ sym (by_tries rs)
+  where
+    by_tries : (ps : List Run) → map serial_lists ps ≡ map (map (map (λ (t : Try). t.serial))) (map try_lists ps)
+    by_tries ps = map_same serial_lists (λ r. map (map (λ (t : Try). t.serial)) (try_lists r)) (λ r. sym (map_map (map (λ (t : Try). t.serial)) (λ (i : Held). i.tries) r.instances)) ps
+        ∙ sym (map_map (map (map (λ (t : Try). t.serial))) try_lists ps)
+
+-- tries rise where their serials do
+instance_rises : (i : Held) → tries_rise i ≡ rises nat_lt (serials_in i)
+instance_rises i = sym (rises_map nat_lt (λ (t : Try). t.serial) i.tries)
+
+run_rises : (r : Run) → all_tries_rise r ≡ list_all (rises nat_lt) (serial_lists r)
+run_rises r = sym (all_map tries_rise (rises nat_lt) serials_in (λ i. sym (instance_rises i)) r.instances)
+
+pub rise_same : (rs qs : List Run) → map serial_lists qs ≡ map serial_lists rs → list_all all_tries_rise rs ≡ true → list_all all_tries_rise qs ≡ true
+rise_same rs qs e h = all_rise qs ∙ ap (list_all (list_all (rises nat_lt))) e ∙ sym (all_rise rs) ∙ h
+  where
+    all_rise : (ps : List Run) → list_all all_tries_rise ps ≡ list_all (list_all (rises nat_lt)) (map serial_lists ps)
+    all_rise ps = sym (all_map all_tries_rise (list_all (rises nat_lt)) serial_lists (λ r. sym (run_rises r)) ps)
+
 -- ---- one run after another
--- q stands in the place of r: the key and the serials are the same, and it is sound where r is
+-- q stands in the place of r: the key and the tries are the same, and it is sound where r is
 pub record Kin (gs : List Graph) (r q : Run) : Type 0 where
   pub key : key q ≡ key r
-  pub serials : run_serials q ≡ run_serials r
+  pub tries : try_lists q ≡ try_lists r
   pub sound : is_sound_run gs r ≡ true → is_sound_run gs q ≡ true
 
 -- the same of lists
 pub record KinAll (gs : List Graph) (rs qs : List Run) : Type 0 where
   pub keys : map key qs ≡ map key rs
-  pub serials : listed qs ≡ listed rs
+  pub tries : map try_lists qs ≡ map try_lists rs
   pub sound : list_all (is_sound_run gs) rs ≡ true → list_all (is_sound_run gs) qs ≡ true
 
 pub change_kin : (gs : List Graph) (f : ℕ → Run → Option Run) → ((i : ℕ) (r q : Run) → f i r ≡ Some q → Kin gs r q) → (rs qs : List Run) → change_from f 0 rs ≡ Some qs → KinAll gs rs qs
 change_kin gs f h rs qs e = record {
   keys = change_keeps key f (λ i r q p. let k = h i r q p in k.key) 0 rs qs e;
-  serials = flat_by run_serials qs rs (change_keeps run_serials f (λ i r q p. let k = h i r q p in k.serials) 0 rs qs e);
+  tries = change_keeps try_lists f (λ i r q p. let k = h i r q p in k.tries) 0 rs qs e;
   sound = λ s. change_all (is_sound_run gs) f (λ i r q p. let k = h i r q p in k.sound) 0 rs qs e s;
 }
 
@@ -121,7 +166,7 @@ made_of v s ts = record { verdict = v; since = s; tries = ts }
 
 -- what is decided is an undecided instance with a verdict
 record Decided (i j : Held) : Type 0 where
-  tries : serials_in j ≡ serials_in i
+  tries : j.tries ≡ i.tries
   sound : (t : TaskSpec) → is_sound_instance t i ≡ true → is_sound_instance t j ≡ true
 
 decided_by : (a : Schedule) (r : Run) (p : ℕ) (v : Option Verdict) (s : ℕ) (ts : List Try) (j : Held) → decide_instance a r p (made_of v s ts) ≡ Some j → Decided (made_of v s ts) j
@@ -131,7 +176,7 @@ decided_by a r p None s ts j e =
     let u = map_some (λ w. made_of (Some w) s ts) (decided_verdict a r p t.0) j t.2 in
     let w : is_wait (Some u.0) ≡ false = decides_some _ _ u.0 u.1 in
     record {
-      tries = ap serials_in (sym u.2);
+      tries = ap (λ (x : Held). x.tries) (sym u.2);
       sound = λ k h. subst (λ (x : Held). is_sound_instance k x ≡ true) u.2 (decided_sound k s ts u.0 w h);
     }
 
@@ -155,7 +200,7 @@ guarded a r q true f e =
     let t = map_some (λ is. record r { instances = is }) (change_from (decide_instance a r) 0 r.instances) q e in
     subst (λ (x : Run). Kin a.graphs r x) t.2 (record {
       key = refl;
-      serials = flat_by serials_in t.0 r.instances (change_keeps serials_in (decide_instance a r) (λ p i j d. let h = decided_instance a r p i j d in h.tries) 0 r.instances t.0 t.1);
+      tries = change_keeps (λ (i : Held). i.tries) (decide_instance a r) (λ p i j d. let h = decided_instance a r p i j d in h.tries) 0 r.instances t.0 t.1;
       sound = λ s. paired_sound a.graphs r r.phase t.0 s
           (pairs_change (is_sound_in r.phase) (decide_instance a r)
           (λ k p i j d u. let h = decided_instance a r p i j d in goes_on r.phase k j (running_goes_on r.phase f) (h.sound k (and_left _ _ u)))
@@ -184,7 +229,7 @@ finish_kin a r q e =
     let to : Phase = cond (has_bad_leaf a r) phase.Failed phase.Success in
     subst (λ (x : Run). Kin a.graphs r x) t.1 (record {
       key = refl;
-      serials = refl;
+      tries = refl;
       sound = λ s. paired_sound a.graphs r to r.instances s (pairs_finished r.phase to (dag_among a.graphs r.graph).tasks r.instances (pairs_of_run a.graphs r s) (and_right (is_running r.phase) _ t.0));
     })
 
@@ -193,7 +238,7 @@ start_kin a r q e =
     let t = when_some _ _ q e in
     subst (λ (x : Run). Kin a.graphs r x) t.1 (record {
       key = refl;
-      serials = refl;
+      tries = refl;
       sound = λ s. paired_sound a.graphs r phase.Running r.instances s
           (pairs_impl (is_sound_in r.phase) (is_sound_in phase.Running) (λ k i u. goes_on phase.Running k i refl (and_left _ _ u)) (dag_among a.graphs r.graph).tasks r.instances (pairs_of_run a.graphs r s));
     })

@@ -240,37 +240,50 @@ all_placed p tasks (x ∷ xs) below e =
     (all_placed p tasks xs (λ y there. below y (or_right (x == y) (is_in xs y) there)) e)
 
 -- ---- the graph
-placed_sound : (a : Schedule) (text : List ℕ) (spec : GraphSpec) (g : Dag) → IsGraphOf spec g → length spec.tasks ≤ a.limits.tasks → sum_by (λ (t : TaskSpec). length t.upstream) spec.tasks ≤ a.limits.edges
-    → list_all (λ (t : TaskSpec). has_pool a t.pool) spec.tasks ≡ true → is_sound_graph a (new_graph text (dag_of spec)) ≡ true
-placed_sound a text spec g h tasks edges pools =
+-- there are no more tasks and edges than these
+abbrev pub has_few : ℕ → ℕ → Dag → Bool
+has_few tasks edges g = nat_le (length g.tasks) tasks && nat_le (sum_by length g.upstreams) edges
+
+-- the graph of a file is sound where it has few tasks and edges
+pub dag_sound : (tasks edges : ℕ) (spec : GraphSpec) (g : Dag) → IsGraphOf spec g → has_few tasks edges g ≡ true → is_sound_dag tasks edges g ≡ true
+dag_sound tasks edges spec g h few =
     let order : List ℕ = places spec in
     let up : ℕ → List ℕ = up_of spec.tasks in
-    let n : ℕ = length spec.tasks in
-    let placed : IsPlacement up n order = h.placed in
-    let long : length order ≡ n = placed.long in
-    let once : repeated order ≡ false = order_once up n order placed in
-    let below = order_below up n order placed in
+    let placed : IsPlacement up (length spec.tasks) order = h.placed in
+    let once : repeated order ≡ false = order_once up (length spec.tasks) order placed in
     let tasks_long : length (map (task_at spec.tasks) order) ≡ length order = length-map' (task_at spec.tasks) order in
     let rows_long : length (placed_rows up order) ≡ length order = length-map' (λ p. map (place_in order) (up p)) order in
-    let few : sum_by length (placed_rows up order) ≤ sum_by (λ (t : TaskSpec). length t.upstream) spec.tasks = edges_few spec.tasks order once in
-    let few_tasks : length (map (task_at spec.tasks) order) ≤ a.limits.tasks = omega arith in
-    let few_edges : sum_by length (placed_rows up order) ≤ a.limits.edges = omega arith in
-    and_from (is_sound_dag a.limits.tasks a.limits.edges (dag_of spec)) (has_pools a (dag_of spec))
-    (and_from (nat_le (length (map (task_at spec.tasks) order)) a.limits.tasks && nat_le (sum_by length (placed_rows up order)) a.limits.edges) _
-    (and_from (nat_le (length (map (task_at spec.tasks) order)) a.limits.tasks) _ (le-leb _ _ few_tasks) (le-leb _ _ few_edges))
+    ap (is_sound_dag tasks edges) h.is
+    ∙ and_from (has_few tasks edges (dag_of spec)) _
+    (ap (has_few tasks edges) (sym h.is) ∙ few)
     (and_from (not (repeats (ids_of (map (task_at spec.tasks) order)))) _
-    (ap not (ids_once spec.tasks order h.plain.names once below))
+    (ap not (ids_once spec.tasks order h.plain.names once (order_below up (length spec.tasks) order placed)))
     (and_from (length (placed_rows up order) == length (map (task_at spec.tasks) order)) _
     (eq-eqb _ _ (rows_long ∙ sym tasks_long))
     (all_rows 0 (placed_rows up order) (λ k inside.
     let e : k ≡ 0 + k = omega arith in
-    subst (λ (m : ℕ). is_sound_row m (get_or (placed_rows up order) k []) ≡ true) e (row_sound spec.tasks order h.plain.known h.plain.edges placed k (omega arith)))))))
-    (all_placed (λ (t : TaskSpec). has_pool a t.pool) spec.tasks order below pools)
+    subst (λ (m : ℕ). is_sound_row m (get_or (placed_rows up order) k []) ≡ true) e (row_sound spec.tasks order h.plain.known h.plain.edges placed k (omega arith))))))
+
+-- it has the tasks of its file, and no more edges
+placed_few : (tasks edges : ℕ) (spec : GraphSpec) (g : Dag) → IsGraphOf spec g → length spec.tasks ≤ tasks → sum_by (λ (t : TaskSpec). length t.upstream) spec.tasks ≤ edges → has_few tasks edges g ≡ true
+placed_few tasks edges spec g h few_tasks few_edges =
+    let order : List ℕ = places spec in
+    let up : ℕ → List ℕ = up_of spec.tasks in
+    let placed : IsPlacement up (length spec.tasks) order = h.placed in
+    let long : length order ≡ length spec.tasks = placed.long in
+    let tasks_long : length (map (task_at spec.tasks) order) ≡ length order = length-map' (task_at spec.tasks) order in
+    let few : sum_by length (placed_rows up order) ≤ sum_by (λ (t : TaskSpec). length t.upstream) spec.tasks = edges_few spec.tasks order (order_once up (length spec.tasks) order placed) in
+    ap (has_few tasks edges) h.is
+    ∙ and_from (nat_le (length (map (task_at spec.tasks) order)) tasks) _ (le-leb _ _ (omega arith)) (le-leb _ _ (omega arith))
 
 pub said_sound : (a : Schedule) (text : List ℕ) (dag : Dag) → Says text dag → length dag.spec.tasks ≤ a.limits.tasks → sum_by (λ (t : TaskSpec). length t.upstream) dag.spec.tasks ≤ a.limits.edges
     → list_all (λ (t : TaskSpec). has_pool a t.pool) dag.spec.tasks ≡ true → is_sound_graph a (new_graph text dag) ≡ true
 said_sound a text dag said tasks edges pools =
-    ap (λ (d : Dag). is_sound_graph a (new_graph text d)) said.checked.is ∙ placed_sound a text dag.spec dag said.checked tasks edges pools
+    let h : IsGraphOf dag.spec dag = said.checked in
+    and_from (is_sound_dag a.limits.tasks a.limits.edges dag) (has_pools a dag)
+    (dag_sound a.limits.tasks a.limits.edges dag.spec dag h (placed_few a.limits.tasks a.limits.edges dag.spec dag h tasks edges))
+    (ap (has_pools a) h.is
+    ∙ all_placed (λ (t : TaskSpec). has_pool a t.pool) dag.spec.tasks (places dag.spec) (order_below (up_of dag.spec.tasks) (length dag.spec.tasks) (places dag.spec) h.placed) pools)
 
 -- ---- few upstreams
 placed_once : (spec : GraphSpec) (g : Dag) → IsGraphOf spec g → (k : ℕ) → repeated (ups (dag_of spec) k) ≡ false

@@ -12,6 +12,7 @@ use Rattle.instance_machine.specs.States.{state_of}
 use Rattle.instance_machine.specs.declared.tries.Try.{Try}
 use Rattle.instance_machine.specs.declared.tries.Stage.{Stage}
 use Rattle.sched_state.specs.Lists.{repeat}
+use Rattle.sched_state.specs.declared.graphs.Graph.{Graph}
 use Rattle.sched_state.specs.declared.runs.Phase.{Phase}
 use Rattle.sched_state.proofs.OrderLemmas.{and_left, and_right, or_left, or_right, not_false, map_keeps}
 use Rattle.sched_state.proofs.RepeatLemmas.{repeat_done, repeat_more}
@@ -24,11 +25,11 @@ use Rattle.sched_model.specs.Changes.{map_tries_of, map_all_tries, report, resta
 use Rattle.instance_machine.specs.Instances.{map_tries}
 use Rattle.instance_machine.specs.Reports.{reported_try, lost_try}
 use Rattle.sched_model.specs.Causes.{has_too_many_lanes}
-use Rattle.sched_model.specs.Sound.{IsSound, is_sound_in, is_sound_run, is_sound_instance, is_used, is_moment, serials_of}
+use Rattle.sched_model.specs.Sound.{IsSound, is_sound_in, is_sound_run, is_sound_instance, is_used, is_moment, tries_rise, all_tries_rise, serials_of}
 use Rattle.sched_laws.specs.Offered.{IsEligible}
-use Rattle.sched_laws.proofs.ListLemmas.{all_impl, all_under, all_at, all_get, pairs_under, pairs_at, pairs_get}
+use Rattle.sched_laws.proofs.ListLemmas.{all_impl, all_under, all_at, all_get, all_join, all_flat, pairs_under, pairs_at, pairs_get}
 use Rattle.sched_laws.proofs.InstanceLemmas.{IsQuiet, handed_sound, changed_sound, changed_finished}
-use Rattle.sched_laws.proofs.RunLemmas.{key, key_before, rises_map, serials_in, run_serials, listed, map_append, flat_by, serials_listed, KinAll, paired_sound, pairs_of_run, goes_on, running_goes_on, move_kin}
+use Rattle.sched_laws.proofs.RunLemmas.{key, key_before, rises_map, serials_in, run_serials, listed, serial_lists, map_append, serials_listed, listed_same, serials_of_tries, rise_same, KinAll, paired_sound, pairs_of_run, goes_on, running_goes_on, move_kin}
 use Rattle.sched_laws.proofs.SettleLemmas.{map_some}
 use Rattle.sched_laws.proofs.HandLemmas.{best_eligible}
 use Rattle.sched_laws.proofs.TryLemmas.{report_quiet, lost_quiet}
@@ -40,9 +41,18 @@ same_count rs qs e = sym (length-map qs key) ∙ ap length e ∙ length-map rs k
 pub same_order : (rs qs : List Run) → map key qs ≡ map key rs → rises (λ x y. key_before (key x) (key y)) rs ≡ true → rises (λ x y. key_before (key x) (key y)) qs ≡ true
 same_order rs qs e h = sym (rises_map key_before key qs) ∙ ap (rises key_before) e ∙ rises_map key_before key rs ∙ h
 
-pub runs_changed : (a : Schedule) (rs : List Run) → KinAll a.graphs a.runs rs → IsSound a → IsSound (with_runs a rs)
+-- qs stand in the place of rs: the keys and the serials of each instance are the same, and they are sound where those are
+pub record Stands (gs : List Graph) (rs qs : List Run) : Type 0 where
+  pub keys : map key qs ≡ map key rs
+  pub serials : map serial_lists qs ≡ map serial_lists rs
+  pub sound : list_all (is_sound_run gs) rs ≡ true → list_all (is_sound_run gs) qs ≡ true
+
+pub kin_stands : (gs : List Graph) (rs qs : List Run) → KinAll gs rs qs → Stands gs rs qs
+kin_stands gs rs qs k = record { keys = k.keys; serials = serials_of_tries rs qs k.tries; sound = k.sound }
+
+pub runs_changed : (a : Schedule) (rs : List Run) → Stands a.graphs a.runs rs → IsSound a → IsSound (with_runs a rs)
 runs_changed a rs k s =
-    let q : serials_of (with_runs a rs) ≡ serials_of a = serials_listed (with_runs a rs) ∙ k.serials ∙ sym (serials_listed a) in
+    let q : serials_of (with_runs a rs) ≡ serials_of a = serials_listed (with_runs a rs) ∙ listed_same a.runs rs k.serials ∙ sym (serials_listed a) in
     record {
       graphs_by_id = s.graphs_by_id;
       pools_by_name = s.pools_by_name;
@@ -59,11 +69,12 @@ runs_changed a rs k s =
       runs = k.sound s.runs;
       serials_once = ap (λ xs. not (repeated xs)) q ∙ s.serials_once;
       serials_used = ap (list_all (is_used a.next)) q ∙ s.serials_used;
+      tries_by_serial = rise_same a.runs rs k.serials s.tries_by_serial;
     }
 
 -- ---- settling
 move_sound : (a b : Schedule) → move a ≡ Some b → IsSound a → IsSound b
-move_sound a b e s = let t = map_some (with_runs a) (move_runs a) b e in subst IsSound t.2 (runs_changed a t.0 (move_kin a t.0 t.1) s)
+move_sound a b e s = let t = map_some (with_runs a) (move_runs a) b e in subst IsSound t.2 (runs_changed a t.0 (kin_stands a.graphs a.runs t.0 (move_kin a t.0 t.1)) s)
 
 turns_sound : (n : ℕ) (a : Schedule) → IsSound a → IsSound (repeat n move a)
 turns_sound zero a s = s
@@ -76,11 +87,11 @@ pub settle_sound : (a : Schedule) → IsSound a → IsSound (settle a)
 settle_sound a s = turns_sound (moves_left a) a s
 
 -- ---- hand-outs: a serial that is put in
-record Spliced (x : ℕ) (xs ys : List ℕ) : Type 0 where
-  left : List ℕ
-  right : List ℕ
-  was : xs ≡ left ++ right
-  is : ys ≡ left ++ x ∷ right
+pub record Spliced (x : ℕ) (xs ys : List ℕ) : Type 0 where
+  pub left : List ℕ
+  pub right : List ℕ
+  pub was : xs ≡ left ++ right
+  pub is : ys ≡ left ++ x ∷ right
 
 splice_after : (x : ℕ) (xs ys zs : List ℕ) → Spliced x xs ys → Spliced x (xs ++ zs) (ys ++ zs)
 splice_after x xs ys zs s = record {
@@ -139,10 +150,35 @@ once_spliced n (l ∷ ls) rs d b =
 used_more : (n s : ℕ) → is_used n s ≡ true → is_used (n + 1) s ≡ true
 used_more n s e = let l : s < n = used_below n s e in let l' : s < n + 1 = omega arith in and_from _ _ (and_left _ _ e) (lt-ltb s (n + 1) l')
 
+-- a list that rises goes on with what lies above
+rises_snoc : (n : ℕ) (xs : List ℕ) → rises nat_lt xs ≡ true → list_all (is_used n) xs ≡ true → rises nat_lt (xs ++ n ∷ []) ≡ true
+rises_snoc n [] e f = refl
+rises_snoc n (x ∷ xs) e f =
+    let below : nat_lt x n ≡ true = and_right (nat_le 1 x) _ (and_left _ _ f) in
+    and_from _ _ (all_join (nat_lt x) xs (n ∷ []) (and_left _ _ e) (and_from _ _ below refl)) (rises_snoc n xs (and_right (list_all (nat_lt x) xs) _ e) (and_right (is_used n x) _ f))
+
+-- so do the tries of an instance with a new one
+handed_rises : (n k : ℕ) (i : Held) → tries_rise i ≡ true → list_all (is_used n) (serials_in i) ≡ true → tries_rise (with_try (new_try n k) i) ≡ true
+handed_rises n k i e f =
+    sym (rises_map nat_lt (λ (t : Try). t.serial) (i.tries ++ new_try n k ∷ []))
+    ∙ ap (rises nat_lt) (map_append (λ (t : Try). t.serial) i.tries (new_try n k ∷ []))
+    ∙ rises_snoc n (serials_in i) (rises_map nat_lt (λ (t : Try). t.serial) i.tries ∙ e) f
+
 pub map_at : {X Y : Type 0} (h : X → Y) (g : X → X) (n : ℕ) (xs : List X) → ((x : X) → h (g x) ≡ h x) → map h (at g n xs) ≡ map h xs
 map_at h g n [] e = refl
 map_at h g zero (x ∷ xs) e = rw (e x) refl
 map_at h g (suc n) (x ∷ xs) e = ap (λ ys. h x ∷ ys) (map_at h g n xs e)
+
+-- a hand-out puts its serial in among the others
+pub hand_spliced : (a : Schedule) (o : Offer) → IsEligible a o → Spliced a.next (serials_of a) (serials_of (hand a o))
+hand_spliced a o h =
+    let u : Try = new_try a.next o.slots in
+    let g : Held → Held = with_try u in
+    let i0 : Spliced a.next (serials_in h.instance) (serials_in (g h.instance)) =
+    record { left = serials_in h.instance; right = []; was = sym (append-nil (serials_in h.instance)); is = map_append (λ (t : Try). t.serial) h.instance.tries (u ∷ []) } in
+    let i1 : Spliced a.next (run_serials h.run) (run_serials (in_instance g o.place h.run)) = splice_at serials_in g a.next o.place h.run.instances h.instance h.instance_is i0 in
+    let i2 : Spliced a.next (listed a.runs) (listed (hand a o).runs) = splice_at run_serials (in_instance g o.place) a.next o.run a.runs h.run h.run_is i1 in
+    record { left = i2.left; right = i2.right; was = serials_listed a ∙ i2.was; is = serials_listed (hand a o) ∙ i2.is }
 
 pub hand_sound : (a : Schedule) (o : Offer) → IsEligible a o → fits a o ≡ true → IsSound a → IsSound (hand a o)
 hand_sound a o h f s =
@@ -153,14 +189,15 @@ hand_sound a o h f s =
     let one : 1 ≤ a.next = leb-true _ _ (and_left _ _ s.serials) in
     let after : List Run = at (in_instance g o.place) o.run a.runs in
     let keys : map key after ≡ map key a.runs = map_at key (in_instance g o.place) o.run a.runs (λ r. refl) in
-    let i0 : Spliced a.next (serials_in h.instance) (serials_in (g h.instance)) =
-    record { left = serials_in h.instance; right = []; was = sym (append-nil (serials_in h.instance)); is = map_append (λ (t : Try). t.serial) h.instance.tries (u ∷ []) } in
-    let i1 : Spliced a.next (run_serials h.run) (run_serials (in_instance g o.place h.run)) = splice_at serials_in g a.next o.place h.run.instances h.instance h.instance_is i0 in
-    let i2 : Spliced a.next (listed a.runs) (listed after) = splice_at run_serials (in_instance g o.place) a.next o.run a.runs h.run h.run_is i1 in
-    let was : serials_of a ≡ i2.left ++ i2.right = serials_listed a ∙ i2.was in
-    let is : serials_of (hand a o) ≡ i2.left ++ a.next ∷ i2.right = serials_listed (hand a o) ∙ i2.is in
-    let d : repeated (i2.left ++ i2.right) ≡ false = ap repeated (sym was) ∙ not_false _ s.serials_once in
-    let b : list_all (is_used a.next) (i2.left ++ i2.right) ≡ true = ap (list_all (is_used a.next)) (sym was) ∙ s.serials_used in
+    let i2 = hand_spliced a o h in
+    let d : repeated (i2.left ++ i2.right) ≡ false = ap repeated (sym i2.was) ∙ not_false _ s.serials_once in
+    let b : list_all (is_used a.next) (i2.left ++ i2.right) ≡ true = ap (list_all (is_used a.next)) (sym i2.was) ∙ s.serials_used in
+    let used : list_all (is_used a.next) (serials_in h.instance) ≡ true =
+    all_get (λ (i : Held). list_all (is_used a.next) (serials_in i)) h.run.instances o.place h.instance
+    (all_flat (is_used a.next) serials_in h.run.instances (all_get (λ (r : Run). list_all (is_used a.next) (run_serials r)) a.runs o.run h.run (all_flat (is_used a.next) run_serials a.runs (ap (list_all (is_used a.next)) (sym (serials_listed a)) ∙ s.serials_used)) h.run_is))
+    h.instance_is in
+    let rise : all_tries_rise h.run ≡ true = all_get all_tries_rise a.runs o.run h.run s.tries_by_serial h.run_is in
+    let rises_on : tries_rise (g h.instance) ≡ true = handed_rises a.next o.slots h.instance (all_get tries_rise h.run.instances o.place h.instance rise h.instance_is) used in
     let below : a.next < a.next + 1 = omega arith in
     let up : 1 ≤ a.next + 1 = omega arith in
     let top : a.next + 1 ≤ last_serial + 1 = omega arith in
@@ -185,9 +222,10 @@ hand_sound a o h f s =
       pools = s.pools;
       default = s.default;
       runs = all_at (is_sound_run a.graphs) (in_instance g o.place) o.run a.runs h.run s.runs h.run_is (paired_sound a.graphs h.run h.run.phase (at g o.place h.run.instances) rs sp);
-      serials_once = ap (λ xs. not (repeated xs)) is ∙ ap not (once_spliced a.next i2.left i2.right d b);
-      serials_used = ap (list_all (is_used (a.next + 1))) is
+      serials_once = ap (λ xs. not (repeated xs)) i2.is ∙ ap not (once_spliced a.next i2.left i2.right d b);
+      serials_used = ap (list_all (is_used (a.next + 1))) i2.is
           ∙ all_spliced (is_used (a.next + 1)) a.next i2.left i2.right (and_from _ _ (le-leb 1 a.next one) (lt-ltb a.next (a.next + 1) below)) (all_impl (is_used a.next) (is_used (a.next + 1)) (used_more a.next) (i2.left ++ i2.right) b);
+      tries_by_serial = all_at all_tries_rise (in_instance g o.place) o.run a.runs h.run s.tries_by_serial h.run_is (all_at tries_rise g o.place h.run.instances h.instance rise h.instance_is rises_on);
     }
 
 hands_sound : (n : ℕ) (a : Schedule) → IsSound a → IsSound (repeat n hand_one a)
@@ -217,9 +255,7 @@ changed_in f q ph t i e =
 pub tries_changed : (f : Try → Try) → IsQuiet f → (a : Schedule) → IsSound a → IsSound (map_all_tries f a)
 tries_changed f q a s = runs_changed a (map (map_tries_of f) a.runs) (record {
   keys = map_keeps key (map_tries_of f) (λ r. refl) a.runs;
-  serials = flat_by run_serials (map (map_tries_of f) a.runs) a.runs
-      (map_keeps run_serials (map_tries_of f) (λ r. flat_by serials_in (map (map_tries f) r.instances) r.instances
-      (map_keeps serials_in (map_tries f) (λ i. map_keeps (λ (t : Try). t.serial) f q.serial i.tries) r.instances)) a.runs);
+  serials = map_keeps serial_lists (map_tries_of f) (λ r. map_keeps serials_in (map_tries f) (λ i. map_keeps (λ (t : Try). t.serial) f q.serial i.tries) r.instances) a.runs;
   sound = λ h. all_under (is_sound_run a.graphs) (is_sound_run a.graphs) (map_tries_of f)
       (λ r e. paired_sound a.graphs r r.phase (map (map_tries f) r.instances) e
       (pairs_under (is_sound_in r.phase) (is_sound_in r.phase) (map_tries f) (changed_in f q r.phase) (dag_among a.graphs r.graph).tasks r.instances (pairs_of_run a.graphs r e))) a.runs h;
@@ -248,6 +284,7 @@ lanes_set a n e s = record {
   runs = s.runs;
   serials_once = s.serials_once;
   serials_used = s.serials_used;
+  tries_by_serial = s.tries_by_serial;
 }
 
 pub restart_sound : (n : ℕ) (a : Schedule) → has_too_many_lanes a n ≡ false → IsSound a → IsSound (restart n a)
@@ -271,4 +308,5 @@ clock_sound t a e s = record {
   runs = s.runs;
   serials_once = s.serials_once;
   serials_used = s.serials_used;
+  tries_by_serial = s.tries_by_serial;
 }

@@ -4,3 +4,6 @@ pub mod Passing
 pub mod Sweep
 pub mod Stages
 pub mod Repairs
+pub mod Runs
+pub mod Tries
+pub mod Rules

@@ -20,6 +20,7 @@ mod naming;
 mod occupying;
 mod pausing;
 mod resizing;
+mod rules;
 mod settling;
 mod sound;
 mod stages;
@@ -48,6 +49,7 @@ pub use resizing::{
     resizing_changes_one_pool, resizing_enables_no_move, resizing_stops_nothing,
     the_same_size_is_none,
 };
+pub use rules::the_rules_say_soundness;
 pub use settling::{moves_see_what_is_seen, settling_goes_by_moves, settling_is_determined};
 pub use sound::{
     a_date_has_one_run, advancing_keeps_soundness, graphs_stay_said, own_changes_keep_soundness,

@@ -1,17 +1,18 @@
 //! Laws of soundness: what an event makes of a sound schedule is sound.
-ghost use Rattle.std.specs.Prelude.{◌≡◌, ℕ, Bool, ◌<◌, ◌||◌, List, None, Some, IsTrue, true, false, slice_get};
-ghost use Rattle.std.specs.List.{list_any};
+ghost use Rattle.std.specs.Prelude.{◌≡◌, ℕ, Bool, ◌<◌, ◌++◌, List, None, Some, IsTrue, true, false, slice_get};
+ghost use Rattle.std.specs.List.Sorted.{IsPermutation};
 ghost use Rattle.dag_check.specs.Graphs.{Dag};
 ghost use Rattle.instance_machine.specs.declared.tries.Stage.{Stage};
-ghost use Rattle.sched_model.specs.Schedule.{Schedule, has_runs, has_run_at};
+ghost use Rattle.sched_model.specs.Schedule.{Schedule, has_runs};
 ghost use Rattle.sched_state.specs.declared.runs.Run.{Run};
 ghost use Rattle.sched_model.specs.Settle.{settle};
 ghost use Rattle.sched_model.specs.Handout.{hand_out};
-ghost use Rattle.sched_model.specs.NamedRuns.{Named, is_for, add_runs};
+ghost use Rattle.sched_model.specs.NamedRuns.{Named, add_runs};
 ghost use Rattle.sched_model.specs.Changes.{new_graph, load_graph, set_now, set_paused, new_pool, resize, report, restart, advance};
 ghost use Rattle.sched_model.specs.Clearing.{Naming, clear};
 ghost use Rattle.sched_model.specs.Causes.{has_too_many_graphs, has_too_many_pools, has_too_many_lanes, least_in_flight, is_full_with};
 ghost use Rattle.sched_model.specs.Sound.{IsSound, is_moment, is_sound_graph, is_sound_pool, are_new, serials_of, Says, AllSay};
+ghost use Rattle.sched_laws.specs.Runs.{runs_named};
 
 /// Each event's own change keeps a sound schedule sound, where what it brings is within the ranges and no limit is passed. A text
 /// takes only a graph without runs, and a clear only instances without an open try.
@@ -46,17 +47,17 @@ pub fn a_date_has_one_run()
         → r.graph ≡ q.graph → r.logical ≡ q.logical → i ≡ j }
 {}
 
-/// The runs after an own change are those before it, and the runs after what follows are those and the named ones, by graph and
-/// logical date.
+/// The runs after an own change are those before it, and the runs after what follows are those and the named ones, each with its graph, its
+/// logical date, its interval, and how it came to be.
 pub fn runs_are_those_named()
-    ensures advanced { (ns : List Named) (a : Schedule) (id : List ℕ) (date : ℕ) → has_run_at (advance ns a) id date ≡ (list_any (is_for id date) ns || has_run_at a id date) }
-    ensures loaded { (text : List ℕ) (dag : Dag) (a : Schedule) (id : List ℕ) (date : ℕ) → has_run_at (load_graph text dag a) id date ≡ has_run_at a id date }
-    ensures clock { (t : ℕ) (a : Schedule) (id : List ℕ) (date : ℕ) → has_run_at (set_now t a) id date ≡ has_run_at a id date }
-    ensures paused { (name : List ℕ) (paused : Bool) (a : Schedule) (id : List ℕ) (date : ℕ) → has_run_at (set_paused name paused a) id date ≡ has_run_at a id date }
-    ensures resized { (name : List ℕ) (size : ℕ) (a : Schedule) (id : List ℕ) (date : ℕ) → has_run_at (resize name size a) id date ≡ has_run_at a id date }
-    ensures reported { (serial : ℕ) (stage : Stage) (a : Schedule) (id : List ℕ) (date : ℕ) → has_run_at (report serial stage a) id date ≡ has_run_at a id date }
-    ensures restarted { (lanes : ℕ) (a : Schedule) (id : List ℕ) (date : ℕ) → has_run_at (restart lanes a) id date ≡ has_run_at a id date }
-    ensures cleared { (named : Naming) (a : Schedule) (id : List ℕ) (date : ℕ) → has_run_at (clear named a) id date ≡ has_run_at a id date }
+    ensures advanced { (ns : List Named) (a : Schedule) → IsPermutation (ns ++ runs_named a) (runs_named (advance ns a)) }
+    ensures loaded { (text : List ℕ) (dag : Dag) (a : Schedule) → runs_named (load_graph text dag a) ≡ runs_named a }
+    ensures clock { (t : ℕ) (a : Schedule) → runs_named (set_now t a) ≡ runs_named a }
+    ensures paused { (name : List ℕ) (paused : Bool) (a : Schedule) → runs_named (set_paused name paused a) ≡ runs_named a }
+    ensures resized { (name : List ℕ) (size : ℕ) (a : Schedule) → runs_named (resize name size a) ≡ runs_named a }
+    ensures reported { (serial : ℕ) (stage : Stage) (a : Schedule) → runs_named (report serial stage a) ≡ runs_named a }
+    ensures restarted { (lanes : ℕ) (a : Schedule) → runs_named (restart lanes a) ≡ runs_named a }
+    ensures cleared { (named : Naming) (a : Schedule) → runs_named (clear named a) ≡ runs_named a }
 {}
 
 /// Each graph stays what its text says, where a text that is loaded says the graph that is taken in. No other change touches graphs.

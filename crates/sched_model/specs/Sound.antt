@@ -36,16 +36,16 @@ abbrev pub is_moment_if : Option ℕ → Bool
 is_moment_if None = true
 is_moment_if (Some m) = is_moment m
 
--- a try ends at a moment, after its start; a lost one perhaps before it
-abbrev pub is_end_after : Option ℕ → Outcome → Bool
-is_end_after started outcome.Success = is_some started
-is_end_after started outcome.Skipped = is_some started
-is_end_after started outcome.Failed = is_some started
-is_end_after started outcome.Lost = true
+-- a try that has ended has a start, unless it was lost
+abbrev pub may_end : Option ℕ → Outcome → Bool
+may_end started outcome.Success = is_some started
+may_end started outcome.Skipped = is_some started
+may_end started outcome.Failed = is_some started
+may_end started outcome.Lost = true
 
 abbrev pub is_sound_end : Option ℕ → Option End → Bool
 is_sound_end started None = true
-is_sound_end started (Some e) = is_moment e.moment && is_end_after started e.outcome
+is_sound_end started (Some e) = is_moment e.moment && may_end started e.outcome
 
 -- a try takes the slots of its task
 abbrev pub is_sound_try : ℕ → Try → Bool
@@ -98,6 +98,17 @@ is_sound_instance t i =
     && (nat_le i.since (length i.tries)
     && (list_all (is_sound_try t.pool_slots) i.tries
     && (list_all has_end (earlier i) && are_sound_tries t.retries i.verdict (recent i))))
+
+-- ---- the order of tries
+abbrev pub try_before : Try → Try → Bool
+try_before t u = nat_lt t.serial u.serial
+
+-- the tries of an instance stand in the order in which they were handed out
+abbrev pub tries_rise : Held → Bool
+tries_rise i = rises try_before i.tries
+
+abbrev pub all_tries_rise : Run → Bool
+all_tries_rise r = list_all tries_rise r.instances
 
 -- ---- runs
 -- an instance of a finished run is finished
@@ -165,6 +176,8 @@ pub record IsSound (a : Schedule) : Type 0 where
   -- a serial names one try, and the next serial none
   pub serials_once : IsTrue (not (repeated (serials_of a)))
   pub serials_used : IsTrue (list_all (is_used a.next) (serials_of a))
+  -- the number of a try, which is its place in this order, is that of its serial among those of its instance
+  pub tries_by_serial : IsTrue (list_all all_tries_rise a.runs)
 
 -- ---- texts
 -- the graph is the one of the file that the text says

@@ -1,7 +1,9 @@
 -- What scripts do.
-use Rattle.std.proofs.Common.{◌≡◌, ◌∙◌, max, List, [], ◌∷◌, ◌++◌, Ok, Err, refl, sym, ap, subst, arith, inl, inr}
+use Rattle.std.proofs.Common.{◌≡◌, ◌∙◌, ◌<◌, max, Option, Some, None, List, [], ◌∷◌, ◌++◌, Ok, Err, refl, sym, ap, subst, arith, inl, inr}
 use Rattle.sched_model.specs.Schedule.{Schedule}
-use Rattle.sched_events.specs.Steps.{steps}
+use Rattle.sched_events.specs.Causes.{refused}
+use Rattle.sched_events.specs.Outcomes.{IsRefusal, unnamed}
+use Rattle.sched_events.specs.Steps.{step, steps, AreAccepted, accepted_among}
 use Rattle.sched_events.specs.declared.events.Event.{Event}
 use Rattle.sched_events.specs.declared.refusals.Refusal.{Refusal}
 use Rattle.sched_events.specs.declared.refusals.Refusal.TheVariants.{Memory}
@@ -12,20 +14,24 @@ use Rattle.script_runner.specs.Outcomes.{Outcome, IsOutcome, IsEventOutcome, ref
 use Rattle.script_runner.specs.Runs.{IsRun, IsPart, StepsEvents, event_of, events_of, then_outcome}
 use Rattle.script_runner.specs.Runs.IsPart.{none, kept, left}
 
--- one command's event is stepped, or none is
+-- ---- the events that are accepted
+accepted_parts : (es fs : List Event) (a : Schedule) → AreAccepted es a → AreAccepted fs (steps es a) → AreAccepted (es ++ fs) a
+accepted_parts [] fs a h k = k
+accepted_parts (e ∷ es) fs a h k = (h.0, h.1, accepted_parts es fs (step e a) h.2 k)
+
+among-first : (e : Event) (es : List Event) (a : Schedule) (o : Option Refusal) → refused a e ≡ o
+    → accepted_among (e ∷ es) a ≡ elim o [ None ↦ e ∷ accepted_among es (step e a) | Some r ↦ accepted_among es a ]
+among-first e es a o h = ap (λ (x : Option Refusal). let taken : List Event = elim x [ None ↦ e ∷ accepted_among es (step e a) | Some r ↦ accepted_among es a ] in taken) h
+
+-- ---- one command
+-- its event is stepped, or none is
 pub record StepsOne (r : Request) (a : Schedule) (o : Outcome) : Type 0 where
   pub events : List Event
   pub part : (rest more : List Event) → IsPart rest more → IsPart (events ++ rest) (event_of r ++ more)
   pub schedule : o.schedule ≡ steps events a
+  pub accepted : AreAccepted events a
+  pub exact : o.status < 4 → (more : List Event) → accepted_among (event_of r ++ more) a ≡ events ++ accepted_among more (steps events a)
   pub all : o.status ≡ 0 → events ≡ event_of r
-
-one-refused : (e : Event) (a : Schedule) (r : Refusal) (o : Outcome) → o ≡ refused_for r a → (o.status ≡ 0 → ⊥) → StepsOne (Ok (Step e)) a o
-one-refused e a r o h status = record {
-  events = [];
-  part = λ rest more p. left e rest more p;
-  schedule = ap (λ (x : Outcome). x.schedule) h;
-  all = λ z. absurd (status z);
-}
 
 some-status : (r : Refusal) → refusal_status r ≡ 0 → ⊥
 some-status Memory h = cc
@@ -34,14 +40,33 @@ some-status _ h = cc
 not_zero : (r : Refusal) (a : Schedule) (o : Outcome) → o ≡ refused_for r a → o.status ≡ 0 → ⊥
 not_zero r a o h z = some-status r (sym (ap (λ (x : Outcome). x.status) h) ∙ z)
 
+-- one that is refused is left out, unless memory was wanting
+left_out : (e : Event) (a : Schedule) (r : Refusal) (o : Outcome) (more : List Event) → IsRefusal a e r → o ≡ refused_for r a → o.status < 4 → accepted_among (e ∷ more) a ≡ accepted_among more a
+left_out e a r o more (inl memory) h few =
+    let four : o.status ≡ 4 = ap (λ (x : Outcome). x.status) h ∙ ap refusal_status memory in
+    absurd (omega (arith, four, few))
+left_out e a r o more (inr cause) h few = among-first e more a (Some (unnamed r)) cause.first
+
+one-refused : (e : Event) (a : Schedule) (r : Refusal) (o : Outcome) → IsRefusal a e r → o ≡ refused_for r a → StepsOne (Ok (Step e)) a o
+one-refused e a r o why h = record {
+  events = [];
+  part = λ rest more p. left e rest more p;
+  schedule = ap (λ (x : Outcome). x.schedule) h;
+  accepted = tt;
+  exact = λ few more. left_out e a r o more why h few;
+  all = λ z. absurd (not_zero r a o h z);
+}
+
 one-step : (e : Event) (a : Schedule) (o : Outcome) → IsEventOutcome e a o → StepsOne (Ok (Step e)) a o
 one-step e a o (inl (b, given, stepped, same)) = record {
   events = e ∷ [];
   part = λ rest more p. kept e rest more p;
   schedule = ap (λ (x : Outcome). x.schedule) same ∙ stepped.after;
+  accepted = (stepped.ranged, stepped.accepted, tt);
+  exact = λ few more. among-first e more a None stepped.accepted;
   all = λ z. refl;
 }
-one-step e a o (inr (r, why, same)) = one-refused e a r o same (not_zero r a o same)
+one-step e a o (inr (r, why, same)) = one-refused e a r o why same
 
 -- what is no event steps none
 no-event : (r : Request) (a : Schedule) (o : Outcome) → event_of r ≡ [] → o.schedule ≡ a → StepsOne r a o
@@ -49,6 +74,8 @@ no-event r a o empty same = record {
   events = [];
   part = λ rest more p. subst (λ (es : List Event). IsPart rest (es ++ more)) (sym empty) p;
   schedule = same;
+  accepted = tt;
+  exact = λ few more. ap (λ (es : List Event). accepted_among (es ++ more) a) empty;
   all = λ z. sym empty;
 }
 
@@ -64,6 +91,12 @@ joined r rs a first rest o f s e = record {
   events = f.events ++ s.events;
   part = f.part s.events (events_of rs) s.part;
   schedule = ap (λ (x : Outcome). x.schedule) e ∙ (s.schedule ∙ (ap (steps s.events) f.schedule ∙ sym (steps_parts f.events s.events a)));
+  accepted = accepted_parts f.events s.events a f.accepted (subst (AreAccepted s.events) f.schedule s.accepted);
+  exact = λ few.
+      let greatest : o.status ≡ max first.status rest.status = ap (λ (x : Outcome). x.status) e in
+      let here : first.status < 4 = omega arith in
+      let later : rest.status < 4 = omega arith in
+      ap (λ (es : List Event). f.events ++ es) (s.exact later ∙ ap (accepted_among (events_of rs)) f.schedule) ∙ sym (f.exact here (events_of rs));
   all = λ z.
       let greatest : o.status ≡ max first.status rest.status = ap (λ (x : Outcome). x.status) e in
       let here : first.status ≡ 0 = omega arith in
@@ -72,5 +105,12 @@ joined r rs a first rest o f s e = record {
 }
 
 pub script_steps : (rs : List Request) (a : Schedule) (o : Outcome) → IsRun rs a o → StepsEvents rs a o
-script_steps [] a o h = record { events = []; part = none; schedule = ap (λ (x : Outcome). x.schedule) h; all = λ z. refl }
+script_steps [] a o h = record {
+  events = [];
+  part = none;
+  schedule = ap (λ (x : Outcome). x.schedule) h;
+  accepted = tt;
+  exact = λ few. refl;
+  all = λ z. refl;
+}
 script_steps (r ∷ rs) a o (first, rest, is, run, e) = joined r rs a first rest o (one r a first is) (script_steps rs first.schedule rest run) e

@@ -1,9 +1,11 @@
 -- A script from the empty schedule on.
-use Rattle.std.proofs.Common.{◌≡◌, ◌∙◌, ℕ, List, [], ◌∷◌, ◌++◌, Option, Result, Ok, Err, OnOk, IfOk, refl, sym, ap, subst, inl, inr, ◌⊎◌, append-nil}
+use Rattle.std.proofs.Common.{◌≡◌, ◌∙◌, ℕ, ◌<◌, List, [], ◌∷◌, ◌++◌, Option, Result, Ok, Err, OnOk, IfOk, refl, sym, ap, subst, inl, inr, ◌⊎◌, append-nil, arith}
 use Rattle.std.proofs.lemmas.Result.{IfOk-at_ok, IfOk-weaker}
 use Rattle.sched_state.specs.Limits.{ceilings}
 use Rattle.sched_model.specs.Schedule.{Schedule, empty_schedule}
-use Rattle.sched_events.specs.Steps.{step, steps}
+use Rattle.sched_events.specs.Outcomes.{IsStepped}
+use Rattle.sched_events.specs.Steps.{step, steps, AreAccepted, accepted_among}
+use Rattle.sched_events.specs.declared.answers.Answer.{Answer}
 use Rattle.sched_events.specs.declared.events.Event.{Event}
 use Rattle.sched_events.specs.declared.events.Event.TheVariants.{Restart}
 use Rattle.script_commands.specs.Commands.{Request, commands_in}
@@ -41,30 +43,37 @@ is_status (Ok status) (Ok flushed) = inl refl
 is_status (Ok status) (Err e) = inr refl
 is_status (Err e) flushed = inr refl
 
-named-by : {E : Type 0} (commands rest : List Request) (events : List Event) (known : List ℕ) (result : Result ℕ E) (status n : ℕ) → IsPart events (events_of commands) → (n ≡ 0 → events ≡ events_of commands) → commands_in known ≡ commands ++ rest → OnOk result (rest ≡ []) → IfOk result (λ m. m ≡ n) → IsStatus result status → AreNamed events known status
-named-by commands rest events known result status n part all read ended told (inl ok) =
+named-by : {E : Type 0} (commands rest : List Request) (events : List Event) (a : Schedule) (known : List ℕ) (result : Result ℕ E) (status n : ℕ) → IsPart events (events_of commands)
+    → (n < 4 → events ≡ accepted_among (events_of commands) a) → (n ≡ 0 → events ≡ events_of commands) → commands_in known ≡ commands ++ rest → OnOk result (rest ≡ []) → IfOk result (λ m. m ≡ n) → IsStatus result status
+    → AreNamed events a known status
+named-by commands rest events a known result status n part exact all read ended told (inl ok) =
     let last : rest ≡ [] = IfOk-at_ok (λ _. rest ≡ []) ok ended in
     let same : status ≡ n = IfOk-at_ok (λ m. m ≡ n) ok told in
     let whole : commands_in known ≡ commands = read ∙ (ap (λ (rs : List Request). commands ++ rs) last ∙ append-nil commands) in
     record {
       part = subst (λ (rs : List Request). IsPart events (events_of rs)) (sym whole) part;
+      exact = λ few. exact (subst (λ (m : ℕ). m < 4) same few) ∙ ap (λ (rs : List Request). accepted_among (events_of rs) a) (sym whole);
       all = λ z. all (sym same ∙ z) ∙ ap events_of (sym whole);
     }
-named-by commands rest events known result status n part all read ended told (inr four) = record {
+named-by commands rest events a known result status n part exact all read ended told (inr four) = record {
   part = subst (λ (rs : List Request). IsPart events (events_of rs)) (sym read) (subst (λ (es : List Event). IsPart events es) (sym (events-append commands rest)) (part-longer events (events_of commands) (events_of rest) part));
+  exact = λ few. absurd (omega (arith, four, few));
   all = λ z. cc;
 }
 
 -- the schedule of a script that begins with a restart of the empty one
-pub serial-run : {E F T : Type 0} (bytes : Option (List ℕ)) (lanes : ℕ) (a b : Schedule) (old new : Option (List ℕ)) (result : Result ℕ E) (flushed : Result T F) (status : ℕ) → IsScriptRun bytes a b old new result → a ≡ step (Restart lanes) (empty_schedule ceilings) → status ≡ status_of result flushed → IsSerialRun bytes lanes b status
-serial-run bytes lanes a b old new result flushed status r begun told =
+pub serial-run : {E F T : Type 0} (bytes : Option (List ℕ)) (lanes : ℕ) (a b : Schedule) (given : Answer) (old new : Option (List ℕ)) (result : Result ℕ E) (flushed : Result T F) (status : ℕ) → IsScriptRun bytes a b old new result
+    → IsStepped (empty_schedule ceilings) (Restart lanes) a given → status ≡ status_of result flushed → IsSerialRun bytes lanes b status
+serial-run bytes lanes a b given old new result flushed status r begun told =
     let ended : IsStatus result status = subst (λ (n : ℕ). IsStatus result n) (sym told) (is_status result flushed) in
     let s : StepsEvents r.commands a r.outcome = script_steps r.commands a r.outcome r.run in
     record {
       events = s.events;
-      schedule = r.schedule ∙ (s.schedule ∙ ap (steps s.events) begun);
+      schedule = r.schedule ∙ (s.schedule ∙ ap (steps s.events) begun.after);
+      accepted = (tt, begun.accepted, subst (AreAccepted s.events) begun.after s.accepted);
       named = λ known e.
           let at = r.read known e in
-          named-by r.commands at.0 s.events known result status r.outcome.status s.part s.all at.1 at.2
-          (IfOk-weaker result _ _ (λ m h. h.0) r.answered) ended;
+          subst (λ (first : Schedule). AreNamed s.events first known status) begun.after
+          (named-by r.commands at.0 s.events a known result status r.outcome.status s.part s.exact s.all at.1 at.2
+          (IfOk-weaker result _ _ (λ m h. h.0) r.answered) ended);
     }

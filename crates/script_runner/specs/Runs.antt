@@ -1,8 +1,8 @@
 -- What comes of the commands of a script.
-use Rattle.std.specs.Prelude.{◌≡◌, ℕ, max, List, [], ◌∷◌, ◌++◌, Option, Some, Result, Ok, Err, IfOk, OnOk}
+use Rattle.std.specs.Prelude.{◌≡◌, ℕ, ◌<◌, max, List, [], ◌∷◌, ◌++◌, Option, Some, Result, Ok, Err, IfOk, OnOk}
 use Rattle.std.specs.Io.KnownBytes.{Appends}
 use Rattle.sched_model.specs.Schedule.{Schedule}
-use Rattle.sched_events.specs.Steps.{steps}
+use Rattle.sched_events.specs.Steps.{steps, AreAccepted, accepted_among}
 use Rattle.sched_events.specs.declared.events.Event.{Event}
 use Rattle.script_commands.specs.Commands.{Request, commands_in}
 use Rattle.script_commands.specs.declared.commands.Command.TheVariants.{Step, ListRuns, ListTasks, ListPools}
@@ -36,11 +36,14 @@ pub data IsPart {X : Type 0} : List X → List X → Type 0 where
   kept : (x : X) (xs ys : List X) → IsPart xs ys → IsPart (x ∷ xs) (x ∷ ys)
   left : (x : X) (xs ys : List X) → IsPart xs ys → IsPart xs (x ∷ ys)
 
--- the schedule is that after some of the commands' events, in their order, and after all where the status is 0
+-- the schedule is that after some of the commands' events, in their order, each of them accepted: after exactly those that are accepted
+-- where memory sufficed and each text could be had, which is a status below 4, and after all where the status is 0
 pub record StepsEvents (commands : List Request) (a : Schedule) (o : Outcome) : Type 0 where
   pub events : List Event
   pub part : IsPart events (events_of commands)
   pub schedule : o.schedule ≡ steps events a
+  pub accepted : AreAccepted events a
+  pub exact : o.status < 4 → events ≡ accepted_among (events_of commands) a
   pub all : o.status ≡ 0 → events ≡ events_of commands
 
 -- a command was done, and answered where writing succeeded

@@ -6,8 +6,7 @@ ghost use Rattle.script_runner.specs.Runs.{IsAnswered};
 
 use crate::listing::{put_pools, put_tasks};
 use answer_lines::{put_answer, put_fault, put_refusal, put_runs};
-use sched_core::Schedule;
-use sched_events::{Event, Refusal};
+use sched_core::{Event, Refusal, Schedule};
 use script_commands::{Command, CommandFault};
 use std::alloc::Global;
 use std::io::{self, Write};

@@ -13,8 +13,8 @@ const MOST_COMMANDS: u64 = 1 << 40;
 
 /// Does the commands of a script and writes the answer of each, in order; the status is the greatest of theirs.
 ///
-/// An error is the reader's or the writer's. Then the commands before it are done, and nothing after them; what was written of
-/// their answers is not known. `lines` is what the script is read with.
+/// An error is the reader's or the writer's. Then the first of the script's commands are done; what was written of their answers is not
+/// known, and no contract can say where a reader or a writer fails. `lines` is what the script is read with.
 pub fn run_script<R: Read, W: Write>(
     alloc: Global,
     schedule: &mut Schedule,

@@ -8,19 +8,17 @@ ghost use Rattle.script_runner.specs.Serial as spec;
 ghost use Rattle.script_runner.specs.Serial.{IsSerialRun};
 
 use crate::running::run_script;
-use sched_core::Schedule;
-use sched_events::{Event, Refusal};
-use sched_state::Limits;
+use sched_core::{Event, Limits, Refusal, Schedule};
 use script_lines::LineReader;
 use std::alloc::Global;
 use std::io::{self, BufRead, Write};
 
 /// Runs a script on a schedule that is empty but for its lanes, within the greatest limits and on one thread; gives the schedule that it
-/// leads to, and the status.
+/// leads to, and the status. Of its events those are stepped that are accepted, and where the status is below 4 none of these is left out.
 ///
 /// `lanes` is the most tries that may be in flight, at most 64; with none nothing is handed out. The input is read byte by byte, which
-/// is why it has a buffer. The status is 4 where reading or writing fails, or the output cannot be flushed. The error comes before
-/// anything is read: there are too many lanes, or memory ran out.
+/// is why it has a buffer. The status is 4 where reading or writing fails, or the output cannot be flushed. An error is the refusal of the
+/// restart with these lanes, or want of memory for it.
 pub fn run_serial<R: BufRead + Drop, W: Write + Drop>(
     alloc: Global,
     lanes: u32,

@@ -1,8 +1,5 @@
 //! Graphs and schedules of the greatest size.
-use instance_machine::{Outcome, Stage};
-use moment_core::Moment;
-use sched_core::{Event, Schedule};
-use sched_state::{Limits, Text};
+use sched_core::{Event, Limits, Moment, Outcome, Schedule, Stage, Text};
 use script_runner::run_serial;
 use std::alloc::{AllocError, Global};
 use std::test::Fail;

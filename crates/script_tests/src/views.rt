@@ -1,7 +1,5 @@
 //! What is asked of a schedule that has it not.
-use graph_file::Name;
-use moment_core::Moment;
-use sched_core::{Refusal, Schedule};
+use sched_core::{Moment, Name, Refusal, Schedule};
 use script_runner::run_serial;
 use std::alloc::Global;
 use std::test::Fail;

@@ -1,8 +1,7 @@
 //! What an event leaves: `= CLOCK, N of LANES in flight, next SERIAL`, and for each run, by graph id and date, its phase and each task with
 //! the state of its instance, in the order of the graph's places.
 use graph_file::TaskSpec;
-use sched_core::Schedule;
-use sched_state::{Phase, Run};
+use sched_core::{Phase, Run, Schedule};
 use std::io::{self, Write};
 
 /// Writes what the schedule holds, in one line.

@@ -1,7 +1,5 @@
 //! What a line is: a title, a remark, limits, an event that no script has words for, or a line of a script.
-use instance_machine::{Outcome, Stage};
-use sched_core::Event;
-use sched_state::Limits;
+use sched_core::{Event, Limits, Outcome, Stage};
 use std::str;
 
 /// What a line is.

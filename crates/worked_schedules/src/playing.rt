@@ -2,8 +2,7 @@
 use crate::answering::answer;
 use crate::lines::Line;
 use crate::stepping::{new_schedule, step};
-use sched_core::Schedule;
-use sched_state::Limits;
+use sched_core::{Limits, Schedule};
 use script_commands::{Command, CommandFault, next_command};
 use script_lines::LineReader;
 use std::alloc::Global;

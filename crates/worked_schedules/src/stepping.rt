@@ -2,8 +2,7 @@
 //! of what is written.
 use crate::leaving::put_left;
 use answer_lines::{put_answer, put_refusal};
-use sched_core::{Answer, Event, Refusal, Schedule};
-use sched_state::Limits;
+use sched_core::{Answer, Event, Limits, Refusal, Schedule};
 use std::alloc::{AllocError, Global};
 use std::io::{self, Write};
 

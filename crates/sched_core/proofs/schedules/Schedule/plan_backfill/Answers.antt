@@ -121,5 +121,5 @@ returns-clause-accepted c =
     let e : Schedule = c.reset_if.new.draft in
     let done : IsFilled a id c.args.from c.args.to c.args.reset c.add.new.draft c.in_ok-made.made c.in_ok-cleared.cleared =
     back_done a d e c.add.new.draft id c.args.from c.args.to most c.args.reset b c.in_ok-made.made c.in_ok-cleared.cleared c.in_ok-draft.ensures h good (subst (λ (ds : List ℕ). IsSetBack (reset_of c.args.reset id ds) d e (Ok c.in_ok-cleared.cleared)) c.deref.ensures.value c.in_ok-cleared.ensures) c.if-named.false fits c.in_ok-add.ensures (c.in_ok-made.ensures ∙ ap (map run_id) c.deref-2.ensures.value) in
-    draft_planned (Backfill id c.args.from c.args.to c.args.reset) a c.add.new.draft _ c.in_ok-finished.field-0 done.accepted done.is
+    draft_planned (Backfill id c.args.from c.args.to c.args.reset) a c.add.new.draft _ c.in_ok-finished.field-0 tt done.accepted done.is
     (told_by (Backfill id c.args.from c.args.to c.args.reset) a c.quiet_answer.result c.in_ok-made.made _ c.in_ok-cleared.cleared c.quiet_answer.ensures done.ids_is (ap (λ (q : Answer). q.more) c.quiet_answer.ensures) done.count_is) c.in_ok-finished.ensures

@@ -67,5 +67,5 @@ returns-clause-accepted c =
     let good : nat_lt x.to x.from ≡ false = grind (arith, nat_tests, c.lt.ensures, c.if-lt.false) in
     let done : IsCleared a x c.set_back.new.draft c.in_ok-cleared.cleared = clear_done a c.in_ok-draft.draft c.set_back.new.draft x n c.in_ok-cleared.cleared c.in_ok-draft.ensures h good c.in_ok-cleared.ensures in
     let quiet = c.quiet_answer.ensures in
-    draft_planned (Clear x) a c.set_back.new.draft _ c.in_ok-finished.field-0 done.accepted done.is
+    draft_planned (Clear x) a c.set_back.new.draft _ c.in_ok-finished.field-0 tt done.accepted done.is
     (told_by (Clear x) a c.quiet_answer.result _ _ c.in_ok-cleared.cleared quiet (ap (λ (q : Answer). q.made) quiet) (ap (λ (q : Answer). q.more) quiet) done.count_is) c.in_ok-finished.ensures

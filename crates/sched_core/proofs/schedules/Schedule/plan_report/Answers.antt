@@ -50,5 +50,5 @@ returns-clause-accepted c =
     let a : Schedule = c.args.self.now.content in
     let found = found_try a c.args.serial c.deref.result.now c.open_try.result (c.deref.ensures.value ∙ ap (λ (h : Held). h.content.runs) c.self.view_is) c.open_try.ensures in
     let turn : is_some (report_try c.args.stage a.now c.in-Some.one) ≡ true = sym (c.if-not-takes.ensures a.now) in
-    draft_planned (Report c.args.serial c.args.stage) a c.report.new.self c.quiet_answer.result c.in_ok-finished.field-0 (in_turn a c.args.serial c.args.stage c.in-Some.one (sym c.in-Some.is ∙ found) turn)
+    draft_planned (Report c.args.serial c.args.stage) a c.report.new.self c.quiet_answer.result c.in_ok-finished.field-0 tt (in_turn a c.args.serial c.args.stage c.in-Some.one (sym c.in-Some.is ∙ found) turn)
     (report_draft a c.in_ok-draft.draft c.report.new.self c.args.serial c.args.stage c.in_ok-draft.ensures c.report.ensures) c.quiet_answer.ensures c.in_ok-finished.ensures

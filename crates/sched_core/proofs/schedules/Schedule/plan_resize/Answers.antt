@@ -105,4 +105,6 @@ returns-clause-accepted c =
     let accepted : refused a (Resize c.args.name.now c.args.size) ≡ None = resize_accepted a es c.args.name.now c.args.size place in
     let is : over c.resize.new.self.pools a ≡ resize c.args.name.now c.args.size a =
     over_is a es c.in_ok-pools.pools.pools c.resize.new.self.pools c.args.name.now c.in_ok-name.name c.args.size pools kept.sound.pools_by_name c.in_ok-pools.ensures c.in_ok-name.ensures c.in_ok-resize.ensures.pools in
-    draft_planned (Resize c.args.name.now c.args.size) a (over c.resize.new.self.pools a) no_runs c.in_ok-over.field-0 accepted is refl c.in_ok-over.ensures
+    let short : nat_le c.args.size 1000000 ≡ true = grind (arith, nat_tests, c.get-size.ensures.value, c.get-size.ensures.high) in
+    let ranged : is_sound_pool (new_pool c.args.name.now c.args.size) ≡ true = and_from _ _ (ap is_name (sym c.as_str-name.ensures.text) ∙ c.as_str-name.ensures.name) short in
+    draft_planned (Resize c.args.name.now c.args.size) a (over c.resize.new.self.pools a) no_runs c.in_ok-over.field-0 ranged accepted is refl c.in_ok-over.ensures

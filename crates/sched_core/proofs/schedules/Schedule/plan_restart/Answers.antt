@@ -36,5 +36,5 @@ returns-clause-accepted c =
     let a : Schedule = c.args.self.now.content in
     let lanes : c.lanes.result ≡ a.limits.lanes = c.lanes.ensures ∙ ap (λ (h : Held). h.content.limits.lanes) c.self.view_is in
     let few : nat_lt a.limits.lanes c.args.lanes ≡ false = grind (arith, nat_tests, lanes, c.if-lanes.false) in
-    draft_planned (Restart c.args.lanes) a c.restart.new.self c.quiet_answer.result c.in_ok-finished.field-0 (restart_accepted a c.args.lanes few)
+    draft_planned (Restart c.args.lanes) a c.restart.new.self c.quiet_answer.result c.in_ok-finished.field-0 tt (restart_accepted a c.args.lanes few)
     (restart_draft a c.in_ok-draft.draft c.restart.new.self c.args.lanes c.in_ok-draft.ensures c.restart.ensures) c.quiet_answer.ensures c.in_ok-finished.ensures

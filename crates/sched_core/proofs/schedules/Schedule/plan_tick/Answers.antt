@@ -68,8 +68,9 @@ returns-clause-accepted c =
     let more : length c.in_ok-named.named.runs.items ≡ length (named_by_tick a t) = tick_length a c.in_ok-draft.draft t c.in_ok-named.named.runs.items c.in_ok-draft.ensures c.in_ok-named.ensures.runs in
     let full : is_full_with a (named_by_tick a t) ≡ false = grind (arith, nat_tests, c.runs.ensures.value, c.len.ensures, c.len-2.ensures, limit, long, more, c.if-runs-len.false) in
     let accepted : refused a (Tick t) ≡ None = tick_accepted a t back full in
+    let dated : is_moment t ≡ true = grind (arith, nat_tests, c.secs.ensures.value, c.secs.ensures.bound) in
     let is : c.add.new.draft ≡ add_runs (named_by (Tick t) a) (change_by (Tick t) a) =
     tick_draft a c.in_ok-draft.draft c.set_clock.new.self c.add.new.draft t c.in_ok-named.named.runs.items c.in_ok-draft.ensures c.set_clock.ensures c.in_ok-named.ensures.runs c.in_ok-add.ensures in
     let ids = tick_ids a c.in_ok-draft.draft t c.in_ok-named.named.runs.items c.in_ok-made.made c.in_ok-draft.ensures c.in_ok-named.ensures.runs (c.in_ok-made.ensures ∙ ap (map run_id) c.deref.ensures.value) in
     let more = c.in_ok-named.ensures.more ∙ ap (λ (s : Schedule). leaves_more s t) c.in_ok-draft.ensures in
-    draft_planned (Tick t) a c.add.new.draft _ c.in_ok-finished.field-0 accepted is (told_by (Tick t) a c.quiet_answer.result c.in_ok-made.made c.in_ok-named.named.more _ c.quiet_answer.ensures ids more (ap (λ (q : Answer). q.cleared) c.quiet_answer.ensures)) c.in_ok-finished.ensures
+    draft_planned (Tick t) a c.add.new.draft _ c.in_ok-finished.field-0 dated accepted is (told_by (Tick t) a c.quiet_answer.result c.in_ok-made.made c.in_ok-named.named.more _ c.quiet_answer.ensures ids more (ap (λ (q : Answer). q.cleared) c.quiet_answer.ensures)) c.in_ok-finished.ensures

@@ -72,4 +72,4 @@ returns-clause-accepted c =
     let is : c.add.new.draft ≡ add_runs (named_by (Trigger id) a) (change_by (Trigger id) a) =
     trigger_draft a d c.add.new.draft id run c.in_ok-runs.runs.items c.in_ok-draft.ensures h.1.1 c.in_ok-runs.ensures c.in_ok-add.ensures in
     let ids = trigger_ids a d id run c.in_ok-runs.runs.items c.in_ok-made.made c.in_ok-draft.ensures h.1.1 c.in_ok-runs.ensures (c.in_ok-made.ensures ∙ ap (map run_id) c.deref.ensures.value) in
-    draft_planned (Trigger id) a c.add.new.draft _ c.in_ok-finished.field-0 accepted is (told_by (Trigger id) a c.quiet_answer.result c.in_ok-made.made _ _ c.quiet_answer.ensures ids (ap (λ (q : Answer). q.more) c.quiet_answer.ensures) (ap (λ (q : Answer). q.cleared) c.quiet_answer.ensures)) c.in_ok-finished.ensures
+    draft_planned (Trigger id) a c.add.new.draft _ c.in_ok-finished.field-0 tt accepted is (told_by (Trigger id) a c.quiet_answer.result c.in_ok-made.made _ _ c.quiet_answer.ensures ids (ap (λ (q : Answer). q.more) c.quiet_answer.ensures) (ap (λ (q : Answer). q.cleared) c.quiet_answer.ensures)) c.in_ok-finished.ensures

@@ -38,7 +38,7 @@ returns-clause-accepted c =
     let there : is_none (graph_named a c.args.id.now) ≡ false =
     looked_up a c.as_slice.result.now c.args.id.now c.graph_named.result c.is_none.result (c.as_slice.ensures.value ∙ ap (λ (h : Held). h.content.graphs) c.self.view_is)
     c.graph_named.ensures c.is_none.ensures ∙ c.if-is_none.false in
-    draft_planned (Unpause c.args.id.now) a c.in_ok-draft.draft c.quiet_answer.result c.in_ok-finished.field-0 (pause_accepted a c.args.id.now there)
+    draft_planned (Unpause c.args.id.now) a c.in_ok-draft.draft c.quiet_answer.result c.in_ok-finished.field-0 tt (pause_accepted a c.args.id.now there)
     (unpause_draft a c.in_ok-draft.draft c.args.id.now c.in_ok-draft.ensures) c.quiet_answer.ensures c.in_ok-finished.ensures
 
 pub returns-then-is_none-clause-refused : goal.returns-then-is_none-clause-refused

@@ -1,0 +1,271 @@
+-- Each try that is there goes on: in its run and its instance, at its position.
+use Rattle.std.proofs.Common.{◌≡◌, ◌∙◌, refl, sym, ap, subst, ℕ, zero, suc, List, [], ◌∷◌, ◌++◌, Bool, true, false, not, ◌||◌, ◌==◌, if◌then◌else◌, cond, find, map, Option, Some, None, option_map, option_and_then, slice_get, unwrap_or, is_some, true≢false}
+use Rattle.std.specs.List.{list_any}
+use Rattle.std.proofs.lemmas.Bool.{eqb-true}
+use Rattle.std.proofs.lemmas.Option.{slice_get-map}
+use Rattle.instance_machine.specs.Instances.{Held, map_tries}
+use Rattle.instance_machine.specs.Reports.{report_try, reported_try, lost_if, lost_try}
+use Rattle.instance_machine.specs.declared.tries.Try.{Try}
+use Rattle.instance_machine.specs.declared.tries.End.{End}
+use Rattle.instance_machine.specs.declared.tries.Stage.{Stage}
+use Rattle.instance_machine.specs.declared.tries.Stage.TheVariants.{Started, Ended}
+use Rattle.instance_machine.specs.declared.tries.Outcome.TheVariants.{Success, Failed, Skipped, Lost}
+use Rattle.sched_state.specs.Lists.{same, insert_by, repeat}
+use Rattle.sched_state.specs.declared.runs.Run.{Run}
+use Rattle.sched_state.proofs.NameLemmas.{same_is}
+use Rattle.sched_state.proofs.OrderLemmas.{and_left, and_right, not_false}
+use Rattle.sched_state.proofs.RepeatLemmas.{repeat_done, repeat_more}
+use Rattle.sched_model.specs.Changes.{advance, map_tries_of, map_all_tries}
+use Rattle.sched_model.specs.Clearing.{Naming, clear, clear_run}
+use Rattle.sched_model.specs.Handout.{new_try, with_try, in_instance, hand, hand_one, best_offer, serials_left}
+use Rattle.sched_model.specs.Lists.{at}
+use Rattle.sched_model.specs.NamedRuns.{Named, is_for, queued_run, add_runs}
+use Rattle.sched_model.specs.Schedule.{Schedule, is_at, run_before, graph_named, has_run_at}
+use Rattle.sched_model.specs.Settle.{move, move_runs, with_runs, settle, moves_left}
+use Rattle.sched_model.specs.Sound.{IsSound, is_new, are_new}
+use Rattle.sched_laws.specs.Runs.{named_as}
+use Rattle.sched_laws.specs.Tries.{GoesOn, run_at, try_in, try_at}
+use Rattle.sched_laws.proofs.AddLemmas.{added}
+use Rattle.sched_laws.proofs.ClearLemmas.{all_keys, all_tries}
+use Rattle.sched_laws.proofs.KeyLemmas.{is_key}
+use Rattle.sched_laws.proofs.RunLemmas.{try_lists, move_kin}
+use Rattle.sched_laws.proofs.SettleLemmas.{map_some}
+
+-- ---- a try
+goes_still : (t : Try) → GoesOn t t
+goes_still t = record { serial = refl; slots = refl; started = λ m e. e; ended = λ x e. e }
+
+goes_further : (t u v : Try) → GoesOn t u → GoesOn u v → GoesOn t v
+goes_further t u v f g = record {
+  serial = g.serial ∙ f.serial;
+  slots = g.slots ∙ f.slots;
+  started = λ m e. g.started m (f.started m e);
+  ended = λ x e. g.ended x (f.ended x e);
+}
+
+abbrev try_of : ℕ → ℕ → Option ℕ → Option End → Try
+try_of s k b e = record { serial = s; slots = k; started = b; ended = e }
+
+-- what has not begun, or has not ended
+begins : (s k now : ℕ) → GoesOn (try_of s k None None) (try_of s k (Some now) None)
+begins s k now = record {
+  serial = refl;
+  slots = refl;
+  started = λ m e. absurd (let c : ◌≡◌ {A = Option ℕ} None (Some m) = e in cc);
+  ended = λ x e. absurd (let c : ◌≡◌ {A = Option End} None (Some x) = e in cc);
+}
+
+ends : (s k : ℕ) (b : Option ℕ) (y : End) → GoesOn (try_of s k b None) (try_of s k b (Some y))
+ends s k b y = record {
+  serial = refl;
+  slots = refl;
+  started = λ m e. e;
+  ended = λ x e. absurd (let c : ◌≡◌ {A = Option End} None (Some x) = e in cc);
+}
+
+reports : (stage : Stage) (now s k : ℕ) (b : Option ℕ) (e : Option End) → GoesOn (try_of s k b e) (unwrap_or (report_try stage now (try_of s k b e)) (try_of s k b e))
+reports stage now s k b (Some x) = goes_still (try_of s k b (Some x))
+reports Started now s k None None = begins s k now
+reports Started now s k (Some m) None = goes_still (try_of s k (Some m) None)
+reports (Ended o) now s k None None = goes_still (try_of s k None None)
+reports (Ended Success) now s k (Some m) None = ends s k (Some m) (record { moment = now; outcome = Success })
+reports (Ended Failed) now s k (Some m) None = ends s k (Some m) (record { moment = now; outcome = Failed })
+reports (Ended Skipped) now s k (Some m) None = ends s k (Some m) (record { moment = now; outcome = Skipped })
+reports (Ended Lost) now s k (Some m) None = goes_still (try_of s k (Some m) None)
+
+goes_if : (b : Bool) (t u : Try) → GoesOn t u → GoesOn t (if b then u else t)
+goes_if true t u g = g
+goes_if false t u g = goes_still t
+
+pub report_goes : (serial : ℕ) (stage : Stage) (now : ℕ) (t : Try) → GoesOn t (reported_try serial stage now t)
+report_goes serial stage now t = goes_if (t.serial == serial) t (unwrap_or (report_try stage now t) t) (reports stage now t.serial t.slots t.started t.ended)
+
+lost_goes_if : (now s k : ℕ) (b : Option ℕ) (e : Option End) → GoesOn (try_of s k b e) (lost_if now e (try_of s k b e))
+lost_goes_if now s k b None = ends s k b (record { moment = now; outcome = Lost })
+lost_goes_if now s k b (Some x) = goes_still (try_of s k b (Some x))
+
+pub lost_goes : (now : ℕ) (t : Try) → GoesOn t (lost_try now t)
+lost_goes now t = lost_goes_if now t.serial t.slots t.started t.ended
+
+-- ---- a run
+-- q stands where r stood, and each try goes on
+pub record RunGoesOn (r q : Run) : Type 0 where
+  pub named : named_as q ≡ named_as r
+  pub tries : (p n : ℕ) (t : Try) → try_in p n r ≡ Some t → (u : Try) × (try_in p n q ≡ Some u) × GoesOn t u
+
+run_still : (r : Run) → RunGoesOn r r
+run_still r = record { named = refl; tries = λ p n t e. (t, e, goes_still t) }
+
+run_further : (r q w : Run) → RunGoesOn r q → RunGoesOn q w → RunGoesOn r w
+run_further r q w f g = record {
+  named = g.named ∙ f.named;
+  tries = λ p n t e.
+      let u = f.tries p n t e in
+      let v = g.tries p n u.0 u.1 in
+      (v.0, v.1, goes_further t u.0 v.0 u.2 v.2);
+}
+
+-- where the tries are the same
+in_lists : (p n : ℕ) (r : Run) → try_in p n r ≡ option_and_then (λ (ts : List Try). slice_get ts n) (slice_get (try_lists r) p)
+in_lists p n r = of_option (slice_get r.instances p) ∙ ap (option_and_then (λ (ts : List Try). slice_get ts n)) (sym (slice_get-map (λ (i : Held). i.tries) r.instances p))
+  where
+    of_option : (o : Option Held) → option_and_then (λ (i : Held). slice_get i.tries n) o ≡ option_and_then (λ (ts : List Try). slice_get ts n) (option_map (λ (i : Held). i.tries) o)
+    of_option None = refl
+    of_option (Some i) = refl
+
+same_tries : (r q : Run) → named_as q ≡ named_as r → try_lists q ≡ try_lists r → RunGoesOn r q
+same_tries r q e f = record {
+  named = e;
+  tries = λ p n t g. (t, in_lists p n q ∙ (ap (λ (ls : List (List Try)). option_and_then (λ (ts : List Try). slice_get ts n) (slice_get ls p)) f ∙ (sym (in_lists p n r) ∙ g)), goes_still t);
+}
+
+-- where each try is changed
+mapped_get : (f : Try → Try) (p n : ℕ) (r : Run) → try_in p n (map_tries_of f r) ≡ option_map f (try_in p n r)
+mapped_get f p n r = ap (option_and_then (λ (i : Held). slice_get i.tries n)) (slice_get-map (map_tries f) r.instances p) ∙ of_option (slice_get r.instances p)
+  where
+    of_option : (o : Option Held) → option_and_then (λ (i : Held). slice_get i.tries n) (option_map (map_tries f) o) ≡ option_map f (option_and_then (λ (i : Held). slice_get i.tries n) o)
+    of_option None = refl
+    of_option (Some i) = slice_get-map f i.tries n
+
+changed_tries : (f : Try → Try) → ((t : Try) → GoesOn t (f t)) → (r : Run) → RunGoesOn r (map_tries_of f r)
+changed_tries f h r = record { named = refl; tries = λ p n t e. (f t, mapped_get f p n r ∙ ap (option_map f) e, h t) }
+
+-- where one instance gets a further try
+get_front : {X : Type 0} (xs ys : List X) (n : ℕ) (x : X) → slice_get xs n ≡ Some x → slice_get (xs ++ ys) n ≡ Some x
+get_front {X} [] ys n x e = absurd (let c : ◌≡◌ {A = Option X} None (Some x) = e in cc)
+get_front (z ∷ xs) ys zero x e = e
+get_front (z ∷ xs) ys (suc n) x e = get_front xs ys n x e
+
+handed_get : (v : Try) (k : ℕ) (is : List Held) (p n : ℕ) (t : Try) → option_and_then (λ (i : Held). slice_get i.tries n) (slice_get is p) ≡ Some t
+    → option_and_then (λ (i : Held). slice_get i.tries n) (slice_get (at (with_try v) k is) p) ≡ Some t
+handed_get v k [] p n t e = e
+handed_get v zero (i ∷ is) zero n t e = get_front i.tries (v ∷ []) n t e
+handed_get v zero (i ∷ is) (suc p) n t e = e
+handed_get v (suc k) (i ∷ is) zero n t e = e
+handed_get v (suc k) (i ∷ is) (suc p) n t e = handed_get v k is p n t e
+
+handed_try : (v : Try) (k : ℕ) (r : Run) → RunGoesOn r (in_instance (with_try v) k r)
+handed_try v k r = record { named = refl; tries = λ p n t e. (t, handed_get v k r.instances p n t e, goes_still t) }
+
+-- ---- the runs of a schedule
+-- each run of the first list stands in the second, and its tries go on
+abbrev pub AllGoOn : List Run → List Run → Type 0
+AllGoOn rs qs = (id : List ℕ) (date : ℕ) (r : Run) → run_at id date rs ≡ Some r → (q : Run) × (run_at id date qs ≡ Some q) × RunGoesOn r q
+
+pub all_still : (rs : List Run) → AllGoOn rs rs
+all_still rs id date r e = (r, e, run_still r)
+
+pub all_further : (rs qs ws : List Run) → AllGoOn rs qs → AllGoOn qs ws → AllGoOn rs ws
+all_further rs qs ws f g id date r e =
+    let q = f id date r e in
+    let w = g id date q.0 q.1 in
+    (w.0, w.1, run_further r q.0 w.0 q.2 w.2)
+
+-- one run after another
+first_goes : (r q : Run) (rs qs : List Run) → RunGoesOn r q → AllGoOn rs qs → AllGoOn (r ∷ rs) (q ∷ qs)
+first_goes r q rs qs g h id date w e =
+    let alike : is_at id date q ≡ is_at id date r = ap (is_key id date) g.named in
+    elim (is_at id date r) as (λ b. is_at id date q ≡ b → cond b (Some r) (find (is_at id date) rs) ≡ Some w → (v : Run) × (find (is_at id date) (q ∷ qs) ≡ Some v) × RunGoesOn w v) [
+      | true ↦ λ at_q f. let c : ◌≡◌ {A = Option Run} (Some r) (Some w) = f in let is : r ≡ w = cc in
+          (q, ap (λ b. cond b (Some q) (find (is_at id date) qs)) at_q, subst (λ (x : Run). RunGoesOn x q) is g)
+      | false ↦ λ at_q f. let v = h id date w f in (v.0, ap (λ b. cond b (Some q) (find (is_at id date) qs)) at_q ∙ v.1, v.2)
+    ] alike e
+
+heads_are : {Y : Type 0} (x y : Y) (xs ys : List Y) → x ∷ xs ≡ y ∷ ys → (x ≡ y) × (xs ≡ ys)
+heads_are x y xs ys e = (cc, cc)
+
+pub lists_go : (rs qs : List Run) → map named_as qs ≡ map named_as rs → map try_lists qs ≡ map try_lists rs → AllGoOn rs qs
+lists_go [] [] e f = all_still []
+lists_go [] (q ∷ qs) e f = absurd (let c : ◌≡◌ {A = List Named} (named_as q ∷ map named_as qs) [] = e in cc)
+lists_go (r ∷ rs) [] e f = absurd (let c : ◌≡◌ {A = List Named} [] (named_as r ∷ map named_as rs) = e in cc)
+lists_go (r ∷ rs) (q ∷ qs) e f =
+    let names = heads_are (named_as q) (named_as r) (map named_as qs) (map named_as rs) e in
+    let tries = heads_are (try_lists q) (try_lists r) (map try_lists qs) (map try_lists rs) f in
+    first_goes r q rs qs (same_tries r q names.0 tries.0) (lists_go rs qs names.1 tries.1)
+
+each_goes : (f : Run → Run) → ((r : Run) → RunGoesOn r (f r)) → (rs : List Run) → AllGoOn rs (map f rs)
+each_goes f h [] = all_still []
+each_goes f h (r ∷ rs) = first_goes r (f r) rs (map f rs) (h r) (each_goes f h rs)
+
+at_goes : (g : Run → Run) → ((r : Run) → RunGoesOn r (g r)) → (n : ℕ) (rs : List Run) → AllGoOn rs (at g n rs)
+at_goes g h n [] = all_still []
+at_goes g h zero (r ∷ rs) = first_goes r (g r) rs rs (h r) (all_still rs)
+at_goes g h (suc n) (r ∷ rs) = first_goes r r rs (at g n rs) (run_still r) (at_goes g h n rs)
+
+-- ---- the changes of events
+pub tries_go : (f : Try → Try) → ((t : Try) → GoesOn t (f t)) → (a : Schedule) → AllGoOn a.runs (map_all_tries f a).runs
+tries_go f h a = each_goes (map_tries_of f) (changed_tries f h) a.runs
+
+pub clear_goes : (named : Naming) (a : Schedule) → IsSound a → AllGoOn a.runs (clear named a).runs
+clear_goes named a s = lists_go a.runs (map (clear_run a named) a.runs) (all_keys a named a.runs) (all_tries a named a.runs s.runs)
+
+-- new runs
+find_insert : {X : Type 0} (before : X → X → Bool) (p : X → Bool) (x : X) (xs : List X) → p x ≡ false → find p (insert_by before x xs) ≡ find p xs
+find_insert before p x [] e = rw e refl
+find_insert before p x (y ∷ ys) e = elim (before x y) as (λ b. find p (elim b [ true ↦ x ∷ y ∷ ys | false ↦ y ∷ insert_by before x ys ]) ≡ find p (y ∷ ys)) [
+  | true ↦ rw e refl
+  | false ↦ ap (λ o. cond (p y) (Some y) o) (find_insert before p x ys e)
+]
+
+found_any : {X : Type 0} (p : X → Bool) (xs : List X) (x : X) → find p xs ≡ Some x → list_any p xs ≡ true
+found_any {X} p [] x e = absurd (let c : ◌≡◌ {A = Option X} None (Some x) = e in cc)
+found_any p (y ∷ ys) x e = elim (p y) as (λ b. cond b (Some y) (find p ys) ≡ Some x → (b || list_any p ys) ≡ true) [
+  | true ↦ λ f. refl
+  | false ↦ λ f. found_any p ys x f
+] e
+
+not_for : (a : Schedule) (n : Named) (id : List ℕ) (date : ℕ) → is_new a n ≡ true → has_run_at a id date ≡ true → is_for id date n ≡ false
+not_for a n id date e there = elim (is_for id date n) as (λ b. is_for id date n ≡ b → b ≡ false) [
+  | false ↦ λ f. refl
+  | true ↦ λ f.
+      let graph : n.graph ≡ id = same_is n.graph id (and_left _ _ f) in
+      let at_date : n.logical ≡ date = eqb-true n.logical date (and_right (same n.graph id) _ f) in
+      let free : has_run_at a n.graph n.logical ≡ false = not_false _ (and_right (is_some (graph_named a n.graph)) _ (and_left _ _ e)) in
+      absurd (true≢false (sym there ∙ (ap (λ (k : List ℕ). has_run_at a k date) (sym graph) ∙ (ap (has_run_at a n.graph) (sym at_date) ∙ free))))
+] refl
+
+added_find : (a : Schedule) (ns : List Named) (id : List ℕ) (date : ℕ) → are_new a ns ≡ true → has_run_at a id date ≡ true → run_at id date (added a ns) ≡ run_at id date a.runs
+added_find a [] id date e there = refl
+added_find a (n ∷ ns) id date e there =
+    find_insert run_before (is_at id date) (queued_run a n) (added a ns) (not_for a n id date (and_left _ _ e) there)
+    ∙ added_find a ns id date (and_right (not (list_any (is_for n.graph n.logical) ns)) _ (and_right (is_new a n) _ e)) there
+
+pub added_go : (ns : List Named) (a : Schedule) → are_new a ns ≡ true → AllGoOn a.runs (add_runs ns a).runs
+added_go ns a e id date r f = (r, added_find a ns id date e (found_any (is_at id date) a.runs r f) ∙ f, run_still r)
+
+-- ---- moves and hand-outs
+turns_go : (f : Schedule → Option Schedule) → ((a b : Schedule) → f a ≡ Some b → AllGoOn a.runs b.runs) → (n : ℕ) (a : Schedule) → AllGoOn a.runs (repeat n f a).runs
+turns_go f h zero a = all_still a.runs
+turns_go f h (suc n) a = elim (f a) as (λ o. f a ≡ o → AllGoOn a.runs (repeat (suc n) f a).runs) [
+  | None ↦ λ e. subst (λ (b : Schedule). AllGoOn a.runs b.runs) (sym (repeat_done (suc n) f a e)) (all_still a.runs)
+  | Some b ↦ λ e. subst (λ (c : Schedule). AllGoOn a.runs c.runs) (sym (repeat_more n f a b e)) (all_further a.runs b.runs (repeat n f b).runs (h a b e) (turns_go f h n b))
+] refl
+
+move_goes : (a b : Schedule) → move a ≡ Some b → AllGoOn a.runs b.runs
+move_goes a b e =
+    let t = map_some (with_runs a) (move_runs a) b e in
+    let k = move_kin a t.0 t.1 in
+    subst (λ (c : Schedule). AllGoOn a.runs c.runs) t.2 (lists_go a.runs t.0 k.keys k.tries)
+
+hand_goes : (a b : Schedule) → hand_one a ≡ Some b → AllGoOn a.runs b.runs
+hand_goes a b e =
+    let t = map_some (hand a) (best_offer a) b e in
+    let v : Try = new_try a.next t.0.slots in
+    subst (λ (c : Schedule). AllGoOn a.runs c.runs) t.2 (at_goes (in_instance (with_try v) t.0.place) (handed_try v t.0.place) t.0.run a.runs)
+
+pub advance_goes : (ns : List Named) (a : Schedule) → are_new a ns ≡ true → AllGoOn a.runs (advance ns a).runs
+advance_goes ns a e =
+    let b : Schedule = add_runs ns a in
+    all_further a.runs b.runs (advance ns a).runs (added_go ns a e)
+    (all_further b.runs (settle b).runs (advance ns a).runs (turns_go move move_goes (moves_left b) b) (turns_go hand_one hand_goes (serials_left (settle b)) (settle b)))
+
+-- ---- a try
+pub try_goes : (a b : Schedule) → AllGoOn a.runs b.runs → (id : List ℕ) (date p n : ℕ) (t : Try) → try_at a id date p n ≡ Some t → (u : Try) × (try_at b id date p n ≡ Some u) × GoesOn t u
+try_goes a b h id date p n t e = elim (run_at id date a.runs) as (λ o. run_at id date a.runs ≡ o → option_and_then (try_in p n) o ≡ Some t → (u : Try) × (try_at b id date p n ≡ Some u) × GoesOn t u) [
+  | None ↦ λ f g. absurd (let c : ◌≡◌ {A = Option Try} None (Some t) = g in cc)
+  | Some r ↦ λ f g.
+      let q = h id date r f in
+      let goes = q.2 in
+      let u = goes.tries p n t g in
+      (u.0, ap (option_and_then (try_in p n)) q.1 ∙ u.1, u.2)
+] refl e
