@@ -2,23 +2,23 @@
 use Rattle.std.specs.Prelude.{ℕ, List, ◌∷◌, ◌++◌, codes}
 use Rattle.std.specs.List.{flat_map}
 use Rattle.moment_core.specs.Printing.{text_of}
-use Rattle.sched_state.specs.declared.runs.Kind.{Kind}
-use Rattle.sched_state.specs.declared.runs.Kind.TheVariants.{Scheduled, Manual, Backfill}
-use Rattle.sched_state.specs.declared.runs.Phase.{Phase}
-use Rattle.sched_state.specs.declared.runs.Phase.TheVariants.{Queued, Running, Success, Failed}
+use Rattle.sched_state.specs.declared.runs.RunKind.{RunKind}
+use Rattle.sched_state.specs.declared.runs.RunKind.TheVariants.{Scheduled, Manual, Backfill}
+use Rattle.sched_state.specs.declared.runs.RunPhase.{RunPhase}
+use Rattle.sched_state.specs.declared.runs.RunPhase.TheVariants.{Queued, Running, Success, Failed}
 use Rattle.sched_state.specs.declared.runs.Run.{Run}
 
 -- what a run id of this kind begins with
-abbrev pub prefix : Kind → List ℕ
+abbrev pub prefix : RunKind → List ℕ
 prefix Scheduled = codes "scheduled__"
 prefix Manual = codes "manual__"
 prefix Backfill = codes "backfill__"
 
 -- `scheduled__2024-01-01T00:00:00+00:00`
-abbrev pub run_id_text : Kind → ℕ → List ℕ
+abbrev pub run_id_text : RunKind → ℕ → List ℕ
 run_id_text kind logical = prefix kind ++ text_of logical
 
-abbrev pub phase_text : Phase → List ℕ
+abbrev pub phase_text : RunPhase → List ℕ
 phase_text Queued = codes "queued"
 phase_text Running = codes "running"
 phase_text Success = codes "success"

@@ -8,14 +8,15 @@ ghost use Rattle.answer_lines.specs.Runs as spec;
 
 use crate::jobs::put_jobs;
 use sched_events::{Answer, Event, RunId};
-use sched_state::Kind;
+use sched_state::RunKind;
 use std::io::{self, Write};
 
 /// Writes the answer to an event: `made DAG RUNID` for each run made; `cleared N` for a clear and a backfill with a reset, where N task
 /// instances that were not none were set back; `more` where some runs are left; `try SERIAL DAG LOGICAL TASK NUMBER` for each try handed
 /// out; and `ok`.
 pub fn put_answer<W: Write>(output: &mut W, event: &Event, answer: &Answer) -> io::Result<()>
-    ensures { OnOk result (Appends (W.contents output.old) (W.contents output.new) (answer_text event.now answer.now)) }
+    ensures { OnOk result (Appends (W.contents output.old) (W.contents output.new)
+        (answer_text event.now answer.now)) }
 {
     put_made(output, answer.made.as_slice())?;
     if sets_back(event) {
@@ -40,7 +41,8 @@ fn sets_back(event: &Event) -> bool
 }
 
 fn put_cleared<W: Write>(output: &mut W, cleared: u32) -> io::Result<()>
-    ensures { OnOk result (Appends (W.contents output.old) (W.contents output.new) (cleared_line cleared)) }
+    ensures { OnOk result (Appends (W.contents output.old) (W.contents output.new)
+        (cleared_line cleared)) }
 {
     writeln!(output, "cleared {cleared}")
 }
@@ -54,7 +56,8 @@ pub fn put_ok<W: Write>(output: &mut W) -> io::Result<()>
 
 // Writes a line for each run made.
 fn put_made<W: Write>(output: &mut W, made: &[RunId]) -> io::Result<()>
-    ensures { OnOk result (Appends (W.contents output.old) (W.contents output.new) (flat_map made_line made.now)) }
+    ensures { OnOk result (Appends (W.contents output.old) (W.contents output.new)
+        (flat_map made_line made.now)) }
 {
     for id in made {
         put_made_line(output, id)?;
@@ -63,7 +66,8 @@ fn put_made<W: Write>(output: &mut W, made: &[RunId]) -> io::Result<()>
 }
 
 fn put_made_line<W: Write>(output: &mut W, id: &RunId) -> io::Result<()>
-    ensures { OnOk result (Appends (W.contents output.old) (W.contents output.new) (made_line id.now)) }
+    ensures { OnOk result (Appends (W.contents output.old) (W.contents output.new)
+        (made_line id.now)) }
 {
     let graph = id.graph.as_str();
     let prefix = prefix(id.kind);
@@ -72,12 +76,12 @@ fn put_made_line<W: Write>(output: &mut W, id: &RunId) -> io::Result<()>
 }
 
 // What a run id of this kind begins with (Airflow 2, "DAG Runs").
-pub(crate) fn prefix(kind: Kind) -> &'static str
+pub(crate) fn prefix(kind: RunKind) -> &'static str
     ensures { result.now ≡ spec.prefix kind }
 {
     match kind {
-        Kind::Scheduled => "scheduled__",
-        Kind::Manual => "manual__",
-        Kind::Backfill => "backfill__",
+        RunKind::Scheduled => "scheduled__",
+        RunKind::Manual => "manual__",
+        RunKind::Backfill => "backfill__",
     }
 }

@@ -11,7 +11,8 @@ use std::io::{self, Write};
 
 // Writes the number and the name of a fault, with the task's position or the names of a cycle.
 pub(crate) fn put_dag_fault<W: Write>(output: &mut W, fault: &DagFault) -> io::Result<()>
-    ensures { OnOk result (Appends (W.contents output.old) (W.contents output.new) (dag_fault_text fault.now)) }
+    ensures { OnOk result (Appends (W.contents output.old) (W.contents output.new)
+        (dag_fault_text fault.now)) }
 {
     match fault {
         DagFault::DoubleTask(position) => write!(output, "1 DoubleTask {position}"),
@@ -27,7 +28,8 @@ pub(crate) fn put_dag_fault<W: Write>(output: &mut W, fault: &DagFault) -> io::R
 
 // Writes each name after a blank.
 fn put_names<W: Write>(output: &mut W, names: &[Name]) -> io::Result<()>
-    ensures { OnOk result (Appends (W.contents output.old) (W.contents output.new) (flat_map after_blank names.now)) }
+    ensures { OnOk result (Appends (W.contents output.old) (W.contents output.new)
+        (flat_map after_blank names.now)) }
 {
     for name in names {
         put_name(output, name)?;
@@ -36,7 +38,8 @@ fn put_names<W: Write>(output: &mut W, names: &[Name]) -> io::Result<()>
 }
 
 fn put_name<W: Write>(output: &mut W, name: &Name) -> io::Result<()>
-    ensures { OnOk result (Appends (W.contents output.old) (W.contents output.new) (after_blank name.now)) }
+    ensures { OnOk result (Appends (W.contents output.old) (W.contents output.new)
+        (after_blank name.now)) }
 {
     let name = name.as_str();
     write!(output, " {name}")

@@ -11,7 +11,8 @@ use std::io::{self, Write};
 
 /// Writes `usage N Name` or `source N Name`, and `memory` for want of memory; `BadMoment` with the number and name of its fault.
 pub fn put_fault<W: Write>(output: &mut W, fault: CommandFault) -> io::Result<()>
-    ensures { OnOk result (Appends (W.contents output.old) (W.contents output.new) (spec.fault_text fault)) }
+    ensures { OnOk result (Appends (W.contents output.old) (W.contents output.new)
+        (spec.fault_text fault)) }
 {
     match fault {
         CommandFault::Usage(fault) => put_usage_fault(output, fault),
@@ -21,7 +22,8 @@ pub fn put_fault<W: Write>(output: &mut W, fault: CommandFault) -> io::Result<()
 }
 
 fn put_usage_fault<W: Write>(output: &mut W, fault: UsageFault) -> io::Result<()>
-    ensures { OnOk result (Appends (W.contents output.old) (W.contents output.new) (spec.usage_text fault)) }
+    ensures { OnOk result (Appends (W.contents output.old) (W.contents output.new)
+        (spec.usage_text fault)) }
 {
     match fault {
         UsageFault::Words => output.write_all(b"usage 1 Words\n"),
@@ -36,7 +38,8 @@ fn put_usage_fault<W: Write>(output: &mut W, fault: UsageFault) -> io::Result<()
 
 // Writes the number and the name of a graph's fault, with its place or its cron fault.
 pub(crate) fn put_graph_fault<W: Write>(output: &mut W, fault: GraphFault) -> io::Result<()>
-    ensures { OnOk result (Appends (W.contents output.old) (W.contents output.new) (spec.graph_fault_text fault)) }
+    ensures { OnOk result (Appends (W.contents output.old) (W.contents output.new)
+        (spec.graph_fault_text fault)) }
 {
     match fault {
         GraphFault::NotToml => output.write_all(b"1 NotToml"),
@@ -57,7 +60,8 @@ pub(crate) fn put_graph_fault<W: Write>(output: &mut W, fault: GraphFault) -> io
 
 // Writes a fault's name and its place.
 fn put_placed<W: Write>(output: &mut W, name: &str, place: Place) -> io::Result<()>
-    ensures { OnOk result (Appends (W.contents output.old) (W.contents output.new) (name.now ++ spec.place_text place)) }
+    ensures { OnOk result (Appends (W.contents output.old) (W.contents output.new)
+        (name.now ++ spec.place_text place)) }
 {
     match place {
         Place::Top => write!(output, "{name}top"),

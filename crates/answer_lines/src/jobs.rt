@@ -9,7 +9,8 @@ use std::io::{self, Write};
 
 // Writes a line for each try.
 pub(crate) fn put_jobs<W: Write>(output: &mut W, jobs: &[Job]) -> io::Result<()>
-    ensures { OnOk result (Appends (W.contents output.old) (W.contents output.new) (flat_map job_line jobs.now)) }
+    ensures { OnOk result (Appends (W.contents output.old) (W.contents output.new)
+        (flat_map job_line jobs.now)) }
 {
     for job in jobs {
         put_job(output, job)?;
@@ -18,7 +19,8 @@ pub(crate) fn put_jobs<W: Write>(output: &mut W, jobs: &[Job]) -> io::Result<()>
 }
 
 fn put_job<W: Write>(output: &mut W, job: &Job) -> io::Result<()>
-    ensures { OnOk result (Appends (W.contents output.old) (W.contents output.new) (job_line job.now)) }
+    ensures { OnOk result (Appends (W.contents output.old) (W.contents output.new)
+        (job_line job.now)) }
 {
     let serial = job.serial;
     let graph = job.graph.as_str();

@@ -8,7 +8,8 @@ use std::io::{self, Write};
 
 /// Writes `NAME SIZE OCCUPIED OPEN`; fewer slots than none are open where the pool was made smaller than what is taken of it.
 pub fn put_pool<W: Write>(output: &mut W, row: &PoolRow<'_>) -> io::Result<()>
-    ensures { OnOk result (Appends (W.contents output.old) (W.contents output.new) (pool_line row.now)) }
+    ensures { OnOk result (Appends (W.contents output.old) (W.contents output.new)
+        (pool_line row.now)) }
 {
     let name = row.name.as_str();
     let size = row.size;

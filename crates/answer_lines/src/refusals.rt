@@ -11,7 +11,8 @@ use std::io::{self, Write};
 
 /// Writes `refused N Name` with what the refusal carries, and `memory` for want of memory.
 pub fn put_refusal<W: Write>(output: &mut W, refusal: &Refusal) -> io::Result<()>
-    ensures { OnOk result (Appends (W.contents output.old) (W.contents output.new) (spec.refusal_text refusal.now)) }
+    ensures { OnOk result (Appends (W.contents output.old) (W.contents output.new)
+        (spec.refusal_text refusal.now)) }
 {
     match refusal {
         Refusal::GraphFault(fault) => {
@@ -47,7 +48,8 @@ pub fn put_refusal<W: Write>(output: &mut W, refusal: &Refusal) -> io::Result<()
 }
 
 fn put_pool_fault<W: Write>(output: &mut W, fault: PoolFault) -> io::Result<()>
-    ensures { OnOk result (Appends (W.contents output.old) (W.contents output.new) (spec.pool_fault_text fault)) }
+    ensures { OnOk result (Appends (W.contents output.old) (W.contents output.new)
+        (spec.pool_fault_text fault)) }
 {
     match fault {
         PoolFault::TooManyPools => output.write_all(b"refused 15 PoolFault 1 TooManyPools\n"),

@@ -9,7 +9,8 @@ use std::io::{self, Write};
 
 /// Writes `DAG RUNID TASK STATE TRIES`.
 pub fn put_task<W: Write>(output: &mut W, row: &InstanceRow<'_>) -> io::Result<()>
-    ensures { OnOk result (Appends (W.contents output.old) (W.contents output.new) (task_line row.now)) }
+    ensures { OnOk result (Appends (W.contents output.old) (W.contents output.new)
+        (task_line row.now)) }
 {
     let graph = row.graph.as_str();
     let prefix = prefix(row.kind);

@@ -84,7 +84,8 @@ impl Field {
 
 // The place of a name in a list, in any case.
 fn place_of(names: &[&[u8]], name: &[u8]) -> Option<usize>
-    ensures { result ≡ position (λ n. str_eq_ignore_ascii_case n name.now) (map (λ n. n.now) names.now) }
+    ensures { result ≡ position (λ n. str_eq_ignore_ascii_case n name.now)
+        (map (λ n. n.now) names.now) }
 {
     names.iter().position(|n| n.eq_ignore_ascii_case(name))
 }

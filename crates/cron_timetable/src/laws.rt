@@ -19,13 +19,16 @@ pub fn a_set_holds_what_passes()
 pub fn a_text_has_one_reading()
     ensures read { (text : List ℕ) (c d : Fields) → IsRead text c → IsRead text d → c ≡ d }
     ensures refused { (text : List ℕ) (e f : CronFault) → FaultOf text e → FaultOf text f → e ≡ f }
-    ensures never_both { (text : List ℕ) (c : Fields) (e : CronFault) → IsRead text c → FaultOf text e → ⊥ }
+    ensures never_both { (text : List ℕ) (c : Fields) (e : CronFault) → IsRead text c
+        → FaultOf text e → ⊥ }
 {}
 
 /// A search has one answer.
 pub fn a_search_has_one_answer()
-    ensures next { (c : Fields) (t : ℕ) (r s : Option ℕ) → IsNextTick c t r → IsNextTick c t s → r ≡ s }
-    ensures last { (c : Fields) (t : ℕ) (r s : Option ℕ) → IsLastTick c t r → IsLastTick c t s → r ≡ s }
+    ensures next { (c : Fields) (t : ℕ) (r s : Option ℕ) → IsNextTick c t r → IsNextTick c t s
+        → r ≡ s }
+    ensures last { (c : Fields) (t : ℕ) (r s : Option ℕ) → IsLastTick c t r → IsLastTick c t s
+        → r ≡ s }
 {}
 
 /// A timetable has one interval from a moment on, and one for a run by hand.

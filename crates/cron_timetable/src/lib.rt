@@ -11,12 +11,13 @@
 //! ```
 #![tactic(auto)]
 
-mod days;
+mod day_jumps;
 mod elements;
 mod expressions;
 mod faults;
 mod field_sets;
 mod fields;
+mod firing;
 mod laws;
 mod pieces;
 mod reading;

@@ -24,10 +24,9 @@ pub(crate) fn number(text: &[u8], most: usize) -> Option<u32>
 
 // The parts before and after the first `byte`.
 pub(crate) fn cut(text: &[u8], byte: u8) -> Option<(&[u8], &[u8])>
-    ensures { MatchOption result
-        (has_byte byte text.now ≡ false)
-        (λ p. (has_byte byte text.now ≡ true) × (p.0.now ≡ before byte text.now) × (p.1.now ≡ after byte text.now)
-        × (length p.1.now < length text.now)) }
+    ensures { MatchOption result (has_byte byte text.now ≡ false)
+        (λ p. (has_byte byte text.now ≡ true) × (p.0.now ≡ before byte text.now) ×
+        (p.1.now ≡ after byte text.now) × (length p.1.now < length text.now)) }
 {
     let at = position_of(text, byte);
     if at < text.len() {

@@ -48,7 +48,8 @@ pub(crate) fn fields(text: &[u8]) -> Result<Cron, CronFault>
 // The five fields that a preset stands for.
 #[tactic(auto, unfolding(crate::specs::Grammar::preset_text))]
 fn preset(word: &[u8]) -> Option<&'static [u8]>
-    ensures { MatchOption result (preset_text word.now ≡ None) (λ t. preset_text word.now ≡ Some t.now) }
+    ensures { MatchOption result (preset_text word.now ≡ None)
+        (λ t. preset_text word.now ≡ Some t.now) }
 {
     if same_bytes(word, b"@hourly") {
         Some(b"0 * * * *")

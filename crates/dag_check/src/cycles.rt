@@ -17,7 +17,8 @@ pub(crate) fn cycle(
 ) -> Result<Vec<usize>, AllocError>
     requires long { length placed.now ≡ length up.now }
     requires within { AllBelow (edges_of up.now) (length up.now) }
-    requires stuck { (i : ℕ) → i < length up.now → may_come (edges_of up.now) (marked placed.now) i ≡ false }
+    requires stuck { (i : ℕ) → i < length up.now
+        → may_come (edges_of up.now) (marked placed.now) i ≡ false }
     requires open { 0 < failing (marked placed.now) (length placed.now) }
     ensures { IfOk result (λ v. IsCycle (edges_of up.now) (length up.now) v.items) }
 {
@@ -65,7 +66,8 @@ fn open_upstream(places: &[usize], marks: &[bool]) -> usize
 
 // Where a number stands first.
 fn position_of(walk: &[usize], number: usize) -> Option<usize>
-    ensures { MatchOption result (is_in walk.now number ≡ false) (λ k. (k < length walk.now) × (slice_index walk.now k ≡ number)) }
+    ensures { MatchOption result (is_in walk.now number ≡ false)
+        (λ k. (k < length walk.now) × (slice_index walk.now k ≡ number)) }
 {
     for (k, x) in walk.iter().enumerate() {
         if *x == number {
@@ -99,7 +101,8 @@ fn least_from(walk: &[usize], from: usize) -> usize
     requires { from < length walk.now }
     ensures above { from ≤ result }
     ensures inside { result < length walk.now }
-    ensures least { (k : ℕ) → from ≤ k → k < length walk.now → slice_index walk.now result ≤ slice_index walk.now k }
+    ensures least { (k : ℕ) → from ≤ k → k < length walk.now
+        → slice_index walk.now result ≤ slice_index walk.now k }
 {
     let mut least = from;
     for i in from..walk.len() {

@@ -7,7 +7,7 @@ ghost use Rattle.dag_check.specs.Reach.{IsReached};
 
 use crate::faults::DagFault;
 use crate::layouts::{Layout, lay_out};
-use crate::reaching::{reach_down, reach_up, rising};
+use crate::reaching::{reach_earlier, reach_later, rising};
 use graph_file::{GraphSpec, Name, TaskSpec};
 use std::alloc::{AllocError, Global};
 use std::marker::Model;
@@ -125,11 +125,11 @@ impl Graph {
     {
         match direction {
             Direction::Upstream => {
-                let marks = reach_down(alloc, &self.layout.upstreams, place)?;
+                let marks = reach_earlier(alloc, &self.layout.upstreams, place)?;
                 rising(alloc, &marks)
             }
             Direction::Downstream => {
-                let marks = reach_up(alloc, &self.layout.downstreams, place)?;
+                let marks = reach_later(alloc, &self.layout.downstreams, place)?;
                 rising(alloc, &marks)
             }
         }

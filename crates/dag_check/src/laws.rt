@@ -27,23 +27,30 @@ pub fn a_cycle_refutes_every_numbering()
 
 /// There is one order of places at most, and it is the one that the function finds.
 pub fn a_placement_is_one()
-    ensures { (up : ℕ → List ℕ) (n : ℕ) (order : List ℕ) → IsPlacement up n order → order ≡ places_of up n n }
+    ensures { (up : ℕ → List ℕ) (n : ℕ) (order : List ℕ) → IsPlacement up n order
+        → order ≡ places_of up n n }
 {}
 
 /// A place reaches one set of places in a direction: those that a way leads to.
 pub fn a_place_reaches_one_set()
     ensures one { (g : Dag) (d : Direction) (k : ℕ) (ps qs : List ℕ) →
         IsReached g d k ps → IsReached g d k qs → ps ≡ qs }
-    ensures by_ways { (g : Dag) (d : Direction) (k : ℕ) → IsDag g → k < length g.tasks → IsReached g d k (reach_of g d k) }
+    ensures by_ways { (g : Dag) (d : Direction) (k : ℕ) → IsDag g → k < length g.tasks
+        → IsReached g d k (reach_of g d k) }
 {}
 
 /// A file is the file of one graph, or has one fault, but that which of several cycles is answered is open; and each file is one of
 /// the two, by its first fault. Memory may run out at any file.
 pub fn a_file_has_one_answer()
     ensures graph { (spec : GraphSpec) (g h : Dag) → IsGraphOf spec g → IsGraphOf spec h → g ≡ h }
-    ensures fault { (file : List TaskSpec) (e f : DagFault) → Stands file e → Stands file f → Agree e f }
-    ensures never_both { (spec : GraphSpec) (g : Dag) (f : DagFault) → IsGraphOf spec g → Stands spec.tasks f → f ≡ Memory }
-    ensures graph_is_there { (spec : GraphSpec) → first_fault spec.tasks ≡ None → IsGraphOf spec (dag_of spec) }
-    ensures faultless { (spec : GraphSpec) (g : Dag) → IsGraphOf spec g → first_fault spec.tasks ≡ None }
-    ensures first { (file : List TaskSpec) (f : DagFault) → Stands file f → (f ≡ Memory) ⊎ (first_fault file ≡ Some (without_names f)) }
+    ensures fault { (file : List TaskSpec) (e f : DagFault) → Stands file e → Stands file f
+        → Agree e f }
+    ensures never_both { (spec : GraphSpec) (g : Dag) (f : DagFault) → IsGraphOf spec g
+        → Stands spec.tasks f → f ≡ Memory }
+    ensures graph_is_there { (spec : GraphSpec) → first_fault spec.tasks ≡ None
+        → IsGraphOf spec (dag_of spec) }
+    ensures faultless { (spec : GraphSpec) (g : Dag) → IsGraphOf spec g
+        → first_fault spec.tasks ≡ None }
+    ensures first { (file : List TaskSpec) (f : DagFault) → Stands file f
+        → (f ≡ Memory) ⊎ (first_fault file ≡ Some (without_names f)) }
 {}

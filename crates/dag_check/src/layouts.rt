@@ -36,9 +36,11 @@ fn names_at(alloc: Global, tasks: &[TaskSpec], walk: &[usize]) -> Result<Sequenc
 // The place of each position.
 fn places(alloc: Global, order: &[usize]) -> Result<Vec<usize>, AllocError>
     requires within { (k : ℕ) → k < length order.now → slice_index order.now k < length order.now }
-    requires once { (k : ℕ) → k < length order.now → is_in (take k order.now) (slice_index order.now k) ≡ false }
+    requires once { (k : ℕ) → k < length order.now
+        → is_in (take k order.now) (slice_index order.now k) ≡ false }
     ensures len { IfOk result (λ v. vec_len v ≡ length order.now) }
-    ensures places { IfOk result (λ v. (y : ℕ) → is_in order.now y ≡ true → slice_index v.items y ≡ place_in order.now y) }
+    ensures places { IfOk result (λ v. (y : ℕ) → is_in order.now y ≡ true → slice_index v.items y
+        ≡ place_in order.now y) }
 {
     let mut places = vec![in alloc; 0; order.len()]?;
     for (place, position) in order.iter().enumerate() {
@@ -67,7 +69,8 @@ fn upstreams(
 ) -> Result<Vec<Vec<usize>>, AllocError>
     requires placed { IsPlacement (edges_of rows.now) (length rows.now) order.now }
     requires below { AllBelow (edges_of rows.now) (length rows.now) }
-    ensures { IfOk result (λ v. map (λ r. r.items) v.items ≡ placed_rows (edges_of rows.now) order.now) }
+    ensures { IfOk result (λ v. map (λ r. r.items) v.items ≡ placed_rows (edges_of rows.now)
+        order.now) }
 {
     let places = places(alloc, order)?;
     let mut placed = Vec::with_capacity(alloc, order.len())?;
@@ -99,8 +102,8 @@ fn add_place(
     requires within { (y : ℕ) → is_in upstreams.now y ≡ true → y < vec_len found.old }
     requires once { repeated upstreams.now ≡ false }
     ensures len { IsOk result → vec_len found.new ≡ vec_len found.old }
-    ensures rows { IsOk result → (j : ℕ) →
-        edges_of found.new.items j ≡ edges_of found.old.items j ++ (if is_in upstreams.now j then place ∷ [] else []) }
+    ensures rows { IsOk result → (j : ℕ) → edges_of found.new.items j
+        ≡ edges_of found.old.items j ++ (if is_in upstreams.now j then place ∷ [] else []) }
 {
     for upstream in upstreams {
         found[*upstream].push(place)?;
@@ -113,7 +116,8 @@ fn downstreams(alloc: Global, rows: &[Vec<usize>]) -> Result<Vec<Vec<usize>>, Al
     requires within { AllBelow (edges_of rows.now) (length rows.now) }
     requires once { (k : ℕ) → k < length rows.now → repeated (edges_of rows.now k) ≡ false }
     ensures len { IfOk result (λ v. vec_len v ≡ length rows.now) }
-    ensures rows { IfOk result (λ v. (j : ℕ) → edges_of v.items j ≡ downs_in (edges_of rows.now) (length rows.now) j) }
+    ensures rows { IfOk result (λ v. (j : ℕ) → edges_of v.items j ≡ downs_in (edges_of rows.now)
+        (length rows.now) j) }
 {
     let mut found = empty_rows(alloc, rows.len())?;
     for (place, row) in rows.iter().enumerate() {
@@ -141,7 +145,8 @@ fn placed(alloc: Global, order: Vec<usize>, rows: &[Vec<usize>]) -> Result<Layou
 // The edges between positions, or the first fault that isn't a cycle.
 fn edges(alloc: Global, tasks: &[TaskSpec]) -> Result<Vec<Vec<usize>>, DagFault>
     requires { length tasks.now ≤ 256 }
-    ensures ok { IfOk result (λ v. (map (λ r. r.items) v.items ≡ rows_of tasks.now) × IsPlain tasks.now) }
+    ensures ok { IfOk result (λ v. (map (λ r. r.items) v.items ≡ rows_of tasks.now) × IsPlain
+        tasks.now) }
     ensures fault { IfErr result (Stands tasks.now) }
 {
     let index = match ids(alloc, tasks) {
@@ -164,7 +169,8 @@ fn edges(alloc: Global, tasks: &[TaskSpec]) -> Result<Vec<Vec<usize>>, DagFault>
 // The layout of a file's tasks, or the first fault.
 pub(crate) fn lay_out(alloc: Global, tasks: &[TaskSpec]) -> Result<Layout, DagFault>
     requires { length tasks.now ≤ 256 }
-    ensures ok { IfOk result (λ l. IsPlain tasks.now × IsLayout (up_of tasks.now) (length tasks.now) l) }
+    ensures ok { IfOk result (λ l. IsPlain tasks.now × IsLayout (up_of tasks.now) (length tasks.now)
+        l) }
     ensures fault { IfErr result (Stands tasks.now) }
 {
     let rows = match edges(alloc, tasks) {

@@ -19,7 +19,8 @@ pub(crate) enum Unplaced {
 // The names of the tasks, in the order of the file, or the first task whose name stands before.
 pub(crate) fn ids(alloc: Global, tasks: &[TaskSpec]) -> Result<IndexSet<Name>, Unplaced>
     requires { length tasks.now ≤ 256 }
-    ensures ids { IfOk result (λ s. (s.keys ≡ ids_of tasks.now) × NoneBelow (is_double tasks.now) (length tasks.now)) }
+    ensures ids { IfOk result (λ s. (s.keys ≡ ids_of tasks.now) × NoneBelow (is_double tasks.now)
+        (length tasks.now)) }
     ensures fault { IfErr result (IsDoubleAt tasks.now) }
 {
     let mut ids = IndexSet::new(alloc);
@@ -44,7 +45,8 @@ fn positions(
 ) -> Result<Option<Vec<usize>>, AllocError>
     ensures { IfOk result (λ o. MatchOption o
         (list_any (λ q. not (has ids.now.keys q)) names.now ≡ true)
-        (λ v. (list_any (λ q. not (has ids.now.keys q)) names.now ≡ false) × (v.items ≡ map (position_of ids.now.keys) names.now))) }
+        (λ v. (list_any (λ q. not (has ids.now.keys q)) names.now ≡ false) ×
+        (v.items ≡ map (position_of ids.now.keys) names.now))) }
 {
     let mut row = Vec::with_capacity(alloc, names.len())?;
     for name in names {
@@ -64,7 +66,8 @@ pub(crate) fn rows(
 ) -> Result<Vec<Vec<usize>>, Unplaced>
     requires few { length tasks.now ≤ 256 }
     requires ids { ids.now.keys ≡ ids_of tasks.now }
-    ensures rows { IfOk result (λ v. (map (λ r. r.items) v.items ≡ rows_of tasks.now) × NoneBelow (is_unknown tasks.now) (length tasks.now)) }
+    ensures rows { IfOk result (λ v. (map (λ r. r.items) v.items ≡ rows_of tasks.now) × NoneBelow
+        (is_unknown tasks.now) (length tasks.now)) }
     ensures fault { IfErr result (IsUnknownAt tasks.now) }
 {
     let Ok(mut rows) = Vec::with_capacity(alloc, tasks.len()) else {

@@ -11,7 +11,8 @@ use std::alloc::{AllocError, Global};
 fn mark_all(marks: &mut Vec<bool>, places: &[usize])
     requires { (y : ℕ) → is_in places.now y ≡ true → y < vec_len marks.old }
     ensures len { vec_len marks.new ≡ vec_len marks.old }
-    ensures marks { (y : ℕ) → marked marks.new.items y ≡ (marked marks.old.items y || is_in places.now y) }
+    ensures marks { (y : ℕ) → marked marks.new.items y
+        ≡ (marked marks.old.items y || is_in places.now y) }
 {
     for place in places {
         marks[*place] = true;
@@ -19,7 +20,7 @@ fn mark_all(marks: &mut Vec<bool>, places: &[usize])
 }
 
 // What `start` reaches, where each edge leads to a lower place.
-pub(crate) fn reach_down(
+pub(crate) fn reach_earlier(
     alloc: Global,
     next: &[Vec<usize>],
     start: usize,
@@ -41,7 +42,7 @@ pub(crate) fn reach_down(
 }
 
 // What `start` reaches, where each edge leads to a higher place.
-pub(crate) fn reach_up(
+pub(crate) fn reach_later(
     alloc: Global,
     next: &[Vec<usize>],
     start: usize,

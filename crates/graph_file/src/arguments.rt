@@ -22,9 +22,10 @@ pub fn takes(operator: Operator, argv: &[Value]) -> bool
 
 fn is_command(argv: &[Value]) -> bool
     ensures { result
-        ≡ ((spec.names_program (map values.text_of (map view argv.now)) && nat_le (length argv.now) 64)
-        && (nat_le (sum_by (λ v. length (values.text_of (view v))) argv.now) 65536
-        && list_all (λ v. spec.has_no_nul (values.text_of (view v))) argv.now)) }
+        ≡ ((spec.names_program (map values.text_of (map view argv.now))
+        && nat_le (length argv.now) 64)
+        && (nat_le (sum_by (λ v. length (values.text_of (view v))) argv.now) 65536 && list_all
+        (λ v. spec.has_no_nul (values.text_of (view v))) argv.now)) }
 {
     names_program(argv) && argv.len() <= 64 && total_fits(argv, 65_536) && have_no_nul(argv)
 }

@@ -68,7 +68,8 @@ fn has_unknown_key(keys: &[Key], table: &Table) -> bool
 }
 
 fn has_other_name(keys: &[Key], table: &Table) -> bool
-    ensures { result ≡ list_any (λ name. not (spec.is_key keys.now (string_bytes name))) (entry_keys table.now) }
+    ensures { result ≡ list_any (λ name. not (spec.is_key keys.now (string_bytes name)))
+        (entry_keys table.now) }
 {
     table.keys().any(|name| !is_key(keys, name.as_str()))
 }
@@ -195,7 +196,8 @@ fn is_bad(key: Key, table: &Table) -> bool
 
 // Whether the value at the key is none of those that its role has.
 fn is_value_outside(key: Key, table: &Table) -> bool
-    ensures { result ≡ holds_at (spec.is_outside (row_of key).role) (member_at key (table_view table.now)) }
+    ensures { result ≡ holds_at (spec.is_outside (row_of key).role)
+        (member_at key (table_view table.now)) }
 {
     match value_at(table, key) {
         Some(value) => is_outside(key.role(), value),

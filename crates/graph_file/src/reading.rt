@@ -13,7 +13,8 @@ const TEXT_LIMIT: usize = 1_048_576;
 /// The graph that a text describes, or the first fault.
 pub fn read_graph(alloc: Global, text: &str) -> Result<GraphSpec, GraphFault>
     ensures ok { IfOk result (λ graph. graph_of text.now ≡ Ok graph) }
-    ensures refused { IfErr result (λ fault. fault ≢ GraphFault.Memory → graph_of text.now ≡ Err fault) }
+    ensures refused { IfErr result (λ fault. fault ≢ GraphFault.Memory → graph_of text.now ≡ Err
+        fault) }
     ensures long { text_limit < length text.now → result ≡ Err GraphFault.TooMany }
 {
     if text.len() > TEXT_LIMIT {

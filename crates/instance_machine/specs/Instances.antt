@@ -3,17 +3,17 @@ use Rattle.std.specs.Prelude.{ℕ, ◌-◌, List, [], length, map, drop, slice_g
 use Rattle.trigger_rules.specs.declared.verdicts.Verdict.{Verdict}
 use Rattle.instance_machine.specs.declared.tries.Try.{Try}
 
-pub record Held : Type 0 where
+pub record InstanceValue : Type 0 where
   pub verdict : Option Verdict
   -- how many tries were before the last clearing
   pub since : ℕ
   pub tries : List Try
 
-abbrev pub new_instance : Held
+abbrev pub new_instance : InstanceValue
 new_instance = record { verdict = None; since = 0; tries = [] }
 
 -- the tries since the last clearing
-abbrev pub recent : Held → List Try
+abbrev pub recent : InstanceValue → List Try
 recent i = drop i.since i.tries
 
 -- the last element, if there is one
@@ -25,5 +25,5 @@ abbrev pub with_last : {X : Type 0} → X → List X → List X
 with_last x xs = slice_set xs (length xs - 1) x
 
 -- every try is changed
-abbrev pub map_tries : (Try → Try) → Held → Held
+abbrev pub map_tries : (Try → Try) → InstanceValue → InstanceValue
 map_tries f i = record i { tries = map f i.tries }

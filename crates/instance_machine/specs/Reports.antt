@@ -1,6 +1,6 @@
 -- What a report does to an instance.
 use Rattle.std.specs.Prelude.{◌≡◌, ℕ, ◌==◌, if◌then◌else◌, Option, Some, None, Result, Ok, Err, option_and_then, unwrap_or}
-use Rattle.instance_machine.specs.Instances.{Held, last_of, with_last}
+use Rattle.instance_machine.specs.Instances.{InstanceValue, last_of, with_last}
 use Rattle.instance_machine.specs.declared.reports.ReportFault.{ReportFault}
 use Rattle.instance_machine.specs.declared.reports.ReportFault.TheVariants.{OutOfTurn}
 use Rattle.instance_machine.specs.declared.tries.Try.{Try}
@@ -26,11 +26,11 @@ abbrev pub report_try : Stage → ℕ → Try → Option Try
 report_try stage now t = if_open t.ended (after stage now t.started t)
 
 -- the report is taken in by the last try, or is out of turn and changes nothing
-abbrev pub taken : Option Try → Held → Held → Result (Unit {0}) ReportFault → Type 0
+abbrev pub taken : Option Try → InstanceValue → InstanceValue → Result (Unit {0}) ReportFault → Type 0
 taken (Some t) old new result = (result ≡ Ok tt) × (new ≡ record old { tries = with_last t old.tries })
 taken None old new result = (result ≡ Err OutOfTurn) × (new ≡ old)
 
-abbrev pub reported : Stage → ℕ → Held → Held → Result (Unit {0}) ReportFault → Type 0
+abbrev pub reported : Stage → ℕ → InstanceValue → InstanceValue → Result (Unit {0}) ReportFault → Type 0
 reported stage now old new result = taken (option_and_then (report_try stage now) (last_of old.tries)) old new result
 
 -- the try with the serial takes a report in, where it is its turn

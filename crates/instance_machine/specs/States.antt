@@ -6,7 +6,7 @@ use Rattle.trigger_rules.specs.declared.states.State.{State}
 use Rattle.trigger_rules.specs.declared.states.State.TheVariants as state
 use Rattle.trigger_rules.specs.declared.verdicts.Verdict.{Verdict}
 use Rattle.trigger_rules.specs.declared.verdicts.Verdict.TheVariants as verdict
-use Rattle.instance_machine.specs.Instances.{Held, recent, last_of}
+use Rattle.instance_machine.specs.Instances.{InstanceValue, recent, last_of}
 use Rattle.instance_machine.specs.declared.tries.Try.{Try}
 use Rattle.instance_machine.specs.declared.tries.End.{End}
 use Rattle.instance_machine.specs.declared.tries.Outcome.{Outcome}
@@ -38,10 +38,10 @@ state_by v left None = state_of_verdict v
 state_by v left (Some t) = state_of_end left t.started t.ended
 
 -- at most `retries` tries since the last clearing, so that there is a further one
-abbrev pub has_retry : TaskSpec → Held → Bool
+abbrev pub has_retry : TaskSpec → InstanceValue → Bool
 has_retry t i = nat_le (length (recent i)) t.retries
 
-abbrev pub state_of : TaskSpec → Held → State
+abbrev pub state_of : TaskSpec → InstanceValue → State
 state_of t i = state_by i.verdict (has_retry t i) (last_of (recent i))
 
 -- what came before lets a task run that depends on the past: there is nothing before, or it was a success or skipped
@@ -57,5 +57,5 @@ is_up_for_retry _ = false
 abbrev pub retry_of : Option Try → ℕ → Option ℕ
 retry_of last delay = option_map (λ e. e.moment + delay) (option_and_then (λ t. t.ended) last)
 
-abbrev pub retry_at : TaskSpec → Held → Option ℕ
+abbrev pub retry_at : TaskSpec → InstanceValue → Option ℕ
 retry_at t i = if is_up_for_retry (state_of t i) then retry_of (last_of (recent i)) t.retry_delay else None

@@ -23,9 +23,9 @@ pub struct Instance {
 impl Model for Instance {
     ghost use Rattle.std.specs.Prelude.{◌≡◌, ◌≢◌, ◌≤◌, Some, length};
     ghost use Rattle.trigger_rules.specs.declared.verdicts.Verdict.TheVariants.{Wait};
-    ghost use Rattle.instance_machine.specs.Instances.{Held};
+    ghost use Rattle.instance_machine.specs.Instances.{InstanceValue};
 
-    ghost Value = { Held };
+    ghost Value = { InstanceValue };
 
     ghost view = { λ i. record { verdict = i.verdict; since = i.since; tries = i.tries.items } };
 
@@ -90,7 +90,10 @@ impl Instance {
 
     /// A new try is handed out, which is open.
     pub fn hand_out(&mut self, serial: u64, slots: Bounded<1, 1_000>) -> Result<(), AllocError>
-        ensures ok { OnOk result (self.new ≡ record self.old { tries = self.old.tries ++ record { serial = serial; slots = slots; started = None; ended = None } ∷ [] }) }
+        ensures ok { OnOk result (self.new ≡ record self.old {
+          tries = self.old.tries ++ record
+              { serial = serial; slots = slots; started = None; ended = None } ∷ [];
+        }) }
         ensures err { OnErr result (self.new ≡ self.old) }
     {
         self.tries.push(Try {

@@ -8,15 +8,17 @@ ghost use Rattle.moment_core.specs.Reading.{read_of};
 
 /// The date of a day is a date of the calendar, and it has that day's number as `jiff` counts it, up to 9999-12-31.
 pub fn number_of_a_date()
-    ensures date { (n : ℕ) → n ≤ 2932896 → IsCivilDate (pos (date_of n).year) (date_of n).month (date_of n).day }
+    ensures date { (n : ℕ) → n ≤ 2932896 → IsCivilDate (pos (date_of n).year) (date_of n).month
+        (date_of n).day }
     ensures number { (n : ℕ) → n ≤ 2932896 →
         days_from_civil (pos (date_of n).year) (date_of n).month (date_of n).day ≡ pos n }
 {}
 
 /// A date of the calendar that has a day's number as `jiff` counts it is the date of that day.
 pub fn date_of_a_number()
-    ensures { (year : ℤ) (month day n : ℕ) → IsCivilDate year month day → days_from_civil year month day ≡ pos n →
-        (year ≡ pos (date_of n).year) × (month ≡ (date_of n).month) × (day ≡ (date_of n).day) }
+    ensures { (year : ℤ) (month day n : ℕ) → IsCivilDate year month day
+        → days_from_civil year month day ≡ pos n
+        → (year ≡ pos (date_of n).year) × (month ≡ (date_of n).month) × (day ≡ (date_of n).day) }
 {}
 
 /// The day of the week is that of `jiff`, which counts from Monday 0.

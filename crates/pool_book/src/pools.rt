@@ -91,7 +91,8 @@ impl Pools {
     /// How many slots of the pool of a name are open: its size less what is taken, so fewer than none where it was made smaller
     /// than that.
     pub fn open_slots(&self, name: &Name) -> Option<i64>
-        ensures { result ≡ option_map (λ p. pos p.size -ℤ pos p.occupied) (pool_of name.now self.now.pools) }
+        ensures { result ≡ option_map (λ p. pos p.size -ℤ pos p.occupied)
+            (pool_of name.now self.now.pools) }
     {
         let pool = self.get(name)?;
         Some(pool.open_slots())
@@ -120,7 +121,8 @@ impl Pools {
     /// Takes slots of the pool of a name, whether they are open or not. This takes no memory.
     pub fn occupy(&mut self, name: &Name, slots: Slots)
         requires there { IsSome (pool_of name.now self.old.pools) }
-        requires below { IfSome (pool_of name.now self.old.pools) (λ p. p.occupied + slots < 2 ^ 62) }
+        requires below { IfSome (pool_of name.now self.old.pools)
+            (λ p. p.occupied + slots < 2 ^ 62) }
         ensures pools { self.new.pools ≡ with_pool name.now (take_slots slots) self.old.pools }
         ensures room { self.new.room ≡ self.old.room }
     {
@@ -156,10 +158,13 @@ impl Pools {
     /// than the size. A refused call changes nothing.
     pub fn resize(&mut self, name: Name, size: Slots) -> Result<(), PoolFault>
         ensures pools { OnOk result (self.new.pools ≡ resized name size self.old.pools) }
-        ensures too_many { IsErrOf result PoolFault.TooManyPools ↔ (is_one_too_many name self.old.pools ≡ true) }
+        ensures too_many { IsErrOf result PoolFault.TooManyPools ↔
+            (is_one_too_many name self.old.pools ≡ true) }
         ensures memory { IsErrOf result PoolFault.Memory → has_place name self.old ≡ false }
-        ensures unchanged { OnErr result ((self.new.pools ≡ self.old.pools) × (self.old.room ≤ self.new.room)) }
-        ensures room { OnOk result (self.old.room ≤ self.new.room + (if has_pool name self.old.pools then 0 else 1)) }
+        ensures unchanged { OnErr result ((self.new.pools ≡ self.old.pools) ×
+            (self.old.room ≤ self.new.room)) }
+        ensures room { OnOk result (self.old.room ≤ self.new.room +
+            (if has_pool name self.old.pools then 0 else 1)) }
     {
         if let Some(pool) = self.pools.get_mut(&name) {
             pool.resize(size);

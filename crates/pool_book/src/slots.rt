@@ -29,7 +29,8 @@ impl Model for Slots {
 impl Slots {
     /// So many slots, where the number is in the range.
     pub fn new(number: u32) -> Option<Slots>
-        ensures { MatchOption result (slot_limit < number) (λ s. (s ≡ number) × (number ≤ slot_limit)) }
+        ensures { MatchOption result (slot_limit < number)
+            (λ s. (s ≡ number) × (number ≤ slot_limit)) }
     {
         if number <= MOST_SLOTS {
             Some(Slots { number })

@@ -18,7 +18,8 @@ pub fn asked_lanes(words: &[String]) -> Option<u32>
 
 // The text of that number: 4 where the words say none.
 fn lanes_text(words: &[String]) -> Option<&str>
-    ensures { MatchOption result (spec.lanes_text (map string_bytes words.now) ≡ None) (λ text. spec.lanes_text (map string_bytes words.now) ≡ Some text.now) }
+    ensures { MatchOption result (spec.lanes_text (map string_bytes words.now) ≡ None)
+        (λ text. spec.lanes_text (map string_bytes words.now) ≡ Some text.now) }
 {
     let (command, rest) = words.split_first()?;
     if command.as_str() != "run" {
@@ -34,7 +35,9 @@ fn lanes_text(words: &[String]) -> Option<&str>
 
 // What is assigned by `--lanes=N`.
 fn assigned(word: &str) -> Option<&str>
-    ensures { MatchOption result (bytes_eq (take 8 word.now) (codes "--lanes=") ≡ false) (λ text. (bytes_eq (take 8 word.now) (codes "--lanes=") ≡ true) × (text.now ≡ drop 8 word.now)) }
+    ensures { MatchOption result (bytes_eq (take 8 word.now) (codes "--lanes=") ≡ false)
+        (λ text. (bytes_eq (take 8 word.now) (codes "--lanes=") ≡ true) ×
+        (text.now ≡ drop 8 word.now)) }
 {
     word.strip_prefix("--lanes=")
 }

@@ -26,7 +26,8 @@ pub fn backfill(
     index: &RunIndex,
     limit: usize,
 ) -> Result<Backfill, AllocError>
-    ensures { IfOk result (IsBackfill index.now.dates (span_intervals graph.now.spec from to now) limit) }
+    ensures { IfOk result (IsBackfill index.now.dates (span_intervals graph.now.spec from to now)
+        limit) }
 {
     let mut found = Backfill {
         fresh: Vec::new(alloc),

@@ -20,8 +20,9 @@ pub(crate) fn all_due(
     index: &RunIndex,
     limit: usize,
 ) -> Result<Planned, AllocError>
-    ensures { let all = due_intervals (Timetable.Cron cron.now) graph.now.start_date graph.now.end_date now in
-        IfOk result (λ p. IsFirst (without_runs index.now.dates all) limit p.intervals.items p.more) }
+    ensures { let all = due_intervals (Timetable.Cron cron.now) graph.now.start_date
+        graph.now.end_date now in IfOk result
+        (λ p. IsFirst (without_runs index.now.dates all) limit p.intervals.items p.more) }
 {
     let mut intervals = Vec::new(alloc);
     let mut from = graph.start_date;
@@ -55,7 +56,8 @@ pub(crate) fn first_due(
     now: Moment,
 ) -> Option<Interval>
     ensures first { let all = due_intervals (Timetable.Cron cron.now) from last.now now in
-        MatchOption result (all ≡ []) (λ i. all ≡ i ∷ due_intervals (Timetable.Cron cron.now) i.end last.now now) }
+        MatchOption result (all ≡ [])
+        (λ i. all ≡ i ∷ due_intervals (Timetable.Cron cron.now) i.end last.now now) }
     ensures due { IfSome result (IsDue cron.now from last.now now) }
 {
     let until = now.secs();

@@ -27,13 +27,15 @@ pub fn due_intervals_rise()
 
 /// The interval of a run by hand is the timetable's: of a cron schedule the one whose end is the greatest tick that has come.
 pub fn a_run_by_hand_has_the_last_interval()
-    ensures { (x : Timetable) (t : ℕ) (r : Option Interval) → t < seconds_end → ManualInterval x t r →
-        option_to_list r ≡ manual_intervals x t }
+    ensures { (x : Timetable) (t : ℕ) (r : Option Interval) → t < seconds_end → ManualInterval x t r
+        → option_to_list r ≡ manual_intervals x t }
 {}
 
 /// What a span of a graph holds are its intervals that start within it and have ended: those, and no others. They are listed by start.
 pub fn a_span_holds_its_intervals()
-    ensures cron { (g : GraphSpec) (c : Fields) (low high t : ℕ) (i : Interval) → g.schedule ≡ Timetable.Cron c → t < seconds_end →
-        Contains (span_intervals g low high t) i ↔ IsDue c low (Some high) t i }
-    ensures rise { (g : GraphSpec) (low high t : ℕ) → starts_rise (span_intervals g low high t) ≡ true }
+    ensures cron { (g : GraphSpec) (c : Fields) (low high t : ℕ) (i : Interval)
+        → g.schedule ≡ Timetable.Cron c → t < seconds_end
+        → Contains (span_intervals g low high t) i ↔ IsDue c low (Some high) t i }
+    ensures rise { (g : GraphSpec) (low high t : ℕ)
+        → starts_rise (span_intervals g low high t) ≡ true }
 {}

@@ -16,11 +16,11 @@
 mod backfills;
 mod by_hand;
 mod catchup;
-mod latest;
 mod laws;
 mod planning;
 mod run_index;
 mod spans;
+mod without_catchup;
 
 pub use backfills::backfill;
 pub use by_hand::{PlanFault, manual};

@@ -6,7 +6,7 @@ ghost use Rattle.run_planner.specs.Due.{due_intervals, wanted_intervals, without
 
 use crate::RunIndex;
 use crate::catchup::{all_due, is_up_to};
-use crate::latest::latest_due;
+use crate::without_catchup::latest_due;
 use cron_timetable::{Interval, Timetable};
 use dag_check::Graph;
 use graph_file::GraphSpec;
@@ -36,7 +36,8 @@ pub fn due(
     index: &RunIndex,
     limit: usize,
 ) -> Result<Planned, AllocError>
-    ensures { IfOk result (λ p. IsFirst (wanted_intervals graph.now.spec now index.now.dates) limit p.intervals.items p.more) }
+    ensures { IfOk result (λ p. IsFirst (wanted_intervals graph.now.spec now index.now.dates) limit
+        p.intervals.items p.more) }
 {
     due_of(alloc, graph.spec(), now, index, limit)
 }
@@ -49,7 +50,8 @@ fn due_of(
     index: &RunIndex,
     limit: usize,
 ) -> Result<Planned, AllocError>
-    ensures { IfOk result (λ p. IsFirst (wanted_intervals graph.now now index.now.dates) limit p.intervals.items p.more) }
+    ensures { IfOk result (λ p. IsFirst (wanted_intervals graph.now now index.now.dates) limit
+        p.intervals.items p.more) }
 {
     match &graph.schedule {
         Timetable::Cron(cron) => {
@@ -67,7 +69,8 @@ fn due_of(
 // The one interval of `Once`, where it is due.
 #[tactic(auto, unfolding(crate::specs::Due::due_intervals))]
 fn once_due(graph: &GraphSpec, now: Moment) -> Option<Interval>
-    ensures { option_to_list result ≡ due_intervals Timetable.Once graph.now.start_date graph.now.end_date now }
+    ensures { option_to_list result ≡ due_intervals Timetable.Once graph.now.start_date
+        graph.now.end_date now }
 {
     let start = graph.start_date;
     if is_up_to(&graph.end_date, start) && start.secs() <= now.secs() {

@@ -62,7 +62,8 @@ impl RunIndex {
     /// Adds a date, for which there is room. One that is there already changes nothing.
     pub fn add(&mut self, date: Moment)
         requires { 0 < self.old.room }
-        ensures added { (d : ℕ) → has_date self.new.dates d ≡ ((date == d) || has_date self.old.dates d) }
+        ensures added { (d : ℕ) → has_date self.new.dates d
+            ≡ ((date == d) || has_date self.old.dates d) }
         ensures there { has_date self.old.dates date ≡ true → self.new ≡ self.old }
         ensures room { self.old.room ≤ self.new.room + 1 }
     {

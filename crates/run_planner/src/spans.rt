@@ -29,8 +29,9 @@ impl Backfill {
         index: &RunIndex,
         limit: usize,
     ) -> Result<(), AllocError>
-        ensures { IsOk result → (is : List IntervalRecord) → IsBackfill index.now.dates is limit self.old →
-            IsBackfill index.now.dates (is ++ interval ∷ []) limit self.new }
+        ensures { IsOk result → (is : List IntervalRecord)
+            → IsBackfill index.now.dates is limit self.old
+            → IsBackfill index.now.dates (is ++ interval ∷ []) limit self.new }
     {
         if index.has(interval.start) {
             self.present.push(interval.start)?;
@@ -53,7 +54,8 @@ impl Backfill {
         limit: usize,
     ) -> Result<(), AllocError>
         requires { IsBackfill index.now.dates [] limit self.old }
-        ensures { IsOk result → IsBackfill index.now.dates (due_intervals (Timetable.Cron cron.now) from (Some to) now) limit self.new }
+        ensures { IsOk result → IsBackfill index.now.dates
+            (due_intervals (Timetable.Cron cron.now) from (Some to) now) limit self.new }
     {
         let last = Some(to);
         let mut next = from;

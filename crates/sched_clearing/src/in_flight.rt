@@ -4,11 +4,11 @@ ghost use Rattle.std.specs.List.{zip};
 ghost use Rattle.sched_model.specs.Causes as model;
 ghost use Rattle.sched_model.specs.Causes.{open_serials};
 ghost use Rattle.sched_model.specs.Lists.{least};
-ghost use Rattle.sched_clearing.specs.Namings.{names_instance, naming_of};
+ghost use Rattle.sched_clearing.specs.Selections.{names_instance, selection_of};
 ghost use Rattle.sched_clearing.specs.Passing.{passing_from, least_serial, lesser};
 
-use crate::namings::Naming;
-use dag_check::Graph as Dag;
+use crate::selections::Selection;
+use dag_check::Graph;
 use instance_machine::Try;
 use sched_draft::Draft;
 use sched_state::Run;
@@ -38,14 +38,15 @@ fn least_open(tries: &[Try]) -> Option<u64>
 }
 
 // The same of the tries of the named instances of a run of this graph.
-fn least_in_run(naming: &Naming<'_>, dag: &Dag, run: &Run) -> Option<u64>
-    ensures { result ≡ least_serial (passing_from (names_instance naming.now) 0 (zip dag.now.tasks run.now.instances)) }
+fn least_in_run(selection: &Selection<'_>, dag: &Graph, run: &Run) -> Option<u64>
+    ensures { result ≡ least_serial (passing_from (names_instance selection.now) 0
+        (zip dag.now.tasks run.now.instances)) }
 {
     let instances = run.instances.as_slice();
     let mut least = None;
     for place in 0..dag.len().min(instances.len()) {
         let instance = &instances[place];
-        if naming.picks(place, dag.task(place), instance) {
+        if selection.selects(place, dag.task(place), instance) {
             least = lesser(least, least_open(instance.tries()));
         }
     }
@@ -53,13 +54,13 @@ fn least_in_run(naming: &Naming<'_>, dag: &Dag, run: &Run) -> Option<u64>
 }
 
 /// The least serial of the tries without an end of the named instances: a clear waits until there is none.
-pub fn least_in_flight(draft: &Draft<'_>, naming: &Naming<'_>) -> Option<u64>
-    ensures { result ≡ model.least_in_flight draft.now (naming_of naming.now) }
+pub fn least_in_flight(draft: &Draft<'_>, selection: &Selection<'_>) -> Option<u64>
+    ensures { result ≡ model.least_in_flight draft.now (selection_of selection.now) }
 {
     let mut least = None;
     for run in draft.runs() {
-        if let Some(dag) = naming.dag_of(draft, run) {
-            least = lesser(least, least_in_run(naming, dag, run));
+        if let Some(dag) = selection.dag_of(draft, run) {
+            least = lesser(least, least_in_run(selection, dag, run));
         }
     }
     least

@@ -18,10 +18,10 @@ use Rattle.sched_state.specs.Lists.{same, name_cmp, is_less, insert_by}
 use Rattle.sched_state.proofs.NameLemmas.{same_is, same_itself}
 use Rattle.sched_state.proofs.OrderLemmas.{and_left, and_right, or_left, or_right}
 use Rattle.sched_model.specs.Changes.{resize_pool, new_pool, with_pool, set_now, set_paused, resize, report, restart}
-use Rattle.sched_model.specs.Clearing.{Naming}
+use Rattle.sched_model.specs.Clearing.{Selection}
 use Rattle.sched_model.specs.Handout.{hand_out}
 use Rattle.sched_model.specs.Lists.{rises}
-use Rattle.sched_model.specs.NamedRuns.{Named, add_runs}
+use Rattle.sched_model.specs.NamedRuns.{NamedRun, add_runs}
 use Rattle.sched_model.specs.Schedule.{Schedule, Pool, pool_before}
 use Rattle.sched_model.specs.Settle.{settle}
 use Rattle.sched_model.specs.Sound.{IsSound, is_sound_pool}
@@ -30,11 +30,11 @@ use Rattle.sched_laws.proofs.OccupyingLemmas.{open_paused, open_cleared, open_ad
 use Rattle.sched_laws.proofs.SlotLemmas.{open_settled, out_filled}
 use Rattle.sched_laws.proofs.SoundLemmas.{settle_sound}
 use Rattle.sched_events.specs.Events.{set_back}
-use Rattle.sched_events.specs.Kept.{IsKept}
+use Rattle.sched_events.specs.SettledAndSound.{IsSettledAndSound}
 use Rattle.sched_events.specs.Rows.{PoolLine}
 use Rattle.sched_draft.specs.Books.{pools_in, Takes, IsBookOf}
 use Rattle.sched_draft.proofs.BookLemmas.{has_is}
-use Rattle.sched_core.specs.Books.{IsCounted, IsHeld}
+use Rattle.sched_core.specs.Books.{IsCounted, AgreesWithBook}
 use Rattle.sched_core.specs.Inside.{row_in}
 use Rattle.sched_core.specs.Views.{pool_row, pool_rows}
 use Rattle.sched_laws.proofs.RankLemmas.{less_is}
@@ -44,7 +44,7 @@ use Rattle.sched_laws.proofs.ResizeLemmas.{resize_other}
 counted_same : (a b : Schedule) → open_tries b ≡ open_tries a → IsCounted a → IsCounted b
 counted_same a b e counted name = subst (λ n. n ≤ most_taken) (ap (sum_by (slots_in name)) (sym e)) (counted name)
 
-pub quiet_held : (a b : Schedule) (es : Entries) → IsKept b → open_tries b ≡ open_tries a → IsHeld a es → IsHeld b es
+pub quiet_held : (a b : Schedule) (es : Entries) → IsSettledAndSound b → open_tries b ≡ open_tries a → AgreesWithBook a es → AgreesWithBook b es
 quiet_held a b es kept e held = record {
   kept = kept;
   counted = counted_same a b e held.counted;
@@ -52,17 +52,17 @@ quiet_held a b es kept e held = record {
 }
 
 -- ---- what events leave is counted
-pub tick_counted : (t : ℕ) (ns : List Named) (a : Schedule) → IsCounted a → IsCounted (add_runs ns (set_now t a))
+pub tick_counted : (t : ℕ) (ns : List NamedRun) (a : Schedule) → IsCounted a → IsCounted (add_runs ns (set_now t a))
 tick_counted t ns a counted = counted_same a (add_runs ns (set_now t a)) (open_added ns (set_now t a)) counted
 
-pub trigger_counted : (ns : List Named) (a : Schedule) → IsCounted a → IsCounted (add_runs ns a)
+pub trigger_counted : (ns : List NamedRun) (a : Schedule) → IsCounted a → IsCounted (add_runs ns a)
 trigger_counted ns a counted = counted_same a (add_runs ns a) (open_added ns a) counted
 
-open_back : (named : Option Naming) (a : Schedule) → open_tries (set_back named a) ≡ open_tries a
+open_back : (named : Option Selection) (a : Schedule) → open_tries (set_back named a) ≡ open_tries a
 open_back None a = refl
 open_back (Some named) a = open_cleared named a
 
-pub repair_counted : (ns : List Named) (named : Option Naming) (a : Schedule) → IsCounted a → IsCounted (add_runs ns (set_back named a))
+pub repair_counted : (ns : List NamedRun) (named : Option Selection) (a : Schedule) → IsCounted a → IsCounted (add_runs ns (set_back named a))
 repair_counted ns named a counted = counted_same a (add_runs ns (set_back named a)) (open_added ns (set_back named a) ∙ open_back named a) counted
 
 pub unpause_counted : (id : List ℕ) (a : Schedule) → IsCounted a → IsCounted (set_paused id false a)
@@ -192,5 +192,5 @@ rows_in a (e ∷ es) order h =
     ap (λ (n : ℕ). let w : PoolLine = record { name = e.0; size = e.1.size; occupied = n; open_slots = pos e.1.size -ℤ pos n } in w ∷ map row_in es) here ∙ ap (λ (ws : List PoolLine). pool_row a (line e) ∷ ws) rest
 
 -- the rows of the book are those of the schedule
-pub rows_held : (a : Schedule) (es : Entries) → pools_in es ≡ a.pools → IsHeld a es → map row_in es ≡ pool_rows a
+pub rows_held : (a : Schedule) (es : Entries) → pools_in es ≡ a.pools → AgreesWithBook a es → map row_in es ≡ pool_rows a
 rows_held a es pools held = rows_in a es (ap (rises pool_before) pools ∙ held.kept.sound.pools_by_name) held.taken ∙ ap (map (pool_row a)) pools

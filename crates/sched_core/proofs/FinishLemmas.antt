@@ -1,7 +1,7 @@
 -- A draft that is settled and handed out stays over the same limits and graphs, and its book is true.
 use Rattle.std.proofs.Common.{◌≡◌, ◌∙◌, sym, ap, ℕ, List, Option, Some}
 use Rattle.sched_state.specs.Limits.{Bounds}
-use Rattle.sched_state.specs.declared.graphs.Graph.{Graph}
+use Rattle.sched_state.specs.declared.graphs.LoadedGraph.{LoadedGraph}
 use Rattle.sched_state.specs.declared.runs.Run.{Run}
 use Rattle.sched_model.specs.Schedule.{Schedule, Pool}
 use Rattle.sched_model.specs.Settle.{move, move_runs, with_runs, moves_left, settle}
@@ -10,10 +10,10 @@ use Rattle.sched_laws.proofs.SettleLemmas.{map_some}
 use Rattle.sched_events.proofs.StepLemmas.{repeat_keeps, settle_graphs, out_graphs}
 use Rattle.pool_book.specs.Pools.{Entries}
 use Rattle.sched_model.specs.Sound.{IsSound}
-use Rattle.sched_events.specs.Kept.{IsKept}
+use Rattle.sched_events.specs.SettledAndSound.{IsSettledAndSound}
 use Rattle.sched_draft.specs.Books.{IsBookOf}
 use Rattle.sched_draft.specs.Parts.{with_unpaused}
-use Rattle.sched_core.specs.Books.{IsCounted, IsHeld}
+use Rattle.sched_core.specs.Books.{IsCounted, AgreesWithBook}
 use Rattle.sched_core.proofs.BookLemmas.{end_counted, book_taken}
 use Rattle.sched_core.specs.Inside.{IsOver}
 
@@ -36,7 +36,7 @@ finished_is u a b d qs now lanes next runs over end pools_are now_is lanes_is ne
     let graphs : with_unpaused u a.graphs ≡ d.graphs = sym (ap (λ (c : Schedule). c.graphs) end ∙ (out_graphs (settle b) ∙ (settle_graphs b ∙ over.graphs))) in
     let pools : qs ≡ d.pools = pools_are ∙ ap (λ (c : Schedule). c.pools) (sym end) in
     ap (λ (l : Bounds). let c : Schedule = record { limits = l; graphs = with_unpaused u a.graphs; pools = qs; now = now; lanes = lanes; next = next; runs = runs } in c) limits
-    ∙ (ap (λ (gs : List Graph). let c : Schedule = record { limits = d.limits; graphs = gs; pools = qs; now = now; lanes = lanes; next = next; runs = runs } in c) graphs
+    ∙ (ap (λ (gs : List LoadedGraph). let c : Schedule = record { limits = d.limits; graphs = gs; pools = qs; now = now; lanes = lanes; next = next; runs = runs } in c) graphs
     ∙ (ap (λ (ps : List Pool). let c : Schedule = record { limits = d.limits; graphs = d.graphs; pools = ps; now = now; lanes = lanes; next = next; runs = runs } in c) pools
     ∙ (ap (λ (n : ℕ). record d { now = n; lanes = lanes; next = next; runs = runs }) now_is
     ∙ (ap (λ (n : ℕ). record d { lanes = n; next = next; runs = runs }) lanes_is
@@ -44,7 +44,7 @@ finished_is u a b d qs now lanes next runs over end pools_are now_is lanes_is ne
     ∙ (ap (λ (rs : List Run). record d { runs = rs }) runs_are ∙ end))))))
 
 -- the book of the hand-outs is true of it
-pub finished_held : (b : Schedule) (es : Entries) → IsSound b → IsCounted b → IsKept (hand_out (settle b)) → IsBookOf (hand_out (settle b)) es → IsHeld (hand_out (settle b)) es
+pub finished_held : (b : Schedule) (es : Entries) → IsSound b → IsCounted b → IsSettledAndSound (hand_out (settle b)) → IsBookOf (hand_out (settle b)) es → AgreesWithBook (hand_out (settle b)) es
 finished_held b es sound counted kept book =
     let low = end_counted b sound counted in
     record { kept = kept; counted = low; taken = book_taken (hand_out (settle b)) es low book }

@@ -11,12 +11,12 @@ use Rattle.dag_check.specs.Faults.{first_fault}
 use Rattle.dag_check.specs.declared.faults.DagFault.{DagFault}
 use Rattle.dag_check.proofs.FirstLemmas.{faultless}
 use Rattle.std.proofs.lemmas.List.{length-map}
-use Rattle.instance_machine.specs.Instances.{Held as Instance}
+use Rattle.instance_machine.specs.Instances.{InstanceValue as Instance}
 use Rattle.instance_machine.specs.Reports.{report_try}
 use Rattle.instance_machine.specs.declared.tries.Stage.{Stage}
 use Rattle.instance_machine.specs.declared.tries.Try.{Try}
 use Rattle.sched_state.specs.Lists.{same}
-use Rattle.sched_state.specs.declared.graphs.Graph.{Graph}
+use Rattle.sched_state.specs.declared.graphs.LoadedGraph.{LoadedGraph}
 use Rattle.sched_state.specs.declared.runs.Run.{Run}
 use Rattle.sched_state.proofs.NameLemmas.{find_any}
 use Rattle.sched_model.specs.Schedule.{Schedule, graph_among, graph_named, has_runs}
@@ -24,7 +24,7 @@ use Rattle.sched_model.specs.States.{is_open}
 use Rattle.sched_model.specs.Settle.{settle}
 use Rattle.sched_model.specs.Handout.{hand_out}
 use Rattle.sched_model.specs.Jobs.{job_at, handed}
-use Rattle.sched_model.specs.NamedRuns.{Named, named_by_tick, queued_run, insert_runs, add_runs}
+use Rattle.sched_model.specs.NamedRuns.{NamedRun, named_by_tick, queued_run, insert_runs, add_runs}
 use Rattle.sched_model.specs.Changes.{load_graph, set_now, set_paused, report, restart}
 use Rattle.sched_model.specs.Causes.{open_try, has_too_many_graphs, is_full_with}
 use Rattle.sched_model.specs.Sound.{IsSound, Says, AllSay}
@@ -34,7 +34,7 @@ use Rattle.sched_laws.proofs.LoadLemmas.{load_still, load_no_hand, load_again}
 use Rattle.sched_events.specs.Events.{named_by, set_back_by, count_in, change_by, leaves_more_by, load_result, IsInRange}
 use Rattle.sched_events.specs.Causes.{exceeds, unknown_pool, differs, refused_text, refused}
 use Rattle.sched_events.specs.Steps.{step, id_of, answer_to}
-use Rattle.sched_events.specs.Kept.{IsKept}
+use Rattle.sched_events.specs.SettledAndSound.{IsSettledAndSound}
 use Rattle.sched_events.specs.declared.answers.Answer.{Answer}
 use Rattle.sched_events.specs.declared.answers.RunId.{RunId}
 use Rattle.sched_events.specs.declared.events.Event.{Event}
@@ -83,56 +83,56 @@ is_none-not : {X : Type 0} (o : Option X) → is_none o ≡ not (is_some o)
 is_none-not None = refl
 is_none-not (Some x) = refl
 
-unnamed : (a : Schedule) (id : List ℕ) → list_any (λ (g : Graph). same g.dag.spec.dag_id id) a.graphs ≡ false → graph_named a id ≡ None
+unnamed : (a : Schedule) (id : List ℕ) → list_any (λ (g : LoadedGraph). same g.dag.spec.dag_id id) a.graphs ≡ false → graph_named a id ≡ None
 unnamed a id unknown = elim (graph_named a id) as (λ o. is_some o ≡ false → o ≡ None) [
   | None ↦ λ e. refl
   | Some g ↦ λ e. absurd (true≢false e)
-] (find_any (λ (g : Graph). same g.dag.spec.dag_id id) a.graphs ∙ unknown)
+] (find_any (λ (g : LoadedGraph). same g.dag.spec.dag_id id) a.graphs ∙ unknown)
 
 pub refused_full : (a : Schedule) (text : List ℕ) (dag : Dag) → IsTaken a text dag
-    → list_any (λ (g : Graph). same g.dag.spec.dag_id dag.spec.dag_id) a.graphs ≡ false → a.limits.graphs ≤ length a.graphs → refused a (Load text) ≡ Some refusal.TooManyGraphs
+    → list_any (λ (g : LoadedGraph). same g.dag.spec.dag_id dag.spec.dag_id) a.graphs ≡ false → a.limits.graphs ≤ length a.graphs → refused a (Load text) ≡ Some refusal.TooManyGraphs
 refused_full a text dag taken unknown full =
     let none = unnamed a dag.spec.dag_id unknown in
     let no_room : nat_le a.limits.graphs (length a.graphs) ≡ true = le-leb _ _ full in
     causes a text dag taken
-    ∙ (ap (λ (o : Option Graph). two (is_none o && nat_le a.limits.graphs (length a.graphs)) (differs a text dag.spec)) none
+    ∙ (ap (λ (o : Option LoadedGraph). two (is_none o && nat_le a.limits.graphs (length a.graphs)) (differs a text dag.spec)) none
     ∙ ap (λ b. two b (differs a text dag.spec)) no_room)
 
 pub accepted_new : (a : Schedule) (text : List ℕ) (dag : Dag) → IsTaken a text dag
-    → list_any (λ (g : Graph). same g.dag.spec.dag_id dag.spec.dag_id) a.graphs ≡ false → nat_le a.limits.graphs (length a.graphs) ≡ false → refused a (Load text) ≡ None
+    → list_any (λ (g : LoadedGraph). same g.dag.spec.dag_id dag.spec.dag_id) a.graphs ≡ false → nat_le a.limits.graphs (length a.graphs) ≡ false → refused a (Load text) ≡ None
 accepted_new a text dag taken unknown room =
     let none = unnamed a dag.spec.dag_id unknown in
     causes a text dag taken
-    ∙ none_of _ _ (ap (λ (o : Option Graph). is_none o && nat_le a.limits.graphs (length a.graphs)) none ∙ room)
-    (ap (λ (o : Option Graph). holds_at (λ (g : Graph). not (same g.text text)) o && has_runs a dag.spec.dag_id) none)
+    ∙ none_of _ _ (ap (λ (o : Option LoadedGraph). is_none o && nat_le a.limits.graphs (length a.graphs)) none ∙ room)
+    (ap (λ (o : Option LoadedGraph). holds_at (λ (g : LoadedGraph). not (same g.text text)) o && has_runs a dag.spec.dag_id) none)
 
 -- of a graph that is there
-pub known_is : (gs : List Graph) (id : List ℕ) (i : ℕ) (g : Graph) → StandsAt id gs i → g ≡ get_or gs i g → (slice_get gs i ≡ Some g) × (same g.dag.spec.dag_id id ≡ true)
+pub known_is : (gs : List LoadedGraph) (id : List ℕ) (i : ℕ) (g : LoadedGraph) → StandsAt id gs i → g ≡ get_or gs i g → (slice_get gs i ≡ Some g) × (same g.dag.spec.dag_id id ≡ true)
 known_is gs id i g stands read =
     let at : slice_get gs i ≡ Some g = slice_get-get_or gs i g stands.below ∙ ap (λ x. Some x) (sym read) in
-    let c : ◌≡◌ {A = Option Graph} (Some stands.graph) (Some g) = sym stands.there ∙ at in
+    let c : ◌≡◌ {A = Option LoadedGraph} (Some stands.graph) (Some g) = sym stands.there ∙ at in
     let is : stands.graph ≡ g = cc in
-    (at, ap (λ (k : Graph). same k.dag.spec.dag_id id) (sym is) ∙ stands.named)
+    (at, ap (λ (k : LoadedGraph). same k.dag.spec.dag_id id) (sym is) ∙ stands.named)
 
-known_causes : (a : Schedule) (text : List ℕ) (dag : Dag) (i : ℕ) (g : Graph) → IsKept a → IsTaken a text dag
+known_causes : (a : Schedule) (text : List ℕ) (dag : Dag) (i : ℕ) (g : LoadedGraph) → IsSettledAndSound a → IsTaken a text dag
     → slice_get a.graphs i ≡ Some g → same g.dag.spec.dag_id dag.spec.dag_id ≡ true → refused a (Load text) ≡ two false (not (same g.text text) && has_runs a dag.spec.dag_id)
 known_causes a text dag i g kept taken at named =
     let found = found_at dag.spec.dag_id a.graphs i g at named kept.sound.graphs_by_id in
     causes a text dag taken
-    ∙ ap (λ (o : Option Graph). two (is_none o && nat_le a.limits.graphs (length a.graphs)) (holds_at (λ (k : Graph). not (same k.text text)) o && has_runs a dag.spec.dag_id)) found
+    ∙ ap (λ (o : Option LoadedGraph). two (is_none o && nat_le a.limits.graphs (length a.graphs)) (holds_at (λ (k : LoadedGraph). not (same k.text text)) o && has_runs a dag.spec.dag_id)) found
 
-pub accepted_same : (a : Schedule) (text : List ℕ) (dag : Dag) (i : ℕ) (g : Graph) → IsKept a → IsTaken a text dag
+pub accepted_same : (a : Schedule) (text : List ℕ) (dag : Dag) (i : ℕ) (g : LoadedGraph) → IsSettledAndSound a → IsTaken a text dag
     → slice_get a.graphs i ≡ Some g → same g.dag.spec.dag_id dag.spec.dag_id ≡ true → same g.text text ≡ true → refused a (Load text) ≡ None
 accepted_same a text dag i g kept taken at named text_is =
     known_causes a text dag i g kept taken at named ∙ ap (λ b. two false (not b && has_runs a dag.spec.dag_id)) text_is
 
-pub refused_differs : (a : Schedule) (text : List ℕ) (dag : Dag) (i : ℕ) (g : Graph) → IsKept a → IsTaken a text dag
+pub refused_differs : (a : Schedule) (text : List ℕ) (dag : Dag) (i : ℕ) (g : LoadedGraph) → IsSettledAndSound a → IsTaken a text dag
     → slice_get a.graphs i ≡ Some g → same g.dag.spec.dag_id dag.spec.dag_id ≡ true → same g.text text ≡ false → has_runs a dag.spec.dag_id ≡ true → refused a (Load text) ≡ Some refusal.GraphDiffers
 refused_differs a text dag i g kept taken at named other runs =
     known_causes a text dag i g kept taken at named
     ∙ (ap (λ b. two false (not b && has_runs a dag.spec.dag_id)) other ∙ ap (λ b. two false b) runs)
 
-pub accepted_other : (a : Schedule) (text : List ℕ) (dag : Dag) (i : ℕ) (g : Graph) → IsKept a → IsTaken a text dag
+pub accepted_other : (a : Schedule) (text : List ℕ) (dag : Dag) (i : ℕ) (g : LoadedGraph) → IsSettledAndSound a → IsTaken a text dag
     → slice_get a.graphs i ≡ Some g → same g.dag.spec.dag_id dag.spec.dag_id ≡ true → same g.text text ≡ false → has_runs a dag.spec.dag_id ≡ false → refused a (Load text) ≡ None
 accepted_other a text dag i g kept taken at named other runs =
     known_causes a text dag i g kept taken at named
@@ -157,7 +157,7 @@ quiet_answer : (a b : Schedule) (text : List ℕ) → step (Load text) a ≡ b �
 quiet_answer a b text is next = ap (λ js. record no_runs { jobs = js }) (sym (ap (handed a) is ∙ no_jobs a b next))
 
 -- the same text changes nothing
-pub planned_same : (a : Schedule) (text : List ℕ) (dag : Dag) (i : ℕ) (g : Graph) → IsKept a → Says text dag → refused a (Load text) ≡ None
+pub planned_same : (a : Schedule) (text : List ℕ) (dag : Dag) (i : ℕ) (g : LoadedGraph) → IsSettledAndSound a → Says text dag → refused a (Load text) ≡ None
     → slice_get a.graphs i ≡ Some g → same g.dag.spec.dag_id dag.spec.dag_id ≡ true → same g.text text ≡ true → IsPlanned a (Load text) (record { before = a; after = a; answer = no_runs })
 planned_same a text dag i g kept said accepted there named text_is =
     let found = found_at dag.spec.dag_id a.graphs i g there named kept.sound.graphs_by_id in
@@ -168,7 +168,7 @@ planned_same a text dag i g kept said accepted there named text_is =
     record { ranged = tt; accepted = accepted; before = refl; after = sym is; answer = quiet_answer a a text is refl }
 
 -- a text that takes no run's graph is taken in, and nothing moves
-pub loaded_kept : (a : Schedule) (text : List ℕ) (dag : Dag) → IsKept a → IsTaken a text dag → has_runs a dag.spec.dag_id ≡ false → refused a (Load text) ≡ None → IsKept (load_graph text dag a)
+pub loaded_kept : (a : Schedule) (text : List ℕ) (dag : Dag) → IsSettledAndSound a → IsTaken a text dag → has_runs a dag.spec.dag_id ≡ false → refused a (Load text) ≡ None → IsSettledAndSound (load_graph text dag a)
 loaded_kept a text dag kept t quiet accepted =
     let is : change_by (Load text) a ≡ load_graph text dag a =
     ap (λ r. load_result text r a) t.says.read
@@ -182,7 +182,7 @@ loaded_kept a text dag kept t quiet accepted =
       handed = load_no_hand text dag a quiet kept.handed;
     }
 
-pub planned_load : (a : Schedule) (text : List ℕ) (dag : Dag) → IsKept a → Says text dag → has_runs a dag.spec.dag_id ≡ false → refused a (Load text) ≡ None
+pub planned_load : (a : Schedule) (text : List ℕ) (dag : Dag) → IsSettledAndSound a → Says text dag → has_runs a dag.spec.dag_id ≡ false → refused a (Load text) ≡ None
     → IsPlanned a (Load text) (record { before = a; after = load_graph text dag a; answer = no_runs })
 planned_load a text dag kept said quiet accepted =
     let b : Schedule = load_graph text dag a in
@@ -191,12 +191,12 @@ planned_load a text dag kept said quiet accepted =
     record { ranged = tt; accepted = accepted; before = refl; after = sym is; answer = quiet_answer a b text is refl }
 
 -- ---- by a draft
-pub draft_sound : (e : Event) (a b : Schedule) → IsInRange e → refused a e ≡ None → IsKept a → b ≡ add_runs (named_by e a) (change_by e a) → IsSound b
+pub draft_sound : (e : Event) (a b : Schedule) → IsInRange e → refused a e ≡ None → IsSettledAndSound a → b ≡ add_runs (named_by e a) (change_by e a) → IsSound b
 draft_sound e a b dated accepted kept is = subst IsSound (sym is) (added_sound e a dated accepted kept (change_kept e a dated accepted kept).0)
 
-pub draft_kept : (e : Event) (a b : Schedule) → IsInRange e → refused a e ≡ None → IsKept a → b ≡ add_runs (named_by e a) (change_by e a) → IsKept (hand_out (settle b))
+pub draft_kept : (e : Event) (a b : Schedule) → IsInRange e → refused a e ≡ None → IsSettledAndSound a → b ≡ add_runs (named_by e a) (change_by e a) → IsSettledAndSound (hand_out (settle b))
 unfolding step
-draft_kept e a b dated accepted kept is = subst (λ (c : Schedule). IsKept (hand_out (settle c))) (sym is) (step_kept e a dated accepted kept)
+draft_kept e a b dated accepted kept is = subst (λ (c : Schedule). IsSettledAndSound (hand_out (settle c))) (sym is) (step_kept e a dated accepted kept)
 
 -- what an event answers, but for the tries that are handed out
 abbrev pub told : Event → Schedule → Answer
@@ -228,7 +228,7 @@ pub tick_accepted : (a : Schedule) (t : ℕ) → nat_lt t a.now ≡ false → is
 tick_accepted a t back full = two_none (nat_lt t a.now) (is_full_with a (named_by_tick a t)) (refusal.ClockBack a.now) refusal.RecordFull back full
 
 -- the runs of names are those names
-pub ids_named : (a : Schedule) (ns : List Named) → map run_id (map (queued_run a) ns) ≡ map id_of ns
+pub ids_named : (a : Schedule) (ns : List NamedRun) → map run_id (map (queued_run a) ns) ≡ map id_of ns
 ids_named a [] = refl
 ids_named a (n ∷ ns) = ap (λ ids. id_of n ∷ ids) (ids_named a ns)
 
@@ -264,15 +264,15 @@ twice true = refl
 twice false = refl
 
 -- whether the graph that was looked up is there
-pub looked_up : (a : Schedule) (gs : List Graph) (id : List ℕ) (o : Option (Bor Graph)) (b : Bool) → gs ≡ a.graphs → option_copied o ≡ graph_among gs id → is_some o ≡ not b
+pub looked_up : (a : Schedule) (gs : List LoadedGraph) (id : List ℕ) (o : Option (Bor LoadedGraph)) (b : Bool) → gs ≡ a.graphs → option_copied o ≡ graph_among gs id → is_some o ≡ not b
     → is_none (graph_named a id) ≡ b
 looked_up a gs id o b same_graphs looked is =
-    ap (λ (ks : List Graph). is_none (graph_among ks id)) (sym same_graphs) ∙ (ap is_none (sym looked) ∙ (none_copied o ∙ (ap not is ∙ twice b)))
+    ap (λ (ks : List LoadedGraph). is_none (graph_among ks id)) (sym same_graphs) ∙ (ap is_none (sym looked) ∙ (none_copied o ∙ (ap not is ∙ twice b)))
 
-pub pause_kept : (a : Schedule) (id : List ℕ) → IsKept a → is_none (graph_named a id) ≡ false → IsKept (set_paused id true a)
-pause_kept a id kept there = subst IsKept (pause_step id a kept) (step_kept (Pause id) a tt (pause_accepted a id there) kept)
+pub pause_kept : (a : Schedule) (id : List ℕ) → IsSettledAndSound a → is_none (graph_named a id) ≡ false → IsSettledAndSound (set_paused id true a)
+pause_kept a id kept there = subst IsSettledAndSound (pause_step id a kept) (step_kept (Pause id) a tt (pause_accepted a id there) kept)
 
-pub planned_pause : (a : Schedule) (id : List ℕ) → IsKept a → is_none (graph_named a id) ≡ false → IsPlanned a (Pause id) (record { before = a; after = set_paused id true a; answer = no_runs })
+pub planned_pause : (a : Schedule) (id : List ℕ) → IsSettledAndSound a → is_none (graph_named a id) ≡ false → IsPlanned a (Pause id) (record { before = a; after = set_paused id true a; answer = no_runs })
 planned_pause a id kept there =
     let is : step (Pause id) a ≡ set_paused id true a = pause_step id a kept in
     record {

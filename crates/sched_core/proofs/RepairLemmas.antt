@@ -6,12 +6,12 @@ use Rattle.graph_file.specs.Lists.{when, first_some}
 use Rattle.sched_state.specs.declared.clearings.Clearing.{Clearing}
 use Rattle.sched_state.specs.declared.runs.Run.{Run}
 use Rattle.sched_model.specs.Causes.{is_unknown_graph, is_unknown_task, is_bad_span, is_full_with, least_in_flight}
-use Rattle.sched_model.specs.Clearing.{Naming, cleared_by}
-use Rattle.sched_model.specs.NamedRuns.{Named, named_by_backfill, present_in, queued_run, add_runs, insert_runs}
+use Rattle.sched_model.specs.Clearing.{Selection, cleared_by}
+use Rattle.sched_model.specs.NamedRuns.{NamedRun, named_by_backfill, present_in, queued_run, add_runs, insert_runs}
 use Rattle.sched_model.specs.Schedule.{Schedule}
-use Rattle.sched_clearing.specs.Namings.{Parts, IsClear, naming_of}
-use Rattle.sched_naming.specs.ByHand.{IsBackfillOf}
-use Rattle.sched_naming.specs.declared.backfills.Backfill.{Backfill as Found}
+use Rattle.sched_clearing.specs.Selections.{SelectionParts, IsClear, selection_of}
+use Rattle.sched_creation.specs.ByHand.{IsBackfillOf}
+use Rattle.sched_creation.specs.declared.backfills.Backfill.{Backfill as Found}
 use Rattle.sched_events.specs.Causes.{in_flight, refused}
 use Rattle.sched_events.specs.Events.{named_by, set_back_by, set_back, count_in, change_by}
 use Rattle.sched_events.specs.Outcomes.{IsRefusal}
@@ -44,15 +44,15 @@ by_clear a c unknown none bad flight e f g h =
     ∙ (ap (λ b. clear_causes unknown none b (in_flight a (Clear c))) g ∙ ap (clear_causes unknown none bad) h))
 
 -- what it names, told of the schedule
-pub cleared_is : (a d : Schedule) (c : Clearing) (n : Parts) → d ≡ a → IsClear d c (Ok n) → IsClear a c (Ok n)
+pub cleared_is : (a d : Schedule) (c : Clearing) (n : SelectionParts) → d ≡ a → IsClear d c (Ok n) → IsClear a c (Ok n)
 cleared_is a d c n draft h = subst (λ (s : Schedule). IsClear s c (Ok n)) draft h
 
-clear_still : (a : Schedule) (c : Clearing) (n : Parts) (o : Option Refusal) → IsClear a c (Ok n) → still_open (Some (naming_of n)) a ≡ o → in_flight a (Clear c) ≡ o
-clear_still a c n o h e = subst (λ (m : Naming). still_open (Some m) a ≡ o) h.2 e
+clear_still : (a : Schedule) (c : Clearing) (n : SelectionParts) (o : Option Refusal) → IsClear a c (Ok n) → still_open (Some (selection_of n)) a ≡ o → in_flight a (Clear c) ≡ o
+clear_still a c n o h e = subst (λ (m : Selection). still_open (Some m) a ≡ o) h.2 e
 
-pub clear_waits : (a d b : Schedule) (c : Clearing) (n : Parts) (r : Refusal) → d ≡ a → IsClear a c (Ok n) → nat_lt c.to c.from ≡ false → IsSetBack (Some (naming_of n)) d b (Err r) → IsRefusal a (Clear c) r
+pub clear_waits : (a d b : Schedule) (c : Clearing) (n : SelectionParts) (r : Refusal) → d ≡ a → IsClear a c (Ok n) → nat_lt c.to c.from ≡ false → IsSetBack (Some (selection_of n)) d b (Err r) → IsRefusal a (Clear c) r
 clear_waits a d b c n r draft h good e =
-    let flight : in_flight a (Clear c) ≡ Some r = clear_still a c n (Some r) h (ap (still_open (Some (naming_of n))) (sym draft) ∙ e) in
+    let flight : in_flight a (Clear c) ≡ Some r = clear_still a c n (Some r) h (ap (still_open (Some (selection_of n))) (sym draft) ∙ e) in
     flight_of (IsRefusal a (Clear c)) (least_in_flight a (cleared_by a c)) r flight
     (λ m f. inr (record { first = by_clear a c false false false (Some (refusal.InFlight m)) h.0 h.1 good (ap (option_map refusal.InFlight) f); shown = tt }))
 
@@ -62,10 +62,10 @@ pub record IsCleared (a : Schedule) (c : Clearing) (b : Schedule) (count : ℕ) 
   pub is : b ≡ add_runs (named_by (Clear c) a) (change_by (Clear c) a)
   pub count_is : count ≡ count_in (set_back_by (Clear c) a) a
 
-pub clear_done : (a d b : Schedule) (c : Clearing) (n : Parts) (count : ℕ) → d ≡ a → IsClear a c (Ok n) → nat_lt c.to c.from ≡ false → IsSetBack (Some (naming_of n)) d b (Ok count) → IsCleared a c b count
+pub clear_done : (a d b : Schedule) (c : Clearing) (n : SelectionParts) (count : ℕ) → d ≡ a → IsClear a c (Ok n) → nat_lt c.to c.from ≡ false → IsSetBack (Some (selection_of n)) d b (Ok count) → IsCleared a c b count
 clear_done a d b c n count draft h good s =
     let mine : IsSetBack (Some (cleared_by a c)) a b (Ok count) =
-    subst (λ (m : Naming). IsSetBack (Some m) a b (Ok count)) h.2 (subst (λ (e : Schedule). IsSetBack (Some (naming_of n)) e b (Ok count)) draft s) in
+    subst (λ (m : Selection). IsSetBack (Some m) a b (Ok count)) h.2 (subst (λ (e : Schedule). IsSetBack (Some (selection_of n)) e b (Ok count)) draft s) in
     record { accepted = by_clear a c false false false None h.0 h.1 good mine.0; is = mine.1; count_is = mine.2 }
 
 -- ---- the causes against a backfill
@@ -91,7 +91,7 @@ reset_is a id from to false = refl
 reset_told : (a d e : Schedule) (id : List ℕ) (from to most : ℕ) (reset : Bool) (b : Found) (r : Result ℕ Refusal) → d ≡ a → IsBackfillOf a id from to most (Some b) → IsSetBack (reset_of reset id b.present.items) d e r
     → IsSetBack (set_back_by (Backfill id from to reset) a) a e r
 reset_told a d e id from to most reset b r draft h s =
-    subst (λ (m : Option Naming). IsSetBack m a e r) (ap (reset_of reset id) h.1.present ∙ reset_is a id from to reset) (subst (λ (x : Schedule). IsSetBack (reset_of reset id b.present.items) x e r) draft s)
+    subst (λ (m : Option Selection). IsSetBack m a e r) (ap (reset_of reset id) h.1.present ∙ reset_is a id from to reset) (subst (λ (x : Schedule). IsSetBack (reset_of reset id b.present.items) x e r) draft s)
 
 pub back_waits : (a d e : Schedule) (id : List ℕ) (from to most : ℕ) (reset : Bool) (b : Found) (r : Refusal) → d ≡ a → IsBackfillOf a id from to most (Some b) → nat_lt to from ≡ false
     → IsSetBack (reset_of reset id b.present.items) d e (Err r) → IsRefusal a (Backfill id from to reset) r
@@ -121,12 +121,12 @@ pub record IsFilled (a : Schedule) (id : List ℕ) (from to : ℕ) (reset : Bool
 -- all of its runs
 all_found : (a : Schedule) (id : List ℕ) (from to most : ℕ) (b : Found) → IsBackfillOf a id from to most (Some b) → b.more ≡ false → b.runs.items ≡ map (queued_run a) (named_by_backfill a id from to)
 all_found a id from to most b h none =
-    let ns : List Named = named_by_backfill a id from to in
+    let ns : List NamedRun = named_by_backfill a id from to in
     let few : nat_lt most (length ns) ≡ false = sym h.1.more ∙ none in
     let fits : length ns ≤ most = grind (arith, nat_tests, few) in
     h.1.runs ∙ ap (map (queued_run a)) (take_all most ns fits)
 
-add_back : (named : Option Naming) (a : Schedule) (ns : List Named) → record (set_back named a) { runs = insert_runs (map (queued_run a) ns) (set_back named a).runs } ≡ add_runs ns (set_back named a)
+add_back : (named : Option Selection) (a : Schedule) (ns : List NamedRun) → record (set_back named a) { runs = insert_runs (map (queued_run a) ns) (set_back named a).runs } ≡ add_runs ns (set_back named a)
 add_back None a ns = refl
 add_back (Some named) a ns = refl
 
@@ -135,7 +135,7 @@ pub back_done : (a d e b : Schedule) (id : List ℕ) (from to most : ℕ) (reset
     → b ≡ record e { runs = insert_runs found.runs.items e.runs } → ids ≡ map run_id found.runs.items → IsFilled a id from to reset b ids count
 back_done a d e b id from to most reset found ids count draft h good s none few is ids_is =
     let over = reset_told a d e id from to most reset found (Ok count) draft h s in
-    let ns : List Named = named_by_backfill a id from to in
+    let ns : List NamedRun = named_by_backfill a id from to in
     let runs : found.runs.items ≡ map (queued_run a) ns = all_found a id from to most found h none in
     record {
       accepted = by_back a id from to reset false false None false h.0 good over.0 few;

@@ -7,25 +7,25 @@ use Rattle.std.proofs.lemmas.Option.{slice_get-get_or}
 use Rattle.dag_check.specs.Graphs.{Dag}
 use Rattle.sched_state.specs.Lists.{same, insert_by}
 use Rattle.sched_model.specs.Schedule.{graph_before}
-use Rattle.sched_state.specs.declared.graphs.Graph.{Graph}
+use Rattle.sched_state.specs.declared.graphs.LoadedGraph.{LoadedGraph}
 use Rattle.sched_model.specs.Changes.{reloaded, new_graph, with_graph}
 use Rattle.sched_model.specs.Lists.{rises}
 use Rattle.sched_core.proofs.GraphLemmas.{replaced_at, with_known, with_unknown}
 use Rattle.sched_core.specs.Inside.{StandsAt, IsPlaceFor}
 use Rattle.sched_core.proofs.InsertLemmas.{insert-place}
 
-pub taken_known : (text : List ℕ) (dag : Dag) (gs : List Graph) (i : ℕ) (g : Graph) → StandsAt dag.spec.dag_id gs i → g ≡ get_or gs i g → rises graph_before gs ≡ true
+pub taken_known : (text : List ℕ) (dag : Dag) (gs : List LoadedGraph) (i : ℕ) (g : LoadedGraph) → StandsAt dag.spec.dag_id gs i → g ≡ get_or gs i g → rises graph_before gs ≡ true
     → slice_set gs i (record { text = text; dag = dag; paused = g.paused }) ≡ with_graph text dag gs
 taken_known text dag gs i g stands read order =
     let at : slice_get gs i ≡ Some g = slice_get-get_or gs i g stands.below ∙ ap (λ x. Some x) (sym read) in
-    let c : ◌≡◌ {A = Option Graph} (Some stands.graph) (Some g) = sym stands.there ∙ at in
+    let c : ◌≡◌ {A = Option LoadedGraph} (Some stands.graph) (Some g) = sym stands.there ∙ at in
     let is : stands.graph ≡ g = cc in
-    let named : same g.dag.spec.dag_id dag.spec.dag_id ≡ true = ap (λ (k : Graph). same k.dag.spec.dag_id dag.spec.dag_id) (sym is) ∙ stands.named in
-    let known : list_any (λ (k : Graph). same k.dag.spec.dag_id dag.spec.dag_id) gs ≡ true =
-    list_any_at (λ (k : Graph). same k.dag.spec.dag_id dag.spec.dag_id) gs i g stands.below (ap (λ (k : Graph). same k.dag.spec.dag_id dag.spec.dag_id) (sym read) ∙ named) in
+    let named : same g.dag.spec.dag_id dag.spec.dag_id ≡ true = ap (λ (k : LoadedGraph). same k.dag.spec.dag_id dag.spec.dag_id) (sym is) ∙ stands.named in
+    let known : list_any (λ (k : LoadedGraph). same k.dag.spec.dag_id dag.spec.dag_id) gs ≡ true =
+    list_any_at (λ (k : LoadedGraph). same k.dag.spec.dag_id dag.spec.dag_id) gs i g stands.below (ap (λ (k : LoadedGraph). same k.dag.spec.dag_id dag.spec.dag_id) (sym read) ∙ named) in
     sym (with_known text dag gs known ∙ replaced_at text dag gs i g at named order)
 
-pub taken_new : (text : List ℕ) (dag : Dag) (gs : List Graph) (i : ℕ) → list_any (λ (k : Graph). same k.dag.spec.dag_id dag.spec.dag_id) gs ≡ false
+pub taken_new : (text : List ℕ) (dag : Dag) (gs : List LoadedGraph) (i : ℕ) → list_any (λ (k : LoadedGraph). same k.dag.spec.dag_id dag.spec.dag_id) gs ≡ false
     → IsPlaceFor graph_before (new_graph text dag) gs i → insert gs i (new_graph text dag) ≡ with_graph text dag gs
 taken_new text dag gs i unknown place = insert-place graph_before (new_graph text dag) gs i place ∙ sym (with_unknown text dag gs unknown)
 
@@ -36,13 +36,13 @@ length-insert_by {X} before x (y ∷ ys) = elim (before x y) as (λ b. length (e
   | false ↦ ap suc (length-insert_by before x ys)
 ]
 
-pub length-new : (text : List ℕ) (dag : Dag) (gs : List Graph) → list_any (λ (k : Graph). same k.dag.spec.dag_id dag.spec.dag_id) gs ≡ false → length (with_graph text dag gs) ≡ length gs + 1
+pub length-new : (text : List ℕ) (dag : Dag) (gs : List LoadedGraph) → list_any (λ (k : LoadedGraph). same k.dag.spec.dag_id dag.spec.dag_id) gs ≡ false → length (with_graph text dag gs) ≡ length gs + 1
 length-new text dag gs unknown = ap length (with_unknown text dag gs unknown) ∙ (length-insert_by graph_before (new_graph text dag) gs ∙ omega arith)
 
 -- at most one graph is added
-pub length-with_graph : (text : List ℕ) (dag : Dag) (gs : List Graph) → length (with_graph text dag gs) ≤ length gs + 1
+pub length-with_graph : (text : List ℕ) (dag : Dag) (gs : List LoadedGraph) → length (with_graph text dag gs) ≤ length gs + 1
 length-with_graph text dag gs =
-    elim (find (λ (g : Graph). same g.dag.spec.dag_id dag.spec.dag_id) gs) as (λ o. length (elim o as (λ p. List Graph) [
+    elim (find (λ (g : LoadedGraph). same g.dag.spec.dag_id dag.spec.dag_id) gs) as (λ o. length (elim o as (λ p. List LoadedGraph) [
       | Some g ↦ map (reloaded text dag) gs
       | None ↦ insert_by graph_before (new_graph text dag) gs
     ]) ≤ length gs + 1) [

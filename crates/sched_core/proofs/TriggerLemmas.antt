@@ -4,7 +4,7 @@ use Rattle.std.proofs.lemmas.List.{length-map}
 use Rattle.graph_file.specs.Lists.{when, first_some}
 use Rattle.sched_state.specs.declared.runs.Run.{Run}
 use Rattle.sched_model.specs.Causes.{is_unknown_graph, is_full_with}
-use Rattle.sched_model.specs.NamedRuns.{Named, named_by_hand, queued_run, add_runs, insert_runs}
+use Rattle.sched_model.specs.NamedRuns.{NamedRun, named_by_hand, queued_run, add_runs, insert_runs}
 use Rattle.sched_model.specs.Schedule.{Schedule, has_run_at}
 use Rattle.sched_model.specs.Sound.{is_empty}
 use Rattle.sched_events.specs.Causes.{has_no_interval, refused}
@@ -29,7 +29,7 @@ by_causes a id unknown exists none full e f g h =
     ∙ (ap (λ b. causes unknown exists b (is_full_with a (named_by_hand a id))) g ∙ ap (causes unknown exists none) h))
 
 -- ---- there is one
-one_is : (a : Schedule) (run : Run) (ns : List Named) → run ∷ [] ≡ map (queued_run a) ns → (length ns ≡ 1) × (is_empty ns ≡ false)
+one_is : (a : Schedule) (run : Run) (ns : List NamedRun) → run ∷ [] ≡ map (queued_run a) ns → (length ns ≡ 1) × (is_empty ns ≡ false)
 one_is a run [] e = absurd (let c : ◌≡◌ {A = List Run} (run ∷ []) [] = e in cc)
 one_is a run (n ∷ ns) e = (sym (length-map (n ∷ ns) (queued_run a)) ∙ ap length (sym e), refl)
 

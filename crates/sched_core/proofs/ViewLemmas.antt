@@ -8,9 +8,9 @@ use Rattle.std.proofs.lemmas.List.Sums.{length-filter, count_by-le-length, sum_b
 use Rattle.graph_file.specs.declared.task_specs.TaskSpec.{TaskSpec}
 use Rattle.dag_check.specs.Orders.{is_in}
 use Rattle.dag_check.proofs.LawLemmas.{all-in}
-use Rattle.instance_machine.specs.Instances.{Held}
+use Rattle.instance_machine.specs.Instances.{InstanceValue}
 use Rattle.instance_machine.specs.declared.tries.Try.{Try}
-use Rattle.sched_state.specs.declared.graphs.Graph.{Graph}
+use Rattle.sched_state.specs.declared.graphs.LoadedGraph.{LoadedGraph}
 use Rattle.sched_state.specs.declared.runs.Run.{Run}
 use Rattle.sched_state.proofs.OrderLemmas.{and_left, and_right, not_false}
 use Rattle.sched_model.specs.Lists.{all_pairs}
@@ -26,25 +26,25 @@ use Rattle.sched_core.specs.Views.{instance_in, instance_of}
 use Rattle.sched_core.specs.Inside.{open_in}
 
 -- ---- how many
-open_count : (t : TaskSpec) (i : Held) → length (open_of (t, i)) ≡ count_by is_open i.tries
+open_count : (t : TaskSpec) (i : InstanceValue) → length (open_of (t, i)) ≡ count_by is_open i.tries
 open_count t i = length-map (filter is_open i.tries) (λ (x : Try). (t, x)) ∙ length-filter is_open i.tries
 
-open_pairs : (p : TaskSpec → Held → Bool) (ts : List TaskSpec) (is : List Held) → all_pairs p ts is ≡ true
-    → length (flat_map open_of (zip ts is)) ≡ sum_by (λ (i : Held). count_by is_open i.tries) is
+open_pairs : (p : TaskSpec → InstanceValue → Bool) (ts : List TaskSpec) (is : List InstanceValue) → all_pairs p ts is ≡ true
+    → length (flat_map open_of (zip ts is)) ≡ sum_by (λ (i : InstanceValue). count_by is_open i.tries) is
 open_pairs p [] [] e = refl
 open_pairs p [] (i ∷ is) e = absurd (let c : ◌≡◌ {A = Bool} false true = e in cc)
 open_pairs p (t ∷ ts) [] e = absurd (let c : ◌≡◌ {A = Bool} false true = e in cc)
 open_pairs p (t ∷ ts) (i ∷ is) e =
     let here : length (open_of (t, i)) ≡ count_by is_open i.tries = open_count t i in
-    let rest : length (flat_map open_of (zip ts is)) ≡ sum_by (λ (i : Held). count_by is_open i.tries) is = open_pairs p ts is (and_right (p t i) _ e) in
-    let total : sum_by (λ (i : Held). count_by is_open i.tries) (i ∷ is) ≡ count_by is_open i.tries + sum_by (λ (i : Held). count_by is_open i.tries) is = sum_by-cons (λ (i : Held). count_by is_open i.tries) i is in
+    let rest : length (flat_map open_of (zip ts is)) ≡ sum_by (λ (i : InstanceValue). count_by is_open i.tries) is = open_pairs p ts is (and_right (p t i) _ e) in
+    let total : sum_by (λ (i : InstanceValue). count_by is_open i.tries) (i ∷ is) ≡ count_by is_open i.tries + sum_by (λ (i : InstanceValue). count_by is_open i.tries) is = sum_by-cons (λ (i : InstanceValue). count_by is_open i.tries) i is in
     let both : length (flat_map open_of (zip (t ∷ ts) (i ∷ is))) ≡ length (open_of (t, i)) + length (flat_map open_of (zip ts is)) = length-append (open_of (t, i)) (flat_map open_of (zip ts is)) in
     omega (arith, here, rest, both, total)
 
 sum_two : (a b c d : ℕ) → a ≡ c → b ≡ d → a + b ≡ c + d
 sum_two a b c d e f = rw (e, f) refl
 
-open_runs : (gs : List Graph) (rs : List Run) → list_all (is_sound_run gs) rs ≡ true
+open_runs : (gs : List LoadedGraph) (rs : List Run) → list_all (is_sound_run gs) rs ≡ true
     → length (flat_map (λ (r : Run). flat_map open_of (zip (dag_among gs r.graph).tasks r.instances)) rs) ≡ sum_by open_in rs
 open_runs gs [] e = refl
 open_runs gs (r ∷ rs) e =
@@ -63,20 +63,20 @@ flight_is a s = open_runs a.graphs a.runs s.runs
 within : (k l a b c d : ℕ) → k ≡ a + b → l ≡ c + d → a ≤ c → b ≤ d → k ≤ l
 within k l a b c d e f g h = omega (arith, e, f, g, h)
 
-open_few : (is : List Held) → sum_by (λ (i : Held). count_by is_open i.tries) is ≤ length (flat_map (λ (i : Held). i.tries) is)
+open_few : (is : List InstanceValue) → sum_by (λ (i : InstanceValue). count_by is_open i.tries) is ≤ length (flat_map (λ (i : InstanceValue). i.tries) is)
 open_few [] = omega arith
 open_few (i ∷ is) =
     let here : count_by is_open i.tries ≤ length i.tries = count_by-le-length is_open i.tries in
-    let rest : sum_by (λ (i : Held). count_by is_open i.tries) is ≤ length (flat_map (λ (i : Held). i.tries) is) = open_few is in
-    let both : length (i.tries ++ flat_map (λ (i : Held). i.tries) is) ≡ length i.tries + length (flat_map (λ (i : Held). i.tries) is) = length-append i.tries (flat_map (λ (i : Held). i.tries) is) in
-    let total : sum_by (λ (i : Held). count_by is_open i.tries) (i ∷ is) ≡ count_by is_open i.tries + sum_by (λ (i : Held). count_by is_open i.tries) is = sum_by-cons (λ (i : Held). count_by is_open i.tries) i is in
+    let rest : sum_by (λ (i : InstanceValue). count_by is_open i.tries) is ≤ length (flat_map (λ (i : InstanceValue). i.tries) is) = open_few is in
+    let both : length (i.tries ++ flat_map (λ (i : InstanceValue). i.tries) is) ≡ length i.tries + length (flat_map (λ (i : InstanceValue). i.tries) is) = length-append i.tries (flat_map (λ (i : InstanceValue). i.tries) is) in
+    let total : sum_by (λ (i : InstanceValue). count_by is_open i.tries) (i ∷ is) ≡ count_by is_open i.tries + sum_by (λ (i : InstanceValue). count_by is_open i.tries) is = sum_by-cons (λ (i : InstanceValue). count_by is_open i.tries) i is in
     within _ _ _ _ _ _ total both here rest
 
-runs_few : (rs : List Run) → sum_by open_in rs ≤ length (flat_map (λ (r : Run). flat_map (λ (i : Held). i.tries) r.instances) rs)
+runs_few : (rs : List Run) → sum_by open_in rs ≤ length (flat_map (λ (r : Run). flat_map (λ (i : InstanceValue). i.tries) r.instances) rs)
 runs_few [] = omega arith
 runs_few (r ∷ rs) =
-    let mine : List Try = flat_map (λ (i : Held). i.tries) r.instances in
-    let others : List Try = flat_map (λ (r : Run). flat_map (λ (i : Held). i.tries) r.instances) rs in
+    let mine : List Try = flat_map (λ (i : InstanceValue). i.tries) r.instances in
+    let others : List Try = flat_map (λ (r : Run). flat_map (λ (i : InstanceValue). i.tries) r.instances) rs in
     let here : open_in r ≤ length mine = open_few r.instances in
     let rest : sum_by open_in rs ≤ length others = runs_few rs in
     let both : length (mine ++ others) ≡ length mine + length others = length-append mine others in
@@ -136,11 +136,11 @@ run_here a id date task r e =
 pub no_graph : (a : Schedule) (id : List ℕ) (date : ℕ) (task : List ℕ) (r : Run) → find (is_at id date) a.runs ≡ Some r → graph_named a id ≡ None → instance_of a id date task ≡ None
 no_graph a id date task r e f =
     run_here a id date task r e
-    ∙ ap (λ (o : Option Graph). option_and_then (slice_get r.instances) (position (λ (t : TaskSpec). same t.task_id task) (unwrap_or (option_map (λ (g : Graph). g.dag) o) no_dag).tasks)) f
+    ∙ ap (λ (o : Option LoadedGraph). option_and_then (slice_get r.instances) (position (λ (t : TaskSpec). same t.task_id task) (unwrap_or (option_map (λ (g : LoadedGraph). g.dag) o) no_dag).tasks)) f
 
-pub at_place : (a : Schedule) (id : List ℕ) (date : ℕ) (task : List ℕ) (r : Run) (g : Graph) (o : Option ℕ) → find (is_at id date) a.runs ≡ Some r → graph_named a id ≡ Some g
+pub at_place : (a : Schedule) (id : List ℕ) (date : ℕ) (task : List ℕ) (r : Run) (g : LoadedGraph) (o : Option ℕ) → find (is_at id date) a.runs ≡ Some r → graph_named a id ≡ Some g
     → o ≡ position (λ (t : TaskSpec). same t.task_id task) g.dag.tasks → instance_of a id date task ≡ option_and_then (slice_get r.instances) o
 at_place a id date task r g o e f place =
     run_here a id date task r e
-    ∙ (ap (λ (o : Option Graph). option_and_then (slice_get r.instances) (position (λ (t : TaskSpec). same t.task_id task) (unwrap_or (option_map (λ (g : Graph). g.dag) o) no_dag).tasks)) f
+    ∙ (ap (λ (o : Option LoadedGraph). option_and_then (slice_get r.instances) (position (λ (t : TaskSpec). same t.task_id task) (unwrap_or (option_map (λ (g : LoadedGraph). g.dag) o) no_dag).tasks)) f
     ∙ ap (option_and_then (slice_get r.instances)) (sym place))

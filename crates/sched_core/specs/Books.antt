@@ -5,14 +5,14 @@ use Rattle.pool_book.specs.Pools.{Entries}
 use Rattle.sched_model.specs.Schedule.{Schedule}
 use Rattle.sched_model.specs.States.{occupied}
 use Rattle.sched_draft.specs.Books.{Takes}
-use Rattle.sched_events.specs.Kept.{IsKept}
+use Rattle.sched_events.specs.SettledAndSound.{IsSettledAndSound}
 
 -- of no pool more slots are taken than a book counts
 abbrev pub IsCounted : Schedule → Type 0
 IsCounted a = (name : List ℕ) → occupied a name ≤ most_taken
 
 -- the schedule is kept, and the book says what is taken of each of its pools
-pub record IsHeld (a : Schedule) (es : Entries) : Type 0 where
-  pub kept : IsKept a
+pub record AgreesWithBook (a : Schedule) (es : Entries) : Type 0 where
+  pub kept : IsSettledAndSound a
   pub counted : IsCounted a
   pub taken : Takes (occupied a) es

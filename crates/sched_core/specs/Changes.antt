@@ -8,7 +8,7 @@ pub record Room : Type 0 where
   pub graphs : ℕ
 
 -- a schedule in memory: what it holds, and the room for more
-pub record Held : Type 0 where
+pub record ScheduleValue : Type 0 where
   pub content : Schedule
   pub room : Room
 
@@ -19,5 +19,5 @@ pub record Planned : Type 0 where
   pub answer : Answer
 
 -- there is room for what a change adds
-abbrev pub HasRoom : Planned → Held → Type 0
+abbrev pub HasRoom : Planned → ScheduleValue → Type 0
 HasRoom c h = length c.after.graphs ≤ length c.before.graphs + h.room.graphs

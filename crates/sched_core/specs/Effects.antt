@@ -5,7 +5,7 @@ use Rattle.sched_model.specs.Schedule.{Schedule}
 use Rattle.sched_model.specs.Changes.{load_graph, set_paused}
 use Rattle.sched_draft.specs.Books.{pools_in}
 use Rattle.sched_draft.specs.Parts.{with_unpaused}
-use Rattle.sched_core.specs.Books.{IsHeld}
+use Rattle.sched_core.specs.Books.{AgreesWithBook}
 use Rattle.sched_core.specs.declared.changes.Effect.{Effect}
 use Rattle.sched_core.specs.declared.changes.Effect.TheVariants as effect
 
@@ -23,5 +23,5 @@ book_after (effect.Pause id) es = es
 book_after (effect.Next n) es = n.pools.pools
 
 -- whatever book the schedule is held beside, after the effect it is held beside the book of then
-abbrev pub KeepsHeld : Effect → Schedule → Type 0
-KeepsHeld e a = (es : Entries) → IsHeld a es → IsHeld (applied e a) (book_after e es)
+abbrev pub KeepsAgreement : Effect → Schedule → Type 0
+KeepsAgreement e a = (es : Entries) → AgreesWithBook a es → AgreesWithBook (applied e a) (book_after e es)

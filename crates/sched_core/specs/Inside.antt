@@ -12,12 +12,12 @@ use Rattle.sched_draft.specs.Books.{pools_in}
 use Rattle.sched_draft.specs.Parts.{with_unpaused}
 use Rattle.sched_events.specs.Causes.{exceeds, unknown_pool}
 use Rattle.std.specs.List.{list_any}
-use Rattle.instance_machine.specs.Instances.{Held}
+use Rattle.instance_machine.specs.Instances.{InstanceValue}
 use Rattle.sched_state.specs.Lists.{same}
-use Rattle.sched_state.specs.declared.graphs.Graph.{Graph}
+use Rattle.sched_state.specs.declared.graphs.LoadedGraph.{LoadedGraph}
 use Rattle.sched_state.specs.declared.runs.Run.{Run}
-use Rattle.sched_naming.specs.declared.by_hand.ByHandFault.{ByHandFault}
-use Rattle.sched_naming.specs.declared.by_hand.ByHandFault.TheVariants as hand
+use Rattle.sched_creation.specs.declared.by_hand.ByHandFault.{ByHandFault}
+use Rattle.sched_creation.specs.declared.by_hand.ByHandFault.TheVariants as hand
 use Rattle.sched_model.specs.Schedule.{Schedule}
 use Rattle.sched_model.specs.States.{is_open}
 use Rattle.sched_events.specs.Rows.{Row, PoolLine}
@@ -26,15 +26,15 @@ use Rattle.sched_events.specs.declared.refusals.Refusal.TheVariants as refusal
 use Rattle.sched_core.specs.Views.{row_before, follows}
 
 -- a graph of this id stands at the place
-pub record StandsAt (id : List ℕ) (graphs : List Graph) (place : ℕ) : Type 0 where
+pub record StandsAt (id : List ℕ) (graphs : List LoadedGraph) (place : ℕ) : Type 0 where
   pub below : place < length graphs
-  pub graph : Graph
+  pub graph : LoadedGraph
   pub there : slice_get graphs place ≡ Some graph
   pub named : same graph.dag.spec.dag_id id ≡ true
 
 -- the place of a graph of this id, or none where there is none
-abbrev pub IsPlaceOf : List ℕ → List Graph → Option ℕ → Type 0
-IsPlaceOf id graphs place = MatchOption place (list_any (λ (g : Graph). same g.dag.spec.dag_id id) graphs ≡ false) (StandsAt id graphs)
+abbrev pub IsPlaceOf : List ℕ → List LoadedGraph → Option ℕ → Type 0
+IsPlaceOf id graphs place = MatchOption place (list_any (λ (g : LoadedGraph). same g.dag.spec.dag_id id) graphs ≡ false) (StandsAt id graphs)
 
 -- the place at which x is put into a list: before the first element that it stands before
 pub record IsPlaceFor {X : Type 0} (before : X → X → Bool) (x : X) (xs : List X) (place : ℕ) : Type 0 where
@@ -80,7 +80,7 @@ over es a = record a { pools = pools_in es }
 
 -- how many tries of a run are without an end
 abbrev pub open_in : Run → ℕ
-open_in r = sum_by (λ (i : Held). count_by is_open i.tries) r.instances
+open_in r = sum_by (λ (i : InstanceValue). count_by is_open i.tries) r.instances
 
 -- why a trigger is refused for which there is no run by hand
 abbrev pub hand_refusal : ByHandFault → Refusal

@@ -1,9 +1,9 @@
 -- What the core's own functions say of repairs.
 use Rattle.std.specs.Prelude.{◌≡◌, ℕ, Bool, true, false, List, Option, Some, None, option_map, option_and_then, Result, Ok, Err}
-use Rattle.sched_clearing.specs.declared.namings.ClearFault.{ClearFault}
-use Rattle.sched_clearing.specs.declared.namings.ClearFault.TheVariants as fault
+use Rattle.sched_clearing.specs.declared.selections.ClearFault.{ClearFault}
+use Rattle.sched_clearing.specs.declared.selections.ClearFault.TheVariants as fault
 use Rattle.sched_model.specs.Causes.{least_in_flight}
-use Rattle.sched_model.specs.Clearing.{Naming, reset_by}
+use Rattle.sched_model.specs.Clearing.{Selection, reset_by}
 use Rattle.sched_model.specs.Schedule.{Schedule}
 use Rattle.sched_events.specs.Events.{set_back, count_in}
 use Rattle.sched_events.specs.declared.refusals.Refusal.{Refusal}
@@ -16,15 +16,15 @@ clear_refusal fault.UnknownTask = refusal.UnknownTask
 clear_refusal fault.Memory = refusal.Memory
 
 -- what a backfill resets: all instances of a graph's runs with some dates, or nothing
-abbrev pub reset_of : Bool → List ℕ → List ℕ → Option Naming
+abbrev pub reset_of : Bool → List ℕ → List ℕ → Option Selection
 reset_of true id dates = Some (reset_by id dates)
 reset_of false id dates = None
 
 -- the least serial of the tries without an end of what is named, as a refusal
-abbrev pub still_open : Option Naming → Schedule → Option Refusal
+abbrev pub still_open : Option Selection → Schedule → Option Refusal
 still_open named a = option_map refusal.InFlight (option_and_then (least_in_flight a) named)
 
 -- what is named has been set back, so many of it were not none, and none of it had a try without an end; or one had
-abbrev pub IsSetBack : Option Naming → Schedule → Schedule → Result ℕ Refusal → Type 0
+abbrev pub IsSetBack : Option Selection → Schedule → Schedule → Result ℕ Refusal → Type 0
 IsSetBack named a b (Ok count) = (still_open named a ≡ None) × (b ≡ set_back named a) × (count ≡ count_in named a)
 IsSetBack named a b (Err r) = still_open named a ≡ Some r

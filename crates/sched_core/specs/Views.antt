@@ -1,7 +1,7 @@
 -- What a schedule shows of its task instances and its pools.
 use Rattle.std.specs.Prelude.{ℕ, ◌-ℤ◌, pos, Bool, true, List, [], ◌∷◌, ◌++◌, length, map, filter, flat_map, find, Option, Some, None, option_map, option_and_then}
 use Rattle.graph_file.specs.declared.task_specs.TaskSpec.{TaskSpec}
-use Rattle.instance_machine.specs.Instances.{Held}
+use Rattle.instance_machine.specs.Instances.{InstanceValue}
 use Rattle.instance_machine.specs.States.{state_of}
 use Rattle.sched_state.specs.Lists.{same, name_cmp, is_less}
 use Rattle.sched_state.specs.declared.runs.Run.{Run}
@@ -12,16 +12,16 @@ use Rattle.sched_model.specs.Tables.{sort_by}
 use Rattle.sched_events.specs.Rows.{Row, PoolLine}
 
 -- the instance of a task in a run
-abbrev pub instance_in : Schedule → List ℕ → Run → Option Held
-instance_in a task r = option_map (λ (e : TaskSpec × Held). e.1) (find (λ (e : TaskSpec × Held). same e.0.task_id task) (pairs_of a r))
+abbrev pub instance_in : Schedule → List ℕ → Run → Option InstanceValue
+instance_in a task r = option_map (λ (e : TaskSpec × InstanceValue). e.1) (find (λ (e : TaskSpec × InstanceValue). same e.0.task_id task) (pairs_of a r))
 
 -- the instance of a task in the run of a graph with this logical date, if there is one
-abbrev pub instance_of : Schedule → List ℕ → ℕ → List ℕ → Option Held
+abbrev pub instance_of : Schedule → List ℕ → ℕ → List ℕ → Option InstanceValue
 instance_of a graph date task = option_and_then (instance_in a task) (find (is_at graph date) a.runs)
 
 -- ---- rows
 -- the row of an instance, with its task
-abbrev pub row_of : Run → TaskSpec × Held → Row
+abbrev pub row_of : Run → TaskSpec × InstanceValue → Row
 row_of r e = record { graph = r.graph; logical = r.logical; kind = r.kind; task = e.0.task_id; state = state_of e.0 e.1; tries = length e.1.tries }
 
 abbrev pub row_before : Row → Row → Bool

@@ -1,12 +1,12 @@
 //! A planned change.
 
 use crate::schedules::Schedule;
-use dag_check::Graph as Dag;
+use dag_check::Graph;
 use graph_file::Name;
 use moment_core::Moment;
 use pool_book::Pools;
 use sched_events::Answer;
-use sched_state::{Run, Text};
+use sched_state::{GraphText, Run};
 use std::marker::Model;
 use std::snapshot::Snapshot;
 
@@ -16,7 +16,7 @@ pub enum Effect {
     // Nothing.
     Nothing,
     // A text is taken in, which says this graph.
-    Load(Text, Dag),
+    Load(GraphText, Graph),
     // The graph with this id is paused.
     Pause(Name),
     // All but the graphs is this, and of them one may be paused no more.
@@ -49,11 +49,11 @@ pub struct Change {
 
 impl Model for Change {
     ghost use Rattle.sched_core.specs.Changes.{Planned};
-    ghost use Rattle.sched_core.specs.Effects.{applied, KeepsHeld};
+    ghost use Rattle.sched_core.specs.Effects.{applied, KeepsAgreement};
 
     ghost Value = { Planned };
 
     ghost view = { λ c. record { before = c.before.value.content; after = applied c.effect c.before.value.content; answer = c.answer } };
 
-    ghost invariant = { λ c. KeepsHeld c.effect c.before.value.content };
+    ghost invariant = { λ c. KeepsAgreement c.effect c.before.value.content };
 }

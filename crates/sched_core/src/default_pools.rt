@@ -14,7 +14,8 @@ const SIZE: u32 = 128;
 
 // The default pool alone, of which nothing is taken.
 pub fn default_pools(alloc: Global) -> Result<Pools, AllocError>
-    ensures { IfOk result (λ pools. pools.pools ≡ (default_pool.name, record { size = default_pool.size; occupied = 0 }) ∷ []) }
+    ensures { IfOk result (λ pools. pools.pools
+        ≡ (default_pool.name, record { size = default_pool.size; occupied = 0 }) ∷ []) }
 {
     let mut pools = Pools::new(alloc);
     match pools.resize(default_name(alloc)?, Slots::of(SIZE)) {

@@ -1,7 +1,7 @@
 //! Tries, found by their serials.
 ghost use Rattle.std.specs.Prelude.{◌≡◌, ℕ, ◌&&◌, ◌==◌, find, flat_map, is_some};
 ghost use Rattle.std.specs.Option.{option_copied};
-ghost use Rattle.instance_machine.specs.Instances.{Held};
+ghost use Rattle.instance_machine.specs.Instances.{InstanceValue};
 ghost use Rattle.instance_machine.specs.Reports.{report_try};
 ghost use Rattle.sched_state.specs.declared.runs.Run.{Run as RunRecord};
 ghost use Rattle.sched_model.specs.States.{is_open};
@@ -25,7 +25,8 @@ fn open_among(tries: &[Try], serial: u64) -> Option<&Try>
 
 // The same, among the tries of these instances.
 fn open_in(instances: &[Instance], serial: u64) -> Option<Try>
-    ensures { result ≡ find (λ t. is_open t && t.serial == serial) (flat_map (λ (i : Held). i.tries) instances.now) }
+    ensures { result ≡ find (λ t. is_open t && t.serial == serial)
+        (flat_map (λ (i : InstanceValue). i.tries) instances.now) }
 {
     for instance in instances {
         if let Some(found) = open_among(instance.tries(), serial) {
@@ -37,7 +38,9 @@ fn open_in(instances: &[Instance], serial: u64) -> Option<Try>
 
 // The try without an end that has this serial.
 pub fn open_try(runs: &[Run], serial: u64) -> Option<Try>
-    ensures { result ≡ find (λ t. is_open t && t.serial == serial) (flat_map (λ (r : RunRecord). flat_map (λ (i : Held). i.tries) r.instances) runs.now) }
+    ensures { result ≡ find (λ t. is_open t && t.serial == serial)
+        (flat_map (λ (r : RunRecord). flat_map (λ (i : InstanceValue). i.tries) r.instances)
+        runs.now) }
 {
     for run in runs {
         if let Some(found) = open_in(run.instances.as_slice(), serial) {

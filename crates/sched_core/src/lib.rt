@@ -1,9 +1,14 @@
 //! The core of the scheduler: an event is refused, or planned, reserved and committed.
 //!
+//! In comes an event: `let answer = schedule.step(alloc, &Event::Tick(moment))?;`. Out comes its answer, with the runs made and the tries
+//! handed out, or a refusal, which changes nothing. What the schedule holds is shown by `runs`, `instances`, `pools` and the other views.
+//!
 //! What events, answers and rows are made of is offered here too, so that a crate above names this one alone.
 #![tactic(auto)]
 
+mod backfilling;
 mod changes;
+mod clearing;
 mod default_pools;
 mod finding;
 mod loading;
@@ -12,7 +17,6 @@ mod ordering;
 mod pausing;
 mod planning;
 mod pool_rows;
-mod repairing;
 mod rows;
 mod schedules;
 mod triggering;
@@ -26,5 +30,5 @@ pub use pool_book::Slots;
 pub use pool_rows::PoolRows;
 pub use rows::Instances;
 pub use sched_events::{Answer, Event, InstanceRow, PoolRow, Refusal, RunId, State};
-pub use sched_state::{Clearing, Graph, Job, Kind, Limits, Phase, Run, Text};
+pub use sched_state::{Clearing, GraphText, Job, Limits, LoadedGraph, Run, RunKind, RunPhase};
 pub use schedules::Schedule;

@@ -7,29 +7,29 @@ ghost use Rattle.sched_model.specs.Schedule.{has_runs};
 ghost use Rattle.sched_events.specs.Causes.{refused, exceeds, edge_count};
 ghost use Rattle.sched_core.specs.Plans.{IsPlanned};
 ghost use Rattle.sched_events.specs.Outcomes.{IsRefusal};
-ghost use Rattle.sched_events.specs.Kept.{IsKept};
+ghost use Rattle.sched_events.specs.SettledAndSound.{IsSettledAndSound};
 ghost use Rattle.sched_events.specs.declared.events.Event.TheVariants.{Load};
 ghost use Rattle.sched_core.specs.Inside.{IsRead, IsReadFault, IsChecked, IsCheckFault, IsTaken};
 
 use crate::changes::{Change, Effect};
-use crate::lookups::{has_runs, place_of};
+use crate::lookups::{has_runs, position_of};
 use crate::schedules::Schedule;
-use dag_check::{Graph as Dag, check};
+use dag_check::{Graph, check};
 use graph_file::{GraphFault, GraphSpec, Name, TaskSpec, read_graph};
 use pool_book::Pools;
 use sched_events::Refusal;
-use sched_state::{Limits, Text};
+use sched_state::{GraphText, Limits};
 use std::alloc::Global;
 
 impl Schedule {
     // What loading the text would do, or why it is refused.
-    pub(crate) fn plan_load(&self, alloc: Global, text: &Text) -> Result<Change, Refusal>
+    pub(crate) fn plan_load(&self, alloc: Global, text: &GraphText) -> Result<Change, Refusal>
         ensures accepted { IfOk result (IsPlanned self.now.content (Load text.now)) }
         ensures refused { IfErr result (IsRefusal self.now.content (Load text.now)) }
     {
         let dag = self.read_dag(alloc, text)?;
         let id = &dag.spec().dag_id;
-        match place_of(&self.graphs, id) {
+        match position_of(&self.graphs, id) {
             None => {
                 if self.limits.graphs() as usize <= self.graphs.len() {
                     return Err(Refusal::TooManyGraphs);
@@ -49,7 +49,7 @@ impl Schedule {
     }
 
     // The graph that the text says, or the first cause against it that does not lie in the graphs that are there.
-    fn read_dag(&self, alloc: Global, text: &Text) -> Result<Dag, Refusal>
+    fn read_dag(&self, alloc: Global, text: &GraphText) -> Result<Graph, Refusal>
         ensures taken { IfOk result (IsTaken self.now.content text.now) }
         ensures refused { IfErr result (IsRefusal self.now.content (Load text.now)) }
     {
@@ -65,8 +65,8 @@ impl Schedule {
     }
 
     // The text is taken in, against which there is no cause.
-    fn taken_in(&self, alloc: Global, text: &Text, dag: Dag) -> Result<Change, Refusal>
-        requires kept { IsKept self.now.content }
+    fn taken_in(&self, alloc: Global, text: &GraphText, dag: Graph) -> Result<Change, Refusal>
+        requires kept { IsSettledAndSound self.now.content }
         requires taken { IsTaken self.now.content text.now dag }
         requires quiet { has_runs self.now.content dag.spec.dag_id ≡ false }
         requires accepted { refused self.now.content (Load text.now) ≡ None }
@@ -79,7 +79,7 @@ impl Schedule {
 }
 
 // The file that a text says, or why it says none.
-fn read(alloc: Global, text: &Text) -> Result<GraphSpec, Refusal>
+fn read(alloc: Global, text: &GraphText) -> Result<GraphSpec, Refusal>
     ensures { MatchResult result (IsRead text.now) (IsReadFault text.now) }
 {
     match read_graph(alloc, text.as_str()) {
@@ -90,7 +90,7 @@ fn read(alloc: Global, text: &Text) -> Result<GraphSpec, Refusal>
 }
 
 // The graph of a file, or why it has none.
-fn checked(alloc: Global, spec: GraphSpec) -> Result<Dag, Refusal>
+fn checked(alloc: Global, spec: GraphSpec) -> Result<Graph, Refusal>
     ensures { MatchResult result (IsChecked spec) (IsCheckFault spec) }
 {
     match check(alloc, spec) {
@@ -120,7 +120,8 @@ fn edge_count(tasks: &[TaskSpec]) -> usize
 
 // The pool of the first task whose pool is not there.
 fn unknown_pool<'t>(pools: &Pools, tasks: &'t [TaskSpec]) -> Option<&'t Name>
-    ensures { option_copied result ≡ option_map (λ t. t.pool) (find (λ t. not (has_pool t.pool pools.now.pools)) tasks.now) }
+    ensures { option_copied result ≡ option_map (λ t. t.pool)
+        (find (λ t. not (has_pool t.pool pools.now.pools)) tasks.now) }
 {
     tasks
         .iter()

@@ -7,17 +7,17 @@ ghost use Rattle.sched_model.specs.Schedule.{is_running};
 ghost use Rattle.sched_core.specs.Inside.{IsPlaceOf};
 
 use graph_file::Name;
-use sched_state::{Graph, Run};
+use sched_state::{LoadedGraph, Run};
 
 // The graph with this id.
-pub fn graph_named<'a>(graphs: &'a [Graph], id: &Name) -> Option<&'a Graph>
+pub fn graph_named<'a>(graphs: &'a [LoadedGraph], id: &Name) -> Option<&'a LoadedGraph>
     ensures { option_copied result ≡ find (λ g. same g.dag.spec.dag_id id.now) graphs.now }
 {
     graphs.iter().find(|graph| graph.dag.spec().dag_id == *id)
 }
 
 // The place of the graph with this id.
-pub fn place_of(graphs: &[Graph], id: &Name) -> Option<usize>
+pub fn position_of(graphs: &[LoadedGraph], id: &Name) -> Option<usize>
     ensures { IsPlaceOf id.now graphs.now result }
 {
     for (place, graph) in graphs.iter().enumerate() {

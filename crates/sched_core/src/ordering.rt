@@ -4,17 +4,17 @@ ghost use Rattle.sched_state.specs.Lists.{insert_by};
 ghost use Rattle.sched_model.specs.Schedule.{graph_before, run_before};
 ghost use Rattle.sched_core.specs.Inside.{IsPlaceFor};
 
-use sched_state::Graph;
+use sched_state::LoadedGraph;
 
 // Graphs stand by id.
-fn graph_before(graph: &Graph, other: &Graph) -> bool
+fn graph_before(graph: &LoadedGraph, other: &LoadedGraph) -> bool
     ensures { result ≡ graph_before graph.now other.now }
 {
     graph.dag.spec().dag_id < other.dag.spec().dag_id
 }
 
 // The place of the first graph that this one stands before.
-pub fn place_for_graph(graphs: &[Graph], graph: &Graph) -> usize
+pub fn place_for_graph(graphs: &[LoadedGraph], graph: &LoadedGraph) -> usize
     ensures { IsPlaceFor graph_before graph.now graphs.now result }
 {
     for (place, other) in graphs.iter().enumerate() {

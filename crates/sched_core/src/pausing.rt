@@ -4,10 +4,10 @@ ghost use Rattle.sched_model.specs.Changes.{pause_graph};
 ghost use Rattle.sched_draft.specs.Parts.{with_unpaused};
 
 use graph_file::Name;
-use sched_state::Graph;
+use sched_state::LoadedGraph;
 
 // The graph is paused, or no more, if it has this id.
-fn set_paused_if(graph: &mut Graph, id: &Name, paused: bool)
+fn set_paused_if(graph: &mut LoadedGraph, id: &Name, paused: bool)
     ensures { graph.new ≡ pause_graph id.now paused graph.old }
 {
     if graph.dag.spec().dag_id == *id {
@@ -16,7 +16,7 @@ fn set_paused_if(graph: &mut Graph, id: &Name, paused: bool)
 }
 
 // The graph with this id is paused, or no more.
-pub fn set_paused(graphs: &mut Vec<Graph>, id: &Name, paused: bool)
+pub fn set_paused(graphs: &mut Vec<LoadedGraph>, id: &Name, paused: bool)
     ensures { graphs.new.items ≡ map (pause_graph id.now paused) graphs.old.items }
 {
     for place in 0..graphs.len() {
@@ -25,7 +25,7 @@ pub fn set_paused(graphs: &mut Vec<Graph>, id: &Name, paused: bool)
 }
 
 // The graph that is named, if one is, is paused no more.
-pub fn unpause(graphs: &mut Vec<Graph>, named: Option<Name>)
+pub fn unpause(graphs: &mut Vec<LoadedGraph>, named: Option<Name>)
     ensures { graphs.new.items ≡ with_unpaused named graphs.old.items }
 {
     if let Some(id) = named {

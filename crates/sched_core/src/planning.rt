@@ -6,12 +6,12 @@ ghost use Rattle.sched_model.specs.Settle.{settle};
 ghost use Rattle.sched_model.specs.Handout.{hand_out};
 ghost use Rattle.sched_model.specs.Jobs.{handed};
 ghost use Rattle.sched_model.specs.Sound.{IsSound};
-ghost use Rattle.sched_events.specs.Kept.{IsKept};
+ghost use Rattle.sched_events.specs.SettledAndSound.{IsSettledAndSound};
 ghost use Rattle.sched_events.specs.Outcomes.{IsRefusal};
 ghost use Rattle.sched_events.specs.declared.events.Event.TheVariants.{Tick, Pause, Unpause, Resize, Report, Restart};
 ghost use Rattle.sched_core.specs.Plans.{IsPlanned, no_runs, run_id};
 ghost use Rattle.sched_core.specs.Books.{IsCounted};
-ghost use Rattle.sched_core.specs.Effects.{applied, KeepsHeld};
+ghost use Rattle.sched_core.specs.Effects.{applied, KeepsAgreement};
 ghost use Rattle.sched_core.specs.Inside.{IsOver, over};
 
 use crate::changes::{Change, Effect, Next};
@@ -22,10 +22,10 @@ use graph_file::{Name, Sequence};
 use instance_machine::Stage;
 use moment_core::Moment;
 use pool_book::{PoolFault, Pools, Slots};
+use sched_creation::{add, named_by_tick};
 use sched_draft::Draft;
 use sched_events::{Answer, Event, Refusal, RunId};
 use sched_handout::hand_out;
-use sched_naming::{add, named_by_tick};
 use sched_settling::settle;
 use sched_state::Run;
 use std::alloc::{AllocError, Global};
@@ -61,8 +61,13 @@ impl Schedule {
 
     // A change that makes no run and hands out no try.
     pub(crate) fn quiet_change(&self, alloc: Global, effect: Effect) -> Change
-        requires { KeepsHeld effect self.now.content }
-        ensures { result ≡ record { before = self.now.content; after = applied effect self.now.content; answer = no_runs } }
+        requires { KeepsAgreement effect self.now.content }
+        ensures { result ≡ record {
+          before = self.now.content;
+          after = applied effect
+              self.now.content;
+          answer = no_runs;
+        } }
     {
         Change {
             before: Snapshot::of(self),
@@ -77,7 +82,8 @@ impl Schedule {
         alloc: Global,
         unpaused: Option<&'d Name>,
     ) -> Result<Draft<'d>, AllocError>
-        ensures { IfOk result (λ draft. draft ≡ record self.now.content { graphs = with_unpaused (option_copied unpaused.entry) self.now.content.graphs }) }
+        ensures { IfOk result (λ draft. draft ≡ record self.now.content
+            { graphs = with_unpaused (option_copied unpaused.entry) self.now.content.graphs }) }
     {
         self.draft_over(alloc, &self.pools, unpaused)
     }
@@ -89,7 +95,8 @@ impl Schedule {
         pools: &'d Pools,
         unpaused: Option<&'d Name>,
     ) -> Result<Draft<'d>, AllocError>
-        ensures { IfOk result (λ draft. draft ≡ record (over pools.now.pools self.now.content) { graphs = with_unpaused (option_copied unpaused.entry) self.now.content.graphs }) }
+        ensures { IfOk result (λ draft. draft ≡ record (over pools.now.pools self.now.content)
+            { graphs = with_unpaused (option_copied unpaused.entry) self.now.content.graphs }) }
     {
         let runs = copied(alloc, &self.runs)?;
         Ok(Draft::new(
@@ -106,7 +113,7 @@ impl Schedule {
 
     // The change that ends in this draft, settled and handed out, with this answer and the tries that are handed out. In it the graph
     // with the id `unpaused` is paused no more.
-    pub(crate) fn finished(
+    pub(crate) fn finish(
         &self,
         alloc: Global,
         draft: Draft<'_>,
@@ -115,7 +122,7 @@ impl Schedule {
     ) -> Result<Change, AllocError>
         requires sound { IsSound draft }
         requires over { IsOver unpaused self.now.content draft }
-        requires kept { IsKept (hand_out (settle draft)) }
+        requires kept { IsSettledAndSound (hand_out (settle draft)) }
         requires counted { IsCounted draft }
         ensures { IfOk result (λ change. change ≡ record {
           before = self.now.content;
@@ -162,7 +169,7 @@ impl Schedule {
             more: named.more,
             ..quiet_answer(alloc)
         };
-        Ok(self.finished(alloc, draft, None, answer)?)
+        Ok(self.finish(alloc, draft, None, answer)?)
     }
 
     fn plan_pause(&self, alloc: Global, id: &Name) -> Result<Change, Refusal>
@@ -185,7 +192,7 @@ impl Schedule {
         }
         let draft = self.draft(alloc, Some(id))?;
         let unpaused = id.copy(alloc)?;
-        Ok(self.finished(alloc, draft, Some(unpaused), quiet_answer(alloc))?)
+        Ok(self.finish(alloc, draft, Some(unpaused), quiet_answer(alloc))?)
     }
 
     fn plan_resize(&self, alloc: Global, name: &Name, size: Slots) -> Result<Change, Refusal>
@@ -206,7 +213,8 @@ impl Schedule {
     // The change that puts the pools of this book in the place of the schedule's own, and hands out what fits then.
     fn over<'d>(&'d self, alloc: Global, pools: &'d Pools) -> Result<Change, AllocError>
         requires sound { IsSound (over pools.now.pools self.now.content) }
-        requires kept { IsKept (hand_out (settle (over pools.now.pools self.now.content))) }
+        requires kept { IsSettledAndSound (hand_out
+            (settle (over pools.now.pools self.now.content))) }
         requires counted { IsCounted self.now.content }
         ensures { IfOk result (λ change. change ≡ record {
           before = self.now.content;
@@ -215,7 +223,7 @@ impl Schedule {
         }) }
     {
         let draft = self.draft_over(alloc, pools, None)?;
-        self.finished(alloc, draft, None, quiet_answer(alloc))
+        self.finish(alloc, draft, None, quiet_answer(alloc))
     }
 
     fn plan_report(&self, alloc: Global, serial: u64, stage: Stage) -> Result<Change, Refusal>
@@ -230,7 +238,7 @@ impl Schedule {
         }
         let mut draft = self.draft(alloc, None)?;
         draft.report(serial, stage);
-        Ok(self.finished(alloc, draft, None, quiet_answer(alloc))?)
+        Ok(self.finish(alloc, draft, None, quiet_answer(alloc))?)
     }
 
     fn plan_restart(&self, alloc: Global, lanes: u32) -> Result<Change, Refusal>
@@ -242,7 +250,7 @@ impl Schedule {
         }
         let mut draft = self.draft(alloc, None)?;
         draft.restart(lanes);
-        Ok(self.finished(alloc, draft, None, quiet_answer(alloc))?)
+        Ok(self.finish(alloc, draft, None, quiet_answer(alloc))?)
     }
 }
 

@@ -7,21 +7,21 @@ ghost use Rattle.std.specs.Option.{option_copied};
 ghost use Rattle.sched_model.specs.Lists.{rises};
 ghost use Rattle.sched_model.specs.Schedule.{empty_schedule, graph_before, graph_named};
 ghost use Rattle.sched_model.specs.Changes.{with_graph};
-ghost use Rattle.sched_events.specs.Kept.{IsKept};
+ghost use Rattle.sched_events.specs.SettledAndSound.{IsSettledAndSound};
 ghost use Rattle.sched_events.specs.Outcomes.{IsStepped, IsRefusal};
 ghost use Rattle.sched_core.specs.Changes.{HasRoom};
 
 use crate::changes::{Change, Effect};
 use crate::default_pools::default_pools;
-use crate::lookups::{graph_named, place_of};
+use crate::lookups::{graph_named, position_of};
 use crate::ordering::place_for_graph;
 use crate::pausing::{set_paused, unpause};
-use dag_check::Graph as Dag;
+use dag_check::Graph;
 use graph_file::Name;
 use moment_core::Moment;
 use pool_book::Pools;
 use sched_events::{Answer, Event, Refusal};
-use sched_state::{Graph, Limits, Run, Text};
+use sched_state::{GraphText, Limits, LoadedGraph, Run};
 use std::alloc::{AllocError, Global};
 use std::marker::Model;
 
@@ -31,7 +31,7 @@ use std::marker::Model;
 #[derive(Drop)]
 pub struct Schedule {
     pub(crate) limits: Limits,
-    pub(crate) graphs: Vec<Graph>,
+    pub(crate) graphs: Vec<LoadedGraph>,
     // By name, with what tries without an end take of each.
     pub(crate) pools: Pools,
     pub(crate) clock: Moment,
@@ -44,17 +44,17 @@ pub struct Schedule {
 impl Model for Schedule {
     ghost use Rattle.std.specs.Prelude.{◌-◌, vec_len, vec_capacity};
     ghost use Rattle.sched_draft.specs.Books.{pools_in};
-    ghost use Rattle.sched_core.specs.Books.{IsHeld};
-    ghost use Rattle.sched_core.specs.Changes.{Held};
+    ghost use Rattle.sched_core.specs.Books.{AgreesWithBook};
+    ghost use Rattle.sched_core.specs.Changes.{ScheduleValue};
 
-    ghost Value = { Held };
+    ghost Value = { ScheduleValue };
 
     ghost view = { λ s. record {
       content = record { limits = s.limits; graphs = s.graphs.items; pools = pools_in s.pools.pools; now = s.clock; lanes = s.lanes; next = s.next; runs = s.runs.items };
       room = record { graphs = vec_capacity s.graphs - vec_len s.graphs };
     } };
 
-    ghost invariant = { λ s. IsHeld (record { limits = s.limits; graphs = s.graphs.items; pools = pools_in s.pools.pools; now = s.clock; lanes = s.lanes; next = s.next; runs = s.runs.items }) s.pools.pools };
+    ghost invariant = { λ s. AgreesWithBook (record { limits = s.limits; graphs = s.graphs.items; pools = pools_in s.pools.pools; now = s.clock; lanes = s.lanes; next = s.next; runs = s.runs.items }) s.pools.pools };
 }
 
 impl Schedule {
@@ -98,13 +98,13 @@ impl Schedule {
     /// The runs, by graph id and logical date.
     pub fn runs(&self) -> &[Run]
         ensures runs { result.now ≡ self.now.content.runs }
-        ensures kept { IsKept self.now.content }
+        ensures kept { IsSettledAndSound self.now.content }
     {
         self.runs.as_slice()
     }
 
     /// The graph with this id, with its text and its pause.
-    pub fn graph_of(&self, id: &Name) -> Option<&Graph>
+    pub fn graph_of(&self, id: &Name) -> Option<&LoadedGraph>
         ensures { option_copied result ≡ graph_named self.now.content id.now }
     {
         graph_named(self.graphs.as_slice(), id)
@@ -152,7 +152,8 @@ impl Schedule {
     /// Plans the event, reserves room for it and commits it. A refused event changes nothing.
     pub fn step(&mut self, alloc: Global, event: &Event) -> Result<Answer, Refusal>
         ensures accepted { IfOk result (IsStepped self.old.content event.now self.new.content) }
-        ensures refused { IfErr result (λ r. IsRefusal self.old.content event.now r × (self.new.content ≡ self.old.content)) }
+        ensures refused { IfErr result (λ r. IsRefusal self.old.content event.now r ×
+            (self.new.content ≡ self.old.content)) }
     {
         let change = self.plan(alloc, event)?;
         self.reserve(&change)?;
@@ -161,19 +162,19 @@ impl Schedule {
 }
 
 // Takes a text in that says this: a known graph gets it in the place of its own, a new one is put at its place.
-fn take_in(graphs: &mut Vec<Graph>, text: Text, dag: Dag)
+fn take_in(graphs: &mut Vec<LoadedGraph>, text: GraphText, dag: Graph)
     requires order { rises graph_before graphs.old.items ≡ true }
     requires room { length (with_graph text dag graphs.old.items) ≤ vec_capacity graphs.old }
     ensures { graphs.new.items ≡ with_graph text dag graphs.old.items }
 {
-    match place_of(graphs, &dag.spec().dag_id) {
+    match position_of(graphs, &dag.spec().dag_id) {
         Some(place) => {
             let graph = &mut graphs[place];
             graph.text = text;
             graph.dag = dag;
         }
         None => {
-            let graph = Graph {
+            let graph = LoadedGraph {
                 text,
                 dag,
                 paused: false,

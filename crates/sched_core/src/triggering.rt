@@ -9,8 +9,8 @@ use crate::changes::Change;
 use crate::planning::{ids_of, quiet_answer};
 use crate::schedules::Schedule;
 use graph_file::Name;
+use sched_creation::{ByHandFault, add, named_by_hand};
 use sched_events::{Answer, Refusal};
-use sched_naming::{ByHandFault, add, named_by_hand};
 use sched_state::Run;
 use std::alloc::{AllocError, Global};
 
@@ -35,7 +35,7 @@ impl Schedule {
             made,
             ..quiet_answer(alloc)
         };
-        Ok(self.finished(alloc, draft, None, answer)?)
+        Ok(self.finish(alloc, draft, None, answer)?)
     }
 }
 

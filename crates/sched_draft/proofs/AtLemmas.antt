@@ -7,7 +7,7 @@ use Rattle.sched_state.proofs.OrderLemmas.{or_left, or_right}
 use Rattle.sched_model.specs.Lists.{at}
 use Rattle.sched_model.specs.Schedule.{Schedule, run_before}
 use Rattle.sched_model.specs.Handout.{in_instance, with_try, new_try}
-use Rattle.instance_machine.specs.Instances.{Held}
+use Rattle.instance_machine.specs.Instances.{InstanceValue}
 use Rattle.sched_draft.specs.Parts.{IsPositionFor, handed_at}
 
 pub set_at : {X : Type 0} (f : X → X) (xs : List X) (n : ℕ) (d x : X) → x ≡ get_or xs n d → set xs n (f x) ≡ at f n xs
@@ -23,13 +23,13 @@ write_run f a b n x view read =
     ap (λ rs. record b { runs = rs }) (set_at f b.runs n x x read) ∙ ap (λ (c : Schedule). record c { runs = at f n c.runs }) view
 
 -- the instance at p of the run at n was read as i, and g i is written there
-pub write_instance : (g : Held → Held) (a b : Schedule) (n p : ℕ) (x : Run) (i j : Held) → b ≡ a → x ≡ get_or b.runs n x → i ≡ get_or x.instances p i → j ≡ g i
+pub write_instance : (g : InstanceValue → InstanceValue) (a b : Schedule) (n p : ℕ) (x : Run) (i j : InstanceValue) → b ≡ a → x ≡ get_or b.runs n x → i ≡ get_or x.instances p i → j ≡ g i
     → record b { runs = set b.runs n (record x { instances = set x.instances p j }) } ≡ record a { runs = at (in_instance g p) n a.runs }
 write_instance g a b n p x i j view read item value =
     let inside : set x.instances p j ≡ at g p x.instances = ap (set x.instances p) value ∙ set_at g x.instances p i i item in
     ap (λ is. record b { runs = set b.runs n (record x { instances = is }) }) inside ∙ write_run (in_instance g p) a b n x view read
 
-pub write_try : (a b : Schedule) (n p slots : ℕ) (x : Run) (i j : Held) → b ≡ a → x ≡ get_or b.runs n x → i ≡ get_or x.instances p i → j ≡ with_try (new_try b.next slots) i
+pub write_try : (a b : Schedule) (n p slots : ℕ) (x : Run) (i j : InstanceValue) → b ≡ a → x ≡ get_or b.runs n x → i ≡ get_or x.instances p i → j ≡ with_try (new_try b.next slots) i
     → record b { next = b.next + 1; runs = set b.runs n (record x { instances = set x.instances p j }) } ≡ handed_at n p slots a
 write_try a b n p slots x i j view read item value =
     let next : b.next ≡ a.next = ap (λ (c : Schedule). c.next) view in

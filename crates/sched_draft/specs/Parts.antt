@@ -2,11 +2,11 @@
 use Rattle.std.specs.Prelude.{◌≡◌, ℕ, ◌+◌, ◌≤◌, Bool, true, false, List, length, map, take, Option, Some, None, option_map, unwrap_or, slice_get}
 use Rattle.std.specs.List.{list_any}
 use Rattle.trigger_rules.specs.declared.verdicts.Verdict.{Verdict}
-use Rattle.instance_machine.specs.Instances.{Held}
+use Rattle.instance_machine.specs.Instances.{InstanceValue}
 use Rattle.sched_state.specs.Lists.{same}
-use Rattle.sched_state.specs.declared.graphs.Graph.{Graph}
+use Rattle.sched_state.specs.declared.graphs.LoadedGraph.{LoadedGraph}
 use Rattle.sched_state.specs.declared.runs.Run.{Run}
-use Rattle.sched_state.specs.declared.runs.Phase.{Phase}
+use Rattle.sched_state.specs.declared.runs.RunPhase.{RunPhase}
 use Rattle.sched_model.specs.Lists.{at}
 use Rattle.sched_model.specs.Schedule.{Schedule, run_before}
 use Rattle.sched_model.specs.Changes.{pause_graph}
@@ -18,14 +18,14 @@ is_named None id = false
 is_named (Some named) id = same id named
 
 -- the graphs, of which the one with this id, if one is named, is not paused
-abbrev pub with_unpaused : Option (List ℕ) → List Graph → List Graph
+abbrev pub with_unpaused : Option (List ℕ) → List LoadedGraph → List LoadedGraph
 with_unpaused None gs = gs
 with_unpaused (Some id) gs = map (pause_graph id false) gs
 
-abbrev pub in_phase : Phase → Run → Run
+abbrev pub in_phase : RunPhase → Run → Run
 in_phase ph r = record r { phase = ph }
 
-abbrev pub decided_as : Verdict → Held → Held
+abbrev pub decided_as : Verdict → InstanceValue → InstanceValue
 decided_as v i = record i { verdict = Some v }
 
 -- how many instances the run at the position has: 0 where there is none

@@ -17,7 +17,7 @@ use graph_file::{Bounded, Name};
 use instance_machine::Stage;
 use moment_core::Moment;
 use pool_book::Pools;
-use sched_state::{Graph, Limits, Phase, Run};
+use sched_state::{Limits, LoadedGraph, Run, RunPhase};
 use std::alloc::AllocError;
 use std::marker::Model;
 use trigger_rules::Verdict;
@@ -27,7 +27,7 @@ use trigger_rules::Verdict;
 #[derive(Drop)]
 pub struct Draft<'a> {
     limits: Limits,
-    pub(crate) graphs: &'a [Graph],
+    pub(crate) graphs: &'a [LoadedGraph],
     // The graph with this id is not paused, whatever it says.
     pub(crate) unpaused: Option<&'a Name>,
     pools: &'a Pools,
@@ -60,7 +60,7 @@ impl<'a> Draft<'a> {
     /// A draft of these parts, in which the graph with the id `unpaused` is not paused.
     pub fn new(
         limits: Limits,
-        graphs: &'a [Graph],
+        graphs: &'a [LoadedGraph],
         unpaused: Option<&'a Name>,
         pools: &'a Pools,
         clock: Moment,
@@ -68,7 +68,17 @@ impl<'a> Draft<'a> {
         next: u64,
         runs: Vec<Run>,
     ) -> Draft<'a>
-        ensures { result ≡ record { limits = limits; graphs = with_unpaused (option_copied unpaused.entry) graphs.now; pools = pools_in pools.now.pools; now = clock; lanes = lanes; next = next; runs = runs.items } }
+        ensures { result ≡ record {
+          limits = limits;
+          graphs = with_unpaused
+              (option_copied unpaused.entry) graphs.now;
+          pools = pools_in pools.now.pools;
+          now =
+              clock;
+          lanes = lanes;
+          next = next;
+          runs = runs.items;
+        } }
     {
         Draft {
             limits,
@@ -133,7 +143,7 @@ impl<'a> Draft<'a> {
     }
 
     /// The run at a position gets another phase.
-    pub fn set_phase(&mut self, position: usize, phase: Phase)
+    pub fn set_phase(&mut self, position: usize, phase: RunPhase)
         requires { position < length self.old.runs }
         ensures { self.new ≡ record self.old { runs = at (in_phase phase) position self.old.runs } }
     {
@@ -145,7 +155,8 @@ impl<'a> Draft<'a> {
         requires run { position < length self.old.runs }
         requires instance { place < instances_at position self.old }
         requires verdict { verdict ≢ Wait }
-        ensures { self.new ≡ record self.old { runs = at (in_instance (decided_as verdict) place) position self.old.runs } }
+        ensures { self.new ≡ record self.old
+            { runs = at (in_instance (decided_as verdict) place) position self.old.runs } }
     {
         self.runs[position]
             .instances
@@ -157,7 +168,8 @@ impl<'a> Draft<'a> {
     pub fn clear(&mut self, position: usize, place: usize)
         requires run { position < length self.old.runs }
         requires instance { place < instances_at position self.old }
-        ensures { self.new ≡ record self.old { runs = at (in_instance cleared place) position self.old.runs } }
+        ensures { self.new ≡ record self.old
+            { runs = at (in_instance cleared place) position self.old.runs } }
     {
         self.runs[position].instances.item_mut(place).clear();
     }
@@ -200,7 +212,8 @@ impl<'a> Draft<'a> {
 
     /// A run is added at its place in the order. Without memory nothing changes.
     pub fn insert(&mut self, run: Run) -> Result<(), AllocError>
-        ensures ok { OnOk result (self.new ≡ record self.old { runs = insert_by run_before run self.old.runs }) }
+        ensures ok { OnOk result (self.new ≡ record self.old
+            { runs = insert_by run_before run self.old.runs }) }
         ensures err { OnErr result (self.new ≡ self.old) }
     {
         let position = position_for(&self.runs, &run);

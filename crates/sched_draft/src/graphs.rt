@@ -3,12 +3,12 @@ ghost use Rattle.std.specs.Prelude.{◌≡◌, ◌<◌, ◌&&◌, not, IfSome, M
 ghost use Rattle.std.specs.Option.{option_copied};
 ghost use Rattle.sched_model.specs.Schedule.{graph_among, graph_named, is_paused};
 ghost use Rattle.sched_draft.specs.Parts.{is_named};
-ghost use Rattle.sched_state.specs.declared.graphs.Graph as states;
+ghost use Rattle.sched_state.specs.declared.graphs.LoadedGraph as states;
 
 use crate::drafts::Draft;
-use dag_check::Graph as Dag;
+use dag_check::Graph;
 use graph_file::Name;
-use sched_state::Graph;
+use sched_state::LoadedGraph;
 
 impl<'a> Draft<'a> {
     /// How many graphs there are.
@@ -20,16 +20,18 @@ impl<'a> Draft<'a> {
 
     /// The position of the graph with this id.
     pub fn position_of(&self, id: &Name) -> Option<usize>
-        ensures position { option_and_then (slice_get self.now.graphs) result ≡ graph_named self.now id.now }
+        ensures position { option_and_then (slice_get self.now.graphs) result
+            ≡ graph_named self.now id.now }
         ensures within { IfSome result (λ position. position < length self.now.graphs) }
     {
         position_in(self.graphs, id)
     }
 
     /// The tasks and edges of the graph at a position.
-    pub fn dag_at(&self, position: usize) -> &'a Dag
+    pub fn dag_at(&self, position: usize) -> &'a Graph
         requires { position < length self.now.graphs }
-        ensures { option_map (λ (g : states.Graph). g.dag) (slice_get self.now.graphs position) ≡ Some result.now }
+        ensures { option_map (λ (g : states.LoadedGraph). g.dag)
+            (slice_get self.now.graphs position) ≡ Some result.now }
     {
         dag_in(self.graphs, position)
     }
@@ -37,14 +39,17 @@ impl<'a> Draft<'a> {
     /// Whether the graph at a position is paused.
     pub fn is_paused_at(&self, position: usize) -> bool
         requires { position < length self.now.graphs }
-        ensures { option_map (λ (g : states.Graph). g.paused) (slice_get self.now.graphs position) ≡ Some result }
+        ensures { option_map (λ (g : states.LoadedGraph). g.paused)
+            (slice_get self.now.graphs position) ≡ Some result }
     {
         is_paused_in(self.graphs, self.unpaused, position)
     }
 
     /// The tasks and edges of the graph with this id.
-    pub fn dag(&self, id: &Name) -> Option<&'a Dag>
-        ensures { MatchOption result (graph_named self.now id.now ≡ None) (λ dag. option_map (λ (g : states.Graph). g.dag) (graph_named self.now id.now) ≡ Some dag.now) }
+    pub fn dag(&self, id: &Name) -> Option<&'a Graph>
+        ensures { MatchOption result (graph_named self.now id.now ≡ None)
+            (λ dag. option_map (λ (g : states.LoadedGraph). g.dag) (graph_named self.now id.now)
+            ≡ Some dag.now) }
     {
         let position = self.position_of(id)?;
         Some(self.dag_at(position))
@@ -62,17 +67,19 @@ impl<'a> Draft<'a> {
 }
 
 // The tasks and edges of the graph at a position.
-fn dag_in(graphs: &[Graph], position: usize) -> &Dag
+fn dag_in(graphs: &[LoadedGraph], position: usize) -> &Graph
     requires { position < length graphs.now }
-    ensures { (g : states.Graph) → slice_get graphs.now position ≡ Some g → result.now ≡ g.dag }
+    ensures { (g : states.LoadedGraph) → slice_get graphs.now position ≡ Some g
+        → result.now ≡ g.dag }
 {
     &graphs[position].dag
 }
 
 // Whether the graph at a position is paused, where the one that is named is not.
-fn is_paused_in(graphs: &[Graph], unpaused: Option<&Name>, position: usize) -> bool
+fn is_paused_in(graphs: &[LoadedGraph], unpaused: Option<&Name>, position: usize) -> bool
     requires { position < length graphs.now }
-    ensures { (g : states.Graph) → slice_get graphs.now position ≡ Some g → result ≡ (g.paused && not (is_named (option_copied unpaused.entry) g.dag.spec.dag_id)) }
+    ensures { (g : states.LoadedGraph) → slice_get graphs.now position ≡ Some g
+        → result ≡ (g.paused && not (is_named (option_copied unpaused.entry) g.dag.spec.dag_id)) }
 {
     let graph = &graphs[position];
     graph.paused && !is_named(unpaused, &graph.dag.spec().dag_id)
@@ -89,8 +96,9 @@ fn is_named(named: Option<&Name>, id: &Name) -> bool
 }
 
 // The position of the graph with this id.
-fn position_in(graphs: &[Graph], id: &Name) -> Option<usize>
-    ensures position { option_and_then (slice_get graphs.now) result ≡ graph_among graphs.now id.now }
+fn position_in(graphs: &[LoadedGraph], id: &Name) -> Option<usize>
+    ensures position { option_and_then (slice_get graphs.now) result
+        ≡ graph_among graphs.now id.now }
     ensures within { IfSome result (λ position. position < length graphs.now) }
 {
     for (position, graph) in graphs.iter().enumerate() {

@@ -12,14 +12,14 @@ use Rattle.dag_check.specs.Faults.{first_fault}
 use Rattle.dag_check.proofs.PlacedLemmas.{graph-of-faultless}
 use Rattle.pool_book.specs.declared.pools.PoolFault.TheVariants.{TooManyPools}
 use Rattle.sched_state.specs.Lists.{same}
-use Rattle.sched_state.specs.declared.graphs.Graph.{Graph}
+use Rattle.sched_state.specs.declared.graphs.LoadedGraph.{LoadedGraph}
 use Rattle.sched_state.specs.declared.runs.Run.{Run}
 use Rattle.sched_state.proofs.NameLemmas.{same_is}
 use Rattle.sched_state.proofs.OrderLemmas.{and_left, and_right, or_left, or_right}
 use Rattle.sched_model.specs.Schedule.{Schedule, graph_among, graph_named, has_pool, has_runs, has_run_at}
 use Rattle.sched_model.specs.Changes.{load_graph, set_now}
 use Rattle.sched_model.specs.Causes.{has_too_many_graphs, is_full_with, is_unknown_graph}
-use Rattle.sched_model.specs.NamedRuns.{Named, is_for, named_by_tick, named_by_hand}
+use Rattle.sched_model.specs.NamedRuns.{NamedRun, is_for, named_by_tick, named_by_hand}
 use Rattle.sched_model.specs.Sound.{IsSound, Says, AllSay, is_sound_run, is_new, are_new}
 use Rattle.sched_laws.proofs.ByHandLemmas.{by_hand_new}
 use Rattle.sched_laws.proofs.GraphLemmas.{load_sound, pause_sound}
@@ -30,7 +30,7 @@ use Rattle.sched_laws.proofs.SoundLemmas.{clock_sound, report_sound, restart_sou
 use Rattle.sched_laws.proofs.TextLemmas.{load_says, pause_says}
 use Rattle.sched_events.specs.Events.{set_back_by, change_by, load_result, IsInRange}
 use Rattle.sched_events.specs.Causes.{exceeds, edge_count, unknown_pool, differs, has_no_interval, refused, refused_text}
-use Rattle.sched_events.specs.Kept.{IsKept}
+use Rattle.sched_events.specs.SettledAndSound.{IsSettledAndSound}
 use Rattle.sched_events.specs.declared.events.Event.{Event}
 use Rattle.sched_events.specs.declared.events.Event.TheVariants.{Load, Tick, Trigger, Backfill, Clear, Pause, Unpause, Resize, Report, Restart}
 use Rattle.sched_events.specs.declared.refusals.Refusal.{Refusal}
@@ -83,12 +83,12 @@ run_named a id (r ∷ rs) sound runs =
       | false ↦ λ e f. run_named a id rs (and_right (is_sound_run a.graphs r) _ sound) f
     ] refl runs
 
-same_there : (a : Schedule) (text id : List ℕ) (o : Option Graph) → graph_named a id ≡ o → is_some o ≡ true → (holds_at (λ (g : Graph). not (same g.text text)) o && true) ≡ false
-    → (g : Graph) × (graph_named a id ≡ Some g) × (same g.text text ≡ true)
+same_there : (a : Schedule) (text id : List ℕ) (o : Option LoadedGraph) → graph_named a id ≡ o → is_some o ≡ true → (holds_at (λ (g : LoadedGraph). not (same g.text text)) o && true) ≡ false
+    → (g : LoadedGraph) × (graph_named a id ≡ Some g) × (same g.text text ≡ true)
 same_there a text id None e some same_text = absurd (true≢false (sym some))
 same_there a text id (Some g) e some same_text = (g, e, doubly (same g.text text) same_text)
 
-loaded_kept : (a : Schedule) (text : List ℕ) (spec : GraphSpec) → IsTaken a text spec → IsKept a → IsSound (load_graph text (dag_of spec) a) × AllSay (load_graph text (dag_of spec) a).graphs
+loaded_kept : (a : Schedule) (text : List ℕ) (spec : GraphSpec) → IsTaken a text spec → IsSettledAndSound a → IsSound (load_graph text (dag_of spec) a) × AllSay (load_graph text (dag_of spec) a).graphs
 loaded_kept a text spec t kept =
     let dag : Dag = dag_of spec in
     let says : Says text dag = record { read = t.read; checked = graph-of-faultless spec t.faultless } in
@@ -96,7 +96,7 @@ loaded_kept a text spec t kept =
     elim (has_runs a spec.dag_id) as (λ b. has_runs a spec.dag_id ≡ b → IsSound (load_graph text dag a) × AllSay (load_graph text dag a).graphs) [
       | true ↦ λ runs.
           let there = run_named a spec.dag_id a.runs kept.sound.runs runs in
-          let named = same_there a text spec.dag_id (graph_named a spec.dag_id) refl there (ap (λ b. holds_at (λ (g : Graph). not (same g.text text)) (graph_named a spec.dag_id) && b) (sym runs) ∙ t.same_text) in
+          let named = same_there a text spec.dag_id (graph_named a spec.dag_id) refl there (ap (λ b. holds_at (λ (g : LoadedGraph). not (same g.text text)) (graph_named a spec.dag_id) && b) (sym runs) ∙ t.same_text) in
           let again : load_graph text dag a ≡ a = load_again text dag a named.0 says kept.sound kept.said named.1 named.2 in
           (subst IsSound (sym again) kept.sound, said)
       | false ↦ λ none.
@@ -105,7 +105,7 @@ loaded_kept a text spec t kept =
           (load_sound text dag a none (said_sound a text dag says tasks edges (no_task_left a spec t.pools)) t.room kept.sound, said)
     ] refl
 
-read_kept : (a : Schedule) (text : List ℕ) (r : Result GraphSpec GraphFault) → graph_of text ≡ r → refused_text a text r ≡ None → IsKept a → IsSound (load_result text r a) × AllSay (load_result text r a).graphs
+read_kept : (a : Schedule) (text : List ℕ) (r : Result GraphSpec GraphFault) → graph_of text ≡ r → refused_text a text r ≡ None → IsSettledAndSound a → IsSound (load_result text r a) × AllSay (load_result text r a).graphs
 read_kept a text (Err fault) read e kept = absurd (let c : ◌≡◌ {A = Option Refusal} (Some (refusal.GraphFault fault)) None = e in cc)
 read_kept a text (Ok spec) read e kept =
     let t = taken a text spec read e in
@@ -114,7 +114,7 @@ read_kept a text (Ok spec) read e kept =
     subst (λ (b : Schedule). IsSound b × AllSay b.graphs) (sym is) (loaded_kept a text spec t kept)
 
 -- ---- each event
-pub change_kept : (e : Event) (a : Schedule) → IsInRange e → refused a e ≡ None → IsKept a → IsSound (change_by e a) × AllSay (change_by e a).graphs
+pub change_kept : (e : Event) (a : Schedule) → IsInRange e → refused a e ≡ None → IsSettledAndSound a → IsSound (change_by e a) × AllSay (change_by e a).graphs
 change_kept (Load text) a ranged accepted kept = read_kept a text (graph_of text) refl accepted kept
 change_kept (Tick t) a ranged accepted kept = (clock_sound t a ranged kept.sound, kept.said)
 change_kept (Trigger id) a ranged accepted kept = (kept.sound, kept.said)
@@ -127,7 +127,7 @@ change_kept (Report serial stage) a ranged accepted kept = (report_sound serial 
 change_kept (Restart lanes) a ranged accepted kept = (restart_sound lanes a (within refusal.LanesTooMany _ accepted) kept.sound, kept.said)
 
 -- ---- the runs that an event names are new, and there is room for them
-pub still_new : (a : Schedule) (t : ℕ) (ns : List Named) → are_new (set_now t a) ns ≡ are_new a ns
+pub still_new : (a : Schedule) (t : ℕ) (ns : List NamedRun) → are_new (set_now t a) ns ≡ are_new a ns
 still_new a t [] = refl
 still_new a t (n ∷ ns) = ap (λ b. is_new a n && (not (list_any (is_for n.graph n.logical) ns) && b)) (still_new a t ns)
 

@@ -15,10 +15,10 @@ use Rattle.instance_machine.specs.declared.tries.Try.{Try}
 use Rattle.sched_state.specs.Limits.{Bounds}
 use Rattle.sched_state.specs.declared.jobs.Job.{Job}
 use Rattle.sched_model.specs.Changes.{load_graph}
-use Rattle.sched_model.specs.Clearing.{Naming, clear}
+use Rattle.sched_model.specs.Clearing.{Selection, clear}
 use Rattle.sched_model.specs.Handout.{hand_out}
 use Rattle.sched_model.specs.Jobs.{handed}
-use Rattle.sched_model.specs.NamedRuns.{Named, add_runs}
+use Rattle.sched_model.specs.NamedRuns.{NamedRun, add_runs}
 use Rattle.sched_model.specs.Schedule.{Schedule, empty_schedule}
 use Rattle.sched_model.specs.Settle.{settle}
 use Rattle.sched_model.specs.Sound.{IsSound, are_new}
@@ -34,7 +34,7 @@ use Rattle.sched_laws.proofs.SerialLemmas.{advance_next, advance_serials, range_
 use Rattle.sched_laws.proofs.SettleLemmas.{settle_reached}
 use Rattle.sched_events.specs.Causes.{refused}
 use Rattle.sched_events.specs.Events.{named_by, set_back_by, set_back, change_by, load_result, IsInRange}
-use Rattle.sched_events.specs.Kept.{IsKept}
+use Rattle.sched_events.specs.SettledAndSound.{IsSettledAndSound}
 use Rattle.sched_events.specs.Promises.{serials_in, AreDistinct, IsReached, KeepsPromises}
 use Rattle.sched_events.specs.Steps.{step, steps, named_along, handed_along, answers_along, answer_to, AreAccepted}
 use Rattle.sched_events.specs.declared.answers.Answer.{Answer}
@@ -53,7 +53,7 @@ load_keeps h keeps text (Ok spec) a = elim (first_fault spec.tasks) as (λ o. (l
   | Some fault ↦ refl
 ]
 
-set_back_names : (named : Option Naming) (a : Schedule) → runs_named (set_back named a) ≡ runs_named a
+set_back_names : (named : Option Selection) (a : Schedule) → runs_named (set_back named a) ≡ runs_named a
 set_back_names None a = refl
 set_back_names (Some named) a = clear_names named a
 
@@ -69,7 +69,7 @@ change_names (Resize name size) a = refl
 change_names (Report serial stage) a = tries_names (reported_try serial stage a.now) a
 change_names (Restart lanes) a = tries_names (lost_try a.now) a
 
-set_back_next : (named : Option Naming) (a : Schedule) → (set_back named a).next ≡ a.next
+set_back_next : (named : Option Selection) (a : Schedule) → (set_back named a).next ≡ a.next
 set_back_next None a = refl
 set_back_next (Some named) a = refl
 
@@ -85,7 +85,7 @@ change_next (Resize name size) a = refl
 change_next (Report serial stage) a = refl
 change_next (Restart lanes) a = refl
 
-set_back_goes : (named : Option Naming) (a : Schedule) → IsSound a → AllGoOn a.runs (set_back named a).runs
+set_back_goes : (named : Option Selection) (a : Schedule) → IsSound a → AllGoOn a.runs (set_back named a).runs
 set_back_goes None a sound = all_still a.runs
 set_back_goes (Some named) a sound = clear_goes named a sound
 
@@ -117,14 +117,14 @@ names_new (Restart lanes) a ranged accepted sound = refl
 -- ---- runs
 pub step_names : (e : Event) (a : Schedule) → IsPermutation (named_by e a ++ runs_named a) (runs_named (step e a))
 unfolding step
-step_names e a = subst (λ (ns : List Named). IsPermutation (named_by e a ++ ns) (runs_named (step e a))) (change_names e a) (advance_names (named_by e a) (change_by e a))
+step_names e a = subst (λ (ns : List NamedRun). IsPermutation (named_by e a ++ ns) (runs_named (step e a))) (change_names e a) (advance_names (named_by e a) (change_by e a))
 
 pub steps_names : (es : List Event) (a : Schedule) → IsPermutation (named_along es a ++ runs_named a) (runs_named (steps es a))
 steps_names [] a = IsPermutation-refl (runs_named a)
 steps_names (e ∷ es) a =
-    let here : List Named = named_by e a in
-    let later : List Named = named_along es (step e a) in
-    let was : List Named = runs_named a in
+    let here : List NamedRun = named_by e a in
+    let later : List NamedRun = named_along es (step e a) in
+    let was : List NamedRun = runs_named a in
     let turned : IsPermutation ((here ++ later) ++ was) ((later ++ here) ++ was) = IsPermutation-append_left was (here ++ later) (later ++ here) (IsPermutation-append_comm here later) in
     let grouped : IsPermutation ((here ++ later) ++ was) (later ++ (here ++ was)) = subst (IsPermutation ((here ++ later) ++ was)) (append_assoc later here was) turned in
     IsPermutation-trans ((here ++ later) ++ was) (later ++ (here ++ was)) (runs_named (steps es (step e a))) grouped
@@ -133,22 +133,22 @@ steps_names (e ∷ es) a =
     (steps_names es (step e a)))
 
 -- ---- tries
-step_goes : (e : Event) (a : Schedule) → IsInRange e → refused a e ≡ None → IsKept a → AllGoOn a.runs (step e a).runs
+step_goes : (e : Event) (a : Schedule) → IsInRange e → refused a e ≡ None → IsSettledAndSound a → AllGoOn a.runs (step e a).runs
 unfolding step
 step_goes e a ranged accepted kept =
     all_further a.runs (change_by e a).runs (step e a).runs (change_goes e a kept.sound) (advance_goes (named_by e a) (change_by e a) (names_new e a ranged accepted kept.sound))
 
-steps_go : (es : List Event) (a : Schedule) → AreAccepted es a → IsKept a → AllGoOn a.runs (steps es a).runs
+steps_go : (es : List Event) (a : Schedule) → AreAccepted es a → IsSettledAndSound a → AllGoOn a.runs (steps es a).runs
 steps_go [] a accepted kept = all_still a.runs
 steps_go (e ∷ es) a accepted kept =
     all_further a.runs (step e a).runs (steps es (step e a)).runs (step_goes e a accepted.0 accepted.1 kept)
     (steps_go es (step e a) accepted.2 (step_kept e a accepted.0 accepted.1 kept))
 
-pub step_try : (e : Event) (a : Schedule) (id : List ℕ) (date place n : ℕ) (t : Try) → IsInRange e → refused a e ≡ None → IsKept a → try_at a id date place n ≡ Some t
+pub step_try : (e : Event) (a : Schedule) (id : List ℕ) (date place n : ℕ) (t : Try) → IsInRange e → refused a e ≡ None → IsSettledAndSound a → try_at a id date place n ≡ Some t
     → (u : Try) × (try_at (step e a) id date place n ≡ Some u) × GoesOn t u
 step_try e a id date place n t ranged accepted kept there = try_goes a (step e a) (step_goes e a ranged accepted kept) id date place n t there
 
-pub steps_try : (es : List Event) (a : Schedule) (id : List ℕ) (date place n : ℕ) (t : Try) → AreAccepted es a → IsKept a → try_at a id date place n ≡ Some t
+pub steps_try : (es : List Event) (a : Schedule) (id : List ℕ) (date place n : ℕ) (t : Try) → AreAccepted es a → IsSettledAndSound a → try_at a id date place n ≡ Some t
     → (u : Try) × (try_at (steps es a) id date place n ≡ Some u) × GoesOn t u
 steps_try es a id date place n t accepted kept there = try_goes a (steps es a) (steps_go es a accepted kept) id date place n t there
 
@@ -161,13 +161,13 @@ pub steps_next : (es : List Event) (a : Schedule) → a.next ≤ (steps es a).ne
 steps_next [] a = omega arith
 steps_next (e ∷ es) a = let here = step_next e a in let later = steps_next es (step e a) in omega (arith, here, later)
 
-pub step_serials : (e : Event) (a : Schedule) → IsInRange e → refused a e ≡ None → IsKept a → serials_in (handed a (step e a)) ≡ range_with_len a.next ((step e a).next - a.next)
+pub step_serials : (e : Event) (a : Schedule) → IsInRange e → refused a e ≡ None → IsSettledAndSound a → serials_in (handed a (step e a)) ≡ range_with_len a.next ((step e a).next - a.next)
 unfolding step
 step_serials e a ranged accepted kept =
-    let after : IsKept (step e a) = step_kept e a ranged accepted kept in
+    let after : IsSettledAndSound (step e a) = step_kept e a ranged accepted kept in
     advance_serials (named_by e a) a (change_by e a) (change_next e a) after.sound
 
-pub steps_serials : (es : List Event) (a : Schedule) → AreAccepted es a → IsKept a → serials_in (handed_along es a) ≡ range_with_len a.next ((steps es a).next - a.next)
+pub steps_serials : (es : List Event) (a : Schedule) → AreAccepted es a → IsSettledAndSound a → serials_in (handed_along es a) ≡ range_with_len a.next ((steps es a).next - a.next)
 steps_serials [] a accepted kept = let none : a.next - a.next ≡ 0 = omega arith in ap (range_with_len a.next) (sym none)
 steps_serials (e ∷ es) a accepted kept =
     let b : Schedule = step e a in
@@ -189,7 +189,7 @@ row_distinct low n xs is i j x e f =
     let second = range_get low n j x (subst (λ (ys : List ℕ). slice_get ys j ≡ Some x) is f) in
     omega (arith, first, second)
 
-pub steps_once : (es : List Event) (a : Schedule) → AreAccepted es a → IsKept a → AreDistinct (serials_in (handed_along es a))
+pub steps_once : (es : List Event) (a : Schedule) → AreAccepted es a → IsSettledAndSound a → AreDistinct (serials_in (handed_along es a))
 steps_once es a accepted kept = row_distinct a.next ((steps es a).next - a.next) (serials_in (handed_along es a)) (steps_serials es a accepted kept)
 
 -- ---- all of it
@@ -199,9 +199,9 @@ step_reached e a =
     let b : Schedule = add_runs (named_by e a) (change_by e a) in
     record { settled = settle b; moves = settle_reached b; hands = hands_out (settle b) }
 
-pub step_promises : (e : Event) (a : Schedule) → IsInRange e → refused a e ≡ None → IsKept a → KeepsPromises e a (step e a)
+pub step_promises : (e : Event) (a : Schedule) → IsInRange e → refused a e ≡ None → IsSettledAndSound a → KeepsPromises e a (step e a)
 step_promises e a ranged accepted kept =
-    let after : IsKept (step e a) = step_kept e a ranged accepted kept in
+    let after : IsSettledAndSound (step e a) = step_kept e a ranged accepted kept in
     record {
       runs = step_names e a;
       reached = step_reached e a;
@@ -218,7 +218,7 @@ accepted_parts : (es fs : List Event) (a : Schedule) → AreAccepted (es ++ fs) 
 accepted_parts [] fs a accepted = (tt, accepted)
 accepted_parts (e ∷ es) fs a accepted = let rest = accepted_parts es fs (step e a) accepted.2 in ((accepted.0, accepted.1, rest.0), rest.1)
 
-pub empty_kept : (limits : Bounds) → 1 ≤ limits.pools → IsKept (empty_schedule limits)
+pub empty_kept : (limits : Bounds) → 1 ≤ limits.pools → IsSettledAndSound (empty_schedule limits)
 empty_kept limits room = record {
   sound = record {
     graphs_by_id = refl;

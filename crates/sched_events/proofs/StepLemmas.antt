@@ -10,12 +10,12 @@ use Rattle.dag_check.proofs.FirstLemmas.{faultless}
 use Rattle.dag_check.specs.Faults.{first_fault}
 use Rattle.sched_state.specs.Lists.{same, repeat}
 use Rattle.sched_state.specs.declared.clearings.Clearing.{Clearing}
-use Rattle.sched_state.specs.declared.graphs.Graph.{Graph}
+use Rattle.sched_state.specs.declared.graphs.LoadedGraph.{LoadedGraph}
 use Rattle.instance_machine.specs.Reports.{reported_try, lost_try}
 use Rattle.sched_model.specs.Schedule.{Schedule, graph_named, has_pool, has_run_at, size_of}
 use Rattle.sched_model.specs.Settle.{move, move_runs, with_runs, moves_left, settle}
 use Rattle.sched_model.specs.Handout.{hand, hand_one, best_offer, serials_left, hand_out}
-use Rattle.sched_model.specs.NamedRuns.{Named, is_for, named_by_backfill, spanned, add_runs}
+use Rattle.sched_model.specs.NamedRuns.{NamedRun, is_for, named_by_backfill, spanned, add_runs}
 use Rattle.sched_model.specs.Clearing.{cleared_by, clear, named_pairs}
 use Rattle.sched_model.specs.Changes.{load_graph, set_paused, resize}
 use Rattle.sched_model.specs.Sound.{IsSound, Says, AllSay}
@@ -36,7 +36,7 @@ use Rattle.sched_laws.proofs.ResizeLemmas.{resize_still, smaller_no_hand, new_no
 use Rattle.sched_events.specs.Events.{named_by, set_back_by, change_by, load_result, IsInRange}
 use Rattle.sched_events.specs.Causes.{refused}
 use Rattle.sched_events.specs.Steps.{step, steps, named_along, AreAccepted}
-use Rattle.sched_events.specs.Kept.{IsKept}
+use Rattle.sched_events.specs.SettledAndSound.{IsSettledAndSound}
 use Rattle.sched_events.specs.declared.events.Event.{Event}
 use Rattle.sched_events.specs.declared.events.Event.TheVariants.{Load, Tick, Trigger, Backfill, Clear, Pause, Unpause, Resize, Report, Restart}
 use Rattle.sched_events.proofs.AcceptLemmas.{change_kept, still_new, tick_room, hand_new, hand_room}
@@ -72,7 +72,7 @@ unfolding step
 step_handed e a = hand_ends (settle (add_runs (named_by e a) (change_by e a)))
 
 -- a sound schedule with graphs that are said, advanced
-pub finished_kept : (b : Schedule) → IsSound b → AllSay b.graphs → IsKept (hand_out (settle b))
+pub finished_kept : (b : Schedule) → IsSound b → AllSay b.graphs → IsSettledAndSound (hand_out (settle b))
 finished_kept b sound said = record {
   sound = out_sound (settle b) (settle_sound b sound);
   said = subst AllSay (sym (out_graphs (settle b) ∙ settle_graphs b)) said;
@@ -81,7 +81,7 @@ finished_kept b sound said = record {
 }
 
 -- with the runs that it names the changed schedule is sound
-pub added_sound : (e : Event) (a : Schedule) → IsInRange e → refused a e ≡ None → IsKept a → IsSound (change_by e a) → IsSound (add_runs (named_by e a) (change_by e a))
+pub added_sound : (e : Event) (a : Schedule) → IsInRange e → refused a e ≡ None → IsSettledAndSound a → IsSound (change_by e a) → IsSound (add_runs (named_by e a) (change_by e a))
 added_sound (Load text) a ranged accepted kept s = s
 added_sound (Tick t) a ranged accepted kept s = add_sound (named_by (Tick t) a) (change_by (Tick t) a) (still_new a t (named_by (Tick t) a) ∙ named_new a t kept.sound ranged) (tick_room a t accepted) s
 added_sound (Trigger id) a ranged accepted kept s = add_sound (named_by (Trigger id) a) (change_by (Trigger id) a) (hand_new a id accepted kept.sound) (hand_room a id accepted) s
@@ -94,7 +94,7 @@ added_sound (Resize name size) a ranged accepted kept s = s
 added_sound (Report serial stage) a ranged accepted kept s = s
 added_sound (Restart lanes) a ranged accepted kept s = s
 
-pub step_kept : (e : Event) (a : Schedule) → IsInRange e → refused a e ≡ None → IsKept a → IsKept (step e a)
+pub step_kept : (e : Event) (a : Schedule) → IsInRange e → refused a e ≡ None → IsSettledAndSound a → IsSettledAndSound (step e a)
 unfolding step
 step_kept e a ranged accepted kept =
     let c = change_kept e a ranged accepted kept in
@@ -125,7 +125,7 @@ unfolding step
 step_dates e a id date = advance_keys (named_by e a) (change_by e a) id date ∙ ap (λ b. list_any (is_for id date) (named_by e a) || b) (change_dates e a id date)
 
 -- ---- lists of events
-pub steps_kept : (es : List Event) (a : Schedule) → AreAccepted es a → IsKept a → IsKept (steps es a)
+pub steps_kept : (es : List Event) (a : Schedule) → AreAccepted es a → IsSettledAndSound a → IsSettledAndSound (steps es a)
 steps_kept [] a accepted kept = kept
 steps_kept (e ∷ es) a accepted kept = steps_kept es (step e a) accepted.2 (step_kept e a accepted.0 accepted.1 kept)
 
@@ -150,39 +150,39 @@ steps_dates (e ∷ es) a id date =
 
 -- ---- pauses
 -- a pause leaves nothing to do
-pub pause_step : (id : List ℕ) (a : Schedule) → IsKept a → step (Pause id) a ≡ set_paused id true a
+pub pause_step : (id : List ℕ) (a : Schedule) → IsSettledAndSound a → step (Pause id) a ≡ set_paused id true a
 unfolding step
 pause_step id a kept =
     let b : Schedule = set_paused id true a in
     ap hand_out (settle_still b (pause_still id a kept.settled)) ∙ hand_still b (pause_no_hand id a kept.handed)
 
 -- a change that is none is followed by nothing
-still_step : (a b : Schedule) → IsKept a → b ≡ a → hand_out (settle b) ≡ a
+still_step : (a b : Schedule) → IsSettledAndSound a → b ≡ a → hand_out (settle b) ≡ a
 still_step a b kept is = ap (λ (c : Schedule). hand_out (settle c)) is ∙ (ap hand_out (settle_still a kept.settled) ∙ hand_still a kept.handed)
 
-pub same_pause : (id : List ℕ) (a : Schedule) (g : Graph) → IsKept a → graph_named a id ≡ Some g → g.paused ≡ true → step (Pause id) a ≡ a
+pub same_pause : (id : List ℕ) (a : Schedule) (g : LoadedGraph) → IsSettledAndSound a → graph_named a id ≡ Some g → g.paused ≡ true → step (Pause id) a ≡ a
 unfolding step
 same_pause id a g kept found is = still_step a (set_paused id true a) kept (pause_again id true a g kept.sound.graphs_by_id found is)
 
-pub same_unpause : (id : List ℕ) (a : Schedule) (g : Graph) → IsKept a → graph_named a id ≡ Some g → g.paused ≡ false → step (Unpause id) a ≡ a
+pub same_unpause : (id : List ℕ) (a : Schedule) (g : LoadedGraph) → IsSettledAndSound a → graph_named a id ≡ Some g → g.paused ≡ false → step (Unpause id) a ≡ a
 unfolding step
 same_unpause id a g kept found is = still_step a (set_paused id false a) kept (pause_again id false a g kept.sound.graphs_by_id found is)
 
 -- ---- resizes
 -- a pool that is made no larger, or is made, leaves nothing to do
-resized_still : (name : List ℕ) (size : ℕ) (a : Schedule) → IsKept a → hand_one (resize name size a) ≡ None → step (Resize name size) a ≡ resize name size a
+resized_still : (name : List ℕ) (size : ℕ) (a : Schedule) → IsSettledAndSound a → hand_one (resize name size a) ≡ None → step (Resize name size) a ≡ resize name size a
 unfolding step
 resized_still name size a kept none =
     let b : Schedule = resize name size a in
     ap hand_out (settle_still b (resize_still name size a kept.settled)) ∙ hand_still b none
 
-pub smaller_step : (name : List ℕ) (size : ℕ) (a : Schedule) → IsKept a → size ≤ size_of a name → step (Resize name size) a ≡ resize name size a
+pub smaller_step : (name : List ℕ) (size : ℕ) (a : Schedule) → IsSettledAndSound a → size ≤ size_of a name → step (Resize name size) a ≡ resize name size a
 smaller_step name size a kept no_larger = resized_still name size a kept (smaller_no_hand name size a no_larger kept.handed)
 
-pub new_step : (name : List ℕ) (size : ℕ) (a : Schedule) → IsKept a → has_pool a name ≡ false → step (Resize name size) a ≡ resize name size a
+pub new_step : (name : List ℕ) (size : ℕ) (a : Schedule) → IsSettledAndSound a → has_pool a name ≡ false → step (Resize name size) a ≡ resize name size a
 new_step name size a kept none = resized_still name size a kept (new_no_hand name size a kept.sound none kept.handed)
 
-pub same_size : (name : List ℕ) (size : ℕ) (a : Schedule) → IsKept a → has_pool a name ≡ true → size_of a name ≡ size → step (Resize name size) a ≡ a
+pub same_size : (name : List ℕ) (size : ℕ) (a : Schedule) → IsSettledAndSound a → has_pool a name ≡ true → size_of a name ≡ size → step (Resize name size) a ≡ a
 unfolding step
 same_size name size a kept there is = still_step a (resize name size a) kept (resize_again name size a kept.sound.pools_by_name there is)
 
@@ -193,25 +193,25 @@ pub backfill_dates : (id : List ℕ) (from to : ℕ) (reset : Bool) (a : Schedul
 backfill_dates id from to reset a date =
     step_dates (Backfill id from to reset) a id date ∙ (sym (advance_keys (named_by_backfill a id from to) a id date) ∙ filled a id from to date)
 
-pub no_backfill : (id : List ℕ) (from to : ℕ) (a : Schedule) → IsKept a → named_by_backfill a id from to ≡ [] → step (Backfill id from to false) a ≡ a
+pub no_backfill : (id : List ℕ) (from to : ℕ) (a : Schedule) → IsSettledAndSound a → named_by_backfill a id from to ≡ [] → step (Backfill id from to false) a ≡ a
 unfolding step
-no_backfill id from to a kept none = still_step a (add_runs (named_by_backfill a id from to) a) kept (ap (λ (ns : List Named). add_runs ns a) none)
+no_backfill id from to a kept none = still_step a (add_runs (named_by_backfill a id from to) a) kept (ap (λ (ns : List NamedRun). add_runs ns a) none)
 
-pub no_clear : (c : Clearing) (a : Schedule) → IsKept a → named_pairs a (cleared_by a c) ≡ [] → step (Clear c) a ≡ a
+pub no_clear : (c : Clearing) (a : Schedule) → IsSettledAndSound a → named_pairs a (cleared_by a c) ≡ [] → step (Clear c) a ≡ a
 unfolding step
 no_clear c a kept none = still_step a (clear (cleared_by a c) a) kept (clear_none (cleared_by a c) a none)
 
 -- ---- the same text again
 -- a graph that is found is what its text says
-found_says : (id : List ℕ) (gs : List Graph) (g : Graph) → AllSay gs → find (λ (h : Graph). same h.dag.spec.dag_id id) gs ≡ Some g → Says g.text g.dag
-found_says id [] g said found = absurd (let c : ◌≡◌ {A = Option Graph} None (Some g) = found in cc)
+found_says : (id : List ℕ) (gs : List LoadedGraph) (g : LoadedGraph) → AllSay gs → find (λ (h : LoadedGraph). same h.dag.spec.dag_id id) gs ≡ Some g → Says g.text g.dag
+found_says id [] g said found = absurd (let c : ◌≡◌ {A = Option LoadedGraph} None (Some g) = found in cc)
 found_says id (h ∷ hs) g said found =
-    elim (same h.dag.spec.dag_id id) as (λ b. cond b (Some h) (find (λ (k : Graph). same k.dag.spec.dag_id id) hs) ≡ Some g → Says g.text g.dag) [
-      | true ↦ λ e. let c : ◌≡◌ {A = Option Graph} (Some h) (Some g) = e in let is : h ≡ g = cc in subst (λ (k : Graph). Says k.text k.dag) is said.0
+    elim (same h.dag.spec.dag_id id) as (λ b. cond b (Some h) (find (λ (k : LoadedGraph). same k.dag.spec.dag_id id) hs) ≡ Some g → Says g.text g.dag) [
+      | true ↦ λ e. let c : ◌≡◌ {A = Option LoadedGraph} (Some h) (Some g) = e in let is : h ≡ g = cc in subst (λ (k : LoadedGraph). Says k.text k.dag) is said.0
       | false ↦ λ e. found_says id hs g said.1 e
     ] found
 
-pub same_text : (a : Schedule) (text : List ℕ) (spec : GraphSpec) (g : Graph) → IsKept a → graph_of text ≡ Ok spec → graph_named a spec.dag_id ≡ Some g → same g.text text ≡ true → step (Load text) a ≡ a
+pub same_text : (a : Schedule) (text : List ℕ) (spec : GraphSpec) (g : LoadedGraph) → IsSettledAndSound a → graph_of text ≡ Ok spec → graph_named a spec.dag_id ≡ Some g → same g.text text ≡ true → step (Load text) a ≡ a
 unfolding step
 same_text a text spec g kept read found alike =
     let says : Says g.text g.dag = found_says spec.dag_id a.graphs g kept.said found in

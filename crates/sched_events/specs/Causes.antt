@@ -10,7 +10,7 @@ use Rattle.dag_check.specs.Faults.{first_fault}
 use Rattle.pool_book.specs.declared.pools.PoolFault.TheVariants.{TooManyPools}
 use Rattle.sched_state.specs.Limits.{Bounds}
 use Rattle.sched_state.specs.Lists.{same}
-use Rattle.sched_state.specs.declared.graphs.Graph.{Graph}
+use Rattle.sched_state.specs.declared.graphs.LoadedGraph.{LoadedGraph}
 use Rattle.sched_model.specs.Schedule.{Schedule, graph_named, has_pool, has_runs, has_run_at}
 use Rattle.sched_model.specs.NamedRuns.{named_by_tick, named_by_hand, named_by_backfill}
 use Rattle.sched_model.specs.Sound.{is_empty}
@@ -35,7 +35,7 @@ unknown_pool a spec = option_map (λ (t : TaskSpec). t.pool) (find (λ (t : Task
 
 -- the graph is there, with another text, and has runs
 abbrev pub differs : Schedule → List ℕ → GraphSpec → Bool
-differs a text spec = holds_at (λ (g : Graph). not (same g.text text)) (graph_named a spec.dag_id) && has_runs a spec.dag_id
+differs a text spec = holds_at (λ (g : LoadedGraph). not (same g.text text)) (graph_named a spec.dag_id) && has_runs a spec.dag_id
 
 -- the first cause against a text. A cycle stands there without its names: which of several is shown is open
 abbrev pub refused_text : Schedule → List ℕ → Result GraphSpec GraphFault → Option Refusal

@@ -6,15 +6,15 @@ use Rattle.graph_file.specs.declared.graph_specs.GraphSpec.{GraphSpec}
 use Rattle.dag_check.specs.Graphs.{dag_of}
 use Rattle.dag_check.specs.Faults.{first_fault}
 use Rattle.sched_model.specs.Schedule.{Schedule}
-use Rattle.sched_model.specs.NamedRuns.{Named, named_by_tick, named_by_hand, named_by_backfill, present_in, leaves_more}
-use Rattle.sched_model.specs.Clearing.{Naming, cleared_by, reset_by, clear, count_cleared}
+use Rattle.sched_model.specs.NamedRuns.{NamedRun, named_by_tick, named_by_hand, named_by_backfill, present_in, leaves_more}
+use Rattle.sched_model.specs.Clearing.{Selection, cleared_by, reset_by, clear, count_cleared}
 use Rattle.sched_model.specs.Changes.{load_graph, set_now, set_paused, new_pool, resize, report, restart}
 use Rattle.sched_model.specs.Sound.{is_moment, is_sound_pool}
 use Rattle.sched_events.specs.declared.events.Event.{Event}
 use Rattle.sched_events.specs.declared.events.Event.TheVariants.{Load, Tick, Trigger, Backfill, Clear, Pause, Unpause, Resize, Report, Restart}
 
 -- the runs that an event names
-abbrev pub named_by : Event → Schedule → List Named
+abbrev pub named_by : Event → Schedule → List NamedRun
 named_by (Load text) a = []
 named_by (Tick t) a = named_by_tick a t
 named_by (Trigger id) a = named_by_hand a id
@@ -33,17 +33,17 @@ leaves_more_by _ a = false
 
 -- the instances that it sets back, where it is an event that does: those that a clear names, or all instances of the runs that a
 -- backfill finds in its span, if they are to be reset
-abbrev pub set_back_by : Event → Schedule → Option Naming
+abbrev pub set_back_by : Event → Schedule → Option Selection
 set_back_by (Backfill id from to true) a = Some (reset_by id (present_in a id from to))
 set_back_by (Clear c) a = Some (cleared_by a c)
 set_back_by _ a = None
 
-abbrev pub set_back : Option Naming → Schedule → Schedule
+abbrev pub set_back : Option Selection → Schedule → Schedule
 set_back None a = a
 set_back (Some named) a = clear named a
 
 -- how many of them were not none
-abbrev pub count_in : Option Naming → Schedule → ℕ
+abbrev pub count_in : Option Selection → Schedule → ℕ
 count_in None a = 0
 count_in (Some named) a = count_cleared a named
 

@@ -1,7 +1,7 @@
 pub mod Events
 pub mod Causes
 pub mod Steps
-pub mod Kept
+pub mod SettledAndSound
 pub mod Promises
 pub mod Outcomes
 pub mod Rows

@@ -1,13 +1,13 @@
 -- Task instances and pools as rows.
 use Rattle.std.specs.Prelude.{ℕ, ℤ, List}
 use Rattle.trigger_rules.specs.declared.states.State.{State}
-use Rattle.sched_state.specs.declared.runs.Kind.{Kind}
+use Rattle.sched_state.specs.declared.runs.RunKind.{RunKind}
 
 -- a task instance, as it is shown: its run's graph, logical date and kind, its task, its state and how many tries it has
 pub record Row : Type 0 where
   pub graph : List ℕ
   pub logical : ℕ
-  pub kind : Kind
+  pub kind : RunKind
   pub task : List ℕ
   pub state : State
   pub tries : ℕ

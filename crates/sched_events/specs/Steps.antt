@@ -2,7 +2,7 @@
 use Rattle.std.specs.Prelude.{◌≡◌, List, [], ◌∷◌, ◌++◌, map, flat_map, None, Some}
 use Rattle.sched_state.specs.declared.jobs.Job.{Job}
 use Rattle.sched_model.specs.Schedule.{Schedule}
-use Rattle.sched_model.specs.NamedRuns.{Named}
+use Rattle.sched_model.specs.NamedRuns.{NamedRun}
 use Rattle.sched_model.specs.Changes.{advance}
 use Rattle.sched_model.specs.Jobs.{handed}
 use Rattle.sched_events.specs.Events.{named_by, leaves_more_by, set_back_by, count_in, change_by, IsInRange}
@@ -31,11 +31,11 @@ accepted_among [] a = []
 accepted_among (e ∷ es) a = elim (refused a e) [ None ↦ e ∷ accepted_among es (step e a) | Some r ↦ accepted_among es a ]
 
 -- the runs that a list of events names, each at the schedule that it comes to
-abbrev pub named_along : List Event → Schedule → List Named
+abbrev pub named_along : List Event → Schedule → List NamedRun
 named_along [] a = []
 named_along (e ∷ es) a = named_by e a ++ named_along es (step e a)
 
-abbrev pub id_of : Named → RunId
+abbrev pub id_of : NamedRun → RunId
 id_of n = record { graph = n.graph; logical = n.logical; kind = n.kind }
 
 -- what an accepted event answers: the runs made, whether some are left for the next event of its kind, how many

@@ -3,7 +3,7 @@ ghost use Rattle.std.specs.Prelude.{◌≡◌, IfOk};
 
 use graph_file::{Name, Sequence};
 use moment_core::Moment;
-use sched_state::{Job, Kind};
+use sched_state::{Job, RunKind};
 use std::alloc::{AllocError, Global};
 
 /// Which run: a graph has at most one for each logical date.
@@ -14,7 +14,7 @@ pub struct RunId {
     /// The logical date.
     pub logical: Moment,
     /// How it came to be.
-    pub kind: Kind,
+    pub kind: RunKind,
 }
 
 impl RunId {

@@ -5,14 +5,14 @@ use graph_file::Name;
 use instance_machine::Stage;
 use moment_core::Moment;
 use pool_book::Slots;
-use sched_state::{Clearing, Text};
+use sched_state::{Clearing, GraphText};
 use std::alloc::{AllocError, Global};
 
 /// What comes to a schedule.
 #[derive(Debug, Drop)]
 pub enum Event {
     /// The text of a graph file is taken in (Airflow 2, "DAGs").
-    Load(Text),
+    Load(GraphText),
     /// The clock has reached this moment (Airflow 2, "Scheduler").
     Tick(Moment),
     /// A run of the graph with this id is made by hand, with the clock as its logical date (Airflow 2, "DAG Runs": external triggers).

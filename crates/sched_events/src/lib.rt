@@ -1,6 +1,9 @@
 //! What comes to a schedule, and what it makes of it: events, why they are refused, what they answer, and the step of each; and how
 //! task instances and pools are shown.
 //!
+//! In comes an event, as `Event::Tick(moment)`; out comes an `Answer`, or a `Refusal` that says why nothing has changed. `refused a e` is the
+//! first cause against an event at a schedule, `step e a` the schedule after it, `answer_to e a` its answer.
+//!
 //! The definitions stand in `specs/`: the causes against an event, its step and its answer. The laws are about them alone. What plans
 //! and does events is `sched_core`.
 #![tactic(auto)]

@@ -1,7 +1,7 @@
 //! Task instances and pools as rows.
 use graph_file::Name;
 use moment_core::Moment;
-use sched_state::Kind;
+use sched_state::RunKind;
 use std::marker::Model;
 use trigger_rules::State;
 
@@ -13,7 +13,7 @@ pub struct InstanceRow<'a> {
     /// The logical date of its run.
     pub logical: Moment,
     /// How its run came to be.
-    pub kind: Kind,
+    pub kind: RunKind,
     /// The task's id.
     pub task: &'a Name,
     pub state: State,

@@ -5,7 +5,7 @@ ghost use Rattle.sched_model.specs.States.{open_of, open_tries};
 ghost use Rattle.sched_handout.specs.Rooms as rooms;
 ghost use Rattle.sched_handout.specs.Rooms.{IsRoomIn};
 
-use dag_check::Graph as Dag;
+use dag_check::Graph;
 use graph_file::{Bounded, Name, TaskSpec};
 use instance_machine::Instance;
 use pool_book::{Pools, Slots};
@@ -46,7 +46,7 @@ fn left_by_runs(room: Room, draft: &Draft<'_>) -> Room
 }
 
 // What the open tries of a run leave.
-fn left_by_run(room: Room, dag: &Dag, run: &Run) -> Room
+fn left_by_run(room: Room, dag: &Graph, run: &Run) -> Room
     ensures { result ≡ rooms.left_by room (flat_map open_of (zip dag.now.tasks run.now.instances)) }
 {
     let instances = run.instances.as_slice();

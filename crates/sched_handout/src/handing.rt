@@ -6,8 +6,8 @@ ghost use Rattle.sched_handout.specs.Choices.{IsOneHanded};
 ghost use Rattle.sched_handout.specs.Rooms.{IsRoomIn};
 ghost use Rattle.sched_handout.specs.Weighing.{WeighGraphs};
 
-use crate::choosing::{best_offer, has_lane};
 use crate::counting::{Room, room_in, take};
+use crate::fitting::{best_offer, has_lane};
 use crate::ranking::Offer;
 use crate::weighing::weigh_graphs;
 use pool_book::Pools;

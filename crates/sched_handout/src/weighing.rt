@@ -2,7 +2,7 @@
 ghost use Rattle.std.specs.Prelude.{IfOk};
 ghost use Rattle.sched_handout.specs.Weighing.{WeighTasks, WeighGraphs};
 
-use dag_check::Graph as Dag;
+use dag_check::Graph;
 use priority_weights::effective;
 use sched_draft::Draft;
 use std::alloc::{AllocError, Global};
@@ -21,7 +21,7 @@ pub fn weigh_graphs(alloc: Global, draft: &Draft<'_>) -> Result<Vec<Vec<u64>>, A
 }
 
 // The effective weights of a graph's tasks, by place.
-fn weigh_tasks(alloc: Global, dag: &Dag) -> Result<Vec<u64>, AllocError>
+fn weigh_tasks(alloc: Global, dag: &Graph) -> Result<Vec<u64>, AllocError>
     ensures { IfOk result (λ weights. WeighTasks dag.now weights.items) }
 {
     let _count = dag.len();

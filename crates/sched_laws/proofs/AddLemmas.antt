@@ -13,13 +13,13 @@ use Rattle.graph_file.specs.declared.task_specs.TaskSpec.{TaskSpec}
 use Rattle.dag_check.specs.Orders.{repeated}
 use Rattle.instance_machine.specs.Instances.{new_instance}
 use Rattle.sched_state.specs.Lists.{same, name_cmp, insert_by}
-use Rattle.sched_state.specs.declared.runs.Phase.TheVariants as phase
+use Rattle.sched_state.specs.declared.runs.RunPhase.TheVariants as phase
 use Rattle.sched_state.proofs.OrderLemmas.{and_left, and_right, not_false, then_total, on_total, nat_tie, tie_then, all_insert, any_insert}
 use Rattle.sched_state.proofs.NameLemmas.{or_assoc}
 use Rattle.sched_model.specs.Lists.{all_pairs, rises}
 use Rattle.sched_model.specs.Schedule.{Schedule, dag_among, graph_named, has_run_at, is_at, run_before}
 use Rattle.sched_state.specs.declared.runs.Run.{Run}
-use Rattle.sched_model.specs.NamedRuns.{Named, is_for, queued_run, insert_runs, add_runs}
+use Rattle.sched_model.specs.NamedRuns.{NamedRun, is_for, queued_run, insert_runs, add_runs}
 use Rattle.sched_model.specs.Causes.{is_full_with}
 use Rattle.sched_model.specs.Sound.{IsSound, is_sound_in, is_sound_instance, is_sound_run, is_new, are_new, is_used, tries_rise, all_tries_rise, serials_of}
 use Rattle.sched_laws.specs.Runs.{named_as, runs_named}
@@ -36,7 +36,7 @@ blank_pairs : (ts : List TaskSpec) → all_pairs (is_sound_in phase.Queued) ts (
 blank_pairs [] = refl
 blank_pairs (t ∷ ts) = and_from _ _ (goes_on phase.Queued t new_instance refl (blank_sound t)) (blank_pairs ts)
 
-queued_sound : (a : Schedule) (n : Named) → is_new a n ≡ true → is_sound_run a.graphs (queued_run a n) ≡ true
+queued_sound : (a : Schedule) (n : NamedRun) → is_new a n ≡ true → is_sound_run a.graphs (queued_run a n) ≡ true
 queued_sound a n e = and_from _ _ (and_left _ _ (and_left _ _ e)) (and_from _ _ (and_right (is_some (graph_named a n.graph) && not (has_run_at a n.graph n.logical)) _ e) (blank_pairs (dag_among a.graphs n.graph).tasks))
 
 no_serials : (n : ℕ) → flat_map serials_in (replicate n new_instance) ≡ []
@@ -64,11 +64,11 @@ key_ties n r =
     ∙ ap (λ b. b && is_eq (nat_cmp r.logical n.logical)) (is_eq-slice_cmp r.graph n.graph)
     ∙ ap (λ b. same r.graph n.graph && b) (nat_tie r.logical n.logical)
 
-abbrev pub added : Schedule → List Named → List Run
+abbrev pub added : Schedule → List NamedRun → List Run
 added a ns = insert_runs (map (queued_run a) ns) a.runs
 
 -- the runs with a date are those that had it and the added ones
-pub added_keys : (a : Schedule) (ns : List Named) (id : List ℕ) (date : ℕ) → list_any (is_at id date) (added a ns) ≡ (list_any (is_for id date) ns || has_run_at a id date)
+pub added_keys : (a : Schedule) (ns : List NamedRun) (id : List ℕ) (date : ℕ) → list_any (is_at id date) (added a ns) ≡ (list_any (is_for id date) ns || has_run_at a id date)
 added_keys a [] id date = refl
 added_keys a (n ∷ ns) id date =
     any_insert run_before (is_at id date) (queued_run a n) (added a ns)
@@ -85,20 +85,20 @@ insert_names r (q ∷ qs) = elim (run_before r q) as (λ b. IsPermutation (named
       (IsPermutation-cons (named_as q) (named_as r ∷ map named_as qs) (map named_as (insert_by run_before r qs)) (insert_names r qs))
 ]
 
-pub added_names : (a : Schedule) (ns : List Named) → IsPermutation (ns ++ runs_named a) (map named_as (added a ns))
+pub added_names : (a : Schedule) (ns : List NamedRun) → IsPermutation (ns ++ runs_named a) (map named_as (added a ns))
 added_names a [] = IsPermutation-refl (runs_named a)
 added_names a (n ∷ ns) = IsPermutation-trans (n ∷ (ns ++ runs_named a)) (n ∷ map named_as (added a ns)) (map named_as (added a (n ∷ ns)))
     (IsPermutation-cons n (ns ++ runs_named a) (map named_as (added a ns)) (added_names a ns))
     (insert_names (queued_run a n) (added a ns))
 
-added_count : (a : Schedule) (ns : List Named) → length (added a ns) ≡ length a.runs + length ns
+added_count : (a : Schedule) (ns : List NamedRun) → length (added a ns) ≡ length a.runs + length ns
 added_count a [] = omega arith
 added_count a (n ∷ ns) =
     let i : length (added a (n ∷ ns)) ≡ length (added a ns) + 1 = insert_length run_before (queued_run a n) (added a ns) in
     let ih : length (added a ns) ≡ length a.runs + length ns = added_count a ns in
     omega arith
 
-added_serials : (a : Schedule) (ns : List Named) → listed (added a ns) ≡ listed a.runs
+added_serials : (a : Schedule) (ns : List NamedRun) → listed (added a ns) ≡ listed a.runs
 added_serials a [] = refl
 added_serials a (n ∷ ns) = flat_insert run_before run_serials (queued_run a n) (added a ns) (no_serials (length (dag_among a.graphs n.graph).tasks)) ∙ added_serials a ns
 
@@ -106,16 +106,16 @@ blank_rise : (n : ℕ) → list_all tries_rise (replicate n new_instance) ≡ tr
 blank_rise zero = refl
 blank_rise (suc n) = blank_rise n
 
-added_rise : (a : Schedule) (ns : List Named) → list_all all_tries_rise a.runs ≡ true → list_all all_tries_rise (added a ns) ≡ true
+added_rise : (a : Schedule) (ns : List NamedRun) → list_all all_tries_rise a.runs ≡ true → list_all all_tries_rise (added a ns) ≡ true
 added_rise a [] e = e
 added_rise a (n ∷ ns) e = all_insert run_before all_tries_rise (queued_run a n) (added a ns) (blank_rise (length (dag_among a.graphs n.graph).tasks)) (added_rise a ns e)
 
-added_sound : (a : Schedule) (ns : List Named) → are_new a ns ≡ true → IsSound a → list_all (is_sound_run a.graphs) (added a ns) ≡ true
+added_sound : (a : Schedule) (ns : List NamedRun) → are_new a ns ≡ true → IsSound a → list_all (is_sound_run a.graphs) (added a ns) ≡ true
 added_sound a [] e s = s.runs
 added_sound a (n ∷ ns) e s = all_insert run_before (is_sound_run a.graphs) (queued_run a n) (added a ns) (queued_sound a n (and_left _ _ e))
     (added_sound a ns (and_right (not (list_any (is_for n.graph n.logical) ns)) _ (and_right (is_new a n) _ e)) s)
 
-added_order : (a : Schedule) (ns : List Named) → are_new a ns ≡ true → IsSound a → rises run_before (added a ns) ≡ true
+added_order : (a : Schedule) (ns : List NamedRun) → are_new a ns ≡ true → IsSound a → rises run_before (added a ns) ≡ true
 unfolding run_cmp
 added_order a [] e s = s.runs_by_key
 added_order a (n ∷ ns) e s =
@@ -126,7 +126,7 @@ added_order a (n ∷ ns) e s =
     (any_same (is_at n.graph n.logical) (λ (r : Run). is_eq (run_cmp (queued_run a n) r)) (key_ties (queued_run a n)) (added a ns) ∙ added_keys a ns n.graph n.logical ∙ or_from _ _ other free)
     (added_order a ns (and_right (not (list_any (is_for n.graph n.logical) ns)) _ rest) s)
 
-pub add_sound : (ns : List Named) (a : Schedule) → are_new a ns ≡ true → is_full_with a ns ≡ false → IsSound a → IsSound (add_runs ns a)
+pub add_sound : (ns : List NamedRun) (a : Schedule) → are_new a ns ≡ true → is_full_with a ns ≡ false → IsSound a → IsSound (add_runs ns a)
 add_sound ns a e few s =
     let q : serials_of (add_runs ns a) ≡ serials_of a = serials_listed (add_runs ns a) ∙ added_serials a ns ∙ sym (serials_listed a) in
     record {

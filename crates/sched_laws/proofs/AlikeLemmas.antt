@@ -7,10 +7,10 @@ use Rattle.dag_check.specs.Graphs.{Dag, ups}
 use Rattle.trigger_rules.specs.Rules.{rule_verdict}
 use Rattle.trigger_rules.specs.declared.verdicts.Verdict.{Verdict}
 use Rattle.priority_weights.specs.Weights.{effective_weight}
-use Rattle.instance_machine.specs.Instances.{Held}
+use Rattle.instance_machine.specs.Instances.{InstanceValue}
 use Rattle.instance_machine.specs.States.{state_of}
 use Rattle.instance_machine.specs.declared.tries.Try.{Try}
-use Rattle.sched_state.specs.declared.graphs.Graph.{Graph}
+use Rattle.sched_state.specs.declared.graphs.LoadedGraph.{LoadedGraph}
 use Rattle.sched_state.specs.declared.runs.Run.{Run}
 use Rattle.sched_model.specs.Lists.{zip_with, best_by}
 use Rattle.sched_model.specs.Schedule.{Schedule, size_of, dag_among, no_dag, is_running, is_queued}
@@ -20,7 +20,7 @@ use Rattle.sched_model.specs.Handout.{Offer, is_ready, ranks_before, last_serial
 use Rattle.sched_laws.specs.Seen.{Sight, seen_past, seen_at, seen, sight_of, can_decide, can_decide_in, has_verdict, any_from, tasks_among, seen_active}
 
 -- the graph of each run has the tasks and edges that it had
-abbrev pub AllDags : List Graph → List Graph → List Run → Type 0
+abbrev pub AllDags : List LoadedGraph → List LoadedGraph → List Run → Type 0
 AllDags gs hs [] = Unit {0}
 AllDags gs hs (r ∷ rs) = (dag_among hs r.graph ≡ dag_among gs r.graph) × AllDags gs hs rs
 
@@ -36,7 +36,7 @@ sight_by r d = record {
 }
 
 -- the runs look as before
-pub same_sights : (gs hs : List Graph) (rs : List Run) → AllDags gs hs rs → map (sight_of hs) rs ≡ map (sight_of gs) rs
+pub same_sights : (gs hs : List LoadedGraph) (rs : List Run) → AllDags gs hs rs → map (sight_of hs) rs ≡ map (sight_of gs) rs
 unfolding sight_by
 same_sights gs hs [] f = refl
 same_sights gs hs (r ∷ rs) f =
@@ -49,12 +49,12 @@ abbrev verdict_by : List Sight → Sight → ℕ → TaskSpec → Dag → Option
 verdict_by vs v p t d = decides (seen_past vs v t p) (rule_verdict t.trigger_rule (map (seen_at v) (ups d p)))
 
 -- whether there is one is as before
-verdict_alike : (gs hs : List Graph) (vs : List Sight) (v : Sight) (p : ℕ) (o : Option TaskSpec) → dag_among hs v.graph ≡ dag_among gs v.graph → has_verdict hs vs v p o ≡ has_verdict gs vs v p o
+verdict_alike : (gs hs : List LoadedGraph) (vs : List Sight) (v : Sight) (p : ℕ) (o : Option TaskSpec) → dag_among hs v.graph ≡ dag_among gs v.graph → has_verdict hs vs v p o ≡ has_verdict gs vs v p o
 verdict_alike gs hs vs v p None e = refl
 verdict_alike gs hs vs v p (Some t) e = ap (λ (d : Dag). is_some (verdict_by vs v p t d)) e
 
 -- and so is whether an instance can be decided
-decide_alike : (gs hs : List Graph) (vs : List Sight) (v : Sight) → dag_among hs v.graph ≡ dag_among gs v.graph → (p : ℕ) (b : Bool) → can_decide hs vs v p b ≡ can_decide gs vs v p b
+decide_alike : (gs hs : List LoadedGraph) (vs : List Sight) (v : Sight) → dag_among hs v.graph ≡ dag_among gs v.graph → (p : ℕ) (b : Bool) → can_decide hs vs v p b ≡ can_decide gs vs v p b
 decide_alike gs hs vs v e p b =
     ap (λ (d : Dag). b && has_verdict hs vs v p (slice_get d.tasks p)) e
     ∙ ap (λ c. b && c) (verdict_alike gs hs vs v p (slice_get (tasks_among gs v.graph) p) e)
@@ -65,7 +65,7 @@ any_alike f g h i [] = refl
 any_alike f g h i (x ∷ xs) = rw (h i x, any_alike f g h (i + 1) xs) refl
 
 -- whether something can be decided in a run is as before
-pub deciding_alike : (gs hs : List Graph) (vs : List Sight) (rs : List Run) → AllDags gs hs rs → list_any (can_decide_in hs vs) (map (sight_of gs) rs) ≡ list_any (can_decide_in gs vs) (map (sight_of gs) rs)
+pub deciding_alike : (gs hs : List LoadedGraph) (vs : List Sight) (rs : List Run) → AllDags gs hs rs → list_any (can_decide_in hs vs) (map (sight_of gs) rs) ≡ list_any (can_decide_in gs vs) (map (sight_of gs) rs)
 deciding_alike gs hs vs [] f = refl
 deciding_alike gs hs vs (r ∷ rs) f =
     let v : Sight = sight_of gs r in
@@ -76,7 +76,7 @@ deciding_alike gs hs vs (r ∷ rs) f =
 
 -- ---- open tries
 -- the tries without an end, each beside its task, are as before
-pub open_alike : (gs hs : List Graph) (rs : List Run) → AllDags gs hs rs
+pub open_alike : (gs hs : List LoadedGraph) (rs : List Run) → AllDags gs hs rs
     → flat_map (λ (r : Run). flat_map open_of (zip (dag_among hs r.graph).tasks r.instances)) rs ≡ flat_map (λ (r : Run). flat_map open_of (zip (dag_among gs r.graph).tasks r.instances)) rs
 open_alike gs hs [] f = refl
 open_alike gs hs (r ∷ rs) f =
@@ -85,11 +85,11 @@ open_alike gs hs (r ∷ rs) f =
 
 -- ---- what asks for the pause, by the graph that is found
 -- whether a run can start
-abbrev pub start_by : List Sight → Sight → Option Graph → Bool
+abbrev pub start_by : List Sight → Sight → Option LoadedGraph → Bool
 start_by vs v o =
     is_queued v.phase
-    && (not (unwrap_or (option_map (λ (g : Graph). g.paused) o) false)
-    && nat_lt (seen_active vs v.graph) (unwrap_or (option_map (λ (g : Graph). g.dag) o) no_dag).spec.max_active_runs)
+    && (not (unwrap_or (option_map (λ (g : LoadedGraph). g.paused) o) false)
+    && nat_lt (seen_active vs v.graph) (unwrap_or (option_map (λ (g : LoadedGraph). g.dag) o) no_dag).spec.max_active_runs)
 
 -- the offer of an instance, what a place of a run offers, and what a run offers
 abbrev pub offer_by : ℕ → Run → Dag → ℕ → TaskSpec → Offer
@@ -104,12 +104,12 @@ offer_by n r d p t = record {
   slots = t.pool_slots;
 }
 
-abbrev pub offered_by : ℕ → ℕ → Run → Dag → ℕ × (TaskSpec × Held) → List Offer
+abbrev pub offered_by : ℕ → ℕ → Run → Dag → ℕ × (TaskSpec × InstanceValue) → List Offer
 offered_by now n r d e = elim (is_ready now e.1.0 e.1.1) [ true ↦ offer_by n r d e.0 e.1.0 ∷ [] | false ↦ [] ]
 
-abbrev pub offers_by : ℕ → ℕ → Run → Option Graph → List Offer
-offers_by now n r o = elim (is_running r.phase && not (unwrap_or (option_map (λ (g : Graph). g.paused) o) false)) [
-  | true ↦ flat_map (offered_by now n r (unwrap_or (option_map (λ (g : Graph). g.dag) o) no_dag)) (enumerate_from 0 (zip (unwrap_or (option_map (λ (g : Graph). g.dag) o) no_dag).tasks r.instances))
+abbrev pub offers_by : ℕ → ℕ → Run → Option LoadedGraph → List Offer
+offers_by now n r o = elim (is_running r.phase && not (unwrap_or (option_map (λ (g : LoadedGraph). g.paused) o) false)) [
+  | true ↦ flat_map (offered_by now n r (unwrap_or (option_map (λ (g : LoadedGraph). g.dag) o) no_dag)) (enumerate_from 0 (zip (unwrap_or (option_map (λ (g : LoadedGraph). g.dag) o) no_dag).tasks r.instances))
   | false ↦ []
 ]
 

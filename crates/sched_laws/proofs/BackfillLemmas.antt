@@ -7,7 +7,7 @@ use Rattle.run_planner.specs.Due.{without_runs}
 use Rattle.run_planner.specs.Index.{has_date}
 use Rattle.run_planner.specs.Spans.{starts, with_runs}
 use Rattle.sched_state.proofs.NameLemmas.{same_itself}
-use Rattle.sched_state.specs.declared.runs.Kind.TheVariants.{Backfill}
+use Rattle.sched_state.specs.declared.runs.RunKind.TheVariants.{Backfill}
 use Rattle.sched_model.specs.Changes.{advance}
 use Rattle.sched_model.specs.NamedRuns.{is_for, run_from, named_by_backfill, present_in, spanned}
 use Rattle.sched_model.specs.Schedule.{Schedule, dates_of, has_run_at}

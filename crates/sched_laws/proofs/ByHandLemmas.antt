@@ -11,7 +11,7 @@ use Rattle.run_planner.specs.Due.{due_intervals, last_alone, starts_rise, withou
 use Rattle.run_planner.specs.Index.{has_date}
 use Rattle.run_planner.specs.Spans.{timetable_span}
 use Rattle.run_planner.proofs.RiseLemmas.{all_filtered, filter_starts, due_rise}
-use Rattle.sched_state.specs.declared.runs.Kind.TheVariants.{Backfill}
+use Rattle.sched_state.specs.declared.runs.RunKind.TheVariants.{Backfill}
 use Rattle.sched_state.proofs.OrderLemmas.{and_left, and_right}
 use Rattle.sched_model.specs.NamedRuns.{manual_run, named_by_hand, named_by_backfill, spanned}
 use Rattle.sched_model.specs.Schedule.{Schedule, dag_named, graph_named, dates_of, has_run_at}

@@ -2,17 +2,17 @@
 use Rattle.std.proofs.Common.{◌≡◌, refl, sym, ap, ◌∙◌, ℕ, ◌+◌, List, [], ◌∷◌, Bool, true, false, cond, ◌&&◌, filter, flat_map, map, Option, Some, None, true≢false, is_some, is_none, zip}
 use Rattle.std.specs.List.{list_all, enumerate_from}
 use Rattle.graph_file.specs.declared.task_specs.TaskSpec.{TaskSpec}
-use Rattle.instance_machine.specs.Instances.{Held}
+use Rattle.instance_machine.specs.Instances.{InstanceValue}
 use Rattle.instance_machine.specs.declared.tries.Try.{Try}
 use Rattle.instance_machine.specs.declared.tries.End.{End}
-use Rattle.sched_state.specs.declared.runs.Phase.{Phase}
-use Rattle.sched_state.specs.declared.runs.Phase.TheVariants as phase
+use Rattle.sched_state.specs.declared.runs.RunPhase.{RunPhase}
+use Rattle.sched_state.specs.declared.runs.RunPhase.TheVariants as phase
 use Rattle.sched_state.proofs.OrderLemmas.{and_left, and_right}
 use Rattle.sched_model.specs.Lists.{all_pairs, map_places, best_by}
 use Rattle.sched_model.specs.Schedule.{Schedule, dag_among, is_ended}
 use Rattle.sched_state.specs.declared.runs.Run.{Run}
 use Rattle.sched_model.specs.States.{is_open}
-use Rattle.sched_model.specs.Clearing.{Naming, cleared, clear_pair, pairs_of, named_in, requeued, clear_if, clear_run, clear, named_pairs}
+use Rattle.sched_model.specs.Clearing.{Selection, cleared, clear_pair, pairs_of, named_in, requeued, clear_if, clear_run, clear, named_pairs}
 use Rattle.sched_model.specs.Causes.{open_serials, least_in_flight}
 use Rattle.sched_model.specs.Sound.{IsSound, is_sound_in, is_sound_instance, is_sound_run, has_end}
 use Rattle.sched_laws.proofs.ListLemmas.{all_flat}
@@ -23,8 +23,8 @@ use Rattle.sched_laws.proofs.RankLemmas.{some_of_cons}
 use Rattle.std.proofs.lemmas.Bool.{and_from}
 
 -- ---- no named try is open
-abbrev all_over : List (TaskSpec × Held) → Bool
-all_over es = list_all (λ (e : TaskSpec × Held). list_all has_end e.1.tries) es
+abbrev all_over : List (TaskSpec × InstanceValue) → Bool
+all_over es = list_all (λ (e : TaskSpec × InstanceValue). list_all has_end e.1.tries) es
 
 best_empty : {X : Type 0} (before : X → X → Bool) (xs : List X) → best_by before xs ≡ None → xs ≡ []
 best_empty before [] e = refl
@@ -41,23 +41,23 @@ none_open (t ∷ ts) e = elim (is_open t) as (λ b. is_open t ≡ b → map (λ 
   | false ↦ λ q f. and_from _ _ (closed_end t.ended q) (none_open ts f)
 ] refl e
 
-named_over : (a : Schedule) (named : Naming) → least_in_flight a named ≡ None → list_all (λ r. all_over (named_in a named r)) a.runs ≡ true
+named_over : (a : Schedule) (named : Selection) → least_in_flight a named ≡ None → list_all (λ r. all_over (named_in a named r)) a.runs ≡ true
 named_over a named e =
-    let ts : List Try = flat_map (λ (x : TaskSpec × Held). x.1.tries) (named_pairs a named) in
+    let ts : List Try = flat_map (λ (x : TaskSpec × InstanceValue). x.1.tries) (named_pairs a named) in
     let over : list_all has_end ts ≡ true = none_open ts (best_empty _ (open_serials ts) e) in
-    all_flat (λ (x : TaskSpec × Held). list_all has_end x.1.tries) (named_in a named) a.runs (all_flat has_end (λ (x : TaskSpec × Held). x.1.tries) (named_pairs a named) over)
+    all_flat (λ (x : TaskSpec × InstanceValue). list_all has_end x.1.tries) (named_in a named) a.runs (all_flat has_end (λ (x : TaskSpec × InstanceValue). x.1.tries) (named_pairs a named) over)
 
 -- ---- one run
-requeued_goes_on : (ph : Phase) → is_ended (requeued ph) ≡ false
+requeued_goes_on : (ph : RunPhase) → is_ended (requeued ph) ≡ false
 requeued_goes_on phase.Queued = refl
 requeued_goes_on phase.Running = refl
 requeued_goes_on phase.Success = refl
 requeued_goes_on phase.Failed = refl
 
-abbrev chosen : (ℕ → TaskSpec × Held → Bool) → List (ℕ × (TaskSpec × Held)) → List (TaskSpec × Held)
-chosen named es = map (λ (e : ℕ × (TaskSpec × Held)). e.1) (filter (λ (e : ℕ × (TaskSpec × Held)). named e.0 e.1) es)
+abbrev chosen : (ℕ → TaskSpec × InstanceValue → Bool) → List (ℕ × (TaskSpec × InstanceValue)) → List (TaskSpec × InstanceValue)
+chosen named es = map (λ (e : ℕ × (TaskSpec × InstanceValue)). e.1) (filter (λ (e : ℕ × (TaskSpec × InstanceValue)). named e.0 e.1) es)
 
-cleared_pairs : (named : ℕ → TaskSpec × Held → Bool) (ph : Phase) (k : ℕ) (ts : List TaskSpec) (is : List Held) → all_over (chosen named (enumerate_from k (zip ts is))) ≡ true → all_pairs (is_sound_in ph) ts is ≡ true
+cleared_pairs : (named : ℕ → TaskSpec × InstanceValue → Bool) (ph : RunPhase) (k : ℕ) (ts : List TaskSpec) (is : List InstanceValue) → all_over (chosen named (enumerate_from k (zip ts is))) ≡ true → all_pairs (is_sound_in ph) ts is ≡ true
     → all_pairs (is_sound_in (requeued ph)) ts (map_places (clear_pair named) k (zip ts is)) ≡ true
 cleared_pairs named ph k [] [] o e = refl
 cleared_pairs named ph k [] (i ∷ is) o e = absurd (true≢false (sym e))
@@ -65,57 +65,57 @@ cleared_pairs named ph k (t ∷ ts) [] o e = absurd (true≢false (sym e))
 cleared_pairs named ph k (t ∷ ts) (i ∷ is) o e =
     let si : is_sound_instance t i ≡ true = and_left _ _ (and_left _ _ e) in
     let se : all_pairs (is_sound_in ph) ts is ≡ true = and_right (is_sound_in ph t i) _ e in
-    elim (named k (t, i)) as (λ b. all_over (map (λ (x : ℕ × (TaskSpec × Held)). x.1) (cond b ((k, (t, i)) ∷ filter (λ (x : ℕ × (TaskSpec × Held)). named x.0 x.1) (enumerate_from (k + 1) (zip ts is))) (filter (λ (x : ℕ × (TaskSpec × Held)). named x.0 x.1) (enumerate_from (k + 1) (zip ts is))))) ≡ true
+    elim (named k (t, i)) as (λ b. all_over (map (λ (x : ℕ × (TaskSpec × InstanceValue)). x.1) (cond b ((k, (t, i)) ∷ filter (λ (x : ℕ × (TaskSpec × InstanceValue)). named x.0 x.1) (enumerate_from (k + 1) (zip ts is))) (filter (λ (x : ℕ × (TaskSpec × InstanceValue)). named x.0 x.1) (enumerate_from (k + 1) (zip ts is))))) ≡ true
     → (is_sound_in (requeued ph) t (cond b (cleared i) i) && all_pairs (is_sound_in (requeued ph)) ts (map_places (clear_pair named) (k + 1) (zip ts is))) ≡ true) [
       | true ↦ λ q. and_from _ _ (goes_on (requeued ph) t (cleared i) (requeued_goes_on ph) (cleared_sound t i si (and_left _ _ q)))
           (cleared_pairs named ph (k + 1) ts is (and_right (list_all has_end i.tries) _ q) se)
       | false ↦ λ q. and_from _ _ (goes_on (requeued ph) t i (requeued_goes_on ph) si) (cleared_pairs named ph (k + 1) ts is q se)
     ] o
 
-cleared_tries : (named : ℕ → TaskSpec × Held → Bool) (p : TaskSpec → Held → Bool) (k : ℕ) (ts : List TaskSpec) (is : List Held) → all_pairs p ts is ≡ true
-    → map (λ (i : Held). i.tries) (map_places (clear_pair named) k (zip ts is)) ≡ map (λ (i : Held). i.tries) is
+cleared_tries : (named : ℕ → TaskSpec × InstanceValue → Bool) (p : TaskSpec → InstanceValue → Bool) (k : ℕ) (ts : List TaskSpec) (is : List InstanceValue) → all_pairs p ts is ≡ true
+    → map (λ (i : InstanceValue). i.tries) (map_places (clear_pair named) k (zip ts is)) ≡ map (λ (i : InstanceValue). i.tries) is
 cleared_tries named p k [] [] e = refl
 cleared_tries named p k [] (i ∷ is) e = absurd (true≢false (sym e))
 cleared_tries named p k (t ∷ ts) [] e = refl
 cleared_tries named p k (t ∷ ts) (i ∷ is) e =
-    let tries : Held → List Try = λ j. j.tries in
+    let tries : InstanceValue → List Try = λ j. j.tries in
     let ih : map tries (map_places (clear_pair named) (k + 1) (zip ts is)) ≡ map tries is = cleared_tries named p (k + 1) ts is (and_right (p t i) _ e) in
     elim (named k (t, i)) as (λ b. tries (cond b (cleared i) i) ∷ map tries (map_places (clear_pair named) (k + 1) (zip ts is)) ≡ i.tries ∷ map tries is) [
       | true ↦ ap (λ zs. i.tries ∷ zs) ih
       | false ↦ ap (λ zs. i.tries ∷ zs) ih
     ]
 
-one_sound : (a : Schedule) (named : Naming) (r : Run) (es : List (TaskSpec × Held)) → all_over (named_in a named r) ≡ true → is_sound_run a.graphs r ≡ true → is_sound_run a.graphs (clear_if a named r es) ≡ true
+one_sound : (a : Schedule) (named : Selection) (r : Run) (es : List (TaskSpec × InstanceValue)) → all_over (named_in a named r) ≡ true → is_sound_run a.graphs r ≡ true → is_sound_run a.graphs (clear_if a named r es) ≡ true
 one_sound a named r [] o e = e
 one_sound a named r (x ∷ es) o e =
     paired_sound a.graphs r (requeued r.phase) (map_places (clear_pair (named r)) 0 (pairs_of a r)) e
     (cleared_pairs (named r) r.phase 0 (dag_among a.graphs r.graph).tasks r.instances o (pairs_of_run a.graphs r e))
 
-one_tries : (a : Schedule) (named : Naming) (r : Run) (es : List (TaskSpec × Held)) → is_sound_run a.graphs r ≡ true → try_lists (clear_if a named r es) ≡ try_lists r
+one_tries : (a : Schedule) (named : Selection) (r : Run) (es : List (TaskSpec × InstanceValue)) → is_sound_run a.graphs r ≡ true → try_lists (clear_if a named r es) ≡ try_lists r
 one_tries a named r [] e = refl
 one_tries a named r (x ∷ es) e = cleared_tries (named r) (is_sound_in r.phase) 0 (dag_among a.graphs r.graph).tasks r.instances (pairs_of_run a.graphs r e)
 
-one_key : (a : Schedule) (named : Naming) (r : Run) (es : List (TaskSpec × Held)) → key (clear_if a named r es) ≡ key r
+one_key : (a : Schedule) (named : Selection) (r : Run) (es : List (TaskSpec × InstanceValue)) → key (clear_if a named r es) ≡ key r
 one_key a named r [] = refl
 one_key a named r (x ∷ es) = refl
 
 -- ---- all runs
-all_sound : (a : Schedule) (named : Naming) (rs : List Run) → list_all (λ r. all_over (named_in a named r)) rs ≡ true → list_all (is_sound_run a.graphs) rs ≡ true → list_all (is_sound_run a.graphs) (map (clear_run a named) rs) ≡ true
+all_sound : (a : Schedule) (named : Selection) (rs : List Run) → list_all (λ r. all_over (named_in a named r)) rs ≡ true → list_all (is_sound_run a.graphs) rs ≡ true → list_all (is_sound_run a.graphs) (map (clear_run a named) rs) ≡ true
 all_sound a named [] o e = refl
 all_sound a named (r ∷ rs) o e = and_from _ _ (one_sound a named r (named_in a named r) (and_left _ _ o) (and_left _ _ e))
     (all_sound a named rs (and_right (all_over (named_in a named r)) _ o) (and_right (is_sound_run a.graphs r) _ e))
 
-pub all_tries : (a : Schedule) (named : Naming) (rs : List Run) → list_all (is_sound_run a.graphs) rs ≡ true → map try_lists (map (clear_run a named) rs) ≡ map try_lists rs
+pub all_tries : (a : Schedule) (named : Selection) (rs : List Run) → list_all (is_sound_run a.graphs) rs ≡ true → map try_lists (map (clear_run a named) rs) ≡ map try_lists rs
 all_tries a named [] e = refl
 all_tries a named (r ∷ rs) e =
     ap (λ (x : List (List Try)). x ∷ map try_lists (map (clear_run a named) rs)) (one_tries a named r (named_in a named r) (and_left _ _ e))
     ∙ ap (λ xs. try_lists r ∷ xs) (all_tries a named rs (and_right (is_sound_run a.graphs r) _ e))
 
-pub all_keys : (a : Schedule) (named : Naming) (rs : List Run) → map key (map (clear_run a named) rs) ≡ map key rs
+pub all_keys : (a : Schedule) (named : Selection) (rs : List Run) → map key (map (clear_run a named) rs) ≡ map key rs
 all_keys a named [] = refl
 all_keys a named (r ∷ rs) = ap (λ k. k ∷ map key (map (clear_run a named) rs)) (one_key a named r (named_in a named r)) ∙ ap (λ ks. key r ∷ ks) (all_keys a named rs)
 
-pub clear_sound : (named : Naming) (a : Schedule) → least_in_flight a named ≡ None → IsSound a → IsSound (clear named a)
+pub clear_sound : (named : Selection) (a : Schedule) → least_in_flight a named ≡ None → IsSound a → IsSound (clear named a)
 clear_sound named a n s = runs_changed a (map (clear_run a named) a.runs) (record {
   keys = all_keys a named a.runs;
   serials = serials_of_tries a.runs (map (clear_run a named) a.runs) (all_tries a named a.runs s.runs);

@@ -16,10 +16,10 @@ use Rattle.sched_state.specs.Lists.{same, change_from, first_change, is_less, na
 use Rattle.sched_model.specs.Lists.{at, map_places, rises}
 use Rattle.dag_check.specs.Orders.{is_in}
 use Rattle.std.specs.Ordering.{ordering_then}
-use Rattle.instance_machine.specs.Instances.{Held}
+use Rattle.instance_machine.specs.Instances.{InstanceValue}
 use Rattle.sched_model.specs.Schedule.{Schedule, tasks_of, is_running, run_before, dag_among, dag_named, graph_among, no_dag}
 use Rattle.sched_state.specs.declared.runs.Run.{Run}
-use Rattle.sched_state.specs.declared.graphs.Graph.{Graph}
+use Rattle.sched_state.specs.declared.graphs.LoadedGraph.{LoadedGraph}
 use Rattle.instance_machine.specs.declared.tries.Try.{Try}
 use Rattle.sched_model.specs.Settle.{decide_task, decide_instance, decide_run, moves_left, moves_left_of}
 use Rattle.sched_model.specs.Handout.{in_instance}
@@ -67,23 +67,23 @@ at_known f (suc n) (z ∷ xs) x e = ap (λ ys. z ∷ ys) (at_known f n xs x e)
 -- ---- decisions
 
 -- a decision, taken apart
-pub record Decided (a : Schedule) (n p : ℕ) (j : Held) : Type 0 where
+pub record Decided (a : Schedule) (n p : ℕ) (j : InstanceValue) : Type 0 where
   pub run : Run
-  pub instance : Held
+  pub instance : InstanceValue
   pub run_is : slice_get a.runs n ≡ Some run
   pub running : is_running run.phase ≡ true
   pub instance_is : slice_get run.instances p ≡ Some instance
   pub decided : decide_instance a run p instance ≡ Some j
 
-guard_some : (c : Bool) (o : Option Held) (j : Held) → (◌≡◌ {A = Option Held} (elim c [ true ↦ o | false ↦ None ]) (Some j)) → (c ≡ true) × (o ≡ Some j)
+guard_some : (c : Bool) (o : Option InstanceValue) (j : InstanceValue) → (◌≡◌ {A = Option InstanceValue} (elim c [ true ↦ o | false ↦ None ]) (Some j)) → (c ≡ true) × (o ≡ Some j)
 guard_some true o j e = (refl, e)
-guard_some false o j e = absurd (let n : ◌≡◌ {A = Option Held} None (Some j) = e in cc)
+guard_some false o j e = absurd (let n : ◌≡◌ {A = Option InstanceValue} None (Some j) = e in cc)
 
-guard_true : (c : Bool) (o : Option Held) → c ≡ true → (◌≡◌ {A = Option Held} (elim c [ true ↦ o | false ↦ None ]) o)
+guard_true : (c : Bool) (o : Option InstanceValue) → c ≡ true → (◌≡◌ {A = Option InstanceValue} (elim c [ true ↦ o | false ↦ None ]) o)
 guard_true true o e = refl
 guard_true false o e = absurd (true≢false (sym e))
 
-pub decided : (a : Schedule) (n p : ℕ) (j : Held) → decision a n p ≡ Some j → Decided a n p j
+pub decided : (a : Schedule) (n p : ℕ) (j : InstanceValue) → decision a n p ≡ Some j → Decided a n p j
 decided a n p j e =
     let t = and_then_some (decision_in a p) (slice_get a.runs n) j e in
     let u = guard_some (is_running t.0.phase) (option_and_then (decide_instance a t.0 p) (slice_get t.0.instances p)) j t.2 in
@@ -91,7 +91,7 @@ decided a n p j e =
     record { run = t.0; instance = w.0; run_is = t.1; running = u.0; instance_is = w.1; decided = w.2 }
 
 -- where no decision is possible at a place of a running run
-undecided : (a : Schedule) (n p : ℕ) (r : Run) (i : Held) → decision a n p ≡ None → slice_get a.runs n ≡ Some r → is_running r.phase ≡ true → slice_get r.instances p ≡ Some i → decide_instance a r p i ≡ None
+undecided : (a : Schedule) (n p : ℕ) (r : Run) (i : InstanceValue) → decision a n p ≡ None → slice_get a.runs n ≡ Some r → is_running r.phase ≡ true → slice_get r.instances p ≡ Some i → decide_instance a r p i ≡ None
 undecided a n p r i e f g h =
     sym (ap (option_and_then (decide_instance a r p)) h) ∙ sym (guard_true (is_running r.phase) (option_and_then (decide_instance a r p) (slice_get r.instances p)) g) ∙ sym (ap (option_and_then (decision_in a p)) f) ∙ e
 
@@ -109,7 +109,7 @@ quiet_run a n r e h = elim (is_running r.phase) as (λ c. is_running r.phase ≡
 ] refl
 
 -- the first decision by position is the first decision
-pub first_decision : (a : Schedule) (n p : ℕ) (j : Held) → IsClean n p a → decision a n p ≡ Some j → decide_one a ≡ Some (put j n p a)
+pub first_decision : (a : Schedule) (n p : ℕ) (j : InstanceValue) → IsClean n p a → decision a n p ≡ Some j → decide_one a ≡ Some (put j n p a)
 first_decision a n p j clean e =
     let d = decided a n p j e in
     let zp : p ≡ 0 + p = omega arith in
@@ -135,7 +135,7 @@ one_falls a b e =
     subst (λ (k : Schedule). moves_left k < moves_left a) t.2 h
 
 -- deciding first at a clean position changes nothing of where deciding ends
-pub first_then_all : (a : Schedule) (n p : ℕ) (j : Held) → IsClean n p a → decision a n p ≡ Some j → decide_all a ≡ decide_all (put j n p a)
+pub first_then_all : (a : Schedule) (n p : ℕ) (j : InstanceValue) → IsClean n p a → decision a n p ≡ Some j → decide_all a ≡ decide_all (put j n p a)
 first_then_all a n p j c e = repeat_turn moves_left decide_one one_falls a (put j n p a) (first_decision a n p j c e)
 
 pub none_then_all : (a : Schedule) → ((n p : ℕ) → decision a n p ≡ None) → decide_all a ≡ a
@@ -145,24 +145,24 @@ none_then_all a h = repeat_done (moves_left a) decide_one a (no_decision a h)
 made : (b : Schedule) (r : Run) (p : ℕ) (v : Verdict) (s : ℕ) (ts : List Try) → decide_instance b r p (record { verdict = Some v; since = s; tries = ts }) ≡ None
 made b r p v s ts = refl
 
-abbrev made_of : Option Verdict → ℕ → List Try → Held
+abbrev made_of : Option Verdict → ℕ → List Try → InstanceValue
 made_of v s ts = record { verdict = v; since = s; tries = ts }
 
-once_of : (a b : Schedule) (r u : Run) (p q : ℕ) (v : Option Verdict) (s : ℕ) (ts : List Try) (j : Held) → decide_instance a r p (made_of v s ts) ≡ Some j → decide_instance b u q j ≡ None
-once_of a b r u p q (Some v) s ts j e = absurd (let n : ◌≡◌ {A = Option Held} None (Some j) = e in cc)
+once_of : (a b : Schedule) (r u : Run) (p q : ℕ) (v : Option Verdict) (s : ℕ) (ts : List Try) (j : InstanceValue) → decide_instance a r p (made_of v s ts) ≡ Some j → decide_instance b u q j ≡ None
+once_of a b r u p q (Some v) s ts j e = absurd (let n : ◌≡◌ {A = Option InstanceValue} None (Some j) = e in cc)
 once_of a b r u p q None s ts j e =
     let t = and_then_some (decide_task a r p (made_of None s ts)) (slice_get (tasks_of a r) p) j e in
     let w = map_some (λ v. made_of (Some v) s ts) _ j t.2 in
-    subst (λ (k : Held). decide_instance b u q k ≡ None) w.2 refl
+    subst (λ (k : InstanceValue). decide_instance b u q k ≡ None) w.2 refl
 
-once : (a b : Schedule) (r u : Run) (p q : ℕ) (i j : Held) → decide_instance a r p i ≡ Some j → decide_instance b u q j ≡ None
+once : (a b : Schedule) (r u : Run) (p q : ℕ) (i j : InstanceValue) → decide_instance a r p i ≡ Some j → decide_instance b u q j ≡ None
 once a b r u p q i j e = once_of a b r u p q i.verdict i.since i.tries j e
 
-pub none_guard : (c : Bool) (o : Option Held) → o ≡ None → (◌≡◌ {A = Option Held} (elim c [ true ↦ o | false ↦ None ]) None)
+pub none_guard : (c : Bool) (o : Option InstanceValue) → o ≡ None → (◌≡◌ {A = Option InstanceValue} (elim c [ true ↦ o | false ↦ None ]) None)
 none_guard true o e = e
 none_guard false o e = refl
 
-pub decided_once : (a : Schedule) (n p : ℕ) (j : Held) → decision a n p ≡ Some j → decision (put j n p a) n p ≡ None
+pub decided_once : (a : Schedule) (n p : ℕ) (j : InstanceValue) → decision a n p ≡ Some j → decision (put j n p a) n p ≡ None
 decided_once a n p j e =
     let d = decided a n p j e in
     let u : Run = in_instance (λ i. j) p d.run in
@@ -179,14 +179,14 @@ or_true true c e f = absurd (true≢false e)
 or_true false c e f = f
 
 -- a decision is there or not
-pub by_decision : {C : Type 0} (a : Schedule) (n p : ℕ) → (decision a n p ≡ None → C) → ((j : Held) → decision a n p ≡ Some j → C) → C
+pub by_decision : {C : Type 0} (a : Schedule) (n p : ℕ) → (decision a n p ≡ None → C) → ((j : InstanceValue) → decision a n p ≡ Some j → C) → C
 by_decision {C} a n p f g = elim (decision a n p) as (λ o. decision a n p ≡ o → C) [ None ↦ λ e. f e | Some j ↦ λ e. g j e ] refl
 
 pub by_bool : {C : Type 0} (b : Bool) → (b ≡ true → C) → (b ≡ false → C) → C
 by_bool {C} b f g = elim b as (λ c. b ≡ c → C) [ true ↦ λ e. f e | false ↦ λ e. g e ] refl
 
-not_some : {C : Type 0} (o : Option Held) (j : Held) → o ≡ None → o ≡ Some j → C
-not_some {C} o j e f = absurd (let c : ◌≡◌ {A = Option Held} None (Some j) = sym e ∙ f in cc)
+not_some : {C : Type 0} (o : Option InstanceValue) (j : InstanceValue) → o ≡ None → o ≡ Some j → C
+not_some {C} o j e f = absurd (let c : ◌≡◌ {A = Option InstanceValue} None (Some j) = sym e ∙ f in cc)
 
 pub at_same : (a : Schedule) (n p m q : ℕ) → (nat_eq m n && nat_eq q p) ≡ true → decision a m q ≡ decision a n p
 at_same a n p m q e =
@@ -204,7 +204,7 @@ pub passed_over : (dirty : ℕ → ℕ → Bool) (a : Schedule) (n p : ℕ) → 
 passed_over dirty a n p c e m q j f = stays_without (dirty m q) (is_position n p m q) (c m q j f)
     (by_bool {C = is_position n p m q ≡ false} (is_position n p m q) (λ g. not_some (decision a m q) j (at_same a n p m q g ∙ e) f) (λ g. g))
 
-pub decided_marks : (dirty : ℕ → ℕ → Bool) (a : Schedule) (n p : ℕ) (j : Held) → Covers dirty a → decision a n p ≡ Some j → Covers (marked a n p dirty) (put j n p a)
+pub decided_marks : (dirty : ℕ → ℕ → Bool) (a : Schedule) (n p : ℕ) (j : InstanceValue) → Covers dirty a → decision a n p ≡ Some j → Covers (marked a n p dirty) (put j n p a)
 decided_marks dirty a n p j c e m q k f =
     by_bool {C = marked a n p dirty m q ≡ true} (is_position n p m q)
     (λ g. not_some (decision (put j n p a) m q) k (at_same (put j n p a) n p m q g ∙ decided_once a n p j e) f)
@@ -214,7 +214,7 @@ decided_marks dirty a n p j c e m q k f =
     (stays_without (dirty m q) (is_position n p m q) (c m q k (sym (unlooked a (λ i. j) n p m q l g) ∙ f)) g)))
 
 -- a change of one instance, whatever it is, marks it and what looks at it
-pub change_marks : (dirty : ℕ → ℕ → Bool) (a : Schedule) (g : Held → Held) (n p : ℕ) → Covers dirty a → Covers (touched a n p dirty) (change_at g n p a)
+pub change_marks : (dirty : ℕ → ℕ → Bool) (a : Schedule) (g : InstanceValue → InstanceValue) (n p : ℕ) → Covers dirty a → Covers (touched a n p dirty) (change_at g n p a)
 change_marks dirty a g n p c m q k f =
     by_bool {C = touched a n p dirty m q ≡ true} (is_position n p m q)
     (λ e. or_right (dirty m q) (is_position n p m q || looks a m q n p) (or_left (is_position n p m q) (looks a m q n p) e))
@@ -238,9 +238,9 @@ row_below i zero p (us ∷ rows) e f =
 row_below i (suc q) p (us ∷ rows) e f =
     let l : p < (i + 1) + q = row_below (i + 1) q p rows (and_right (is_sound_row i us) _ e) f in omega arith
 
-found_down : (id : List ℕ) (gs : List Graph) → list_all (λ (g : Graph). leads_down g.dag) gs ≡ true → leads_down (dag_among gs id) ≡ true
+found_down : (id : List ℕ) (gs : List LoadedGraph) → list_all (λ (g : LoadedGraph). leads_down g.dag) gs ≡ true → leads_down (dag_among gs id) ≡ true
 found_down id [] e = refl
-found_down id (g ∷ gs) e = elim (same g.dag.spec.dag_id id) as (λ b. leads_down (unwrap_or (option_map (λ (h : Graph). h.dag) (cond b (Some g) (graph_among gs id))) no_dag) ≡ true) [
+found_down id (g ∷ gs) e = elim (same g.dag.spec.dag_id id) as (λ b. leads_down (unwrap_or (option_map (λ (h : LoadedGraph). h.dag) (cond b (Some g) (graph_among gs id))) no_dag) ≡ true) [
   | true ↦ and_left _ _ e
   | false ↦ found_down id gs (and_right (leads_down g.dag) _ e)
 ]

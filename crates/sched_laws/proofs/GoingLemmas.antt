@@ -3,7 +3,7 @@ use Rattle.std.proofs.Common.{◌≡◌, ◌∙◌, refl, sym, ap, subst, ℕ, z
 use Rattle.std.specs.List.{list_any}
 use Rattle.std.proofs.lemmas.Bool.{eqb-true}
 use Rattle.std.proofs.lemmas.Option.{slice_get-map}
-use Rattle.instance_machine.specs.Instances.{Held, map_tries}
+use Rattle.instance_machine.specs.Instances.{InstanceValue, map_tries}
 use Rattle.instance_machine.specs.Reports.{report_try, reported_try, lost_if, lost_try}
 use Rattle.instance_machine.specs.declared.tries.Try.{Try}
 use Rattle.instance_machine.specs.declared.tries.End.{End}
@@ -16,10 +16,10 @@ use Rattle.sched_state.proofs.NameLemmas.{same_is}
 use Rattle.sched_state.proofs.OrderLemmas.{and_left, and_right, not_false}
 use Rattle.sched_state.proofs.RepeatLemmas.{repeat_done, repeat_more}
 use Rattle.sched_model.specs.Changes.{advance, map_tries_of, map_all_tries}
-use Rattle.sched_model.specs.Clearing.{Naming, clear, clear_run}
+use Rattle.sched_model.specs.Clearing.{Selection, clear, clear_run}
 use Rattle.sched_model.specs.Handout.{new_try, with_try, in_instance, hand, hand_one, best_offer, serials_left}
 use Rattle.sched_model.specs.Lists.{at}
-use Rattle.sched_model.specs.NamedRuns.{Named, is_for, queued_run, add_runs}
+use Rattle.sched_model.specs.NamedRuns.{NamedRun, is_for, queued_run, add_runs}
 use Rattle.sched_model.specs.Schedule.{Schedule, is_at, run_before, graph_named, has_run_at}
 use Rattle.sched_model.specs.Settle.{move, move_runs, with_runs, settle, moves_left}
 use Rattle.sched_model.specs.Sound.{IsSound, is_new, are_new}
@@ -107,9 +107,9 @@ run_further r q w f g = record {
 
 -- where the tries are the same
 in_lists : (p n : ℕ) (r : Run) → try_in p n r ≡ option_and_then (λ (ts : List Try). slice_get ts n) (slice_get (try_lists r) p)
-in_lists p n r = of_option (slice_get r.instances p) ∙ ap (option_and_then (λ (ts : List Try). slice_get ts n)) (sym (slice_get-map (λ (i : Held). i.tries) r.instances p))
+in_lists p n r = of_option (slice_get r.instances p) ∙ ap (option_and_then (λ (ts : List Try). slice_get ts n)) (sym (slice_get-map (λ (i : InstanceValue). i.tries) r.instances p))
   where
-    of_option : (o : Option Held) → option_and_then (λ (i : Held). slice_get i.tries n) o ≡ option_and_then (λ (ts : List Try). slice_get ts n) (option_map (λ (i : Held). i.tries) o)
+    of_option : (o : Option InstanceValue) → option_and_then (λ (i : InstanceValue). slice_get i.tries n) o ≡ option_and_then (λ (ts : List Try). slice_get ts n) (option_map (λ (i : InstanceValue). i.tries) o)
     of_option None = refl
     of_option (Some i) = refl
 
@@ -121,9 +121,9 @@ same_tries r q e f = record {
 
 -- where each try is changed
 mapped_get : (f : Try → Try) (p n : ℕ) (r : Run) → try_in p n (map_tries_of f r) ≡ option_map f (try_in p n r)
-mapped_get f p n r = ap (option_and_then (λ (i : Held). slice_get i.tries n)) (slice_get-map (map_tries f) r.instances p) ∙ of_option (slice_get r.instances p)
+mapped_get f p n r = ap (option_and_then (λ (i : InstanceValue). slice_get i.tries n)) (slice_get-map (map_tries f) r.instances p) ∙ of_option (slice_get r.instances p)
   where
-    of_option : (o : Option Held) → option_and_then (λ (i : Held). slice_get i.tries n) (option_map (map_tries f) o) ≡ option_map f (option_and_then (λ (i : Held). slice_get i.tries n) o)
+    of_option : (o : Option InstanceValue) → option_and_then (λ (i : InstanceValue). slice_get i.tries n) (option_map (map_tries f) o) ≡ option_map f (option_and_then (λ (i : InstanceValue). slice_get i.tries n) o)
     of_option None = refl
     of_option (Some i) = slice_get-map f i.tries n
 
@@ -136,8 +136,8 @@ get_front {X} [] ys n x e = absurd (let c : ◌≡◌ {A = Option X} None (Some 
 get_front (z ∷ xs) ys zero x e = e
 get_front (z ∷ xs) ys (suc n) x e = get_front xs ys n x e
 
-handed_get : (v : Try) (k : ℕ) (is : List Held) (p n : ℕ) (t : Try) → option_and_then (λ (i : Held). slice_get i.tries n) (slice_get is p) ≡ Some t
-    → option_and_then (λ (i : Held). slice_get i.tries n) (slice_get (at (with_try v) k is) p) ≡ Some t
+handed_get : (v : Try) (k : ℕ) (is : List InstanceValue) (p n : ℕ) (t : Try) → option_and_then (λ (i : InstanceValue). slice_get i.tries n) (slice_get is p) ≡ Some t
+    → option_and_then (λ (i : InstanceValue). slice_get i.tries n) (slice_get (at (with_try v) k is) p) ≡ Some t
 handed_get v k [] p n t e = e
 handed_get v zero (i ∷ is) zero n t e = get_front i.tries (v ∷ []) n t e
 handed_get v zero (i ∷ is) (suc p) n t e = e
@@ -176,8 +176,8 @@ heads_are x y xs ys e = (cc, cc)
 
 pub lists_go : (rs qs : List Run) → map named_as qs ≡ map named_as rs → map try_lists qs ≡ map try_lists rs → AllGoOn rs qs
 lists_go [] [] e f = all_still []
-lists_go [] (q ∷ qs) e f = absurd (let c : ◌≡◌ {A = List Named} (named_as q ∷ map named_as qs) [] = e in cc)
-lists_go (r ∷ rs) [] e f = absurd (let c : ◌≡◌ {A = List Named} [] (named_as r ∷ map named_as rs) = e in cc)
+lists_go [] (q ∷ qs) e f = absurd (let c : ◌≡◌ {A = List NamedRun} (named_as q ∷ map named_as qs) [] = e in cc)
+lists_go (r ∷ rs) [] e f = absurd (let c : ◌≡◌ {A = List NamedRun} [] (named_as r ∷ map named_as rs) = e in cc)
 lists_go (r ∷ rs) (q ∷ qs) e f =
     let names = heads_are (named_as q) (named_as r) (map named_as qs) (map named_as rs) e in
     let tries = heads_are (try_lists q) (try_lists r) (map try_lists qs) (map try_lists rs) f in
@@ -196,7 +196,7 @@ at_goes g h (suc n) (r ∷ rs) = first_goes r r rs (at g n rs) (run_still r) (at
 pub tries_go : (f : Try → Try) → ((t : Try) → GoesOn t (f t)) → (a : Schedule) → AllGoOn a.runs (map_all_tries f a).runs
 tries_go f h a = each_goes (map_tries_of f) (changed_tries f h) a.runs
 
-pub clear_goes : (named : Naming) (a : Schedule) → IsSound a → AllGoOn a.runs (clear named a).runs
+pub clear_goes : (named : Selection) (a : Schedule) → IsSound a → AllGoOn a.runs (clear named a).runs
 clear_goes named a s = lists_go a.runs (map (clear_run a named) a.runs) (all_keys a named a.runs) (all_tries a named a.runs s.runs)
 
 -- new runs
@@ -214,7 +214,7 @@ found_any p (y ∷ ys) x e = elim (p y) as (λ b. cond b (Some y) (find p ys) �
   | false ↦ λ f. found_any p ys x f
 ] e
 
-not_for : (a : Schedule) (n : Named) (id : List ℕ) (date : ℕ) → is_new a n ≡ true → has_run_at a id date ≡ true → is_for id date n ≡ false
+not_for : (a : Schedule) (n : NamedRun) (id : List ℕ) (date : ℕ) → is_new a n ≡ true → has_run_at a id date ≡ true → is_for id date n ≡ false
 not_for a n id date e there = elim (is_for id date n) as (λ b. is_for id date n ≡ b → b ≡ false) [
   | false ↦ λ f. refl
   | true ↦ λ f.
@@ -224,13 +224,13 @@ not_for a n id date e there = elim (is_for id date n) as (λ b. is_for id date n
       absurd (true≢false (sym there ∙ (ap (λ (k : List ℕ). has_run_at a k date) (sym graph) ∙ (ap (has_run_at a n.graph) (sym at_date) ∙ free))))
 ] refl
 
-added_find : (a : Schedule) (ns : List Named) (id : List ℕ) (date : ℕ) → are_new a ns ≡ true → has_run_at a id date ≡ true → run_at id date (added a ns) ≡ run_at id date a.runs
+added_find : (a : Schedule) (ns : List NamedRun) (id : List ℕ) (date : ℕ) → are_new a ns ≡ true → has_run_at a id date ≡ true → run_at id date (added a ns) ≡ run_at id date a.runs
 added_find a [] id date e there = refl
 added_find a (n ∷ ns) id date e there =
     find_insert run_before (is_at id date) (queued_run a n) (added a ns) (not_for a n id date (and_left _ _ e) there)
     ∙ added_find a ns id date (and_right (not (list_any (is_for n.graph n.logical) ns)) _ (and_right (is_new a n) _ e)) there
 
-pub added_go : (ns : List Named) (a : Schedule) → are_new a ns ≡ true → AllGoOn a.runs (add_runs ns a).runs
+pub added_go : (ns : List NamedRun) (a : Schedule) → are_new a ns ≡ true → AllGoOn a.runs (add_runs ns a).runs
 added_go ns a e id date r f = (r, added_find a ns id date e (found_any (is_at id date) a.runs r f) ∙ f, run_still r)
 
 -- ---- moves and hand-outs
@@ -253,7 +253,7 @@ hand_goes a b e =
     let v : Try = new_try a.next t.0.slots in
     subst (λ (c : Schedule). AllGoOn a.runs c.runs) t.2 (at_goes (in_instance (with_try v) t.0.place) (handed_try v t.0.place) t.0.run a.runs)
 
-pub advance_goes : (ns : List Named) (a : Schedule) → are_new a ns ≡ true → AllGoOn a.runs (advance ns a).runs
+pub advance_goes : (ns : List NamedRun) (a : Schedule) → are_new a ns ≡ true → AllGoOn a.runs (advance ns a).runs
 advance_goes ns a e =
     let b : Schedule = add_runs ns a in
     all_further a.runs b.runs (advance ns a).runs (added_go ns a e)

@@ -12,7 +12,7 @@ use Rattle.std.proofs.lemmas.Bool.{le-leb, and_from, false_from_ne_true}
 use Rattle.std.proofs.lemmas.List.{length-map}
 use Rattle.dag_check.specs.Graphs.{Dag}
 use Rattle.sched_state.specs.Lists.{same, name_cmp, is_less, insert_by}
-use Rattle.sched_state.specs.declared.graphs.Graph.{Graph}
+use Rattle.sched_state.specs.declared.graphs.LoadedGraph.{LoadedGraph}
 use Rattle.sched_state.proofs.OrderLemmas.{and_left, and_right, or_left, or_right, eq_flips, on_total, all_insert, map_keeps}
 use Rattle.sched_state.proofs.NameLemmas.{same_is, find_any, same_itself}
 use Rattle.sched_model.specs.Lists.{all_pairs, rises}
@@ -68,19 +68,19 @@ tie_flips {R = R} o x y = ap is_eq (o.antisymm x y) ∙ eq_flips (R y x)
 abbrev id_before : List ℕ → List ℕ → Bool
 id_before x y = is_less (name_cmp x y)
 
-abbrev pub id_of : Graph → List ℕ
+abbrev pub id_of : LoadedGraph → List ℕ
 id_of g = g.dag.spec.dag_id
 
-keeps_order : (f : Graph → Graph) → ((g : Graph) → id_of (f g) ≡ id_of g) → (gs : List Graph) → rises graph_before gs ≡ true → rises graph_before (map f gs) ≡ true
+keeps_order : (f : LoadedGraph → LoadedGraph) → ((g : LoadedGraph) → id_of (f g) ≡ id_of g) → (gs : List LoadedGraph) → rises graph_before gs ≡ true → rises graph_before (map f gs) ≡ true
 keeps_order f k gs e = sym (rises_map id_before id_of (map f gs)) ∙ ap (rises id_before) (map_keeps id_of f k gs) ∙ rises_map id_before id_of gs ∙ e
 
 -- a run is sound among other graphs where its own is the same
-pub alike_sound : (gs hs : List Graph) (r : Run) → is_some (graph_among hs r.graph) ≡ is_some (graph_among gs r.graph) → dag_among hs r.graph ≡ dag_among gs r.graph → is_sound_run hs r ≡ is_sound_run gs r
+pub alike_sound : (gs hs : List LoadedGraph) (r : Run) → is_some (graph_among hs r.graph) ≡ is_some (graph_among gs r.graph) → dag_among hs r.graph ≡ dag_among gs r.graph → is_sound_run hs r ≡ is_sound_run gs r
 alike_sound gs hs r e f =
     ap (λ b. b && ((is_moment r.logical && (is_moment r.interval.end && nat_le r.interval.start r.interval.end)) && all_pairs (is_sound_in r.phase) (dag_among hs r.graph).tasks r.instances)) e
     ∙ ap (λ (d : Dag). is_some (graph_among gs r.graph) && ((is_moment r.logical && (is_moment r.interval.end && nat_le r.interval.start r.interval.end)) && all_pairs (is_sound_in r.phase) d.tasks r.instances)) f
 
-with_graphs : (a : Schedule) (gs : List Graph) → rises graph_before gs ≡ true → nat_le (length gs) a.limits.graphs ≡ true → list_all (is_sound_graph a) gs ≡ true → list_all (is_sound_run gs) a.runs ≡ true → IsSound a → IsSound (record a { graphs = gs })
+with_graphs : (a : Schedule) (gs : List LoadedGraph) → rises graph_before gs ≡ true → nat_le (length gs) a.limits.graphs ≡ true → list_all (is_sound_graph a) gs ≡ true → list_all (is_sound_run gs) a.runs ≡ true → IsSound a → IsSound (record a { graphs = gs })
 with_graphs a gs o n g r s = record {
   graphs_by_id = o;
   pools_by_name = s.pools_by_name;
@@ -101,14 +101,14 @@ with_graphs a gs o n g r s = record {
 }
 
 -- ---- pausing
-chosen_dag : (b p : Bool) (g : Graph) → (cond b (record g { paused = p }) g).dag ≡ g.dag
+chosen_dag : (b p : Bool) (g : LoadedGraph) → (cond b (record g { paused = p }) g).dag ≡ g.dag
 chosen_dag true p g = refl
 chosen_dag false p g = refl
 
-pub paused_dag : (id : List ℕ) (p : Bool) (g : Graph) → (pause_graph id p g).dag ≡ g.dag
+pub paused_dag : (id : List ℕ) (p : Bool) (g : LoadedGraph) → (pause_graph id p g).dag ≡ g.dag
 paused_dag id p g = chosen_dag (same g.dag.spec.dag_id id) p g
 
-pub find_under : (f : Graph → Graph) → ((g : Graph) → (f g).dag ≡ g.dag) → (id : List ℕ) (gs : List Graph) → graph_among (map f gs) id ≡ option_map f (graph_among gs id)
+pub find_under : (f : LoadedGraph → LoadedGraph) → ((g : LoadedGraph) → (f g).dag ≡ g.dag) → (id : List ℕ) (gs : List LoadedGraph) → graph_among (map f gs) id ≡ option_map f (graph_among gs id)
 find_under f k id [] = refl
 find_under f k id (g ∷ gs) =
     ap (λ (d : Dag). cond (same d.spec.dag_id id) (Some (f g)) (graph_among (map f gs) id)) (k g)
@@ -117,17 +117,17 @@ find_under f k id (g ∷ gs) =
       | false ↦ find_under f k id gs
     ]
 
-some_under : (f : Graph → Graph) (o : Option Graph) → is_some (option_map f o) ≡ is_some o
+some_under : (f : LoadedGraph → LoadedGraph) (o : Option LoadedGraph) → is_some (option_map f o) ≡ is_some o
 some_under f None = refl
 some_under f (Some g) = refl
 
-pub dag_under : (f : Graph → Graph) → ((g : Graph) → (f g).dag ≡ g.dag) → (o : Option Graph) → unwrap_or (option_map (λ (g : Graph). g.dag) (option_map f o)) no_dag ≡ unwrap_or (option_map (λ (g : Graph). g.dag) o) no_dag
+pub dag_under : (f : LoadedGraph → LoadedGraph) → ((g : LoadedGraph) → (f g).dag ≡ g.dag) → (o : Option LoadedGraph) → unwrap_or (option_map (λ (g : LoadedGraph). g.dag) (option_map f o)) no_dag ≡ unwrap_or (option_map (λ (g : LoadedGraph). g.dag) o) no_dag
 dag_under f k None = refl
 dag_under f k (Some g) = k g
 
 pub pause_sound : (id : List ℕ) (p : Bool) (a : Schedule) → IsSound a → IsSound (set_paused id p a)
 pause_sound id p a s =
-    let f : Graph → Graph = pause_graph id p in
+    let f : LoadedGraph → LoadedGraph = pause_graph id p in
     with_graphs a (map f a.graphs)
     (keeps_order f (λ g. ap (λ (d : Dag). d.spec.dag_id) (paused_dag id p g)) a.graphs s.graphs_by_id)
     (ap (λ n. nat_le n a.limits.graphs) (length-map a.graphs f) ∙ s.few_graphs)
@@ -135,21 +135,21 @@ pause_sound id p a s =
     (all_impl (is_sound_run a.graphs) (is_sound_run (map f a.graphs))
     (λ r e. alike_sound a.graphs (map f a.graphs) r
     (ap is_some (find_under f (paused_dag id p) r.graph a.graphs) ∙ some_under f (graph_among a.graphs r.graph))
-    (ap (λ o. unwrap_or (option_map (λ (g : Graph). g.dag) o) no_dag) (find_under f (paused_dag id p) r.graph a.graphs) ∙ dag_under f (paused_dag id p) (graph_among a.graphs r.graph)) ∙ e) a.runs s.runs)
+    (ap (λ o. unwrap_or (option_map (λ (g : LoadedGraph). g.dag) o) no_dag) (find_under f (paused_dag id p) r.graph a.graphs) ∙ dag_under f (paused_dag id p) (graph_among a.graphs r.graph)) ∙ e) a.runs s.runs)
     s
 
 -- ---- loading
-chosen_id : (text : List ℕ) (dag : Dag) (g : Graph) (b : Bool) → same (id_of g) dag.spec.dag_id ≡ b → id_of (cond b (record { text = text; dag = dag; paused = g.paused }) g) ≡ id_of g
+chosen_id : (text : List ℕ) (dag : Dag) (g : LoadedGraph) (b : Bool) → same (id_of g) dag.spec.dag_id ≡ b → id_of (cond b (record { text = text; dag = dag; paused = g.paused }) g) ≡ id_of g
 chosen_id text dag g true e = sym (same_is _ _ e)
 chosen_id text dag g false e = refl
 
-pub reloaded_id : (text : List ℕ) (dag : Dag) (g : Graph) → id_of (reloaded text dag g) ≡ id_of g
+pub reloaded_id : (text : List ℕ) (dag : Dag) (g : LoadedGraph) → id_of (reloaded text dag g) ≡ id_of g
 reloaded_id text dag g = chosen_id text dag g (same (id_of g) dag.spec.dag_id) refl
 
-pub reloaded_other : (text : List ℕ) (dag : Dag) (g : Graph) → same g.dag.spec.dag_id dag.spec.dag_id ≡ false → reloaded text dag g ≡ g
+pub reloaded_other : (text : List ℕ) (dag : Dag) (g : LoadedGraph) → same g.dag.spec.dag_id dag.spec.dag_id ≡ false → reloaded text dag g ≡ g
 reloaded_other text dag g e = ap (λ b. cond b (record { text = text; dag = dag; paused = g.paused }) g) e
 
-find_reloaded : (text : List ℕ) (dag : Dag) (id : List ℕ) → same dag.spec.dag_id id ≡ false → (gs : List Graph) → graph_among (map (reloaded text dag) gs) id ≡ graph_among gs id
+find_reloaded : (text : List ℕ) (dag : Dag) (id : List ℕ) → same dag.spec.dag_id id ≡ false → (gs : List LoadedGraph) → graph_among (map (reloaded text dag) gs) id ≡ graph_among gs id
 find_reloaded text dag id other [] = refl
 find_reloaded text dag id other (g ∷ gs) =
     let ids = reloaded_id text dag g in
@@ -162,7 +162,7 @@ find_reloaded text dag id other (g ∷ gs) =
       | false ↦ λ e. find_reloaded text dag id other gs
     ] refl
 
-find_beside : (p : Graph → Bool) (x : Graph) → p x ≡ false → (gs : List Graph) → find p (insert_by graph_before x gs) ≡ find p gs
+find_beside : (p : LoadedGraph → Bool) (x : LoadedGraph) → p x ≡ false → (gs : List LoadedGraph) → find p (insert_by graph_before x gs) ≡ find p gs
 find_beside p x e [] = ap (λ b. cond b (Some x) None) e
 find_beside p x e (g ∷ gs) = elim (graph_before x g) as (λ b. find p (elim b [ true ↦ x ∷ g ∷ gs | false ↦ g ∷ insert_by graph_before x gs ]) ≡ find p (g ∷ gs)) [
   | true ↦ ap (λ b. cond b (Some x) (find p (g ∷ gs))) e
@@ -170,42 +170,42 @@ find_beside p x e (g ∷ gs) = elim (graph_before x g) as (λ b. find p (elim b 
 ]
 
 -- a graph of another id is found as before
-pub find_loaded : (text : List ℕ) (dag : Dag) (gs : List Graph) (id : List ℕ) → same dag.spec.dag_id id ≡ false → graph_among (with_graph text dag gs) id ≡ graph_among gs id
+pub find_loaded : (text : List ℕ) (dag : Dag) (gs : List LoadedGraph) (id : List ℕ) → same dag.spec.dag_id id ≡ false → graph_among (with_graph text dag gs) id ≡ graph_among gs id
 find_loaded text dag gs id other =
-    elim (graph_among gs dag.spec.dag_id) as (λ o. graph_among (elim o as (λ p. List Graph) [
+    elim (graph_among gs dag.spec.dag_id) as (λ o. graph_among (elim o as (λ p. List LoadedGraph) [
       | Some g ↦ map (reloaded text dag) gs
       | None ↦ insert_by graph_before (new_graph text dag) gs
     ]) id ≡ graph_among gs id) [
       | Some g ↦ find_reloaded text dag id other gs
-      | None ↦ find_beside (λ (g : Graph). same g.dag.spec.dag_id id) (new_graph text dag) other gs
+      | None ↦ find_beside (λ (g : LoadedGraph). same g.dag.spec.dag_id id) (new_graph text dag) other gs
     ]
 
 pub flip_same : (x y : List ℕ) → same x y ≡ false → same y x ≡ false
 flip_same x y e = false_from_ne_true _ (λ f. true≢false (sym (same_itself x) ∙ (ap (same x) (sym (same_is y x f)) ∙ e)))
 
-graph_cmp : Graph → Graph → Ordering
+graph_cmp : LoadedGraph → LoadedGraph → Ordering
 graph_cmp g h = name_cmp (id_of g) (id_of h)
 
-none_ties : (g : Graph) (gs : List Graph) → is_some (graph_among gs (id_of g)) ≡ false → list_any (λ h. is_eq (graph_cmp g h)) gs ≡ false
+none_ties : (g : LoadedGraph) (gs : List LoadedGraph) → is_some (graph_among gs (id_of g)) ≡ false → list_any (λ h. is_eq (graph_cmp g h)) gs ≡ false
 unfolding graph_cmp
 none_ties g gs e =
-    any_same (λ (h : Graph). same h.dag.spec.dag_id g.dag.spec.dag_id) (λ (h : Graph). is_eq (name_cmp (id_of g) (id_of h)))
+    any_same (λ (h : LoadedGraph). same h.dag.spec.dag_id g.dag.spec.dag_id) (λ (h : LoadedGraph). is_eq (name_cmp (id_of g) (id_of h)))
     (λ h. tie_flips nat_list_cmp_total (id_of g) (id_of h) ∙ is_eq-slice_cmp (id_of h) (id_of g)) gs
-    ∙ sym (find_any (λ (h : Graph). same h.dag.spec.dag_id g.dag.spec.dag_id) gs) ∙ e
+    ∙ sym (find_any (λ (h : LoadedGraph). same h.dag.spec.dag_id g.dag.spec.dag_id) gs) ∙ e
 
-run_apart : (text : List ℕ) (dag : Dag) (gs : List Graph) (rs : List Run) → list_any (λ (r : Run). same r.graph dag.spec.dag_id) rs ≡ false → list_all (is_sound_run gs) rs ≡ true → list_all (is_sound_run (with_graph text dag gs)) rs ≡ true
+run_apart : (text : List ℕ) (dag : Dag) (gs : List LoadedGraph) (rs : List Run) → list_any (λ (r : Run). same r.graph dag.spec.dag_id) rs ≡ false → list_all (is_sound_run gs) rs ≡ true → list_all (is_sound_run (with_graph text dag gs)) rs ≡ true
 run_apart text dag gs [] n e = refl
 run_apart text dag gs (r ∷ rs) n e =
     let f : graph_among (with_graph text dag gs) r.graph ≡ graph_among gs r.graph = find_loaded text dag gs r.graph (flip_same r.graph dag.spec.dag_id (or_left _ _ n)) in
-    and_from _ _ (alike_sound gs (with_graph text dag gs) r (ap is_some f) (ap (λ o. unwrap_or (option_map (λ (g : Graph). g.dag) o) no_dag) f) ∙ and_left _ _ e)
+    and_from _ _ (alike_sound gs (with_graph text dag gs) r (ap is_some f) (ap (λ o. unwrap_or (option_map (λ (g : LoadedGraph). g.dag) o) no_dag) f) ∙ and_left _ _ e)
     (run_apart text dag gs rs (or_right (same r.graph dag.spec.dag_id) _ n) (and_right (is_sound_run gs r) _ e))
 
-chosen_sound : (a : Schedule) (text : List ℕ) (dag : Dag) (g : Graph) (b : Bool) → is_sound_graph a (new_graph text dag) ≡ true → is_sound_graph a g ≡ true → is_sound_graph a (cond b (record { text = text; dag = dag; paused = g.paused }) g) ≡ true
+chosen_sound : (a : Schedule) (text : List ℕ) (dag : Dag) (g : LoadedGraph) (b : Bool) → is_sound_graph a (new_graph text dag) ≡ true → is_sound_graph a g ≡ true → is_sound_graph a (cond b (record { text = text; dag = dag; paused = g.paused }) g) ≡ true
 chosen_sound a text dag g true n e = n
 chosen_sound a text dag g false n e = e
 
-room_left : (a : Schedule) (o : Option Graph) → (is_none o && nat_le a.limits.graphs (length a.graphs)) ≡ false → o ≡ None → nat_le (length a.graphs + 1) a.limits.graphs ≡ true
-room_left a (Some g) e f = absurd (let c : ◌≡◌ {A = Option Graph} (Some g) None = f in cc)
+room_left : (a : Schedule) (o : Option LoadedGraph) → (is_none o && nat_le a.limits.graphs (length a.graphs)) ≡ false → o ≡ None → nat_le (length a.graphs + 1) a.limits.graphs ≡ true
+room_left a (Some g) e f = absurd (let c : ◌≡◌ {A = Option LoadedGraph} (Some g) None = f in cc)
 room_left a None e f =
     let l : length a.graphs < a.limits.graphs = leb-false a.limits.graphs (length a.graphs) e in
     let m : length a.graphs + 1 ≤ a.limits.graphs = omega arith in
@@ -215,7 +215,7 @@ pub load_sound : (text : List ℕ) (dag : Dag) (a : Schedule) → has_runs a dag
 unfolding graph_cmp
 load_sound text dag a none new few s =
     let rs : list_all (is_sound_run (with_graph text dag a.graphs)) a.runs ≡ true = run_apart text dag a.graphs a.runs none s.runs in
-    elim (graph_among a.graphs dag.spec.dag_id) as (λ o. graph_among a.graphs dag.spec.dag_id ≡ o → (let gs : List Graph = elim o as (λ p. List Graph) [
+    elim (graph_among a.graphs dag.spec.dag_id) as (λ o. graph_among a.graphs dag.spec.dag_id ≡ o → (let gs : List LoadedGraph = elim o as (λ p. List LoadedGraph) [
       | Some g ↦ map (reloaded text dag) a.graphs
       | None ↦ insert_by graph_before (new_graph text dag) a.graphs
     ] in list_all (is_sound_run gs) a.runs ≡ true → IsSound (record a { graphs = gs }))) [

@@ -8,11 +8,11 @@ use Rattle.trigger_rules.specs.declared.states.State.{State}
 use Rattle.trigger_rules.specs.declared.states.State.TheVariants as state
 use Rattle.sched_state.specs.Lists.{same, repeat}
 use Rattle.sched_model.specs.Lists.{at, zip_with}
-use Rattle.instance_machine.specs.Instances.{last_of, Held, recent}
+use Rattle.instance_machine.specs.Instances.{last_of, InstanceValue, recent}
 use Rattle.graph_file.specs.declared.task_specs.TaskSpec.{TaskSpec}
 use Rattle.sched_model.specs.Schedule.{Schedule, tasks_of, size_of}
 use Rattle.sched_state.specs.declared.runs.Run.{Run}
-use Rattle.sched_state.specs.declared.graphs.Graph.{Graph}
+use Rattle.sched_state.specs.declared.graphs.LoadedGraph.{LoadedGraph}
 use Rattle.instance_machine.specs.declared.tries.Try.{Try}
 use Rattle.sched_model.specs.States.{is_open, open_of, open_tries, occupied, in_flight, slots_in}
 use Rattle.instance_machine.specs.States.{state_of, state_by, is_up_for_retry, retry_at, retry_of}
@@ -126,26 +126,26 @@ come_due now true o e = refl
 come_due now false o e = absurd (true≢false (sym e))
 
 -- what is ready is scheduled or up for retry
-pub ready_cases : (now : ℕ) (t : TaskSpec) (i : Held) → is_ready now t i ≡ true → (is_scheduled (state_of t i) ≡ true) ⊎ (is_up_for_retry (state_of t i) ≡ true)
+pub ready_cases : (now : ℕ) (t : TaskSpec) (i : InstanceValue) → is_ready now t i ≡ true → (is_scheduled (state_of t i) ≡ true) ⊎ (is_up_for_retry (state_of t i) ≡ true)
 ready_cases now t i e = elim (or_cases (is_scheduled (state_of t i)) (has_come now (retry_at t i)) e) [
   | inl f ↦ inl f
   | inr f ↦ inr (come_due now (is_up_for_retry (state_of t i)) (retry_of (last_of (recent i)) t.retry_delay) f)
 ]
 
-ready_seen : (now : ℕ) (t : TaskSpec) (i : Held) → is_ready now t i ≡ true → seen (state_of t i) ≡ state.None
+ready_seen : (now : ℕ) (t : TaskSpec) (i : InstanceValue) → is_ready now t i ≡ true → seen (state_of t i) ≡ state.None
 ready_seen now t i e = elim (ready_cases now t i e) [
   | inl f ↦ scheduled_seen (state_of t i) f
   | inr f ↦ retry_seen (state_of t i) f
 ]
 
 -- a new try leaves what was not finished so
-pub new_seen : (t : TaskSpec) (i : Held) (n k : ℕ) → seen (state_of t i) ≡ state.None → seen (state_of t (with_try (new_try n k) i)) ≡ state.None
+pub new_seen : (t : TaskSpec) (i : InstanceValue) (n k : ℕ) → seen (state_of t i) ≡ state.None → seen (state_of t (with_try (new_try n k) i)) ≡ state.None
 new_seen t i n k e = elim (drop_snoc i.since i.tries (new_try n k)) [
   | inl q ↦ rw (q, last_snoc (drop i.since i.tries) (new_try n k)) refl
   | inr q ↦ rw (q.0) (subst (λ (ts : List Try). seen (state_by i.verdict (nat_le (length ts) t.retries) (slice_get ts (length ts - 1))) ≡ state.None) q.1 e)
 ]
 
-sight_kept : (gs : List Graph) (r : Run) (t : TaskSpec) (i : Held) (p n k : ℕ) → slice_get (tasks_among gs r.graph) p ≡ Some t → slice_get r.instances p ≡ Some i → seen (state_of t i) ≡ state.None
+sight_kept : (gs : List LoadedGraph) (r : Run) (t : TaskSpec) (i : InstanceValue) (p n k : ℕ) → slice_get (tasks_among gs r.graph) p ≡ Some t → slice_get r.instances p ≡ Some i → seen (state_of t i) ≡ state.None
     → sight_of gs (in_instance (with_try (new_try n k)) p r) ≡ sight_of gs r
 sight_kept gs r t i p n k e f g =
     let h1 : map is_undecided (at (with_try (new_try n k)) p r.instances) ≡ map is_undecided r.instances =
@@ -154,8 +154,8 @@ sight_kept gs r t i p n k e f g =
     zip_with_at seen state_of (with_try (new_try n k)) p (tasks_among gs r.graph) r.instances
     (λ x y a b.
     let c : ◌≡◌ {A = Option TaskSpec} (Some t) (Some x) = sym e ∙ a in let u : t ≡ x = cc in
-    let d : ◌≡◌ {A = Option Held} (Some i) (Some y) = sym f ∙ b in let v : i ≡ y = cc in
-    let w : seen (state_of x y) ≡ state.None = subst (λ (z : TaskSpec). seen (state_of z y) ≡ state.None) u (subst (λ (z : Held). seen (state_of t z) ≡ state.None) v g) in
+    let d : ◌≡◌ {A = Option InstanceValue} (Some i) (Some y) = sym f ∙ b in let v : i ≡ y = cc in
+    let w : seen (state_of x y) ≡ state.None = subst (λ (z : TaskSpec). seen (state_of z y) ≡ state.None) u (subst (λ (z : InstanceValue). seen (state_of t z) ≡ state.None) v g) in
     new_seen x y n k w ∙ sym w) in
     λ j. record { graph = r.graph; logical = r.logical; phase = r.phase; undecided = h1 j; states = h2 j }
 

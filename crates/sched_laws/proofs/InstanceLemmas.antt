@@ -9,7 +9,7 @@ use Rattle.trigger_rules.specs.States.{is_finished}
 use Rattle.trigger_rules.specs.declared.states.State.TheVariants as state
 use Rattle.trigger_rules.specs.declared.verdicts.Verdict.{Verdict}
 use Rattle.trigger_rules.specs.declared.verdicts.Verdict.TheVariants as verdict
-use Rattle.instance_machine.specs.Instances.{Held, recent, last_of}
+use Rattle.instance_machine.specs.Instances.{InstanceValue, recent, last_of}
 use Rattle.instance_machine.specs.States.{state_of, state_by, state_of_end, state_of_verdict, ended_as, is_up_for_retry}
 use Rattle.instance_machine.specs.declared.tries.Try.{Try}
 use Rattle.instance_machine.specs.declared.tries.End.{End}
@@ -25,7 +25,7 @@ use Rattle.sched_laws.proofs.ListLemmas.{all_impl, all_under, all_join, but_last
 use Rattle.sched_laws.proofs.HandLemmas.{ready_cases}
 
 -- ---- the parts of soundness
-pub record Parts (t : TaskSpec) (i : Held) : Type 0 where
+pub record Parts (t : TaskSpec) (i : InstanceValue) : Type 0 where
   pub decided : not (is_wait i.verdict) ≡ true
   pub within : i.since ≤ length i.tries
   pub tries : list_all (is_sound_try t.pool_slots) i.tries ≡ true
@@ -34,7 +34,7 @@ pub record Parts (t : TaskSpec) (i : Held) : Type 0 where
   pub few : length (recent i) ≤ 1 + t.retries
   pub failed : list_all has_failed (but_last (recent i)) ≡ true
 
-pub parts_of : (t : TaskSpec) (i : Held) → is_sound_instance t i ≡ true → Parts t i
+pub parts_of : (t : TaskSpec) (i : InstanceValue) → is_sound_instance t i ≡ true → Parts t i
 parts_of t i e =
     let e1 = and_right (not (is_wait i.verdict)) _ e in
     let e2 = and_right (nat_le i.since (length i.tries)) _ e1 in
@@ -51,7 +51,7 @@ parts_of t i e =
       failed = and_right (nat_le (length (recent i)) (1 + t.retries)) _ e5;
     }
 
-pub of_parts : (t : TaskSpec) (i : Held) → Parts t i → is_sound_instance t i ≡ true
+pub of_parts : (t : TaskSpec) (i : InstanceValue) → Parts t i → is_sound_instance t i ≡ true
 of_parts t i p = and_from _ _ p.decided (and_from _ _ (le-leb _ _ p.within) (and_from _ _ p.tries (and_from _ _ p.over (and_from _ _ p.let_run (and_from _ _ (le-leb _ _ p.few) p.failed)))))
 
 -- ---- decided
@@ -82,7 +82,7 @@ failed_end t e = ended_of t.ended e
     ended_of (Some x) e = refl
 
 -- a ready instance may run, has a further try, and all its tries since the last clearing failed
-record Waits (t : TaskSpec) (i : Held) : Type 0 where
+record Waits (t : TaskSpec) (i : InstanceValue) : Type 0 where
   let_run : is_run i.verdict ≡ true
   room : length (recent i) ≤ t.retries
   failed : list_all has_failed (recent i) ≡ true
@@ -141,7 +141,7 @@ not_empty_runs : {X : Type 0} (xs : List X) (x : X) (b : Bool) → (is_empty (xs
 not_empty_runs [] x b e = e
 not_empty_runs (y ∷ ys) x b e = e
 
-scheduled_waits : (t : TaskSpec) (i : Held) → is_scheduled (state_of t i) ≡ true → Waits t i
+scheduled_waits : (t : TaskSpec) (i : InstanceValue) → is_scheduled (state_of t i) ≡ true → Waits t i
 scheduled_waits t i e = elim (last_of (recent i)) as (λ o. last_of (recent i) ≡ o → is_scheduled (state_by i.verdict (nat_le (length (recent i)) t.retries) o) ≡ true → Waits t i) [
   | None ↦ λ q f.
       let z : recent i ≡ [] = last_none (recent i) q in
@@ -150,7 +150,7 @@ scheduled_waits t i e = elim (last_of (recent i)) as (λ o. last_of (recent i) �
   | Some u ↦ λ q f. absurd (try_scheduled (nat_le (length (recent i)) t.retries) u.started u.ended f)
 ] refl e
 
-retry_waits : (t : TaskSpec) (i : Held) → Parts t i → is_up_for_retry (state_of t i) ≡ true → Waits t i
+retry_waits : (t : TaskSpec) (i : InstanceValue) → Parts t i → is_up_for_retry (state_of t i) ≡ true → Waits t i
 retry_waits t i p e = elim (last_of (recent i)) as (λ o. last_of (recent i) ≡ o → is_up_for_retry (state_by i.verdict (nat_le (length (recent i)) t.retries) o) ≡ true → Waits t i) [
   | None ↦ λ q f. absurd (verdict_retry i.verdict f)
   | Some u ↦ λ q f.
@@ -163,7 +163,7 @@ retry_waits t i p e = elim (last_of (recent i)) as (λ o. last_of (recent i) ≡
       }
 ] refl e
 
-pub handed_sound : (now : ℕ) (t : TaskSpec) (i : Held) (n : ℕ) → is_ready now t i ≡ true → is_sound_instance t i ≡ true → is_sound_instance t (with_try (new_try n t.pool_slots) i) ≡ true
+pub handed_sound : (now : ℕ) (t : TaskSpec) (i : InstanceValue) (n : ℕ) → is_ready now t i ≡ true → is_sound_instance t i ≡ true → is_sound_instance t (with_try (new_try n t.pool_slots) i) ≡ true
 handed_sound now t i n r e =
     let p = parts_of t i e in
     let w : Waits t i = elim (ready_cases now t i r) [ inl f ↦ scheduled_waits t i f | inr f ↦ retry_waits t i p f ] in
@@ -199,7 +199,7 @@ empty_map : {X Y : Type 0} (f : X → Y) (xs : List X) → is_empty (map f xs) �
 empty_map f [] = refl
 empty_map f (x ∷ xs) = refl
 
-pub changed_sound : (f : Try → Try) → IsQuiet f → (t : TaskSpec) (i : Held) → is_sound_instance t i ≡ true → is_sound_instance t (map_tries f i) ≡ true
+pub changed_sound : (f : Try → Try) → IsQuiet f → (t : TaskSpec) (i : InstanceValue) → is_sound_instance t i ≡ true → is_sound_instance t (map_tries f i) ≡ true
 changed_sound f q t i e =
     let p = parts_of t i e in
     let r : recent (map_tries f i) ≡ map f (recent i) = drop-map f i.since i.tries in
@@ -230,7 +230,7 @@ try_finished left s None e = absurd (begun_finished (is_some s) e)
 try_finished left s (Some x) e = refl
 
 -- a finished instance has no try without an end
-pub finished_over : (t : TaskSpec) (i : Held) → Parts t i → is_finished (state_of t i) ≡ true → list_all has_end (recent i) ≡ true
+pub finished_over : (t : TaskSpec) (i : InstanceValue) → Parts t i → is_finished (state_of t i) ≡ true → list_all has_end (recent i) ≡ true
 finished_over t i p e = elim (last_of (recent i)) as (λ o. last_of (recent i) ≡ o → is_finished (state_by i.verdict (nat_le (length (recent i)) t.retries) o) ≡ true → list_all has_end (recent i) ≡ true) [
   | None ↦ λ q f. ap (list_all has_end) (last_none (recent i) q)
   | Some u ↦ λ q f.
@@ -239,13 +239,13 @@ finished_over t i p e = elim (last_of (recent i)) as (λ o. last_of (recent i) �
       ∙ all_join has_end (but_last (recent i)) (u ∷ []) (all_impl has_failed has_end failed_end (but_last (recent i)) p.failed) (and_from _ _ g refl)
 ] refl e
 
-pub changed_finished : (f : Try → Try) → IsQuiet f → (t : TaskSpec) (i : Held) → is_sound_instance t i ≡ true → is_finished (state_of t i) ≡ true → is_finished (state_of t (map_tries f i)) ≡ true
+pub changed_finished : (f : Try → Try) → IsQuiet f → (t : TaskSpec) (i : InstanceValue) → is_sound_instance t i ≡ true → is_finished (state_of t i) ≡ true → is_finished (state_of t (map_tries f i)) ≡ true
 changed_finished f q t i s e =
     let r : recent (map_tries f i) ≡ recent i = drop-map f i.since i.tries ∙ map_over f q (recent i) (finished_over t i (parts_of t i s) e) in
     ap (λ (ts : List Try). is_finished (state_by i.verdict (nat_le (length ts) t.retries) (last_of ts))) r ∙ e
 
 -- ---- cleared
-pub cleared_sound : (t : TaskSpec) (i : Held) → is_sound_instance t i ≡ true → list_all has_end i.tries ≡ true → is_sound_instance t (cleared i) ≡ true
+pub cleared_sound : (t : TaskSpec) (i : InstanceValue) → is_sound_instance t i ≡ true → list_all has_end i.tries ≡ true → is_sound_instance t (cleared i) ≡ true
 cleared_sound t i e o =
     let p = parts_of t i e in
     let r : recent (cleared i) ≡ [] = drop-length i.tries in

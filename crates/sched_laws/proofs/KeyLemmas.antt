@@ -16,9 +16,9 @@ use Rattle.sched_model.specs.Schedule.{Schedule, has_run_at, is_at, run_before}
 use Rattle.sched_state.specs.declared.runs.Run.{Run}
 use Rattle.sched_model.specs.Settle.{move, move_runs, with_runs, settle, moves_left}
 use Rattle.sched_model.specs.Handout.{hand, hand_one, best_offer, serials_left, in_instance, with_try, new_try}
-use Rattle.sched_model.specs.NamedRuns.{Named, is_for, add_runs}
+use Rattle.sched_model.specs.NamedRuns.{NamedRun, is_for, add_runs}
 use Rattle.sched_model.specs.Changes.{advance, map_tries_of, map_all_tries}
-use Rattle.sched_model.specs.Clearing.{Naming, clear}
+use Rattle.sched_model.specs.Clearing.{Selection, clear}
 use Rattle.sched_model.specs.Sound.{IsSound, serials_of, is_used}
 use Rattle.sched_laws.specs.Runs.{runs_named}
 use Rattle.sched_laws.proofs.ListLemmas.{all_get}
@@ -56,7 +56,7 @@ hands_keys (suc n) a = elim (hand_one a) as (λ o. hand_one a ≡ o → map key 
       ∙ map_at key (in_instance (with_try (new_try a.next t.0.slots)) t.0.place) t.0.run a.runs (λ r. refl)
 ] refl
 
-pub advance_keys : (ns : List Named) (a : Schedule) (id : List ℕ) (date : ℕ) → has_run_at (advance ns a) id date ≡ (list_any (is_for id date) ns || has_run_at a id date)
+pub advance_keys : (ns : List NamedRun) (a : Schedule) (id : List ℕ) (date : ℕ) → has_run_at (advance ns a) id date ≡ (list_any (is_for id date) ns || has_run_at a id date)
 advance_keys ns a id date =
     let b : Schedule = add_runs ns a in
     by_keys (settle b) (advance ns a) (hands_keys (serials_left (settle b)) (settle b)) id date
@@ -64,22 +64,22 @@ advance_keys ns a id date =
     ∙ added_keys a ns id date
 
 -- the runs as they were named
-advance_kept : (ns : List Named) (a : Schedule) → runs_named (advance ns a) ≡ runs_named (add_runs ns a)
+advance_kept : (ns : List NamedRun) (a : Schedule) → runs_named (advance ns a) ≡ runs_named (add_runs ns a)
 advance_kept ns a = let b : Schedule = add_runs ns a in hands_keys (serials_left (settle b)) (settle b) ∙ turns_keys (moves_left b) b
 
-pub advance_names : (ns : List Named) (a : Schedule) → IsPermutation (ns ++ runs_named a) (runs_named (advance ns a))
+pub advance_names : (ns : List NamedRun) (a : Schedule) → IsPermutation (ns ++ runs_named a) (runs_named (advance ns a))
 advance_names ns a = subst (IsPermutation (ns ++ runs_named a)) (sym (advance_kept ns a)) (added_names a ns)
 
 pub tries_names : (f : Try → Try) (a : Schedule) → runs_named (map_all_tries f a) ≡ runs_named a
 tries_names f a = map_keeps key (map_tries_of f) (λ r. refl) a.runs
 
-pub clear_names : (named : Naming) (a : Schedule) → runs_named (clear named a) ≡ runs_named a
+pub clear_names : (named : Selection) (a : Schedule) → runs_named (clear named a) ≡ runs_named a
 clear_names named a = all_keys a named a.runs
 
 pub tries_keys : (f : Try → Try) (a : Schedule) (id : List ℕ) (date : ℕ) → has_run_at (map_all_tries f a) id date ≡ has_run_at a id date
 tries_keys f a id date = by_keys a (map_all_tries f a) (map_keeps key (map_tries_of f) (λ r. refl) a.runs) id date
 
-pub clear_keys : (named : Naming) (a : Schedule) (id : List ℕ) (date : ℕ) → has_run_at (clear named a) id date ≡ has_run_at a id date
+pub clear_keys : (named : Selection) (a : Schedule) (id : List ℕ) (date : ℕ) → has_run_at (clear named a) id date ≡ has_run_at a id date
 clear_keys named a id date = by_keys a (clear named a) (all_keys a named a.runs) id date
 
 -- ---- each key and each serial once

@@ -8,7 +8,7 @@ use Rattle.graph_file.specs.declared.task_specs.TaskSpec.{TaskSpec}
 use Rattle.dag_check.specs.Graphs.{Dag, dag_of}
 use Rattle.instance_machine.specs.declared.tries.Try.{Try}
 use Rattle.sched_state.specs.Lists.{same, name_cmp, insert_by}
-use Rattle.sched_state.specs.declared.graphs.Graph.{Graph}
+use Rattle.sched_state.specs.declared.graphs.LoadedGraph.{LoadedGraph}
 use Rattle.sched_state.proofs.OrderLemmas.{and_left, and_right, or_left, or_right, less_no_tie}
 use Rattle.sched_state.proofs.NameLemmas.{same_is}
 use Rattle.sched_model.specs.Lists.{rises}
@@ -26,23 +26,23 @@ use Rattle.sched_laws.proofs.AlikeLemmas.{AllDags, same_sights, deciding_alike, 
 use Rattle.graph_file.proofs.ListLemmas.{mapped_none}
 
 -- ---- runs whose graphs are found as before
-abbrev AllFound : List Graph → List Graph → List Run → Type 0
+abbrev AllFound : List LoadedGraph → List LoadedGraph → List Run → Type 0
 AllFound gs hs [] = Unit {0}
 AllFound gs hs (r ∷ rs) = (graph_among hs r.graph ≡ graph_among gs r.graph) × AllFound gs hs rs
 
 -- no run is of the graph that is loaded
-found_after : (text : List ℕ) (dag : Dag) (gs : List Graph) (rs : List Run) → list_any (λ (r : Run). same r.graph dag.spec.dag_id) rs ≡ false → AllFound gs (with_graph text dag gs) rs
+found_after : (text : List ℕ) (dag : Dag) (gs : List LoadedGraph) (rs : List Run) → list_any (λ (r : Run). same r.graph dag.spec.dag_id) rs ≡ false → AllFound gs (with_graph text dag gs) rs
 found_after text dag gs [] e = tt
 found_after text dag gs (r ∷ rs) e = (
   find_loaded text dag gs r.graph (flip_same r.graph dag.spec.dag_id (or_left _ _ e)),
   found_after text dag gs rs (or_right (same r.graph dag.spec.dag_id) _ e),
 )
 
-dag_found : (gs hs : List Graph) (id : List ℕ) → graph_among hs id ≡ graph_among gs id → dag_among hs id ≡ dag_among gs id
-dag_found gs hs id e = ap (λ (o : Option Graph). unwrap_or (option_map (λ (g : Graph). g.dag) o) no_dag) e
+dag_found : (gs hs : List LoadedGraph) (id : List ℕ) → graph_among hs id ≡ graph_among gs id → dag_among hs id ≡ dag_among gs id
+dag_found gs hs id e = ap (λ (o : Option LoadedGraph). unwrap_or (option_map (λ (g : LoadedGraph). g.dag) o) no_dag) e
 
 -- where the graphs are found as before, so are their tasks and edges
-dags_found : (gs hs : List Graph) (rs : List Run) → AllFound gs hs rs → AllDags gs hs rs
+dags_found : (gs hs : List LoadedGraph) (rs : List Run) → AllFound gs hs rs → AllDags gs hs rs
 dags_found gs hs [] f = tt
 dags_found gs hs (r ∷ rs) f = (dag_found gs hs r.graph f.0, dags_found gs hs rs f.1)
 
@@ -51,14 +51,14 @@ pub load_open : (text : List ℕ) (dag : Dag) (a : Schedule) → has_runs a dag.
 load_open text dag a none = open_alike a.graphs (with_graph text dag a.graphs) a.runs (dags_found a.graphs (with_graph text dag a.graphs) a.runs (found_after text dag a.graphs a.runs none))
 
 -- ---- moves
-starting_alike : (gs hs : List Graph) (vs : List Sight) (rs : List Run) → AllFound gs hs rs → list_any (can_start_seen hs vs) (map (sight_of gs) rs) ≡ list_any (can_start_seen gs vs) (map (sight_of gs) rs)
+starting_alike : (gs hs : List LoadedGraph) (vs : List Sight) (rs : List Run) → AllFound gs hs rs → list_any (can_start_seen hs vs) (map (sight_of gs) rs) ≡ list_any (can_start_seen gs vs) (map (sight_of gs) rs)
 starting_alike gs hs vs [] f = refl
 starting_alike gs hs vs (r ∷ rs) f =
     ap (λ b. b || list_any (can_start_seen hs vs) (map (sight_of gs) rs)) (ap (start_by vs (sight_of gs r)) f.0)
     ∙ ap (λ b. can_start_seen gs vs (sight_of gs r) || b) (starting_alike gs hs vs rs f.1)
 
 -- whether a move is possible is seen as before
-moves_alike : (gs hs : List Graph) (rs : List Run) → AllFound gs hs rs → can_move hs (map (sight_of hs) rs) ≡ can_move gs (map (sight_of gs) rs)
+moves_alike : (gs hs : List LoadedGraph) (rs : List Run) → AllFound gs hs rs → can_move hs (map (sight_of hs) rs) ≡ can_move gs (map (sight_of gs) rs)
 moves_alike gs hs rs f =
     let vs : List Sight = map (sight_of gs) rs in
     ap (can_move hs) (same_sights gs hs rs (dags_found gs hs rs f))
@@ -73,17 +73,17 @@ load_still text dag a none still =
     ∙ sym (move_seen a) ∙ ap is_some still)
 
 -- ---- hand-outs
-with_graphs : Schedule → List Graph → Schedule
+with_graphs : Schedule → List LoadedGraph → Schedule
 with_graphs a hs = record a { graphs = hs }
 
-offers_alike : (a : Schedule) (hs : List Graph) (n : ℕ) (rs : List Run) → AllFound a.graphs hs rs → flat_map (offers_in (with_graphs a hs)) (enumerate_from n rs) ≡ flat_map (offers_in a) (enumerate_from n rs)
+offers_alike : (a : Schedule) (hs : List LoadedGraph) (n : ℕ) (rs : List Run) → AllFound a.graphs hs rs → flat_map (offers_in (with_graphs a hs)) (enumerate_from n rs) ≡ flat_map (offers_in a) (enumerate_from n rs)
 unfolding with_graphs
 offers_alike a hs n [] f = refl
 offers_alike a hs n (r ∷ rs) f =
-    ap (λ (o : Option Graph). offers_by a.now n r o ++ flat_map (offers_in (with_graphs a hs)) (enumerate_from (n + 1) rs)) f.0
+    ap (λ (o : Option LoadedGraph). offers_by a.now n r o ++ flat_map (offers_in (with_graphs a hs)) (enumerate_from (n + 1) rs)) f.0
     ∙ ap (λ (os : List Offer). offers_by a.now n r (graph_among a.graphs r.graph) ++ os) (offers_alike a hs (n + 1) rs f.1)
 
-best_alike : (a : Schedule) (hs : List Graph) → AllFound a.graphs hs a.runs → best_offer (with_graphs a hs) ≡ best_offer a
+best_alike : (a : Schedule) (hs : List LoadedGraph) → AllFound a.graphs hs a.runs → best_offer (with_graphs a hs) ≡ best_offer a
 unfolding with_graphs
 best_alike a hs f =
     ap (λ (ts : List (TaskSpec × Try)). best_with a ts (offers (with_graphs a hs))) (open_alike a.graphs hs a.runs (dags_found a.graphs hs a.runs f))
@@ -96,13 +96,13 @@ load_no_hand text dag a none still =
     (best_alike a (with_graph text dag a.graphs) (found_after text dag a.graphs a.runs none) ∙ mapped_none (hand a) (best_offer a) still)
 
 -- ---- the same text
-pub reloaded_named : (text : List ℕ) (dag : Dag) (g : Graph) → same g.dag.spec.dag_id dag.spec.dag_id ≡ true → reloaded text dag g ≡ record { text = text; dag = dag; paused = g.paused }
+pub reloaded_named : (text : List ℕ) (dag : Dag) (g : LoadedGraph) → same g.dag.spec.dag_id dag.spec.dag_id ≡ true → reloaded text dag g ≡ record { text = text; dag = dag; paused = g.paused }
 reloaded_named text dag g e = ap (λ b. cond b (record { text = text; dag = dag; paused = g.paused }) g) e
 
-pub before_apart : (g h : Graph) → graph_before g h ≡ true → same g.dag.spec.dag_id h.dag.spec.dag_id ≡ false
+pub before_apart : (g h : LoadedGraph) → graph_before g h ≡ true → same g.dag.spec.dag_id h.dag.spec.dag_id ≡ false
 before_apart g h e = sym (is_eq-slice_cmp g.dag.spec.dag_id h.dag.spec.dag_id) ∙ less_no_tie (name_cmp g.dag.spec.dag_id h.dag.spec.dag_id) e
 
-pub others_stay : (text : List ℕ) (dag : Dag) (g : Graph) → same g.dag.spec.dag_id dag.spec.dag_id ≡ true → (gs : List Graph) → list_all (graph_before g) gs ≡ true → map (reloaded text dag) gs ≡ gs
+pub others_stay : (text : List ℕ) (dag : Dag) (g : LoadedGraph) → same g.dag.spec.dag_id dag.spec.dag_id ≡ true → (gs : List LoadedGraph) → list_all (graph_before g) gs ≡ true → map (reloaded text dag) gs ≡ gs
 others_stay text dag g e [] after = refl
 others_stay text dag g e (h ∷ hs) after =
     let apart : same h.dag.spec.dag_id dag.spec.dag_id ≡ false =
@@ -117,19 +117,19 @@ said_once text dag other e f =
     let specs : dag.spec ≡ other.spec = cc in
     e.checked.is ∙ (ap dag_of specs ∙ sym f.checked.is)
 
-same_graphs : (text : List ℕ) (dag : Dag) (g : Graph) (gs : List Graph) → Says text dag → graph_among gs dag.spec.dag_id ≡ Some g → same g.text text ≡ true
+same_graphs : (text : List ℕ) (dag : Dag) (g : LoadedGraph) (gs : List LoadedGraph) → Says text dag → graph_among gs dag.spec.dag_id ≡ Some g → same g.text text ≡ true
     → AllSay gs → rises graph_before gs ≡ true → map (reloaded text dag) gs ≡ gs
 same_graphs text dag g [] new e f said order = refl
 same_graphs text dag g (h ∷ hs) new e f said order =
     elim (same h.dag.spec.dag_id dag.spec.dag_id) as (λ b. same h.dag.spec.dag_id dag.spec.dag_id ≡ b → cond b (Some h) (graph_among hs dag.spec.dag_id) ≡ Some g → map (reloaded text dag) (h ∷ hs) ≡ h ∷ hs) [
       | true ↦ λ p q.
           let found : h ≡ g = cc in
-          let text_is : text ≡ h.text = sym (ap (λ (k : Graph). k.text) found ∙ same_is g.text text f) in
+          let text_is : text ≡ h.text = sym (ap (λ (k : LoadedGraph). k.text) found ∙ same_is g.text text f) in
           let dag_is : dag ≡ h.dag = said_once text dag h.dag new (subst (λ (t : List ℕ). Says t h.dag) (sym text_is) said.0) in
           let stays : reloaded text dag h ≡ h =
           reloaded_named text dag h p
-          ∙ (ap (λ (t : List ℕ). let k : Graph = record { text = t; dag = dag; paused = h.paused } in k) text_is
-          ∙ ap (λ (d : Dag). let k : Graph = record { text = h.text; dag = d; paused = h.paused } in k) dag_is) in
+          ∙ (ap (λ (t : List ℕ). let k : LoadedGraph = record { text = t; dag = dag; paused = h.paused } in k) text_is
+          ∙ ap (λ (d : Dag). let k : LoadedGraph = record { text = h.text; dag = d; paused = h.paused } in k) dag_is) in
           ap (λ k. k ∷ map (reloaded text dag) hs) stays
           ∙ ap (λ ks. h ∷ ks) (others_stay text dag h p hs (and_left (list_all (graph_before h) hs) _ order))
       | false ↦ λ p q.
@@ -137,10 +137,10 @@ same_graphs text dag g (h ∷ hs) new e f said order =
           ∙ ap (λ ks. h ∷ ks) (same_graphs text dag g hs new q f said.1 (and_right (list_all (graph_before h) hs) _ order))
     ] refl e
 
-pub load_again : (text : List ℕ) (dag : Dag) (a : Schedule) (g : Graph) → Says text dag → IsSound a → AllSay a.graphs → graph_named a dag.spec.dag_id ≡ Some g → same g.text text ≡ true → load_graph text dag a ≡ a
+pub load_again : (text : List ℕ) (dag : Dag) (a : Schedule) (g : LoadedGraph) → Says text dag → IsSound a → AllSay a.graphs → graph_named a dag.spec.dag_id ≡ Some g → same g.text text ≡ true → load_graph text dag a ≡ a
 load_again text dag a g new s said found text_is =
-    ap (λ (o : Option Graph). let b : Schedule = record a {
-      graphs = elim o as (λ p. List Graph) [
+    ap (λ (o : Option LoadedGraph). let b : Schedule = record a {
+      graphs = elim o as (λ p. List LoadedGraph) [
         | Some h ↦ map (reloaded text dag) a.graphs
         | None ↦ insert_by graph_before (new_graph text dag) a.graphs
       ];

@@ -6,7 +6,7 @@ use Rattle.std.proofs.lemmas.Bool.{eqb-true, eq-eqb, eqb-false, false_from_ne_tr
 use Rattle.trigger_rules.specs.declared.verdicts.Verdict.{Verdict}
 use Rattle.trigger_rules.specs.declared.states.State.TheVariants as state
 use Rattle.sched_model.specs.Lists.{at, zip_with, last_passing, or_else}
-use Rattle.instance_machine.specs.Instances.{Held}
+use Rattle.instance_machine.specs.Instances.{InstanceValue}
 use Rattle.dag_check.specs.Orders.{is_in}
 use Rattle.graph_file.specs.Lists.{when}
 use Rattle.graph_file.specs.declared.task_specs.TaskSpec.{TaskSpec}
@@ -50,13 +50,13 @@ zip_apart f g (suc n) (suc m) (x ∷ xs) (y ∷ ys) e = zip_apart f g n m xs ys 
 -- ---- the states that are looked at
 
 -- elsewhere in the run
-pub state_apart : (a : Schedule) (g : Held → Held) (n p q : ℕ) (r : Run) → nat_eq q p ≡ false → state_at (change_at g n p a) (in_instance g p r) q ≡ state_at a r q
+pub state_apart : (a : Schedule) (g : InstanceValue → InstanceValue) (n p q : ℕ) (r : Run) → nat_eq q p ≡ false → state_at (change_at g n p a) (in_instance g p r) q ≡ state_at a r q
 state_apart a g n p q r e = ap (λ o. unwrap_or o state.None) (zip_apart state_of g p q (tasks_of a r) r.instances e)
 
 not_in : (p u : ℕ) (us : List ℕ) → is_in (u ∷ us) p ≡ false → nat_eq u p ≡ false
 not_in p u us e = or_left (nat_eq u p) _ e
 
-upstreams_apart : (a : Schedule) (g : Held → Held) (n p : ℕ) (r : Run) (us : List ℕ) → is_in us p ≡ false → map (state_at (change_at g n p a) (in_instance g p r)) us ≡ map (state_at a r) us
+upstreams_apart : (a : Schedule) (g : InstanceValue → InstanceValue) (n p : ℕ) (r : Run) (us : List ℕ) → is_in us p ≡ false → map (state_at (change_at g n p a) (in_instance g p r)) us ≡ map (state_at a r) us
 upstreams_apart a g n p r [] e = refl
 upstreams_apart a g n p r (u ∷ us) e =
     let h : state_at (change_at g n p a) (in_instance g p r) u ≡ state_at a r u = state_apart a g n p u r (not_in p u us e) in
@@ -123,7 +123,7 @@ and_false : (b c : Bool) → (b && c) ≡ false → (b ≡ false) ⊎ (c ≡ fal
 and_false true c e = inr e
 and_false false c e = inl refl
 
-gate_same : (a : Schedule) (g : Held → Held) (n p q : ℕ) (r : Run) → (nat_eq q p ≡ false) ⊎ (is_place n (previous_at a r) ≡ false)
+gate_same : (a : Schedule) (g : InstanceValue → InstanceValue) (n p q : ℕ) (r : Run) → (nat_eq q p ≡ false) ⊎ (is_place n (previous_at a r) ≡ false)
     → option_map (λ (w : Run). state_at a w q) (previous (change_at g n p a) r) ≡ option_map (λ (w : Run). state_at a w q) (previous a r)
 gate_same a g n p q r (inl e) =
     same_last (λ (w : Run). state_at a w q) (is_earlier r) (in_instance g p) (λ w. refl) (λ w. state_apart a g n p q w e) n a.runs
@@ -142,7 +142,7 @@ gate_cases a n p q r t e = elim (and_false t.depends_on_past (nat_eq q p && is_p
   | inr f ↦ inr (and_false (nat_eq q p) (is_place n (previous_at a r)) f)
 ]
 
-past_same : (a : Schedule) (g : Held → Held) (n p q : ℕ) (r : Run) (t : TaskSpec) → (t.depends_on_past && (nat_eq q p && is_place n (previous_at a r))) ≡ false
+past_same : (a : Schedule) (g : InstanceValue → InstanceValue) (n p q : ℕ) (r : Run) (t : TaskSpec) → (t.depends_on_past && (nat_eq q p && is_place n (previous_at a r))) ≡ false
     → past_is_open (change_at g n p a) r t q ≡ past_is_open a r t q
 past_same a g n p q r t e = gated_same t.depends_on_past _ _ (elim (gate_cases a n p q r t e) [
   | inl f ↦ inl f
@@ -157,7 +157,7 @@ pub given_run : {X Y : Type 0} (f h : X → Option Y) (o : Option X) → ((t : X
 given_run f h None e = refl
 given_run f h (Some t) e = e t refl
 
-abbrev made_of : Option Verdict → ℕ → List Try → Held
+abbrev made_of : Option Verdict → ℕ → List Try → InstanceValue
 made_of v s ts = record { verdict = v; since = s; tries = ts }
 
 undecided_same : (a b : Schedule) (r u : Run) (q : ℕ) (v : Option Verdict) (s : ℕ) (ts : List Try) → tasks_of b u ≡ tasks_of a r
@@ -169,7 +169,7 @@ undecided_same a b r u q None s ts e h =
     ∙ given_task (decide_task b u q (made_of None s ts)) (decide_task a r q (made_of None s ts)) (slice_get (tasks_of a r) q)
     (λ t k. ap (option_map (λ w. made_of (Some w) s ts)) (h t k))
 
-pub decide_same : (a b : Schedule) (r u : Run) (q : ℕ) (i : Held) → tasks_of b u ≡ tasks_of a r
+pub decide_same : (a b : Schedule) (r u : Run) (q : ℕ) (i : InstanceValue) → tasks_of b u ≡ tasks_of a r
     → ((t : TaskSpec) → slice_get (tasks_of a r) q ≡ Some t → decided_verdict b u q t ≡ decided_verdict a r q t)
     → decide_instance b u q i ≡ decide_instance a r q i
 decide_same a b r u q i e h = undecided_same a b r u q i.verdict i.since i.tries e h
@@ -181,13 +181,13 @@ same_given a b r u q t e f = ap (λ c. decides c (rule_verdict t.trigger_rule (u
 looked : (a : Schedule) (m q n p : ℕ) (r : Run) (t : TaskSpec) → slice_get a.runs m ≡ Some r → slice_get (tasks_of a r) q ≡ Some t → looks a m q n p ≡ looks_from a m q n p r (Some t)
 looked a m q n p r t e f = ap (looks_in a m q n p) e ∙ ap (looks_from a m q n p r) f
 
-pub in_same : (a b : Schedule) (q : ℕ) (r u : Run) (c : Bool) → ((i : Held) → decide_instance b u q i ≡ decide_instance a r q i) → slice_get u.instances q ≡ slice_get r.instances q
-    → ◌≡◌ {A = Option Held} (elim c [ true ↦ option_and_then (decide_instance b u q) (slice_get u.instances q) | false ↦ None ]) (elim c [ true ↦ option_and_then (decide_instance a r q) (slice_get r.instances q) | false ↦ None ])
+pub in_same : (a b : Schedule) (q : ℕ) (r u : Run) (c : Bool) → ((i : InstanceValue) → decide_instance b u q i ≡ decide_instance a r q i) → slice_get u.instances q ≡ slice_get r.instances q
+    → ◌≡◌ {A = Option InstanceValue} (elim c [ true ↦ option_and_then (decide_instance b u q) (slice_get u.instances q) | false ↦ None ]) (elim c [ true ↦ option_and_then (decide_instance a r q) (slice_get r.instances q) | false ↦ None ])
 in_same a b q r u true h e = ap (option_and_then (decide_instance b u q)) e ∙ given_run (decide_instance b u q) (decide_instance a r q) (slice_get r.instances q) (λ i k. h i)
 in_same a b q r u false h e = refl
 
 -- in another run
-other_run : (a : Schedule) (g : Held → Held) (n p m q : ℕ) → looks a m q n p ≡ false → nat_eq m n ≡ false → decision (change_at g n p a) m q ≡ decision a m q
+other_run : (a : Schedule) (g : InstanceValue → InstanceValue) (n p m q : ℕ) → looks a m q n p ≡ false → nat_eq m n ≡ false → decision (change_at g n p a) m q ≡ decision a m q
 other_run a g n p m q l e =
     ap (option_and_then (decision_in (change_at g n p a) q)) (get_apart (in_instance g p) n m a.runs e)
     ∙ given_run (decision_in (change_at g n p a) q) (decision_in a q) (slice_get a.runs m)
@@ -205,7 +205,7 @@ same_and true c e f = f
 same_and false c e f = absurd (true≢false (sym e))
 
 -- elsewhere in the same run
-same_run : (a : Schedule) (g : Held → Held) (n p q : ℕ) → looks a n q n p ≡ false → nat_eq q p ≡ false → decision (change_at g n p a) n q ≡ decision a n q
+same_run : (a : Schedule) (g : InstanceValue → InstanceValue) (n p q : ℕ) → looks a n q n p ≡ false → nat_eq q p ≡ false → decision (change_at g n p a) n q ≡ decision a n q
 same_run a g n p q l e =
     ap (option_and_then (decision_in (change_at g n p a) q)) (get_at (in_instance g p) n a.runs)
     ∙ run_some (decision_in (change_at g n p a) q) (in_instance g p) (slice_get a.runs n)
@@ -220,7 +220,7 @@ same_run a g n p q l e =
     (get_apart g p q r.instances e))
 
 -- a change of one instance, whatever it is, leaves each other decision that does not look at it
-pub unlooked : (a : Schedule) (g : Held → Held) (n p m q : ℕ) → looks a m q n p ≡ false → (nat_eq m n && nat_eq q p) ≡ false → decision (change_at g n p a) m q ≡ decision a m q
+pub unlooked : (a : Schedule) (g : InstanceValue → InstanceValue) (n p m q : ℕ) → looks a m q n p ≡ false → (nat_eq m n && nat_eq q p) ≡ false → decision (change_at g n p a) m q ≡ decision a m q
 unlooked a g n p m q l e = elim (nat_eq m n) as (λ b. nat_eq m n ≡ b → (b && nat_eq q p) ≡ false → decision (change_at g n p a) m q ≡ decision a m q) [
   | true ↦ λ f h.
       let w : m ≡ n = eqb-true m n f in
@@ -229,13 +229,13 @@ unlooked a g n p m q l e = elim (nat_eq m n) as (λ b. nat_eq m n ≡ b → (b &
   | false ↦ λ f h. other_run a g n p m q l f
 ] refl e
 
-one_exchanged : (a : Schedule) (g : Held → Held) (n p u : ℕ) (r : Run) → state_at (change_at g n p a) (in_instance g p r) u ≡ cond (nat_eq u p) (state_at a (in_instance g p r) p) (state_at a r u)
+one_exchanged : (a : Schedule) (g : InstanceValue → InstanceValue) (n p u : ℕ) (r : Run) → state_at (change_at g n p a) (in_instance g p r) u ≡ cond (nat_eq u p) (state_at a (in_instance g p r) p) (state_at a r u)
 one_exchanged a g n p u r = elim (nat_eq u p) as (λ b. nat_eq u p ≡ b → state_at (change_at g n p a) (in_instance g p r) u ≡ cond b (state_at a (in_instance g p r) p) (state_at a r u)) [
   | true ↦ λ e. ap (state_at a (in_instance g p r)) (eqb-true u p e)
   | false ↦ λ e. state_apart a g n p u r e
 ] refl
 
-exchanged : (a : Schedule) (g : Held → Held) (n p : ℕ) (r : Run) (us : List ℕ)
+exchanged : (a : Schedule) (g : InstanceValue → InstanceValue) (n p : ℕ) (r : Run) (us : List ℕ)
     → map (state_at (change_at g n p a) (in_instance g p r)) us ≡ map (λ u. cond (nat_eq u p) (state_at a (in_instance g p r) p) (state_at a r u)) us
 exchanged a g n p r [] = refl
 exchanged a g n p r (u ∷ us) =
@@ -244,6 +244,6 @@ exchanged a g n p r (u ∷ us) =
     rw (h, ih) refl
 
 -- what a task sees of its upstreams after a change of one instance of its run
-pub upstreams_exchanged : (a : Schedule) (g : Held → Held) (n p q : ℕ) (r : Run)
+pub upstreams_exchanged : (a : Schedule) (g : InstanceValue → InstanceValue) (n p q : ℕ) (r : Run)
     → upstream_states (change_at g n p a) (in_instance g p r) q ≡ map (λ u. cond (nat_eq u p) (state_at a (in_instance g p r) p) (state_at a r u)) (ups (dag_named a r.graph) q)
 upstreams_exchanged a g n p q r = exchanged a g n p r (ups (dag_named a r.graph) q)

@@ -14,15 +14,15 @@ use Rattle.run_planner.specs.Latest.{IsDue}
 use Rattle.run_planner.proofs.RiseLemmas.{all_filtered, all_take, take_starts, wanted_rise}
 use Rattle.run_planner.proofs.MemberLemmas.{contains_head, contains_tail, due_members}
 use Rattle.sched_state.specs.Lists.{same}
-use Rattle.sched_state.specs.declared.graphs.Graph.{Graph}
-use Rattle.sched_state.specs.declared.runs.Kind.{Kind}
-use Rattle.sched_state.specs.declared.runs.Kind.TheVariants.{Scheduled}
+use Rattle.sched_state.specs.declared.graphs.LoadedGraph.{LoadedGraph}
+use Rattle.sched_state.specs.declared.runs.RunKind.{RunKind}
+use Rattle.sched_state.specs.declared.runs.RunKind.TheVariants.{Scheduled}
 use Rattle.sched_state.proofs.OrderLemmas.{and_left, and_right, not_false}
 use Rattle.sched_state.proofs.NameLemmas.{same_itself, find_any, or_assoc}
 use Rattle.sched_model.specs.Lists.{rises}
 use Rattle.sched_model.specs.Schedule.{Schedule, graph_among, graph_named, graph_before, dates_of, has_run_at, is_at}
 use Rattle.sched_state.specs.declared.runs.Run.{Run}
-use Rattle.sched_model.specs.NamedRuns.{Named, is_for, run_from, runs_per_tick, wanted_by, named_of, named_by_tick}
+use Rattle.sched_model.specs.NamedRuns.{NamedRun, is_for, run_from, runs_per_tick, wanted_by, named_of, named_by_tick}
 use Rattle.sched_model.specs.Sound.{IsSound, is_moment, is_new, are_new}
 use Rattle.sched_laws.proofs.ListLemmas.{all_impl}
 use Rattle.sched_laws.proofs.GraphLemmas.{flip_same}
@@ -95,10 +95,10 @@ filtered_date id date (r ∷ rs) =
     ]
 
 -- ---- the runs of one graph
-abbrev scheduled : List ℕ → Interval → Named
+abbrev scheduled : List ℕ → Interval → NamedRun
 scheduled id = run_from Scheduled id
 
-later_apart : (k : Kind) (id : List ℕ) (date : ℕ) (is : List Interval) → list_all (λ (j : Interval). nat_lt date j.start) is ≡ true → list_any (is_for id date) (map (run_from k id) is) ≡ false
+later_apart : (k : RunKind) (id : List ℕ) (date : ℕ) (is : List Interval) → list_all (λ (j : Interval). nat_lt date j.start) is ≡ true → list_any (is_for id date) (map (run_from k id) is) ≡ false
 later_apart k id date [] e = refl
 later_apart k id date (i ∷ is) e =
     let later : date < i.start = ltb-true date i.start (and_left (nat_lt date i.start) _ e) in
@@ -106,7 +106,7 @@ later_apart k id date (i ∷ is) e =
     let here : is_for id date (run_from k id i) ≡ false = ap (λ b. same id id && b) other ∙ and-false (same id id) in
     rw (here, later_apart k id date is (and_right (nat_lt date i.start) _ e)) refl
 
-pub one_graph : (a : Schedule) (k : Kind) (id : List ℕ) (is : List Interval) → is_some (graph_named a id) ≡ true → list_all (λ (i : Interval). not (has_run_at a id i.start)) is ≡ true → list_all is_dated is ≡ true → starts_rise is ≡ true
+pub one_graph : (a : Schedule) (k : RunKind) (id : List ℕ) (is : List Interval) → is_some (graph_named a id) ≡ true → list_all (λ (i : Interval). not (has_run_at a id i.start)) is ≡ true → list_all is_dated is ≡ true → starts_rise is ≡ true
     → are_new a (map (run_from k id) is) ≡ true
 one_graph a k id [] known free moments rising = refl
 one_graph a k id (i ∷ is) known free moments rising =
@@ -123,7 +123,7 @@ any_append : {X : Type 0} (p : X → Bool) (xs ys : List X) → list_any p (xs +
 any_append p [] ys = refl
 any_append p (x ∷ xs) ys = ap (λ b. p x || b) (any_append p xs ys) ∙ or_assoc (p x) (list_any p xs) (list_any p ys)
 
-new_append : (a : Schedule) (ns ms : List Named) → are_new a ns ≡ true → are_new a ms ≡ true → list_all (λ (n : Named). not (list_any (is_for n.graph n.logical) ms)) ns ≡ true → are_new a (ns ++ ms) ≡ true
+new_append : (a : Schedule) (ns ms : List NamedRun) → are_new a ns ≡ true → are_new a ms ≡ true → list_all (λ (n : NamedRun). not (list_any (is_for n.graph n.logical) ms)) ns ≡ true → are_new a (ns ++ ms) ≡ true
 new_append a [] ms e f apart = f
 new_append a (n ∷ ns) ms e f apart =
     let rest = and_right (is_new a n) _ e in
@@ -138,7 +138,7 @@ other_graph : (id other : List ℕ) (date : ℕ) → same other id ≡ false →
 other_graph id other date apart [] = refl
 other_graph id other date apart (i ∷ is) = ap (λ b. (b && i.start == date) || list_any (is_for id date) (map (scheduled other) is)) apart ∙ other_graph id other date apart is
 
-later_graphs : (a : Schedule) (t : ℕ) (g : Graph) (date : ℕ) (gs : List Graph) → list_all (graph_before g) gs ≡ true → list_any (is_for g.dag.spec.dag_id date) (flat_map (named_of a t) gs) ≡ false
+later_graphs : (a : Schedule) (t : ℕ) (g : LoadedGraph) (date : ℕ) (gs : List LoadedGraph) → list_all (graph_before g) gs ≡ true → list_any (is_for g.dag.spec.dag_id date) (flat_map (named_of a t) gs) ≡ false
 later_graphs a t g date [] e = refl
 later_graphs a t g date (h ∷ hs) e =
     let apart : same h.dag.spec.dag_id g.dag.spec.dag_id ≡ false = flip_same g.dag.spec.dag_id h.dag.spec.dag_id (before_apart g h (and_left (graph_before g h) _ e)) in
@@ -146,7 +146,7 @@ later_graphs a t g date (h ∷ hs) e =
     ∙ (ap (λ b. b || list_any (is_for g.dag.spec.dag_id date) (flat_map (named_of a t) hs)) (other_graph g.dag.spec.dag_id h.dag.spec.dag_id date apart (take runs_per_tick (wanted_by a t h)))
     ∙ later_graphs a t g date hs (and_right (graph_before g h) _ e))
 
-all_of_graph : (p : Named → Bool) (id : List ℕ) → ((i : Interval) → p (scheduled id i) ≡ true) → (is : List Interval) → list_all p (map (scheduled id) is) ≡ true
+all_of_graph : (p : NamedRun → Bool) (id : List ℕ) → ((i : Interval) → p (scheduled id i) ≡ true) → (is : List Interval) → list_all p (map (scheduled id) is) ≡ true
 all_of_graph p id h [] = refl
 all_of_graph p id h (i ∷ is) = and_from (p (scheduled id i)) _ (h i) (all_of_graph p id h is)
 
@@ -155,7 +155,7 @@ unless_paused : (b : Bool) (p : List Interval → Bool) (is : List Interval) →
 unless_paused true p is e f = e
 unless_paused false p is e f = f
 
-wanted_free : (a : Schedule) (t : ℕ) (g : Graph) → list_all (λ (i : Interval). not (has_run_at a g.dag.spec.dag_id i.start)) (wanted_by a t g) ≡ true
+wanted_free : (a : Schedule) (t : ℕ) (g : LoadedGraph) → list_all (λ (i : Interval). not (has_run_at a g.dag.spec.dag_id i.start)) (wanted_by a t g) ≡ true
 wanted_free a t g =
     let dates : List ℕ = dates_of a g.dag.spec.dag_id in
     unless_paused g.paused (list_all (λ (i : Interval). not (has_run_at a g.dag.spec.dag_id i.start))) (wanted_intervals g.dag.spec t dates) refl
@@ -163,14 +163,14 @@ wanted_free a t g =
     (λ i e. ap not (sym (filtered_date g.dag.spec.dag_id i.start a.runs)) ∙ e) (wanted_intervals g.dag.spec t dates)
     (all_filtered (λ (i : Interval). not (has_date dates i.start)) (considered g.dag.spec.catchup (due_intervals g.dag.spec.schedule g.dag.spec.start_date g.dag.spec.end_date t))))
 
-wanted_rises : (a : Schedule) (t : ℕ) (g : Graph) → starts_rise (wanted_by a t g) ≡ true
+wanted_rises : (a : Schedule) (t : ℕ) (g : LoadedGraph) → starts_rise (wanted_by a t g) ≡ true
 wanted_rises a t g = unless_paused g.paused starts_rise (wanted_intervals g.dag.spec t (dates_of a g.dag.spec.dag_id)) refl (wanted_rise g.dag.spec t (dates_of a g.dag.spec.dag_id))
 
-wanted_moments : (a : Schedule) (t : ℕ) (g : Graph) → t < seconds_end → list_all is_dated (wanted_by a t g) ≡ true
+wanted_moments : (a : Schedule) (t : ℕ) (g : LoadedGraph) → t < seconds_end → list_all is_dated (wanted_by a t g) ≡ true
 wanted_moments a t g range =
     unless_paused g.paused (list_all is_dated) (wanted_intervals g.dag.spec t (dates_of a g.dag.spec.dag_id)) refl (wanted_dated g.dag.spec t (dates_of a g.dag.spec.dag_id) range)
 
-new_from : (a : Schedule) (t : ℕ) (gs : List Graph) → t < seconds_end → rises graph_before gs ≡ true → list_all (λ (g : Graph). is_some (graph_named a g.dag.spec.dag_id)) gs ≡ true → are_new a (flat_map (named_of a t) gs) ≡ true
+new_from : (a : Schedule) (t : ℕ) (gs : List LoadedGraph) → t < seconds_end → rises graph_before gs ≡ true → list_all (λ (g : LoadedGraph). is_some (graph_named a g.dag.spec.dag_id)) gs ≡ true → are_new a (flat_map (named_of a t) gs) ≡ true
 new_from a t [] range order known = refl
 new_from a t (g ∷ gs) range order known =
     let is : List Interval = take runs_per_tick (wanted_by a t g) in
@@ -180,16 +180,16 @@ new_from a t (g ∷ gs) range order known =
     (all_take is_dated runs_per_tick (wanted_by a t g) (wanted_moments a t g range))
     (take_starts runs_per_tick (wanted_by a t g) (wanted_rises a t g)))
     (new_from a t gs range (and_right (list_all (graph_before g) gs) _ order) (and_right (is_some (graph_named a g.dag.spec.dag_id)) _ known))
-    (all_of_graph (λ (n : Named). not (list_any (is_for n.graph n.logical) (flat_map (named_of a t) gs))) g.dag.spec.dag_id
+    (all_of_graph (λ (n : NamedRun). not (list_any (is_for n.graph n.logical) (flat_map (named_of a t) gs))) g.dag.spec.dag_id
     (λ i. not_is _ (later_graphs a t g i.start gs (and_left (list_all (graph_before g) gs) _ order))) is)
 
 -- each graph is there
-there_from : (all gs : List Graph) → ((id : List ℕ) → list_any (λ (h : Graph). same h.dag.spec.dag_id id) gs ≡ true → list_any (λ (h : Graph). same h.dag.spec.dag_id id) all ≡ true)
-    → list_all (λ (g : Graph). is_some (graph_among all g.dag.spec.dag_id)) gs ≡ true
+there_from : (all gs : List LoadedGraph) → ((id : List ℕ) → list_any (λ (h : LoadedGraph). same h.dag.spec.dag_id id) gs ≡ true → list_any (λ (h : LoadedGraph). same h.dag.spec.dag_id id) all ≡ true)
+    → list_all (λ (g : LoadedGraph). is_some (graph_among all g.dag.spec.dag_id)) gs ≡ true
 there_from all [] inside = refl
 there_from all (g ∷ gs) inside =
     and_from (is_some (graph_among all g.dag.spec.dag_id)) _
-    (find_any (λ (h : Graph). same h.dag.spec.dag_id g.dag.spec.dag_id) all ∙ inside g.dag.spec.dag_id (ap (λ b. b || list_any (λ (h : Graph). same h.dag.spec.dag_id g.dag.spec.dag_id) gs) (same_itself g.dag.spec.dag_id)))
+    (find_any (λ (h : LoadedGraph). same h.dag.spec.dag_id g.dag.spec.dag_id) all ∙ inside g.dag.spec.dag_id (ap (λ b. b || list_any (λ (h : LoadedGraph). same h.dag.spec.dag_id g.dag.spec.dag_id) gs) (same_itself g.dag.spec.dag_id)))
     (there_from all gs (λ id e. inside id (or_right (same g.dag.spec.dag_id id) _ e)))
 
 pub named_new : (a : Schedule) (t : ℕ) → IsSound a → is_moment t ≡ true → are_new a (named_by_tick a t) ≡ true

@@ -8,14 +8,14 @@ use Rattle.sched_model.specs.Lists.{zip_with, last_passing, or_else}
 use Rattle.graph_file.specs.Lists.{when}
 use Rattle.graph_file.specs.declared.task_specs.TaskSpec.{TaskSpec}
 use Rattle.trigger_rules.specs.Rules.{rule_verdict}
-use Rattle.instance_machine.specs.Instances.{Held, new_instance}
+use Rattle.instance_machine.specs.Instances.{InstanceValue, new_instance}
 use Rattle.sched_model.specs.Schedule.{Schedule, tasks_of, is_running, run_before, dag_named}
 use Rattle.sched_state.specs.declared.runs.Run.{Run}
 use Rattle.instance_machine.specs.declared.tries.Try.{Try}
 use Rattle.instance_machine.specs.States.{state_of, opens_gate}
 use Rattle.sched_model.specs.States.{state_at, past_is_open, previous, is_earlier}
 use Rattle.sched_model.specs.Settle.{decides, decide_task, decide_instance, upstream_states, decided_verdict}
-use Rattle.sched_model.specs.NamedRuns.{Named, queued_run, add_runs}
+use Rattle.sched_model.specs.NamedRuns.{NamedRun, queued_run, add_runs}
 use Rattle.sched_laws.specs.Sweep.{decision_in}
 use Rattle.sched_laws.proofs.SettleLemmas.{map_some, and_then_some}
 
@@ -61,10 +61,10 @@ given_more false c verdict.Run w h e = absurd (let n : ◌≡◌ {A = Option Ver
 given_more b c verdict.Skip w h e = e
 given_more b c verdict.UpstreamFailed w h e = e
 
-abbrev made_of : Option Verdict → ℕ → List Try → Held
+abbrev made_of : Option Verdict → ℕ → List Try → InstanceValue
 made_of v s ts = record { verdict = v; since = s; tries = ts }
 
-decided_with : (a : Schedule) (x r : Run) (q : ℕ) (v : Option Verdict) (s : ℕ) (ts : List Try) (j : Held) → opens_gate (Some (state_at a x q)) ≡ false
+decided_with : (a : Schedule) (x r : Run) (q : ℕ) (v : Option Verdict) (s : ℕ) (ts : List Try) (j : InstanceValue) → opens_gate (Some (state_at a x q)) ≡ false
     → decide_instance (with_new x a) r q (made_of v s ts) ≡ Some j → decide_instance a r q (made_of v s ts) ≡ Some j
 decided_with a x r q (Some v) s ts j n e = e
 decided_with a x r q None s ts j n e =
@@ -74,15 +74,15 @@ decided_with a x r q None s ts j n e =
     given_more (past_is_open (with_new x a) r t.0 q) (past_is_open a r t.0 q) (rule_verdict t.0.trigger_rule (upstream_states a r q)) u.0 (gate_with a x r t.0 q n) u.1 in
     ap (option_and_then (decide_task a r q (made_of None s ts))) t.1 ∙ ap (option_map (λ w. made_of (Some w) s ts)) g ∙ ap (λ z. Some z) u.2
 
-guard_more : (c : Bool) (o u : Option Held) (j : Held) → (o ≡ Some j → u ≡ Some j) → (◌≡◌ {A = Option Held} (elim c [ true ↦ o | false ↦ None ]) (Some j)) → (◌≡◌ {A = Option Held} (elim c [ true ↦ u | false ↦ None ]) (Some j))
+guard_more : (c : Bool) (o u : Option InstanceValue) (j : InstanceValue) → (o ≡ Some j → u ≡ Some j) → (◌≡◌ {A = Option InstanceValue} (elim c [ true ↦ o | false ↦ None ]) (Some j)) → (◌≡◌ {A = Option InstanceValue} (elim c [ true ↦ u | false ↦ None ]) (Some j))
 guard_more true o u j h e = h e
 guard_more false o u j h e = e
 
-at_more : (f g : Held → Option Held) (o : Option Held) (j : Held) → ((i : Held) → f i ≡ Some j → g i ≡ Some j) → option_and_then f o ≡ Some j → option_and_then g o ≡ Some j
+at_more : (f g : InstanceValue → Option InstanceValue) (o : Option InstanceValue) (j : InstanceValue) → ((i : InstanceValue) → f i ≡ Some j → g i ≡ Some j) → option_and_then f o ≡ Some j → option_and_then g o ≡ Some j
 at_more f g None j h e = e
 at_more f g (Some i) j h e = h i e
 
-pub decision_with : (a : Schedule) (x r : Run) (q : ℕ) (j : Held) → opens_gate (Some (state_at a x q)) ≡ false → decision_in (with_new x a) q r ≡ Some j → decision_in a q r ≡ Some j
+pub decision_with : (a : Schedule) (x r : Run) (q : ℕ) (j : InstanceValue) → opens_gate (Some (state_at a x q)) ≡ false → decision_in (with_new x a) q r ≡ Some j → decision_in a q r ≡ Some j
 decision_with a x r q j n e = guard_more (is_running r.phase) (option_and_then (decide_instance (with_new x a) r q) (slice_get r.instances q)) (option_and_then (decide_instance a r q) (slice_get r.instances q)) j
     (at_more (decide_instance (with_new x a) r q) (decide_instance a r q) (slice_get r.instances q) j (λ i. decided_with a x r q i.verdict i.since i.tries j n)) e
 
@@ -92,10 +92,10 @@ blank_states (t ∷ ts) zero q = refl
 blank_states (t ∷ ts) (suc n) zero = refl
 blank_states (t ∷ ts) (suc n) (suc q) = blank_states ts n q
 
-pub new_with : (a : Schedule) (n : Named) (r : Run) (q : ℕ) (j : Held) → decision_in (with_new (queued_run a n) a) q r ≡ Some j → decision_in a q r ≡ Some j
+pub new_with : (a : Schedule) (n : NamedRun) (r : Run) (q : ℕ) (j : InstanceValue) → decision_in (with_new (queued_run a n) a) q r ≡ Some j → decision_in a q r ≡ Some j
 new_with a n r q j e = decision_with a (queued_run a n) r q j
     (blank_states (tasks_of a (queued_run a n)) (length (dag_named a n.graph).tasks) q) e
 
-pub runs_with : (ns : List Named) (a : Schedule) (r : Run) (q : ℕ) (j : Held) → decision_in (add_runs ns a) q r ≡ Some j → decision_in a q r ≡ Some j
+pub runs_with : (ns : List NamedRun) (a : Schedule) (r : Run) (q : ℕ) (j : InstanceValue) → decision_in (add_runs ns a) q r ≡ Some j → decision_in a q r ≡ Some j
 runs_with [] a r q j e = e
 runs_with (n ∷ ns) a r q j e = runs_with ns a r q j (new_with (add_runs ns a) n r q j e)

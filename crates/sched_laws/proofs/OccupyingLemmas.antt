@@ -4,7 +4,7 @@ use Rattle.std.specs.List.{zip}
 use Rattle.std.proofs.lemmas.List.Sums.{sum_by-append}
 use Rattle.std.proofs.lemmas.List.Elements.{filter-append}
 use Rattle.graph_file.specs.declared.task_specs.TaskSpec.{TaskSpec}
-use Rattle.instance_machine.specs.Instances.{Held, new_instance, map_tries}
+use Rattle.instance_machine.specs.Instances.{InstanceValue, new_instance, map_tries}
 use Rattle.instance_machine.specs.Reports.{lost_try, lost_if, reported_try, report_try, if_open, after}
 use Rattle.instance_machine.specs.declared.tries.Stage.{Stage}
 use Rattle.instance_machine.specs.declared.tries.Stage.TheVariants.{Started, Ended}
@@ -12,22 +12,22 @@ use Rattle.instance_machine.specs.declared.tries.Outcome.TheVariants.{Success, F
 use Rattle.instance_machine.specs.declared.tries.Try.{Try}
 use Rattle.instance_machine.specs.declared.tries.End.{End}
 use Rattle.sched_state.specs.Lists.{same, insert_by}
-use Rattle.sched_state.specs.declared.graphs.Graph.{Graph}
+use Rattle.sched_state.specs.declared.graphs.LoadedGraph.{LoadedGraph}
 use Rattle.sched_state.specs.declared.runs.Run.{Run}
-use Rattle.sched_state.specs.declared.runs.Phase.{Phase}
+use Rattle.sched_state.specs.declared.runs.RunPhase.{RunPhase}
 use Rattle.sched_model.specs.Schedule.{Schedule, dag_among, tasks_of, run_before}
 use Rattle.sched_model.specs.States.{is_open, open_of, open_tries, slots_in, occupied}
-use Rattle.sched_model.specs.Clearing.{Naming, cleared, clear_pair, clear_if, clear_run, clear, named_in}
+use Rattle.sched_model.specs.Clearing.{Selection, cleared, clear_pair, clear_if, clear_run, clear, named_in}
 use Rattle.sched_model.specs.Lists.{at, map_places}
 use Rattle.sched_model.specs.Handout.{in_instance}
 use Rattle.sched_laws.specs.Stages.{in_phase}
-use Rattle.sched_model.specs.NamedRuns.{Named, queued_run, insert_runs, add_runs}
+use Rattle.sched_model.specs.NamedRuns.{NamedRun, queued_run, insert_runs, add_runs}
 use Rattle.sched_model.specs.Changes.{map_tries_of, map_all_tries, set_paused, pause_graph, report, restart}
 use Rattle.sched_laws.proofs.AlikeLemmas.{open_alike}
 use Rattle.sched_laws.proofs.PauseLemmas.{dags_paused}
 
 -- the tries without an end of a run
-abbrev pub open_by : List Graph → Run → List (TaskSpec × Try)
+abbrev pub open_by : List LoadedGraph → Run → List (TaskSpec × Try)
 open_by gs r = flat_map open_of (zip (dag_among gs r.graph).tasks r.instances)
 
 -- ---- a pause
@@ -49,16 +49,16 @@ insert_nothing f r (q ∷ qs) e = elim (run_before r q) as (λ b. run_before r q
   | false ↦ λ here. rw (here, insert_by) (ap (λ ys. f q ++ ys) (insert_nothing f r qs e))
 ] refl
 
-insert_open : (a : Schedule) (ns : List Named) (rs : List Run) → flat_map (open_by a.graphs) (insert_runs (map (queued_run a) ns) rs) ≡ flat_map (open_by a.graphs) rs
+insert_open : (a : Schedule) (ns : List NamedRun) (rs : List Run) → flat_map (open_by a.graphs) (insert_runs (map (queued_run a) ns) rs) ≡ flat_map (open_by a.graphs) rs
 insert_open a [] rs = refl
 insert_open a (n ∷ ns) rs =
     insert_nothing (open_by a.graphs) (queued_run a n) (insert_runs (map (queued_run a) ns) rs) (none_open (tasks_of a (queued_run a n)) (length (tasks_of a (queued_run a n)))) ∙ insert_open a ns rs
 
-pub open_added : (ns : List Named) (a : Schedule) → open_tries (add_runs ns a) ≡ open_tries a
+pub open_added : (ns : List NamedRun) (a : Schedule) → open_tries (add_runs ns a) ≡ open_tries a
 open_added ns a = insert_open a ns a.runs
 
 -- ---- a clear
-set_back_open : (f : ℕ → TaskSpec × Held → Bool) (i : ℕ) (ts : List TaskSpec) (hs : List Held) → flat_map open_of (zip ts (map_places (clear_pair f) i (zip ts hs))) ≡ flat_map open_of (zip ts hs)
+set_back_open : (f : ℕ → TaskSpec × InstanceValue → Bool) (i : ℕ) (ts : List TaskSpec) (hs : List InstanceValue) → flat_map open_of (zip ts (map_places (clear_pair f) i (zip ts hs))) ≡ flat_map open_of (zip ts hs)
 set_back_open f i [] hs = refl
 set_back_open f i (t ∷ ts) [] = refl
 set_back_open f i (t ∷ ts) (h ∷ hs) = elim (f i (t, h)) as (λ b. open_of (t, cond b (cleared h) h) ++ flat_map open_of (zip ts (map_places (clear_pair f) (i + 1) (zip ts hs))) ≡ open_of (t, h) ++ flat_map open_of (zip ts hs)) [
@@ -66,16 +66,16 @@ set_back_open f i (t ∷ ts) (h ∷ hs) = elim (f i (t, h)) as (λ b. open_of (t
   | false ↦ ap (λ es. open_of (t, h) ++ es) (set_back_open f (i + 1) ts hs)
 ]
 
-run_open : (a : Schedule) (named : Naming) (r : Run) (es : List (TaskSpec × Held)) → open_by a.graphs (clear_if a named r es) ≡ open_by a.graphs r
+run_open : (a : Schedule) (named : Selection) (r : Run) (es : List (TaskSpec × InstanceValue)) → open_by a.graphs (clear_if a named r es) ≡ open_by a.graphs r
 run_open a named r [] = refl
 run_open a named r (e ∷ es) = set_back_open (named r) 0 (tasks_of a r) r.instances
 
-runs_open : (a : Schedule) (named : Naming) (rs : List Run) → flat_map (open_by a.graphs) (map (clear_run a named) rs) ≡ flat_map (open_by a.graphs) rs
+runs_open : (a : Schedule) (named : Selection) (rs : List Run) → flat_map (open_by a.graphs) (map (clear_run a named) rs) ≡ flat_map (open_by a.graphs) rs
 runs_open a named [] = refl
 runs_open a named (r ∷ rs) =
     ap (λ es. es ++ flat_map (open_by a.graphs) (map (clear_run a named) rs)) (run_open a named r (named_in a named r)) ∙ ap (λ es. open_by a.graphs r ++ es) (runs_open a named rs)
 
-pub open_cleared : (named : Naming) (a : Schedule) → open_tries (clear named a) ≡ open_tries a
+pub open_cleared : (named : Selection) (a : Schedule) → open_tries (clear named a) ≡ open_tries a
 open_cleared named a = runs_open a named a.runs
 
 -- ---- a restart
@@ -87,14 +87,14 @@ none_left : (now : ℕ) (ts : List Try) → filter is_open (map (lost_try now) t
 none_left now [] = refl
 none_left now (t ∷ ts) = rw (closed now t t.ended refl) (none_left now ts)
 
-none_of_tasks : (now : ℕ) (ts : List TaskSpec) (is : List Held) → flat_map open_of (zip ts (map (map_tries (lost_try now)) is)) ≡ []
+none_of_tasks : (now : ℕ) (ts : List TaskSpec) (is : List InstanceValue) → flat_map open_of (zip ts (map (map_tries (lost_try now)) is)) ≡ []
 none_of_tasks now [] [] = refl
 none_of_tasks now [] (i ∷ is) = refl
 none_of_tasks now (t ∷ ts) [] = refl
 none_of_tasks now (t ∷ ts) (i ∷ is) =
     ap (λ (xs : List Try). map (λ (x : Try). (t, x)) xs ++ flat_map open_of (zip ts (map (map_tries (lost_try now)) is))) (none_left now i.tries) ∙ none_of_tasks now ts is
 
-none_of_runs : (now : ℕ) (gs : List Graph) (rs : List Run) → flat_map (open_by gs) (map (map_tries_of (lost_try now)) rs) ≡ []
+none_of_runs : (now : ℕ) (gs : List LoadedGraph) (rs : List Run) → flat_map (open_by gs) (map (map_tries_of (lost_try now)) rs) ≡ []
 none_of_runs now gs [] = refl
 none_of_runs now gs (r ∷ rs) =
     ap (λ (es : List (TaskSpec × Try)). es ++ flat_map (open_by gs) (map (map_tries_of (lost_try now)) rs)) (none_of_tasks now (dag_among gs r.graph).tasks r.instances) ∙ none_of_runs now gs rs
@@ -151,7 +151,7 @@ split_tries f p keeps shut k (t ∷ ts) =
     split_first f p k t (filter is_open ts) (filter is_open (map f ts)) (is_open t) (is_open (f t)) refl (shut t) (keeps t) (split_tries f p keeps shut k ts)
 
 split_tasks : (f : Try → Try) (p : List ℕ) → ((t : Try) → (f t).slots ≡ t.slots) → ((t : Try) → is_open t ≡ false → is_open (f t) ≡ false)
-    → (ts : List TaskSpec) (is : List Held) → Splits f p (flat_map open_of (zip ts is)) (flat_map open_of (zip ts (map (map_tries f) is)))
+    → (ts : List TaskSpec) (is : List InstanceValue) → Splits f p (flat_map open_of (zip ts is)) (flat_map open_of (zip ts (map (map_tries f) is)))
 split_tasks f p keeps shut [] [] = refl
 split_tasks f p keeps shut [] (i ∷ is) = refl
 split_tasks f p keeps shut (t ∷ ts) [] = refl
@@ -159,7 +159,7 @@ split_tasks f p keeps shut (t ∷ ts) (i ∷ is) =
     split_join f p (open_of (t, i)) (open_of (t, map_tries f i)) (flat_map open_of (zip ts is)) (flat_map open_of (zip ts (map (map_tries f) is))) (split_tries f p keeps shut t i.tries) (split_tasks f p keeps shut ts is)
 
 split_runs : (f : Try → Try) (p : List ℕ) → ((t : Try) → (f t).slots ≡ t.slots) → ((t : Try) → is_open t ≡ false → is_open (f t) ≡ false)
-    → (gs : List Graph) (rs : List Run) → Splits f p (flat_map (open_by gs) rs) (flat_map (open_by gs) (map (map_tries_of f) rs))
+    → (gs : List LoadedGraph) (rs : List Run) → Splits f p (flat_map (open_by gs) rs) (flat_map (open_by gs) (map (map_tries_of f) rs))
 split_runs f p keeps shut gs [] = refl
 split_runs f p keeps shut gs (r ∷ rs) =
     split_join f p (open_by gs r) (open_by gs (map_tries_of f r)) (flat_map (open_by gs) rs) (flat_map (open_by gs) (map (map_tries_of f) rs)) (split_tasks f p keeps shut (dag_among gs r.graph).tasks r.instances) (split_runs f p keeps shut gs rs)
@@ -216,7 +216,7 @@ flat_at f g same_ (suc n) [] = refl
 flat_at f g same_ zero (x ∷ xs) = ap (λ ys. ys ++ flat_map f xs) (same_ x)
 flat_at f g same_ (suc n) (x ∷ xs) = ap (λ ys. f x ++ ys) (flat_at f g same_ n xs)
 
-tries_of_one : (g : Held → Held) → ((i : Held) → (g i).tries ≡ i.tries) → (p : ℕ) (ts : List TaskSpec) (is : List Held) → flat_map open_of (zip ts (at g p is)) ≡ flat_map open_of (zip ts is)
+tries_of_one : (g : InstanceValue → InstanceValue) → ((i : InstanceValue) → (g i).tries ≡ i.tries) → (p : ℕ) (ts : List TaskSpec) (is : List InstanceValue) → flat_map open_of (zip ts (at g p is)) ≡ flat_map open_of (zip ts is)
 tries_of_one g keeps zero [] [] = refl
 tries_of_one g keeps zero [] (i ∷ is) = refl
 tries_of_one g keeps (suc p) [] [] = refl
@@ -226,8 +226,8 @@ tries_of_one g keeps (suc p) (t ∷ ts) [] = refl
 tries_of_one g keeps zero (t ∷ ts) (i ∷ is) = ap (λ (xs : List Try). map (λ (x : Try). (t, x)) (filter is_open xs) ++ flat_map open_of (zip ts is)) (keeps i)
 tries_of_one g keeps (suc p) (t ∷ ts) (i ∷ is) = ap (λ (es : List (TaskSpec × Try)). open_of (t, i) ++ es) (tries_of_one g keeps p ts is)
 
-pub open_in_phase : (ph : Phase) (n : ℕ) (a : Schedule) → open_tries (record a { runs = at (in_phase ph) n a.runs }) ≡ open_tries a
+pub open_in_phase : (ph : RunPhase) (n : ℕ) (a : Schedule) → open_tries (record a { runs = at (in_phase ph) n a.runs }) ≡ open_tries a
 open_in_phase ph n a = flat_at (open_by a.graphs) (in_phase ph) (λ r. refl) n a.runs
 
-pub open_changed : (g : Held → Held) → ((i : Held) → (g i).tries ≡ i.tries) → (n p : ℕ) (a : Schedule) → open_tries (record a { runs = at (in_instance g p) n a.runs }) ≡ open_tries a
+pub open_changed : (g : InstanceValue → InstanceValue) → ((i : InstanceValue) → (g i).tries ≡ i.tries) → (n p : ℕ) (a : Schedule) → open_tries (record a { runs = at (in_instance g p) n a.runs }) ≡ open_tries a
 open_changed g keeps n p a = flat_at (open_by a.graphs) (in_instance g p) (λ r. tries_of_one g keeps p (dag_among a.graphs r.graph).tasks r.instances) n a.runs

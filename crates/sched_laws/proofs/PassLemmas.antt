@@ -10,7 +10,7 @@ use Rattle.std.proofs.lemmas.List.{length-append}
 use Rattle.trigger_rules.specs.declared.states.State.TheVariants as state
 use Rattle.sched_model.specs.Lists.{at}
 use Rattle.graph_file.specs.declared.task_specs.TaskSpec.{TaskSpec}
-use Rattle.instance_machine.specs.Instances.{Held, last_of, recent}
+use Rattle.instance_machine.specs.Instances.{InstanceValue, last_of, recent}
 use Rattle.sched_model.specs.Schedule.{Schedule, tasks_of, is_running, is_paused, size_of, dag_among}
 use Rattle.sched_state.specs.declared.runs.Run.{Run}
 use Rattle.instance_machine.specs.declared.tries.Try.{Try}
@@ -51,18 +51,18 @@ drop_within zero xs x l = refl
 drop_within (suc n) [] x l = absurd (omega arith)
 drop_within (suc n) (y ∷ xs) x l = drop_within n xs x (omega arith)
 
-new_queued : (t : TaskSpec) (i : Held) (n k : ℕ) → i.since ≤ length i.tries → state_of t (with_try (new_try n k) i) ≡ state.Queued
+new_queued : (t : TaskSpec) (i : InstanceValue) (n k : ℕ) → i.since ≤ length i.tries → state_of t (with_try (new_try n k) i) ≡ state.Queued
 new_queued t i n k l = rw (drop_within i.since i.tries (new_try n k) l, last_snoc (drop i.since i.tries) (new_try n k)) refl
 
-pub not_ready : (a : Schedule) (t : TaskSpec) (i : Held) (n k : ℕ) → i.since ≤ length i.tries → is_ready a.now t (with_try (new_try n k) i) ≡ false
+pub not_ready : (a : Schedule) (t : TaskSpec) (i : InstanceValue) (n k : ℕ) → i.since ≤ length i.tries → is_ready a.now t (with_try (new_try n k) i) ≡ false
 not_ready a t i n k l =
-    let j : Held = with_try (new_try n k) i in
+    let j : InstanceValue = with_try (new_try n k) i in
     ap (λ s. is_scheduled s || has_come a.now (if is_up_for_retry s then retry_of (last_of (recent j)) t.retry_delay else None)) (new_queued t i n k l)
 
 -- ---- eligible after a hand-out
 
 -- eligible, by its parts
-made : (a : Schedule) (x : Offer) (r : Run) (t : TaskSpec) (i : Held) → slice_get a.runs x.run ≡ Some r → slice_get (tasks_of a r) x.place ≡ Some t → slice_get r.instances x.place ≡ Some i
+made : (a : Schedule) (x : Offer) (r : Run) (t : TaskSpec) (i : InstanceValue) → slice_get a.runs x.run ≡ Some r → slice_get (tasks_of a r) x.place ≡ Some t → slice_get r.instances x.place ≡ Some i
     → is_running r.phase ≡ true → is_paused a r.graph ≡ false → is_ready a.now t i ≡ true → x ≡ offer_of a x.run r x.place t → IsEligible a x
 made a x r t i e f g u v w y = record { run = r; task = t; instance = i; run_is = e; task_is = f; instance_is = g; running = u; unpaused = v; ready = w; offer_is = y }
 
@@ -72,8 +72,8 @@ is_at o x = nat_eq x.run o.run && nat_eq x.place o.place
 one_run : (a : Schedule) (n : ℕ) (r u : Run) → slice_get a.runs n ≡ Some r → slice_get a.runs n ≡ Some u → r ≡ u
 one_run a n r u e f = let c : ◌≡◌ {A = Option Run} (Some r) (Some u) = sym e ∙ f in cc
 
-one_instance : (is : List Held) (n : ℕ) (i j : Held) → slice_get is n ≡ Some i → slice_get is n ≡ Some j → i ≡ j
-one_instance is n i j e f = let c : ◌≡◌ {A = Option Held} (Some i) (Some j) = sym e ∙ f in cc
+one_instance : (is : List InstanceValue) (n : ℕ) (i j : InstanceValue) → slice_get is n ≡ Some i → slice_get is n ≡ Some j → i ≡ j
+one_instance is n i j e f = let c : ◌≡◌ {A = Option InstanceValue} (Some i) (Some j) = sym e ∙ f in cc
 
 one_task : (ts : List TaskSpec) (n : ℕ) (i j : TaskSpec) → slice_get ts n ≡ Some i → slice_get ts n ≡ Some j → i ≡ j
 one_task ts n i j e f = let c : ◌≡◌ {A = Option TaskSpec} (Some i) (Some j) = sym e ∙ f in cc
@@ -87,7 +87,7 @@ pub still_eligible : (a : Schedule) (o x : Offer) → IsEligible a o → IsEligi
 still_eligible a o x h k e = by_bool {C = IsEligible (hand a o) x} (nat_eq x.run o.run)
     (λ f.
     let w : x.run ≡ o.run = eqb-true x.run o.run f in
-    let g : Held → Held = with_try (new_try a.next o.slots) in
+    let g : InstanceValue → InstanceValue = with_try (new_try a.next o.slots) in
     let same : h.run ≡ k.run = one_run a o.run h.run k.run h.run_is (subst (λ (n : ℕ). slice_get a.runs n ≡ Some k.run) w k.run_is) in
     let r : slice_get (hand a o).runs x.run ≡ Some (in_instance g o.place k.run) =
     subst (λ (n : ℕ). slice_get (hand a o).runs n ≡ Some (in_instance g o.place k.run)) (sym w) (subst (λ (z : Run). slice_get (hand a o).runs o.run ≡ Some (in_instance g o.place z)) same (after_run a o h)) in
@@ -100,7 +100,7 @@ pub was_eligible : (a : Schedule) (o x : Offer) → IsWithin a → IsEligible a 
 was_eligible a o x within h k = by_bool {C = (is_at o x ≡ false) × IsEligible a x} (nat_eq x.run o.run)
     (λ f.
     let w : x.run ≡ o.run = eqb-true x.run o.run f in
-    let g : Held → Held = with_try (new_try a.next o.slots) in
+    let g : InstanceValue → InstanceValue = with_try (new_try a.next o.slots) in
     let same : k.run ≡ in_instance g o.place h.run = one_run (hand a o) o.run k.run (in_instance g o.place h.run) (subst (λ (n : ℕ). slice_get (hand a o).runs n ≡ Some k.run) w k.run_is) (after_run a o h) in
     let i0 : slice_get (at g o.place h.run.instances) x.place ≡ Some k.instance = subst (λ (z : Run). slice_get z.instances x.place ≡ Some k.instance) same k.instance_is in
     let t0 : slice_get (tasks_of a h.run) x.place ≡ Some k.task = subst (λ (z : Run). slice_get (tasks_of a z) x.place ≡ Some k.task) same k.task_is in
@@ -130,23 +130,23 @@ at_run a o n e =
     let k : o.run ≡ n = sym (eqb-true n o.run e) in
     subst (λ (m : ℕ). slice_get (hand a o).runs m ≡ option_map (in_instance (with_try (new_try a.next o.slots)) o.place) (slice_get a.runs m)) k (get_at (in_instance (with_try (new_try a.next o.slots)) o.place) o.run a.runs)
 
-within_new : (i : Held) (t : Try) → i.since ≤ length i.tries → i.since ≤ length (i.tries ++ t ∷ [])
+within_new : (i : InstanceValue) (t : Try) → i.since ≤ length i.tries → i.since ≤ length (i.tries ++ t ∷ [])
 within_new i t l = let e : length (i.tries ++ t ∷ []) ≡ length i.tries + 1 = length-append i.tries (t ∷ []) in omega arith
 
-within_at : (a : Schedule) (o : Offer) (n p : ℕ) (s : Run) (i : Held) → IsWithin a → slice_get a.runs n ≡ Some s
+within_at : (a : Schedule) (o : Offer) (n p : ℕ) (s : Run) (i : InstanceValue) → IsWithin a → slice_get a.runs n ≡ Some s
     → slice_get (at (with_try (new_try a.next o.slots)) o.place s.instances) p ≡ Some i → i.since ≤ length i.tries
 within_at a o n p s i w m f = by_bool {C = i.since ≤ length i.tries} (nat_eq p o.place)
     (λ k.
-    let g : Held → Held = with_try (new_try a.next o.slots) in
+    let g : InstanceValue → InstanceValue = with_try (new_try a.next o.slots) in
     let q : o.place ≡ p = sym (eqb-true p o.place k) in
     let u : slice_get (at g o.place s.instances) p ≡ option_map g (slice_get s.instances p) =
     subst (λ (y : ℕ). slice_get (at g o.place s.instances) y ≡ option_map g (slice_get s.instances y)) q (get_at g o.place s.instances) in
     elim (slice_get s.instances p) as (λ v. slice_get s.instances p ≡ v → i.since ≤ length i.tries) [
-      | None ↦ λ v. absurd (let c : ◌≡◌ {A = Option Held} None (Some i) = sym (u ∙ ap (option_map g) v) ∙ f in cc)
+      | None ↦ λ v. absurd (let c : ◌≡◌ {A = Option InstanceValue} None (Some i) = sym (u ∙ ap (option_map g) v) ∙ f in cc)
       | Some j ↦ λ v.
-          let c : ◌≡◌ {A = Option Held} (Some (g j)) (Some i) = sym (u ∙ ap (option_map g) v) ∙ f in
+          let c : ◌≡◌ {A = Option InstanceValue} (Some (g j)) (Some i) = sym (u ∙ ap (option_map g) v) ∙ f in
           let d : g j ≡ i = cc in
-          subst (λ (z : Held). z.since ≤ length z.tries) d (within_new j (new_try a.next o.slots) (w n p s j m v))
+          subst (λ (z : InstanceValue). z.since ≤ length z.tries) d (within_new j (new_try a.next o.slots) (w n p s j m v))
     ] refl)
     (λ k. w n p s i m (sym (get_apart (with_try (new_try a.next o.slots)) o.place p s.instances k) ∙ f))
 
@@ -155,7 +155,7 @@ hand_within a o w n p r i e f = by_bool {C = i.since ≤ length i.tries} (nat_eq
     (λ k. elim (slice_get a.runs n) as (λ u. slice_get a.runs n ≡ u → i.since ≤ length i.tries) [
       | None ↦ λ m. absurd (let c : ◌≡◌ {A = Option Run} None (Some r) = sym (at_run a o n k ∙ ap (option_map (in_instance (with_try (new_try a.next o.slots)) o.place)) m) ∙ e in cc)
       | Some s ↦ λ m.
-          let g : Held → Held = with_try (new_try a.next o.slots) in
+          let g : InstanceValue → InstanceValue = with_try (new_try a.next o.slots) in
           let c : ◌≡◌ {A = Option Run} (Some (in_instance g o.place s)) (Some r) = sym (at_run a o n k ∙ ap (option_map (in_instance g o.place)) m) ∙ e in
           let d : in_instance g o.place s ≡ r = cc in
           let f' : slice_get (at g o.place s.instances) p ≡ Some i = subst (λ (z : Run). slice_get z.instances p ≡ Some i) (sym d) f in

@@ -5,7 +5,7 @@ use Rattle.std.proofs.lemmas.List.Folds.{list_any-append}
 use Rattle.graph_file.specs.declared.task_specs.TaskSpec.{TaskSpec}
 use Rattle.instance_machine.specs.declared.tries.Try.{Try}
 use Rattle.sched_state.specs.Lists.{same}
-use Rattle.sched_state.specs.declared.graphs.Graph.{Graph}
+use Rattle.sched_state.specs.declared.graphs.LoadedGraph.{LoadedGraph}
 use Rattle.sched_state.specs.declared.runs.Run.{Run}
 use Rattle.sched_state.proofs.OrderLemmas.{and_left, and_right, or_left, or_right}
 use Rattle.sched_state.proofs.NameLemmas.{same_is}
@@ -26,17 +26,17 @@ use Rattle.std.proofs.Math.Bool.{and-false}
 
 -- ---- what is found after a pause
 -- the graph with this id is the one that was found, with its pause
-pub found_paused : (id : List ℕ) (p : Bool) (gs : List Graph) (name : List ℕ) → graph_among (map (pause_graph id p) gs) name ≡ option_map (pause_graph id p) (graph_among gs name)
+pub found_paused : (id : List ℕ) (p : Bool) (gs : List LoadedGraph) (name : List ℕ) → graph_among (map (pause_graph id p) gs) name ≡ option_map (pause_graph id p) (graph_among gs name)
 found_paused id p gs name = find_under (pause_graph id p) (paused_dag id p) name gs
 
 -- its tasks and edges stay
-pub same_dag_paused : (id : List ℕ) (p : Bool) (gs : List Graph) (name : List ℕ) → dag_among (map (pause_graph id p) gs) name ≡ dag_among gs name
+pub same_dag_paused : (id : List ℕ) (p : Bool) (gs : List LoadedGraph) (name : List ℕ) → dag_among (map (pause_graph id p) gs) name ≡ dag_among gs name
 same_dag_paused id p gs name =
-    ap (λ (o : Option Graph). unwrap_or (option_map (λ (g : Graph). g.dag) o) no_dag) (found_paused id p gs name)
+    ap (λ (o : Option LoadedGraph). unwrap_or (option_map (λ (g : LoadedGraph). g.dag) o) no_dag) (found_paused id p gs name)
     ∙ dag_under (pause_graph id p) (paused_dag id p) (graph_among gs name)
 
 -- so they stay for every run
-pub dags_paused : (id : List ℕ) (p : Bool) (gs : List Graph) (rs : List Run) → AllDags gs (map (pause_graph id p) gs) rs
+pub dags_paused : (id : List ℕ) (p : Bool) (gs : List LoadedGraph) (rs : List Run) → AllDags gs (map (pause_graph id p) gs) rs
 dags_paused id p gs [] = tt
 dags_paused id p gs (r ∷ rs) = (same_dag_paused id p gs r.graph, dags_paused id p gs rs)
 
@@ -47,7 +47,7 @@ any_less p q h [] e = refl
 any_less p q h (x ∷ xs) e = rw (h x (or_left _ _ e), any_less p q h xs (or_right (p x) _ e)) refl
 
 -- no run starts that could not start before: not by the graph that is found for it
-start_less : (id : List ℕ) (vs : List Sight) (v : Sight) (o : Option Graph) → start_by vs v o ≡ false → start_by vs v (option_map (pause_graph id true) o) ≡ false
+start_less : (id : List ℕ) (vs : List Sight) (v : Sight) (o : Option LoadedGraph) → start_by vs v o ≡ false → start_by vs v (option_map (pause_graph id true) o) ≡ false
 start_less id vs v None e = e
 start_less id vs v (Some g) e =
     elim (same g.dag.spec.dag_id id) as (λ b. start_by vs v (Some (cond b (record g { paused = true }) g)) ≡ false) [
@@ -56,14 +56,14 @@ start_less id vs v (Some g) e =
     ]
 
 -- what can start after the pause could start before it
-pub starts_less : (id : List ℕ) (gs : List Graph) (vs : List Sight) (v : Sight) → can_start_seen gs vs v ≡ false → can_start_seen (map (pause_graph id true) gs) vs v ≡ false
+pub starts_less : (id : List ℕ) (gs : List LoadedGraph) (vs : List Sight) (v : Sight) → can_start_seen gs vs v ≡ false → can_start_seen (map (pause_graph id true) gs) vs v ≡ false
 starts_less id gs vs v e = ap (start_by vs v) (found_paused id true gs v.graph) ∙ start_less id vs v (graph_among gs v.graph) e
 
 -- where no move is possible none is possible after the pause
-pub moves_less : (id : List ℕ) (gs : List Graph) (rs : List Run) → can_move gs (map (sight_of gs) rs) ≡ false
+pub moves_less : (id : List ℕ) (gs : List LoadedGraph) (rs : List Run) → can_move gs (map (sight_of gs) rs) ≡ false
     → can_move (map (pause_graph id true) gs) (map (sight_of (map (pause_graph id true) gs)) rs) ≡ false
 moves_less id gs rs e =
-    let hs : List Graph = map (pause_graph id true) gs in
+    let hs : List LoadedGraph = map (pause_graph id true) gs in
     let vs : List Sight = map (sight_of gs) rs in
     let deciding : list_any (can_decide_in gs vs) vs ≡ false = or_left _ _ e in
     let others : (list_any can_finish vs || list_any (can_start_seen gs vs) vs) ≡ false = or_right (list_any (can_decide_in gs vs) vs) _ e in
@@ -99,7 +99,7 @@ none_offered p os true = refl
 none_offered p os false = refl
 
 -- the offers of a run after the pause are those before it, or none
-offers_less : (p : Offer → Bool) (id : List ℕ) (now n : ℕ) (r : Run) (o : Option Graph) → list_any p (offers_by now n r o) ≡ false → list_any p (offers_by now n r (option_map (pause_graph id true) o)) ≡ false
+offers_less : (p : Offer → Bool) (id : List ℕ) (now n : ℕ) (r : Run) (o : Option LoadedGraph) → list_any p (offers_by now n r o) ≡ false → list_any p (offers_by now n r (option_map (pause_graph id true) o)) ≡ false
 offers_less p id now n r None e = e
 offers_less p id now n r (Some g) e =
     elim (same g.dag.spec.dag_id id) as (λ b. list_any p (offers_by now n r (Some (cond b (record g { paused = true }) g))) ≡ false) [
@@ -116,7 +116,7 @@ all_offers_less p id a n (r ∷ rs) e =
     let parts : (list_any p (offers_in a (n, r)) || list_any p (flat_map (offers_in a) (enumerate_from (n + 1) rs))) ≡ false =
     sym (list_any-append p (offers_in a (n, r)) (flat_map (offers_in a) (enumerate_from (n + 1) rs))) ∙ e in
     let here : list_any p (offers_in b (n, r)) ≡ false =
-    ap (λ (o : Option Graph). list_any p (offers_by a.now n r o)) (found_paused id true a.graphs r.graph)
+    ap (λ (o : Option LoadedGraph). list_any p (offers_by a.now n r o)) (found_paused id true a.graphs r.graph)
     ∙ offers_less p id a.now n r (graph_among a.graphs r.graph) (or_left _ _ parts) in
     let rest : list_any p (flat_map (offers_in b) (enumerate_from (n + 1) rs)) ≡ false = all_offers_less p id a (n + 1) rs (or_right (list_any p (offers_in a (n, r))) _ parts) in
     list_any-append p (offers_in b (n, r)) (flat_map (offers_in b) (enumerate_from (n + 1) rs)) ∙ rw (here, rest) refl
@@ -131,18 +131,18 @@ pause_no_hand id a still =
 
 -- ---- the same pause
 -- a graph of another id stays, and so does one that has the pause already
-pause_other : (id : List ℕ) (p : Bool) (g : Graph) → same g.dag.spec.dag_id id ≡ false → pause_graph id p g ≡ g
+pause_other : (id : List ℕ) (p : Bool) (g : LoadedGraph) → same g.dag.spec.dag_id id ≡ false → pause_graph id p g ≡ g
 pause_other id p g e = ap (λ b. cond b (record g { paused = p }) g) e
 
-pause_this : (id : List ℕ) (p : Bool) (g : Graph) → g.paused ≡ p → pause_graph id p g ≡ g
+pause_this : (id : List ℕ) (p : Bool) (g : LoadedGraph) → g.paused ≡ p → pause_graph id p g ≡ g
 pause_this id p g e =
     elim (same g.dag.spec.dag_id id) as (λ b. cond b (record g { paused = p }) g ≡ g) [
-      | true ↦ ap (λ q. let h : Graph = record g { paused = q } in h) (sym e)
+      | true ↦ ap (λ q. let h : LoadedGraph = record g { paused = q } in h) (sym e)
       | false ↦ refl
     ]
 
 -- the graphs after the one with this id are others
-others_kept : (id : List ℕ) (p : Bool) (g : Graph) → same g.dag.spec.dag_id id ≡ true → (gs : List Graph) → list_all (graph_before g) gs ≡ true → map (pause_graph id p) gs ≡ gs
+others_kept : (id : List ℕ) (p : Bool) (g : LoadedGraph) → same g.dag.spec.dag_id id ≡ true → (gs : List LoadedGraph) → list_all (graph_before g) gs ≡ true → map (pause_graph id p) gs ≡ gs
 others_kept id p g e [] after = refl
 others_kept id p g e (h ∷ hs) after =
     let apart : same h.dag.spec.dag_id id ≡ false =
@@ -151,13 +151,13 @@ others_kept id p g e (h ∷ hs) after =
     ∙ ap (λ ks. h ∷ ks) (others_kept id p g e hs (and_right (graph_before g h) _ after))
 
 -- the first graph of this id is the only one, so where it has the pause all graphs stay
-pub same_pauses : (id : List ℕ) (p : Bool) (g : Graph) (gs : List Graph) → rises graph_before gs ≡ true → graph_among gs id ≡ Some g → g.paused ≡ p → map (pause_graph id p) gs ≡ gs
+pub same_pauses : (id : List ℕ) (p : Bool) (g : LoadedGraph) (gs : List LoadedGraph) → rises graph_before gs ≡ true → graph_among gs id ≡ Some g → g.paused ≡ p → map (pause_graph id p) gs ≡ gs
 same_pauses id p g [] order found e = refl
 same_pauses id p g (h ∷ hs) order found e =
     elim (same h.dag.spec.dag_id id) as (λ b. same h.dag.spec.dag_id id ≡ b → cond b (Some h) (graph_among hs id) ≡ Some g → map (pause_graph id p) (h ∷ hs) ≡ h ∷ hs) [
       | true ↦ λ q f.
           let is : h ≡ g = cc in
-          ap (λ k. k ∷ map (pause_graph id p) hs) (pause_this id p h (ap (λ (k : Graph). k.paused) is ∙ e))
+          ap (λ k. k ∷ map (pause_graph id p) hs) (pause_this id p h (ap (λ (k : LoadedGraph). k.paused) is ∙ e))
           ∙ ap (λ ks. h ∷ ks) (others_kept id p h q hs (and_left (list_all (graph_before h) hs) _ order))
       | false ↦ λ q f.
           ap (λ k. k ∷ map (pause_graph id p) hs) (pause_other id p h q)
@@ -165,5 +165,5 @@ same_pauses id p g (h ∷ hs) order found e =
     ] refl found
 
 -- the pause that a graph has already changes nothing
-pub pause_again : (id : List ℕ) (p : Bool) (a : Schedule) (g : Graph) → rises graph_before a.graphs ≡ true → graph_named a id ≡ Some g → g.paused ≡ p → set_paused id p a ≡ a
+pub pause_again : (id : List ℕ) (p : Bool) (a : Schedule) (g : LoadedGraph) → rises graph_before a.graphs ≡ true → graph_named a id ≡ Some g → g.paused ≡ p → set_paused id p a ≡ a
 pause_again id p a g order found e = ap (λ gs. let b : Schedule = record a { graphs = gs } in b) (same_pauses id p g a.graphs order found e)

@@ -10,7 +10,7 @@ use Rattle.std.proofs.lemmas.List.{length-map}
 use Rattle.graph_file.specs.Names.{is_name}
 use Rattle.graph_file.specs.declared.task_specs.TaskSpec.{TaskSpec}
 use Rattle.sched_state.specs.Lists.{same, name_cmp, is_less, insert_by}
-use Rattle.sched_state.specs.declared.graphs.Graph.{Graph}
+use Rattle.sched_state.specs.declared.graphs.LoadedGraph.{LoadedGraph}
 use Rattle.sched_state.proofs.OrderLemmas.{and_left, and_right, on_total, all_insert, any_insert, any_map, map_keeps, or_left, or_right}
 use Rattle.sched_model.specs.Lists.{rises}
 use Rattle.sched_model.specs.Schedule.{Schedule, Pool, has_pool, pool_before, default_pool}
@@ -52,7 +52,7 @@ with_pools a qs o n p k s = record {
   few_pools = n;
   few_runs = s.few_runs;
   graphs = all_impl (is_sound_graph a) (is_sound_graph (record a { pools = qs }))
-      (λ (g : Graph) e. and_from _ _ (and_left _ _ e)
+      (λ (g : LoadedGraph) e. and_from _ _ (and_left _ _ e)
       (all_impl (λ (t : TaskSpec). has_pool a t.pool) (λ (t : TaskSpec). has_pool (record a { pools = qs }) t.pool) (λ (t : TaskSpec) f. k t.pool f) g.dag.tasks
       (and_right (is_sound_dag a.limits.tasks a.limits.edges g.dag) _ e))) a.graphs s.graphs;
   pools = p;

@@ -9,10 +9,10 @@ use Rattle.std.proofs.lemmas.List.Folds.{list_all-append, list_all-map}
 use Rattle.moment_core.specs.Moments.{seconds_end}
 use Rattle.graph_file.specs.declared.task_specs.TaskSpec.{TaskSpec}
 use Rattle.trigger_rules.specs.States.{is_finished}
-use Rattle.instance_machine.specs.Instances.{Held, recent}
+use Rattle.instance_machine.specs.Instances.{InstanceValue, recent}
 use Rattle.instance_machine.specs.States.{state_of}
 use Rattle.instance_machine.specs.declared.tries.Try.{Try}
-use Rattle.sched_state.specs.declared.graphs.Graph.{Graph}
+use Rattle.sched_state.specs.declared.graphs.LoadedGraph.{LoadedGraph}
 use Rattle.sched_state.specs.declared.runs.Run.{Run}
 use Rattle.sched_state.proofs.OrderLemmas.{and_left, and_right}
 use Rattle.sched_model.specs.Causes.{tries_of}
@@ -71,14 +71,14 @@ numbers_go_on {X} k (x ∷ xs) ys =
 
 -- ---- tries by number
 -- tries from before the last clearing have an end
-turns_before : (t : TaskSpec) (i : Held) (k : ℕ) (xs : List Try) → k + length xs ≤ i.since + 1 → list_all (is_turn_right t i) (enumerate_from k xs) ≡ list_all has_end xs
+turns_before : (t : TaskSpec) (i : InstanceValue) (k : ℕ) (xs : List Try) → k + length xs ≤ i.since + 1 → list_all (is_turn_right t i) (enumerate_from k xs) ≡ list_all has_end xs
 turns_before t i k [] l = refl
 turns_before t i k (x ∷ xs) l =
     let here : is_turn_right t i (k, x) ≡ has_end x = cond-true (nat_le k i.since) _ _ (le-leb k i.since (omega arith)) in
     rw (here, turns_before t i (k + 1) xs (omega arith)) refl
 
 -- the most tries that the instance may have
-abbrev most_tries : TaskSpec → Held → ℕ
+abbrev most_tries : TaskSpec → InstanceValue → ℕ
 most_tries t i = i.since + (1 + t.retries)
 
 -- where a later number lies within a bound, so does an earlier one
@@ -90,7 +90,7 @@ later_bound true true false false g h = refl
 later_bound true false false f g h = refl
 
 -- tries from after it, the last of which is the last of all
-turns_after : (t : TaskSpec) (i : Held) (k : ℕ) (x : Try) (xs : List Try) → i.since < k → k + length xs ≡ length i.tries
+turns_after : (t : TaskSpec) (i : InstanceValue) (k : ℕ) (x : Try) (xs : List Try) → i.since < k → k + length xs ≡ length i.tries
     → list_all (is_turn_right t i) (enumerate_from k (x ∷ xs)) ≡ (is_run i.verdict && (nat_le (length i.tries) (most_tries t i) && list_all has_failed (but_last (x ∷ xs))))
 turns_after t i k x [] l e =
     let q : k ≡ length i.tries = omega arith in
@@ -106,14 +106,14 @@ turns_after t i k x (y ∷ ys) l e =
     (λ h. let m : length i.tries ≤ most_tries t i = leb-true _ _ h in le-leb k (most_tries t i) (omega arith)))
 
 -- all tries from after it
-turns_since : (t : TaskSpec) (i : Held) (xs : List Try) → i.since + length xs ≡ length i.tries → list_all (is_turn_right t i) (enumerate_from (1 + i.since) xs) ≡ are_sound_tries t.retries i.verdict xs
+turns_since : (t : TaskSpec) (i : InstanceValue) (xs : List Try) → i.since + length xs ≡ length i.tries → list_all (is_turn_right t i) (enumerate_from (1 + i.since) xs) ≡ are_sound_tries t.retries i.verdict xs
 turns_since t i [] e = sym (and-true (nat_le 0 (1 + t.retries)) ∙ le-leb 0 (1 + t.retries) (omega arith))
 turns_since t i (x ∷ xs) e =
     let bound : nat_le (length i.tries) (most_tries t i) ≡ nat_le (length (x ∷ xs)) (1 + t.retries) = grind (arith, nat_tests, e) in
     turns_after t i (1 + i.since) x xs (omega arith) (omega arith) ∙ ap (λ b. is_run i.verdict && (b && list_all has_failed (but_last (x ∷ xs)))) bound
 
 -- all tries
-turns_are : (t : TaskSpec) (i : Held) → i.since ≤ length i.tries → list_all (is_turn_right t i) (enumerate_from 1 i.tries) ≡ (list_all has_end (earlier i) && are_sound_tries t.retries i.verdict (recent i))
+turns_are : (t : TaskSpec) (i : InstanceValue) → i.since ≤ length i.tries → list_all (is_turn_right t i) (enumerate_from 1 i.tries) ≡ (list_all has_end (earlier i) && are_sound_tries t.retries i.verdict (recent i))
 turns_are t i within =
     let until : length (earlier i) ≡ i.since = length-take-le i.since i.tries within in
     let split : earlier i ++ recent i ≡ i.tries = take-append-drop i.since i.tries in
@@ -128,11 +128,11 @@ abbrev has_used_serial : ℕ → Try → Bool
 has_used_serial next x = is_used next x.serial
 
 -- the serials of an instance's tries are used ones, and rise
-abbrev are_serials_sound : ℕ → Held → Bool
+abbrev are_serials_sound : ℕ → InstanceValue → Bool
 are_serials_sound next i = list_all (has_used_serial next) i.tries && tries_rise i
 
 -- the tests of each try, one test after the other
-tries_are : (next : ℕ) (t : TaskSpec) (i : Held) → i.since ≤ length i.tries
+tries_are : (next : ℕ) (t : TaskSpec) (i : InstanceValue) → i.since ≤ length i.tries
     → are_tries_right next t i
     ≡ (((list_all (has_used_serial next) i.tries && list_all (is_sound_try t.pool_slots) i.tries) && (list_all has_end (earlier i) && are_sound_tries t.retries i.verdict (recent i))) && tries_rise i)
 tries_are next t i within =
@@ -150,7 +150,7 @@ regrouped true true d false true false o h = h refl
 regrouped true true d false false r o h = h refl
 
 -- the two rules on an instance say that it is sound, and its serials too
-instance_is : (next : ℕ) (t : TaskSpec) (i : Held) → (is_instance_right t i && are_tries_right next t i) ≡ (is_sound_instance t i && are_serials_sound next i)
+instance_is : (next : ℕ) (t : TaskSpec) (i : InstanceValue) → (is_instance_right t i && are_tries_right next t i) ≡ (is_sound_instance t i && are_serials_sound next i)
 instance_is next t i =
     regrouped (not (is_wait i.verdict)) (nat_le i.since (length i.tries)) (are_tries_right next t i)
     (list_all (has_used_serial next) i.tries) (list_all (is_sound_try t.pool_slots) i.tries) (list_all has_end (earlier i) && are_sound_tries t.retries i.verdict (recent i)) (tries_rise i)
@@ -158,7 +158,7 @@ instance_is next t i =
 
 -- ---- runs
 abbrev run_tries : Run → List Try
-run_tries r = flat_map (λ (i : Held). i.tries) r.instances
+run_tries r = flat_map (λ (i : InstanceValue). i.tries) r.instances
 
 -- what the rules say of a run, and what soundness says of it
 abbrev follows_rules : Schedule → Run → Bool
@@ -194,8 +194,8 @@ run_follows a r e =
     let pairs : all_pairs (is_sound_in r.phase) ts r.instances ≡ true = pairs_of_run a.graphs r s in
     let sound : all_pairs is_sound_instance ts r.instances ≡ true = pairs_impl (is_sound_in r.phase) is_sound_instance (λ t i f. and_left _ _ f) ts r.instances pairs in
     let serials : list_all (are_serials_sound a.next) r.instances ≡ true =
-    all_both (λ (i : Held). list_all (has_used_serial a.next) i.tries) tries_rise r.instances
-    ∙ and_from _ _ (all_flat (has_used_serial a.next) (λ (i : Held). i.tries) r.instances (and_right (all_tries_rise r) _ o)) (and_left _ _ o) in
+    all_both (λ (i : InstanceValue). list_all (has_used_serial a.next) i.tries) tries_rise r.instances
+    ∙ and_from _ _ (all_flat (has_used_serial a.next) (λ (i : InstanceValue). i.tries) r.instances (and_right (all_tries_rise r) _ o)) (and_left _ _ o) in
     and_from (is_run_right a r && is_end_right a r) _
     (and_from (is_run_right a r) _ (run_right a r s) (all_unless (not (is_ended r.phase)) is_sound_instance (λ t i. is_finished (state_of t i)) ts r.instances pairs))
     (sym (pairs_both is_instance_right (are_tries_right a.next) ts r.instances)
@@ -213,17 +213,17 @@ run_sound a r e =
     pairs_impl (λ t i. is_instance_right t i && are_tries_right a.next t i) (λ t i. is_sound_instance t i && are_serials_sound a.next i) (λ t i f. sym (instance_is a.next t i) ∙ f) ts r.instances
     (pairs_both is_instance_right (are_tries_right a.next) ts r.instances ∙ and_right (is_run_right a r && is_end_right a r) _ e) in
     let sound : all_pairs is_sound_instance ts r.instances ≡ true = pairs_impl (λ t i. is_sound_instance t i && are_serials_sound a.next i) is_sound_instance (λ t i f. and_left _ _ f) ts r.instances both in
-    let serials = sym (all_both (λ (i : Held). list_all (has_used_serial a.next) i.tries) tries_rise r.instances) ∙ sym (pairs_beside is_sound_instance (are_serials_sound a.next) ts r.instances sound) ∙ both in
+    let serials = sym (all_both (λ (i : InstanceValue). list_all (has_used_serial a.next) i.tries) tries_rise r.instances) ∙ sym (pairs_beside is_sound_instance (are_serials_sound a.next) ts r.instances sound) ∙ both in
     and_from (is_sound_run a.graphs r) _
     (and_from (is_some (graph_among a.graphs r.graph)) _ (and_left _ _ w)
     (and_from (is_moment r.logical && (is_moment r.interval.end && nat_le r.interval.start r.interval.end)) _
     (and_from _ _ (and_left _ _ dates) (and_from _ _ (and_right (is_moment r.interval.start) _ (and_right (is_moment r.logical) _ dates)) (and_right (is_moment r.logical && (is_moment r.interval.start && is_moment r.interval.end)) _ w1)))
     (each_unless (not (is_ended r.phase)) is_sound_instance (λ t i. is_finished (state_of t i)) ts r.instances sound (and_right (is_run_right a r) _ e1))))
-    (and_from (all_tries_rise r) _ (and_right (list_all (λ (i : Held). list_all (has_used_serial a.next) i.tries) r.instances) _ serials)
-    (flat_all (has_used_serial a.next) (λ (i : Held). i.tries) r.instances (and_left _ _ serials)))
+    (and_from (all_tries_rise r) _ (and_right (list_all (λ (i : InstanceValue). list_all (has_used_serial a.next) i.tries) r.instances) _ serials)
+    (flat_all (has_used_serial a.next) (λ (i : InstanceValue). i.tries) r.instances (and_left _ _ serials)))
 
 -- ---- graphs
-graphs_sound : (a : Schedule) (gs : List Graph) → AllSay gs → list_all (is_graph_right a) gs ≡ true → list_all (is_sound_graph a) gs ≡ true
+graphs_sound : (a : Schedule) (gs : List LoadedGraph) → AllSay gs → list_all (is_graph_right a) gs ≡ true → list_all (is_sound_graph a) gs ≡ true
 graphs_sound a [] said e = refl
 graphs_sound a (g ∷ gs) said e =
     let f : is_graph_right a g ≡ true = and_left _ _ e in

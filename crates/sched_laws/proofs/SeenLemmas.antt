@@ -6,13 +6,13 @@ use Rattle.std.proofs.Common.{◌≡◌, refl, sym, ap, ◌∙◌, ℕ, ◌+◌,
 use Rattle.std.specs.List.{list_any, fold}
 use Rattle.std.proofs.lemmas.Option.{slice_get-map}
 use Rattle.trigger_rules.specs.declared.verdicts.Verdict.{Verdict}
-use Rattle.sched_state.specs.declared.runs.Phase.{Phase}
+use Rattle.sched_state.specs.declared.runs.RunPhase.{RunPhase}
 use Rattle.graph_file.specs.declared.rules.Rule.{Rule}
 use Rattle.graph_file.specs.declared.rules.Rule.TheVariants.{AllSuccess, AllFailed, AllDone, AllSkipped, OneFailed, OneSuccess, OneDone, NoneFailed, NoneFailedMinOneSuccess, NoneSkipped, Always}
 use Rattle.trigger_rules.specs.declared.states.State.{State}
 use Rattle.trigger_rules.specs.declared.states.State.TheVariants as state
 use Rattle.sched_state.specs.Lists.{same, change_from, first_change}
-use Rattle.instance_machine.specs.Instances.{Held}
+use Rattle.instance_machine.specs.Instances.{InstanceValue}
 use Rattle.graph_file.specs.Lists.{when, first_some}
 use Rattle.graph_file.specs.declared.task_specs.TaskSpec.{TaskSpec}
 use Rattle.trigger_rules.specs.Rules.{rule_verdict, row_of}
@@ -21,7 +21,7 @@ use Rattle.sched_model.specs.Settle.{decides, decide_task, decide_instance, deci
 use Rattle.sched_model.specs.Schedule.{Schedule, is_running, is_queued, tasks_of, is_paused, max_active_runs_of, dag_named}
 use Rattle.sched_state.specs.declared.runs.Run.{Run}
 use Rattle.instance_machine.specs.declared.tries.Try.{Try}
-use Rattle.sched_state.specs.declared.graphs.Graph.{Graph}
+use Rattle.sched_state.specs.declared.graphs.LoadedGraph.{LoadedGraph}
 use Rattle.sched_model.specs.States.{states, state_at, past_is_open, previous, is_earlier}
 use Rattle.sched_laws.specs.Seen.{seen, Sight, sight_of, sights, seen_at, seen_before, seen_past, seen_verdict, has_verdict, any_from, can_decide, can_decide_in, can_finish, can_move, can_start_seen, is_seen_earlier}
 use Rattle.sched_laws.proofs.ListLemmas.{change_here}
@@ -168,10 +168,10 @@ is_some_when : {A : Type 0} (b : Bool) (x : A) → is_some (when b x) ≡ b
 is_some_when true x = refl
 is_some_when false x = refl
 
-abbrev made_of : Option Verdict → ℕ → List Try → Held
+abbrev made_of : Option Verdict → ℕ → List Try → InstanceValue
 made_of v s ts = record { verdict = v; since = s; tries = ts }
 
-has_verdict_of : (a : Schedule) (r : Run) (p : ℕ) (i : Held) (o : Option TaskSpec)
+has_verdict_of : (a : Schedule) (r : Run) (p : ℕ) (i : InstanceValue) (o : Option TaskSpec)
     → is_some (option_and_then (decide_task a r p i) o) ≡ has_verdict a.graphs (sights a) (sight_of a.graphs r) p o
 has_verdict_of a r p i None = refl
 has_verdict_of a r p i (Some t) = is_some_map _ (decided_verdict a r p t) ∙ ap is_some (sym (verdict_seen a r p t))
@@ -181,7 +181,7 @@ undecided_seen : (a : Schedule) (r : Run) (p : ℕ) (v : Option Verdict) (s : �
 undecided_seen a r p (Some v) s ts = refl
 undecided_seen a r p None s ts = has_verdict_of a r p (made_of None s ts) (slice_get (tasks_of a r) p)
 
-pub decide_seen : (a : Schedule) (r : Run) (p : ℕ) (i : Held) → is_some (decide_instance a r p i) ≡ can_decide a.graphs (sights a) (sight_of a.graphs r) p (is_none i.verdict)
+pub decide_seen : (a : Schedule) (r : Run) (p : ℕ) (i : InstanceValue) → is_some (decide_instance a r p i) ≡ can_decide a.graphs (sights a) (sight_of a.graphs r) p (is_none i.verdict)
 decide_seen a r p i = undecided_seen a r p i.verdict i.since i.tries
 
 -- a change is possible where f changes some element
@@ -202,7 +202,7 @@ pub first_change_seen : {X Y : Type 0} (f : X → Option X) (g : Y → Bool) (v 
     → (xs : List X) → is_some (first_change f xs) ≡ list_any g (map v xs)
 first_change_seen f g v h xs = change_seen (λ i x. f x) (λ i y. g y) v (λ i x. h x) 0 xs ∙ any_from_any g 0 (map v xs)
 
-in_phase : Run → Phase → Run
+in_phase : Run → RunPhase → Run
 in_phase r ph = record r { phase = ph }
 
 guarded : (a : Schedule) (r : Run) (b : Bool)
@@ -246,7 +246,7 @@ pub none_from : {A : Type 0} (o : Option A) → is_some o ≡ false → o ≡ No
 none_from None e = refl
 none_from (Some x) e = cc
 
-same_moves : (g h : List Graph) (v w : List Sight) → g ≡ h → v ≡ w → can_move g v ≡ can_move h w
+same_moves : (g h : List LoadedGraph) (v w : List Sight) → g ≡ h → v ≡ w → can_move g v ≡ can_move h w
 same_moves g h v w e f = rw (e, f) refl
 
 -- what is seen decides whether a move is possible

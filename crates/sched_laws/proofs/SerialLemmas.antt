@@ -4,7 +4,7 @@ use Rattle.std.specs.List.{list_all, enumerate_from, range_with_len}
 use Rattle.std.proofs.lemmas.Bool.{eq-eqb, eqb-true, ltb-true, ltb-false}
 use Rattle.graph_file.specs.declared.task_specs.TaskSpec.{TaskSpec}
 use Rattle.dag_check.specs.Orders.{is_in, repeated}
-use Rattle.instance_machine.specs.Instances.{Held}
+use Rattle.instance_machine.specs.Instances.{InstanceValue}
 use Rattle.instance_machine.specs.declared.tries.Try.{Try}
 use Rattle.sched_state.specs.Lists.{repeat}
 use Rattle.sched_state.specs.declared.jobs.Job.{Job}
@@ -16,7 +16,7 @@ use Rattle.sched_model.specs.Clearing.{pairs_of}
 use Rattle.sched_model.specs.Handout.{Offer, hand, hand_one, hand_out, best_offer, serials_left}
 use Rattle.sched_model.specs.Jobs.{job_of, jobs_of, all_jobs, job_at, handed}
 use Rattle.sched_model.specs.Lists.{all_pairs}
-use Rattle.sched_model.specs.NamedRuns.{Named, add_runs}
+use Rattle.sched_model.specs.NamedRuns.{NamedRun, add_runs}
 use Rattle.sched_model.specs.Schedule.{Schedule, dag_among}
 use Rattle.sched_model.specs.Settle.{move, move_runs, with_runs, settle, moves_left}
 use Rattle.sched_model.specs.Sound.{IsSound, is_sound_in, is_sound_run, serials_of}
@@ -108,7 +108,7 @@ numbered : (r : Run) (t : TaskSpec) (n : ℕ) (ts : List Try) → map (λ (j : J
 numbered r t n [] = refl
 numbered r t n (u ∷ ts) = ap (λ xs. u.serial ∷ xs) (numbered r t (n + 1) ts)
 
-paired : (p : TaskSpec → Held → Bool) (r : Run) (ts : List TaskSpec) (is : List Held) → all_pairs p ts is ≡ true → map (λ (j : Job). j.serial) (flat_map (jobs_of r) (zip ts is)) ≡ flat_map serials_in is
+paired : (p : TaskSpec → InstanceValue → Bool) (r : Run) (ts : List TaskSpec) (is : List InstanceValue) → all_pairs p ts is ≡ true → map (λ (j : Job). j.serial) (flat_map (jobs_of r) (zip ts is)) ≡ flat_map serials_in is
 paired p r [] [] e = refl
 paired p r [] (i ∷ is) e = absurd (true≢false (sym e))
 paired p r (t ∷ ts) [] e = refl
@@ -167,10 +167,10 @@ handed_serials a c same h =
     let rise : c.next ≤ b.next = out_next c in
     each_once b a.next (b.next - a.next) h (λ k from below. out_used c k (omega (arith, from, same)) (omega (arith, below, same, rise)))
 
-pub advance_serials : (ns : List Named) (a c : Schedule) → c.next ≡ a.next → IsSound (advance ns c) → map (λ (j : Job). j.serial) (handed a (advance ns c)) ≡ range_with_len a.next ((advance ns c).next - a.next)
+pub advance_serials : (ns : List NamedRun) (a c : Schedule) → c.next ≡ a.next → IsSound (advance ns c) → map (λ (j : Job). j.serial) (handed a (advance ns c)) ≡ range_with_len a.next ((advance ns c).next - a.next)
 advance_serials ns a c same h = handed_serials a (settle (add_runs ns c)) (settle_next (add_runs ns c) ∙ same) h
 
-pub advance_next : (ns : List Named) (a : Schedule) → a.next ≤ (advance ns a).next
+pub advance_next : (ns : List NamedRun) (a : Schedule) → a.next ≤ (advance ns a).next
 advance_next ns a =
     let kept : (settle (add_runs ns a)).next ≡ a.next = settle_next (add_runs ns a) in
     let rise = out_next (settle (add_runs ns a)) in

@@ -4,14 +4,14 @@ use Rattle.std.specs.List.{zip, enumerate_from}
 use Rattle.std.proofs.lemmas.Bool.{le-leb}
 use Rattle.std.proofs.lemmas.Option.{slice_get-map}
 use Rattle.graph_file.specs.declared.task_specs.TaskSpec.{TaskSpec}
-use Rattle.instance_machine.specs.Instances.{Held, recent, last_of}
+use Rattle.instance_machine.specs.Instances.{InstanceValue, recent, last_of}
 use Rattle.instance_machine.specs.States.{state_of, state_by, has_retry}
 use Rattle.trigger_rules.specs.declared.states.State.TheVariants as state
 use Rattle.instance_machine.specs.declared.tries.Try.{Try}
 use Rattle.sched_state.specs.declared.runs.Run.{Run}
 use Rattle.sched_model.specs.Lists.{map_places}
 use Rattle.sched_model.specs.Schedule.{Schedule, tasks_of}
-use Rattle.sched_model.specs.Clearing.{Naming, cleared, clear_pair, pairs_of, named_in, requeued, with_cleared, clear_if, clear_run, clear}
+use Rattle.sched_model.specs.Clearing.{Selection, cleared, clear_pair, pairs_of, named_in, requeued, with_cleared, clear_if, clear_run, clear}
 use Rattle.sched_laws.specs.Repairs.{instance_at}
 use Rattle.indexmap.proofs.ReorderLemmas.{slice_get-zip_some}
 
@@ -57,32 +57,32 @@ empty_map : {X Y : Type 0} (f : X → Y) (xs : List X) → map f xs ≡ [] → x
 empty_map f [] e = refl
 empty_map {X} {Y} f (x ∷ xs) e = absurd (let c : ◌≡◌ {A = List Y} (f x ∷ map f xs) [] = e in cc)
 
-pair_at : (a : Schedule) (r : Run) (p : ℕ) (t : TaskSpec) (i : Held) → slice_get (tasks_of a r) p ≡ Some t → slice_get r.instances p ≡ Some i → slice_get (pairs_of a r) p ≡ Some (t, i)
+pair_at : (a : Schedule) (r : Run) (p : ℕ) (t : TaskSpec) (i : InstanceValue) → slice_get (tasks_of a r) p ≡ Some t → slice_get r.instances p ≡ Some i → slice_get (pairs_of a r) p ≡ Some (t, i)
 pair_at a r p t i e f = slice_get-zip_some (tasks_of a r) r.instances p t i e f
 
 -- where one is named some are
-some_named : (a : Schedule) (named : Naming) (r : Run) (p : ℕ) (t : TaskSpec) (i : Held) → slice_get (tasks_of a r) p ≡ Some t → slice_get r.instances p ≡ Some i → named r p (t, i) ≡ true
+some_named : (a : Schedule) (named : Selection) (r : Run) (p : ℕ) (t : TaskSpec) (i : InstanceValue) → slice_get (tasks_of a r) p ≡ Some t → slice_get r.instances p ≡ Some i → named r p (t, i) ≡ true
     → clear_run a named r ≡ with_cleared a named r
 some_named a named r p t i e f g = elim (named_in a named r) as (λ es. named_in a named r ≡ es → clear_if a named r es ≡ with_cleared a named r) [
-  | [] ↦ λ h. absurd (true≢false (sym g ∙ none_first (λ (x : ℕ × (TaskSpec × Held)). named r x.0 x.1) (pairs_of a r) p (t, i) (empty_map (λ (x : ℕ × (TaskSpec × Held)). x.1) _ h) (pair_at a r p t i e f)))
+  | [] ↦ λ h. absurd (true≢false (sym g ∙ none_first (λ (x : ℕ × (TaskSpec × InstanceValue)). named r x.0 x.1) (pairs_of a r) p (t, i) (empty_map (λ (x : ℕ × (TaskSpec × InstanceValue)). x.1) _ h) (pair_at a r p t i e f)))
   | x ∷ xs ↦ λ h. refl
 ] refl
 
-cleared_at : (a : Schedule) (named : Naming) (r : Run) (p : ℕ) (t : TaskSpec) (i : Held) (b : Bool) → slice_get (tasks_of a r) p ≡ Some t → slice_get r.instances p ≡ Some i → named r p (t, i) ≡ b
+cleared_at : (a : Schedule) (named : Selection) (r : Run) (p : ℕ) (t : TaskSpec) (i : InstanceValue) (b : Bool) → slice_get (tasks_of a r) p ≡ Some t → slice_get r.instances p ≡ Some i → named r p (t, i) ≡ b
     → slice_get (with_cleared a named r).instances p ≡ Some (cond b (cleared i) i)
 cleared_at a named r p t i b e f g =
     let z : 0 + p ≡ p = omega arith in
     places_at (clear_pair (named r)) 0 (pairs_of a r) p (t, i) (pair_at a r p t i e f) ∙ (ap (λ k. Some (clear_pair (named r) k (t, i))) z ∙ ap (λ c. Some (cond c (cleared i) i)) g)
 
-run_at : (a : Schedule) (named : Naming) (n : ℕ) (r : Run) → slice_get a.runs n ≡ Some r → slice_get (clear named a).runs n ≡ Some (clear_run a named r)
+run_at : (a : Schedule) (named : Selection) (n : ℕ) (r : Run) → slice_get a.runs n ≡ Some r → slice_get (clear named a).runs n ≡ Some (clear_run a named r)
 run_at a named n r e = slice_get-map (clear_run a named) a.runs n ∙ ap (option_map (clear_run a named)) e
 
-pub set_back : (named : Naming) (a : Schedule) (n p : ℕ) (r : Run) (t : TaskSpec) (i : Held) → slice_get a.runs n ≡ Some r → slice_get (tasks_of a r) p ≡ Some t → slice_get r.instances p ≡ Some i
+pub set_back : (named : Selection) (a : Schedule) (n p : ℕ) (r : Run) (t : TaskSpec) (i : InstanceValue) → slice_get a.runs n ≡ Some r → slice_get (tasks_of a r) p ≡ Some t → slice_get r.instances p ≡ Some i
     → named r p (t, i) ≡ true → instance_at (clear named a) n p ≡ Some (cleared i)
 set_back named a n p r t i e f g h =
     ap (option_and_then (λ (q : Run). slice_get q.instances p)) (run_at a named n r e ∙ ap (λ q. Some q) (some_named a named r p t i f g h)) ∙ cleared_at a named r p t i true f g h
 
-pub left_alone : (named : Naming) (a : Schedule) (n p : ℕ) (r : Run) (t : TaskSpec) (i : Held) → slice_get a.runs n ≡ Some r → slice_get (tasks_of a r) p ≡ Some t → slice_get r.instances p ≡ Some i
+pub left_alone : (named : Selection) (a : Schedule) (n p : ℕ) (r : Run) (t : TaskSpec) (i : InstanceValue) → slice_get a.runs n ≡ Some r → slice_get (tasks_of a r) p ≡ Some t → slice_get r.instances p ≡ Some i
     → named r p (t, i) ≡ false → instance_at (clear named a) n p ≡ Some i
 left_alone named a n p r t i e f g h =
     ap (option_and_then (λ (q : Run). slice_get q.instances p)) (run_at a named n r e)
@@ -91,15 +91,15 @@ left_alone named a n p r t i e f g h =
       | x ∷ xs ↦ cleared_at a named r p t i false f g h
     ]
 
-pub queued_again : (named : Naming) (a : Schedule) (n p : ℕ) (r : Run) (t : TaskSpec) (i : Held) → slice_get a.runs n ≡ Some r → slice_get (tasks_of a r) p ≡ Some t → slice_get r.instances p ≡ Some i
+pub queued_again : (named : Selection) (a : Schedule) (n p : ℕ) (r : Run) (t : TaskSpec) (i : InstanceValue) → slice_get a.runs n ≡ Some r → slice_get (tasks_of a r) p ≡ Some t → slice_get r.instances p ≡ Some i
     → named r p (t, i) ≡ true → option_map (λ (q : Run). q.phase) (slice_get (clear named a).runs n) ≡ Some (requeued r.phase)
 queued_again named a n p r t i e f g h = ap (option_map (λ (q : Run). q.phase)) (run_at a named n r e ∙ ap (λ q. Some q) (some_named a named r p t i f g h))
 
-pub untouched_run : (named : Naming) (a : Schedule) (n : ℕ) (r : Run) → slice_get a.runs n ≡ Some r
-    → ((p : ℕ) (t : TaskSpec) (i : Held) → slice_get (tasks_of a r) p ≡ Some t → slice_get r.instances p ≡ Some i → named r p (t, i) ≡ false) → slice_get (clear named a).runs n ≡ Some r
+pub untouched_run : (named : Selection) (a : Schedule) (n : ℕ) (r : Run) → slice_get a.runs n ≡ Some r
+    → ((p : ℕ) (t : TaskSpec) (i : InstanceValue) → slice_get (tasks_of a r) p ≡ Some t → slice_get r.instances p ≡ Some i → named r p (t, i) ≡ false) → slice_get (clear named a).runs n ≡ Some r
 untouched_run named a n r e none =
-    let q : ℕ × (TaskSpec × Held) → Bool = λ x. named r x.0 x.1 in
-    let empty : named_in a named r ≡ [] = ap (map (λ (x : ℕ × (TaskSpec × Held)). x.1)) (all_passed q 0 (pairs_of a r) (λ p x f. let s = pair_back (tasks_of a r) r.instances p x.0 x.1 f in let z : p ≡ 0 + p = omega arith in subst (λ n. named r n x ≡ false) z (none p x.0 x.1 s.0 s.1))) in
+    let q : ℕ × (TaskSpec × InstanceValue) → Bool = λ x. named r x.0 x.1 in
+    let empty : named_in a named r ≡ [] = ap (map (λ (x : ℕ × (TaskSpec × InstanceValue)). x.1)) (all_passed q 0 (pairs_of a r) (λ p x f. let s = pair_back (tasks_of a r) r.instances p x.0 x.1 f in let z : p ≡ 0 + p = omega arith in subst (λ n. named r n x ≡ false) z (none p x.0 x.1 s.0 s.1))) in
     run_at a named n r e ∙ ap (λ es. Some (clear_if a named r es)) empty
 
 -- ---- an instance
@@ -107,11 +107,11 @@ drop_whole : {X : Type 0} (xs : List X) → drop (length xs) xs ≡ []
 drop_whole [] = refl
 drop_whole (x ∷ xs) = drop_whole xs
 
-pub none_recent : (i : Held) → recent (cleared i) ≡ []
+pub none_recent : (i : InstanceValue) → recent (cleared i) ≡ []
 none_recent i = drop_whole i.tries
 
-pub state_none : (t : TaskSpec) (i : Held) → state_of t (cleared i) ≡ state.None
+pub state_none : (t : TaskSpec) (i : InstanceValue) → state_of t (cleared i) ≡ state.None
 state_none t i = ap (λ (ts : List Try). state_by None (nat_le (length ts) t.retries) (last_of ts)) (none_recent i)
 
-pub allowed_anew : (t : TaskSpec) (i : Held) → has_retry t (cleared i) ≡ true
+pub allowed_anew : (t : TaskSpec) (i : InstanceValue) → has_retry t (cleared i) ≡ true
 allowed_anew t i = ap (λ (ts : List Try). nat_le (length ts) t.retries) (none_recent i) ∙ le-leb 0 t.retries (omega arith)

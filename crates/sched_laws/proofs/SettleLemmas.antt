@@ -1,11 +1,11 @@
 -- Settling ends, and a move made first changes nothing.
 use Rattle.std.proofs.Common.{◌≡◌, refl, sym, subst, ◌∙◌, ℕ, zero, suc, ◌+◌, ◌<◌, ◌≤◌, List, [], ◌∷◌, Bool, true, false, cond, Option, Some, None, option_map, option_and_then, sum_by, slice_get, arith, true≢false}
 use Rattle.trigger_rules.specs.declared.verdicts.Verdict.{Verdict}
-use Rattle.sched_state.specs.declared.runs.Phase.{Phase}
-use Rattle.sched_state.specs.declared.runs.Phase.TheVariants as phase
+use Rattle.sched_state.specs.declared.runs.RunPhase.{RunPhase}
+use Rattle.sched_state.specs.declared.runs.RunPhase.TheVariants as phase
 use Rattle.graph_file.specs.Lists.{when, first_some}
 use Rattle.sched_state.specs.Lists.{change_from, first_change, repeat}
-use Rattle.instance_machine.specs.Instances.{Held}
+use Rattle.instance_machine.specs.Instances.{InstanceValue}
 use Rattle.sched_model.specs.Schedule.{Schedule, tasks_of, is_running, is_queued}
 use Rattle.sched_state.specs.declared.runs.Run.{Run}
 use Rattle.instance_machine.specs.declared.tries.Try.{Try}
@@ -22,27 +22,27 @@ and_then_some f None y e = cc
 and_then_some f (Some x) y e = (x, refl, e)
 
 -- an instance with these parts
-abbrev made_of : Option Verdict → ℕ → List Try → Held
+abbrev made_of : Option Verdict → ℕ → List Try → InstanceValue
 made_of v s ts = record { verdict = v; since = s; tries = ts }
 
-decided : (a : Schedule) (r : Run) (p : ℕ) (v : Option Verdict) (s : ℕ) (ts : List Try) (j : Held)
+decided : (a : Schedule) (r : Run) (p : ℕ) (v : Option Verdict) (s : ℕ) (ts : List Try) (j : InstanceValue)
     → decide_instance a r p (made_of v s ts) ≡ Some j → decisions_left j < decisions_left (made_of v s ts)
-decided a r p (Some v) s ts j e = absurd (let n : ◌≡◌ {A = Option Held} None (Some j) = e in cc)
+decided a r p (Some v) s ts j e = absurd (let n : ◌≡◌ {A = Option InstanceValue} None (Some j) = e in cc)
 decided a r p None s ts j e =
     let t = and_then_some (decide_task a r p (made_of None s ts)) (slice_get (tasks_of a r) p) j e in
     let u = map_some (λ w. made_of (Some w) s ts) _ j t.2 in
-    subst (λ (k : Held). decisions_left k < 1) u.2 (omega arith)
+    subst (λ (k : InstanceValue). decisions_left k < 1) u.2 (omega arith)
 
-pub decide_instance_falls : (a : Schedule) (r : Run) (p : ℕ) (i j : Held) → decide_instance a r p i ≡ Some j → decisions_left j < decisions_left i
+pub decide_instance_falls : (a : Schedule) (r : Run) (p : ℕ) (i j : InstanceValue) → decide_instance a r p i ≡ Some j → decisions_left j < decisions_left i
 decide_instance_falls a r p i j e = decided a r p i.verdict i.since i.tries j e
 
-in_phase : Run → Phase → Run
+in_phase : Run → RunPhase → Run
 in_phase r ph = record r { phase = ph }
 
-with_instances : Run → List Held → Run
+with_instances : Run → List InstanceValue → Run
 with_instances r is = record r { instances = is }
 
-decided_run : (a : Schedule) (r q : Run) (ph : Phase) → decide_run a (in_phase r ph) ≡ Some q → moves_left_of q < moves_left_of (in_phase r ph)
+decided_run : (a : Schedule) (r q : Run) (ph : RunPhase) → decide_run a (in_phase r ph) ≡ Some q → moves_left_of q < moves_left_of (in_phase r ph)
 unfolding in_phase with_instances
 decided_run a r q phase.Running e =
     let t = map_some (with_instances (in_phase r phase.Running)) (change_from (decide_instance a (in_phase r phase.Running)) 0 r.instances) q e in
@@ -60,13 +60,13 @@ pub when_some : {A : Type 0} (b : Bool) (x y : A) → when b x ≡ Some y → (b
 when_some true x y e = (refl, cc)
 when_some {A} false x y e = absurd (let n : ◌≡◌ {A = Option A} None (Some y) = e in cc)
 
-running_work : (ph : Phase) → is_running ph ≡ true → moves_left_in ph ≡ 1
+running_work : (ph : RunPhase) → is_running ph ≡ true → moves_left_in ph ≡ 1
 running_work phase.Running e = refl
 running_work phase.Queued e = absurd (true≢false (sym e))
 running_work phase.Success e = absurd (true≢false (sym e))
 running_work phase.Failed e = absurd (true≢false (sym e))
 
-queued_work : (ph : Phase) → is_queued ph ≡ true → moves_left_in ph ≡ 2
+queued_work : (ph : RunPhase) → is_queued ph ≡ true → moves_left_in ph ≡ 2
 queued_work phase.Queued e = refl
 queued_work phase.Running e = absurd (true≢false (sym e))
 queued_work phase.Success e = absurd (true≢false (sym e))

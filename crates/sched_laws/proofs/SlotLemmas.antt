@@ -4,11 +4,11 @@ use Rattle.std.specs.List.{list_all, zip}
 use Rattle.std.proofs.lemmas.List.Sums.{sum_by-append}
 use Rattle.std.proofs.lemmas.Bool.{false_from_ne_true}
 use Rattle.graph_file.specs.declared.task_specs.TaskSpec.{TaskSpec}
-use Rattle.instance_machine.specs.Instances.{Held}
+use Rattle.instance_machine.specs.Instances.{InstanceValue}
 use Rattle.instance_machine.specs.declared.tries.Try.{Try}
 use Rattle.trigger_rules.specs.declared.verdicts.Verdict.{Verdict}
 use Rattle.sched_state.specs.Lists.{same, change_from, first_change}
-use Rattle.sched_state.specs.declared.graphs.Graph.{Graph}
+use Rattle.sched_state.specs.declared.graphs.LoadedGraph.{LoadedGraph}
 use Rattle.sched_state.specs.declared.runs.Run.{Run}
 use Rattle.sched_state.proofs.NameLemmas.{same_is}
 use Rattle.sched_state.proofs.OrderLemmas.{and_left, and_right}
@@ -25,34 +25,34 @@ use Rattle.sched_laws.proofs.RunLemmas.{first_cases, flat_by}
 use Rattle.sched_laws.proofs.SettleLemmas.{map_some, and_then_some, when_some, settle_reached}
 
 -- ---- settling
-abbrev tries_in : Held → List Try
+abbrev tries_in : InstanceValue → List Try
 tries_in i = i.tries
 
-abbrev made_of : Option Verdict → ℕ → List Try → Held
+abbrev made_of : Option Verdict → ℕ → List Try → InstanceValue
 made_of v s ts = record { verdict = v; since = s; tries = ts }
 
-decided_by : (a : Schedule) (r : Run) (p : ℕ) (v : Option Verdict) (s : ℕ) (ts : List Try) (j : Held) → decide_instance a r p (made_of v s ts) ≡ Some j → j.tries ≡ ts
-decided_by a r p (Some v) s ts j e = absurd (let n : ◌≡◌ {A = Option Held} None (Some j) = e in cc)
+decided_by : (a : Schedule) (r : Run) (p : ℕ) (v : Option Verdict) (s : ℕ) (ts : List Try) (j : InstanceValue) → decide_instance a r p (made_of v s ts) ≡ Some j → j.tries ≡ ts
+decided_by a r p (Some v) s ts j e = absurd (let n : ◌≡◌ {A = Option InstanceValue} None (Some j) = e in cc)
 decided_by a r p None s ts j e =
     let t = and_then_some (decide_task a r p (made_of None s ts)) (slice_get (tasks_of a r) p) j e in
     let u = map_some (λ w. made_of (Some w) s ts) (decided_verdict a r p t.0) j t.2 in
     ap tries_in (sym u.2)
 
 -- a decision leaves the tries
-decided_tries : (a : Schedule) (r : Run) (p : ℕ) (i j : Held) → decide_instance a r p i ≡ Some j → tries_in j ≡ tries_in i
+decided_tries : (a : Schedule) (r : Run) (p : ℕ) (i j : InstanceValue) → decide_instance a r p i ≡ Some j → tries_in j ≡ tries_in i
 decided_tries a r p i j e = decided_by a r p i.verdict i.since i.tries j e
 
 -- the tries without an end of instances are told by their tries
 abbrev open_among : TaskSpec × List Try → List (TaskSpec × Try)
 open_among e = map (λ (t : Try). (e.0, t)) (filter is_open e.1)
 
-open_by_tries : (ts : List TaskSpec) (is : List Held) → flat_map open_of (zip ts is) ≡ flat_map open_among (zip ts (map tries_in is))
+open_by_tries : (ts : List TaskSpec) (is : List InstanceValue) → flat_map open_of (zip ts is) ≡ flat_map open_among (zip ts (map tries_in is))
 open_by_tries [] [] = refl
 open_by_tries [] (i ∷ is) = refl
 open_by_tries (t ∷ ts) [] = refl
 open_by_tries (t ∷ ts) (i ∷ is) = ap (λ (es : List (TaskSpec × Try)). open_of (t, i) ++ es) (open_by_tries ts is)
 
-same_tries : (ts : List TaskSpec) (is js : List Held) → map tries_in js ≡ map tries_in is → flat_map open_of (zip ts js) ≡ flat_map open_of (zip ts is)
+same_tries : (ts : List TaskSpec) (is js : List InstanceValue) → map tries_in js ≡ map tries_in is → flat_map open_of (zip ts js) ≡ flat_map open_of (zip ts is)
 same_tries ts is js e = open_by_tries ts js ∙ (ap (λ (ys : List (List Try)). flat_map open_among (zip ts ys)) e ∙ sym (open_by_tries ts is))
 
 decided_open : (a : Schedule) (r q : Run) (b : Bool)
@@ -118,9 +118,9 @@ abbrev pub pool_is_there : Schedule → TaskSpec → Bool
 pool_is_there a t = has_pool a t.pool
 
 -- the pools of a graph's tasks are there
-pub dag_pools : (a : Schedule) (gs : List Graph) (id : List ℕ) → list_all (is_sound_graph a) gs ≡ true → list_all (pool_is_there a) (dag_among gs id).tasks ≡ true
+pub dag_pools : (a : Schedule) (gs : List LoadedGraph) (id : List ℕ) → list_all (is_sound_graph a) gs ≡ true → list_all (pool_is_there a) (dag_among gs id).tasks ≡ true
 dag_pools a [] id e = refl
-dag_pools a (g ∷ gs) id e = elim (same g.dag.spec.dag_id id) as (λ b. list_all (pool_is_there a) (unwrap_or (option_map (λ (h : Graph). h.dag) (cond b (Some g) (graph_among gs id))) no_dag).tasks ≡ true) [
+dag_pools a (g ∷ gs) id e = elim (same g.dag.spec.dag_id id) as (λ b. list_all (pool_is_there a) (unwrap_or (option_map (λ (h : LoadedGraph). h.dag) (cond b (Some g) (graph_among gs id))) no_dag).tasks ≡ true) [
   | true ↦ and_right (is_sound_dag a.limits.tasks a.limits.edges g.dag) _ (and_left (is_sound_graph a g) _ e)
   | false ↦ dag_pools a gs id (and_right (is_sound_graph a g) _ e)
 ]
@@ -140,7 +140,7 @@ none_of_task p t (x ∷ xs) e =
 pub apart : (a : Schedule) (p : List ℕ) → has_pool a p ≡ false → (q : List ℕ) → has_pool a q ≡ true → same q p ≡ false
 apart a p none q there = false_from_ne_true (same q p) (λ e. true≢false (sym there ∙ (ap (has_pool a) (same_is q p e) ∙ none)))
 
-none_of_tasks : (a : Schedule) (p : List ℕ) → has_pool a p ≡ false → (ts : List TaskSpec) (is : List Held) → list_all (pool_is_there a) ts ≡ true → sum_in p (flat_map open_of (zip ts is)) ≡ 0
+none_of_tasks : (a : Schedule) (p : List ℕ) → has_pool a p ≡ false → (ts : List TaskSpec) (is : List InstanceValue) → list_all (pool_is_there a) ts ≡ true → sum_in p (flat_map open_of (zip ts is)) ≡ 0
 none_of_tasks a p none [] [] e = refl
 none_of_tasks a p none [] (i ∷ is) e = refl
 none_of_tasks a p none (t ∷ ts) [] e = refl

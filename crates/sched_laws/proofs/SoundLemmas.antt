@@ -6,14 +6,14 @@ use Rattle.std.proofs.lemmas.Bool.{le-leb, lt-ltb, ltb-true, ltb-false, eqb-true
 use Rattle.std.proofs.lemmas.List.{length-map, append_assoc, append-nil}
 use Rattle.graph_file.specs.declared.task_specs.TaskSpec.{TaskSpec}
 use Rattle.dag_check.specs.Orders.{is_in, repeated}
-use Rattle.instance_machine.specs.Instances.{Held}
+use Rattle.instance_machine.specs.Instances.{InstanceValue}
 use Rattle.trigger_rules.specs.States.{is_finished}
 use Rattle.instance_machine.specs.States.{state_of}
 use Rattle.instance_machine.specs.declared.tries.Try.{Try}
 use Rattle.instance_machine.specs.declared.tries.Stage.{Stage}
 use Rattle.sched_state.specs.Lists.{repeat}
-use Rattle.sched_state.specs.declared.graphs.Graph.{Graph}
-use Rattle.sched_state.specs.declared.runs.Phase.{Phase}
+use Rattle.sched_state.specs.declared.graphs.LoadedGraph.{LoadedGraph}
+use Rattle.sched_state.specs.declared.runs.RunPhase.{RunPhase}
 use Rattle.sched_state.proofs.OrderLemmas.{and_left, and_right, or_left, or_right, not_false, map_keeps}
 use Rattle.sched_state.proofs.RepeatLemmas.{repeat_done, repeat_more}
 use Rattle.sched_model.specs.Lists.{at, rises}
@@ -42,12 +42,12 @@ pub same_order : (rs qs : List Run) → map key qs ≡ map key rs → rises (λ 
 same_order rs qs e h = sym (rises_map key_before key qs) ∙ ap (rises key_before) e ∙ rises_map key_before key rs ∙ h
 
 -- qs stand in the place of rs: the keys and the serials of each instance are the same, and they are sound where those are
-pub record Stands (gs : List Graph) (rs qs : List Run) : Type 0 where
+pub record Stands (gs : List LoadedGraph) (rs qs : List Run) : Type 0 where
   pub keys : map key qs ≡ map key rs
   pub serials : map serial_lists qs ≡ map serial_lists rs
   pub sound : list_all (is_sound_run gs) rs ≡ true → list_all (is_sound_run gs) qs ≡ true
 
-pub kin_stands : (gs : List Graph) (rs qs : List Run) → KinAll gs rs qs → Stands gs rs qs
+pub kin_stands : (gs : List LoadedGraph) (rs qs : List Run) → KinAll gs rs qs → Stands gs rs qs
 kin_stands gs rs qs k = record { keys = k.keys; serials = serials_of_tries rs qs k.tries; sound = k.sound }
 
 pub runs_changed : (a : Schedule) (rs : List Run) → Stands a.graphs a.runs rs → IsSound a → IsSound (with_runs a rs)
@@ -158,7 +158,7 @@ rises_snoc n (x ∷ xs) e f =
     and_from _ _ (all_join (nat_lt x) xs (n ∷ []) (and_left _ _ e) (and_from _ _ below refl)) (rises_snoc n xs (and_right (list_all (nat_lt x) xs) _ e) (and_right (is_used n x) _ f))
 
 -- so do the tries of an instance with a new one
-handed_rises : (n k : ℕ) (i : Held) → tries_rise i ≡ true → list_all (is_used n) (serials_in i) ≡ true → tries_rise (with_try (new_try n k) i) ≡ true
+handed_rises : (n k : ℕ) (i : InstanceValue) → tries_rise i ≡ true → list_all (is_used n) (serials_in i) ≡ true → tries_rise (with_try (new_try n k) i) ≡ true
 handed_rises n k i e f =
     sym (rises_map nat_lt (λ (t : Try). t.serial) (i.tries ++ new_try n k ∷ []))
     ∙ ap (rises nat_lt) (map_append (λ (t : Try). t.serial) i.tries (new_try n k ∷ []))
@@ -173,7 +173,7 @@ map_at h g (suc n) (x ∷ xs) e = ap (λ ys. h x ∷ ys) (map_at h g n xs e)
 pub hand_spliced : (a : Schedule) (o : Offer) → IsEligible a o → Spliced a.next (serials_of a) (serials_of (hand a o))
 hand_spliced a o h =
     let u : Try = new_try a.next o.slots in
-    let g : Held → Held = with_try u in
+    let g : InstanceValue → InstanceValue = with_try u in
     let i0 : Spliced a.next (serials_in h.instance) (serials_in (g h.instance)) =
     record { left = serials_in h.instance; right = []; was = sym (append-nil (serials_in h.instance)); is = map_append (λ (t : Try). t.serial) h.instance.tries (u ∷ []) } in
     let i1 : Spliced a.next (run_serials h.run) (run_serials (in_instance g o.place h.run)) = splice_at serials_in g a.next o.place h.run.instances h.instance h.instance_is i0 in
@@ -184,7 +184,7 @@ pub hand_sound : (a : Schedule) (o : Offer) → IsEligible a o → fits a o ≡ 
 hand_sound a o h f s =
     let slots_are : o.slots ≡ h.task.pool_slots = ap (λ (x : Offer). x.slots) h.offer_is in
     let u : Try = new_try a.next o.slots in
-    let g : Held → Held = with_try u in
+    let g : InstanceValue → InstanceValue = with_try u in
     let n : a.next ≤ last_serial = leb-true _ _ (and_right (nat_lt (in_flight a) a.lanes) _ (and_right (nat_le (occupied a o.pool + o.slots) (size_of a o.pool)) _ f)) in
     let one : 1 ≤ a.next = leb-true _ _ (and_left _ _ s.serials) in
     let after : List Run = at (in_instance g o.place) o.run a.runs in
@@ -193,7 +193,7 @@ hand_sound a o h f s =
     let d : repeated (i2.left ++ i2.right) ≡ false = ap repeated (sym i2.was) ∙ not_false _ s.serials_once in
     let b : list_all (is_used a.next) (i2.left ++ i2.right) ≡ true = ap (list_all (is_used a.next)) (sym i2.was) ∙ s.serials_used in
     let used : list_all (is_used a.next) (serials_in h.instance) ≡ true =
-    all_get (λ (i : Held). list_all (is_used a.next) (serials_in i)) h.run.instances o.place h.instance
+    all_get (λ (i : InstanceValue). list_all (is_used a.next) (serials_in i)) h.run.instances o.place h.instance
     (all_flat (is_used a.next) serials_in h.run.instances (all_get (λ (r : Run). list_all (is_used a.next) (run_serials r)) a.runs o.run h.run (all_flat (is_used a.next) run_serials a.runs (ap (list_all (is_used a.next)) (sym (serials_listed a)) ∙ s.serials_used)) h.run_is))
     h.instance_is in
     let rise : all_tries_rise h.run ≡ true = all_get all_tries_rise a.runs o.run h.run s.tries_by_serial h.run_is in
@@ -246,7 +246,7 @@ or_under : (b c d : Bool) → (c ≡ true → d ≡ true) → (b || c) ≡ true 
 or_under true c d h e = refl
 or_under false c d h e = h e
 
-changed_in : (f : Try → Try) → IsQuiet f → (ph : Phase) (t : TaskSpec) (i : Held) → is_sound_in ph t i ≡ true → is_sound_in ph t (map_tries f i) ≡ true
+changed_in : (f : Try → Try) → IsQuiet f → (ph : RunPhase) (t : TaskSpec) (i : InstanceValue) → is_sound_in ph t i ≡ true → is_sound_in ph t (map_tries f i) ≡ true
 changed_in f q ph t i e =
     let s : is_sound_instance t i ≡ true = and_left _ _ e in
     and_from _ _ (changed_sound f q t i s)

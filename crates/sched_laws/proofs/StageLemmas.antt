@@ -6,13 +6,13 @@ use Rattle.std.specs.Ordering.{is_eq}
 use Rattle.std.proofs.lemmas.Cmp.{nat_list_cmp_total, tied_itself}
 use Rattle.std.proofs.lemmas.Map.Text.{is_eq-slice_cmp}
 use Rattle.std.proofs.lemmas.Bool.{eqb-true, or_left, or_right}
-use Rattle.sched_state.specs.declared.runs.Phase.{Phase}
-use Rattle.sched_state.specs.declared.runs.Phase.TheVariants as phase
+use Rattle.sched_state.specs.declared.runs.RunPhase.{RunPhase}
+use Rattle.sched_state.specs.declared.runs.RunPhase.TheVariants as phase
 use Rattle.sched_model.specs.Handout.{in_instance}
 use Rattle.sched_state.specs.Lists.{same, change_from, first_change, repeat}
 use Rattle.sched_model.specs.Lists.{at}
 use Rattle.graph_file.specs.Lists.{when, first_some}
-use Rattle.instance_machine.specs.Instances.{Held}
+use Rattle.instance_machine.specs.Instances.{InstanceValue}
 use Rattle.sched_model.specs.Schedule.{Schedule, is_running, is_queued, is_paused, max_active_runs_of}
 use Rattle.sched_state.specs.declared.runs.Run.{Run}
 use Rattle.sched_model.specs.States.{states, active_runs, previous, state_at, is_earlier}
@@ -70,20 +70,20 @@ decide_settles a = turns_settle (moves_left a) a
 
 -- ---- phases
 
-gate : (a : Schedule) (ph : Phase) (n q : ℕ) (r : Run) → option_map (λ (w : Run). state_at a w q) (previous (phase_at ph n a) r) ≡ option_map (λ (w : Run). state_at a w q) (previous a r)
+gate : (a : Schedule) (ph : RunPhase) (n q : ℕ) (r : Run) → option_map (λ (w : Run). state_at a w q) (previous (phase_at ph n a) r) ≡ option_map (λ (w : Run). state_at a w q) (previous a r)
 gate a ph n q r =
     same_last (λ (w : Run). state_at a w q) (is_earlier r) (in_phase ph) (λ w. refl) (λ w. refl) n a.runs
 
-not_running : (c : Bool) (o : Option Held) → c ≡ false → (◌≡◌ {A = Option Held} (elim c [ true ↦ o | false ↦ None ]) None)
+not_running : (c : Bool) (o : Option InstanceValue) → c ≡ false → (◌≡◌ {A = Option InstanceValue} (elim c [ true ↦ o | false ↦ None ]) None)
 not_running true o e = absurd (true≢false e)
 not_running false o e = refl
 
-quiet_in : (a : Schedule) (ph : Phase) (n q : ℕ) (o : Option Run) → is_running ph ≡ false → option_and_then (decision_in (phase_at ph n a) q) (option_map (in_phase ph) o) ≡ None
+quiet_in : (a : Schedule) (ph : RunPhase) (n q : ℕ) (o : Option Run) → is_running ph ≡ false → option_and_then (decision_in (phase_at ph n a) q) (option_map (in_phase ph) o) ≡ None
 quiet_in a ph n q None e = refl
 quiet_in a ph n q (Some r) e = not_running (is_running ph) (option_and_then (decide_instance (phase_at ph n a) (in_phase ph r) q) (slice_get r.instances q)) e
 
 -- a run's phase is looked at by no decision in another run
-pub other_phase : (a : Schedule) (ph : Phase) (n m q : ℕ) → nat_eq m n ≡ false → decision (phase_at ph n a) m q ≡ decision a m q
+pub other_phase : (a : Schedule) (ph : RunPhase) (n m q : ℕ) → nat_eq m n ≡ false → decision (phase_at ph n a) m q ≡ decision a m q
 other_phase a ph n m q e =
     ap (option_and_then (decision_in (phase_at ph n a) q)) (get_apart (in_phase ph) n m a.runs e)
     ∙ given_run (decision_in (phase_at ph n a) q) (decision_in a q) (slice_get a.runs m)
@@ -92,7 +92,7 @@ other_phase a ph n m q e =
     (λ t f. same_given a (phase_at ph n a) r r q t (gated_same t.depends_on_past _ _ (inr (ap opens_gate (gate a ph n q r)))) refl))
     refl)
 
-pub ended_quiet : (a : Schedule) (ph : Phase) (n q : ℕ) → is_running ph ≡ false → decision (phase_at ph n a) n q ≡ None
+pub ended_quiet : (a : Schedule) (ph : RunPhase) (n q : ℕ) → is_running ph ≡ false → decision (phase_at ph n a) n q ≡ None
 ended_quiet a ph n q e =
     ap (option_and_then (decision_in (phase_at ph n a) q)) (get_at (in_phase ph) n a.runs) ∙ quiet_in a ph n q (slice_get a.runs n) e
 
@@ -125,15 +125,15 @@ no_decision_at a e n p = by_decision {C = decision a n p ≡ None} a n p (λ f. 
     mapped_none (λ is. record d.run { instances = is }) (change_from (decide_instance a d.run) 0 d.run.instances)
     (sym (guarded_run (is_running d.run.phase) (option_map (λ is. record d.run { instances = is }) (change_from (decide_instance a d.run) 0 d.run.instances)) d.running) ∙ r) in
     let q : decide_instance a d.run p d.instance ≡ None = subst (λ (y : ℕ). decide_instance a d.run y d.instance ≡ None) zp (quiet_each (decide_instance a d.run) 0 p d.run.instances d.instance c d.instance_is) in
-    absurd (let u : ◌≡◌ {A = Option Held} None (Some j) = sym q ∙ d.decided in cc))
+    absurd (let u : ◌≡◌ {A = Option InstanceValue} None (Some j) = sym q ∙ d.decided in cc))
 
 -- after a change of phase, decisions are possible in that run alone
-pub phase_covers : (a : Schedule) (ph : Phase) (n m q : ℕ) (j : Held) → decide_one a ≡ None → decision (phase_at ph n a) m q ≡ Some j → m ≡ n
+pub phase_covers : (a : Schedule) (ph : RunPhase) (n m q : ℕ) (j : InstanceValue) → decide_one a ≡ None → decision (phase_at ph n a) m q ≡ Some j → m ≡ n
 phase_covers a ph n m q j e f = by_bool {C = m ≡ n} (nat_eq m n) (λ g. eqb-true m n g)
-    (λ g. absurd (let u : ◌≡◌ {A = Option Held} None (Some j) = sym (no_decision_at a e m q) ∙ sym (other_phase a ph n m q g) ∙ f in cc))
+    (λ g. absurd (let u : ◌≡◌ {A = Option InstanceValue} None (Some j) = sym (no_decision_at a e m q) ∙ sym (other_phase a ph n m q g) ∙ f in cc))
 
 -- an end enables no decision
-pub end_quiet : (a : Schedule) (ph : Phase) (n : ℕ) → is_running ph ≡ false → decide_one a ≡ None → decide_one (phase_at ph n a) ≡ None
+pub end_quiet : (a : Schedule) (ph : RunPhase) (n : ℕ) → is_running ph ≡ false → decide_one a ≡ None → decide_one (phase_at ph n a) ≡ None
 end_quiet a ph n r e = no_decision (phase_at ph n a) (λ m q. by_bool {C = decision (phase_at ph n a) m q ≡ None} (nat_eq m n)
     (λ g. let k : m ≡ n = eqb-true m n g in ap (λ y. decision (phase_at ph n a) y q) k ∙ ended_quiet a ph n q r)
     (λ g. other_phase a ph n m q g ∙ no_decision_at a e m q))
@@ -160,12 +160,12 @@ when_false true c x e = absurd (true≢false e)
 when_false false c x e = refl
 
 -- an end is a change of phase
-end_phase : (a b : Schedule) → finish_one a ≡ Some b → (ph : Phase) × (n : ℕ) × (is_running ph ≡ false) × (b ≡ phase_at ph n a)
+end_phase : (a b : Schedule) → finish_one a ≡ Some b → (ph : RunPhase) × (n : ℕ) × (is_running ph ≡ false) × (b ≡ phase_at ph n a)
 end_phase a b e =
     let t = map_some (λ rs. record a { runs = rs }) (first_change (finish_run a) a.runs) b e in
     let u = change_found (finish_run a) 0 a.runs t.0 t.1 in
     let r : Run = u.1 in
-    let ph : Phase = cond (has_bad_leaf a r) phase.Failed phase.Success in
+    let ph : RunPhase = cond (has_bad_leaf a r) phase.Failed phase.Success in
     let w = when_some (is_running r.phase && list_all is_finished (states a r)) (in_phase ph r) u.2 u.4 in
     let rs : t.0 ≡ at (in_phase ph) u.0 a.runs = u.5 ∙ ap (λ y. at (λ z. y) u.0 a.runs) (sym w.1) ∙ at_known (in_phase ph) u.0 a.runs r u.3 in
     (ph, u.0, ended_phase (has_bad_leaf a r), sym t.2 ∙ ap (λ xs. record a { runs = xs }) rs)
@@ -279,13 +279,13 @@ end_alone a b r e = ap (λ gs. finish_run (record a { graphs = gs }) r) e
 -- ---- what ends and starts look at
 
 -- a change of an instance marks its run's end
-pub change_ends : (marked : ℕ → Bool) (a : Schedule) (g : Held → Held) (n p : ℕ) → CoversEnds marked a → CoversEnds (also_run n marked) (change_at g n p a)
+pub change_ends : (marked : ℕ → Bool) (a : Schedule) (g : InstanceValue → InstanceValue) (n p : ℕ) → CoversEnds marked a → CoversEnds (also_run n marked) (change_at g n p a)
 change_ends marked a g n p c m r q e f = by_bool {C = (marked m || nat_eq m n) ≡ true} (nat_eq m n)
     (λ k. or_right (marked m) (nat_eq m n) k)
     (λ k. or_left (marked m) (nat_eq m n) (c m r q (sym (get_apart (in_instance g p) n m a.runs k) ∙ e) f))
 
 -- a change of phase marks its run's end
-pub phase_ends : (marked : ℕ → Bool) (a : Schedule) (ph : Phase) (n : ℕ) → CoversEnds marked a → CoversEnds (also_run n marked) (phase_at ph n a)
+pub phase_ends : (marked : ℕ → Bool) (a : Schedule) (ph : RunPhase) (n : ℕ) → CoversEnds marked a → CoversEnds (also_run n marked) (phase_at ph n a)
 phase_ends marked a ph n c m r q e f = by_bool {C = (marked m || nat_eq m n) ≡ true} (nat_eq m n)
     (λ k. or_right (marked m) (nat_eq m n) k)
     (λ k. or_left (marked m) (nat_eq m n) (c m r q (sym (get_apart (in_phase ph) n m a.runs k) ∙ e) f))
@@ -301,7 +301,7 @@ starts_with : (a : Schedule) (rs : List Run) (r : Run) → active_runs a r.graph
 starts_with a rs r f = ap (λ k. when (is_queued r.phase && (not (is_paused a r.graph) && nat_lt k (max_active_runs_of a r.graph))) (in_phase phase.Running r)) (sym f)
 
 -- a change of an instance enables no start
-pub change_starts : (a : Schedule) (g : Held → Held) (n p : ℕ) (r : Run) → start_run (change_at g n p a) r ≡ start_run a r
+pub change_starts : (a : Schedule) (g : InstanceValue → InstanceValue) (n p : ℕ) (r : Run) → start_run (change_at g n p a) r ≡ start_run a r
 change_starts a g n p r = starts_with a (at (in_instance g p) n a.runs) r
     (sym (count_at (λ (w : Run). same w.graph r.graph && is_running w.phase) (in_instance g p) 0 n a.runs (λ w e. refl)))
 
@@ -309,7 +309,7 @@ false_and : (b c : Bool) → b ≡ false → (b && c) ≡ false
 false_and b c e = rw e refl
 
 -- a change of phase enables starts in its graph alone
-pub phase_starts : (a : Schedule) (ph : Phase) (n : ℕ) (w r : Run) → slice_get a.runs n ≡ Some w → same w.graph r.graph ≡ false → start_run (phase_at ph n a) r ≡ start_run a r
+pub phase_starts : (a : Schedule) (ph : RunPhase) (n : ℕ) (w r : Run) → slice_get a.runs n ≡ Some w → same w.graph r.graph ≡ false → start_run (phase_at ph n a) r ≡ start_run a r
 phase_starts a ph n w r e f = starts_with a (at (in_phase ph) n a.runs) r
     (sym (count_at (λ (v : Run). same v.graph r.graph && is_running v.phase) (in_phase ph) 0 n a.runs
     (λ v k.
@@ -318,7 +318,7 @@ phase_starts a ph n w r e f = starts_with a (at (in_phase ph) n a.runs) r
     false_and (same v.graph r.graph) (is_running ph) h ∙ sym (false_and (same v.graph r.graph) (is_running v.phase) h))))
 
 -- a run of another graph stands elsewhere
-other_graph : (a : Schedule) (ph : Phase) (n m : ℕ) (w r : Run) → slice_get a.runs n ≡ Some w → slice_get (phase_at ph n a).runs m ≡ Some r → same w.graph r.graph ≡ false → nat_eq m n ≡ false
+other_graph : (a : Schedule) (ph : RunPhase) (n m : ℕ) (w r : Run) → slice_get a.runs n ≡ Some w → slice_get (phase_at ph n a).runs m ≡ Some r → same w.graph r.graph ≡ false → nat_eq m n ≡ false
 other_graph a ph n m w r e k s = by_bool {C = nat_eq m n ≡ false} (nat_eq m n)
     (λ g.
     let u : m ≡ n = eqb-true m n g in
@@ -329,7 +329,7 @@ other_graph a ph n m w r e k s = by_bool {C = nat_eq m n ≡ false} (nat_eq m n)
     (λ g. g)
 
 -- a change of the phase of run n, which is w, marks its graph
-pub phase_covers_starts : (marked : List ℕ → Bool) (a : Schedule) (ph : Phase) (n : ℕ) (w : Run) → slice_get a.runs n ≡ Some w → CoversStarts marked a → CoversStarts (also_graph w.graph marked) (phase_at ph n a)
+pub phase_covers_starts : (marked : List ℕ → Bool) (a : Schedule) (ph : RunPhase) (n : ℕ) (w : Run) → slice_get a.runs n ≡ Some w → CoversStarts marked a → CoversStarts (also_graph w.graph marked) (phase_at ph n a)
 phase_covers_starts marked a ph n w e c m r q k f = by_bool {C = (marked r.graph || same w.graph r.graph) ≡ true} (same w.graph r.graph)
     (λ s. or_right (marked r.graph) (same w.graph r.graph) s)
     (λ s. or_left (marked r.graph) (same w.graph r.graph)

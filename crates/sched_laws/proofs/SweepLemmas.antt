@@ -9,10 +9,10 @@ use Rattle.sched_laws.proofs.RunLemmas.{key, key_before, rises_map}
 use Rattle.sched_laws.proofs.HandLemmas.{map_at}
 use Rattle.dag_check.specs.Names.{repeats}
 use Rattle.sched_model.specs.Lists.{at, rises}
-use Rattle.instance_machine.specs.Instances.{Held}
+use Rattle.instance_machine.specs.Instances.{InstanceValue}
 use Rattle.sched_model.specs.Schedule.{Schedule, is_running}
 use Rattle.sched_state.specs.declared.runs.Run.{Run}
-use Rattle.sched_state.specs.declared.graphs.Graph.{Graph}
+use Rattle.sched_state.specs.declared.graphs.LoadedGraph.{LoadedGraph}
 use Rattle.sched_model.specs.Settle.{decide_instance}
 use Rattle.sched_model.specs.Handout.{in_instance}
 use Rattle.sched_model.specs.Sound.{IsSound, is_sound_graph, is_sound_dag}
@@ -39,13 +39,13 @@ length_at g n [] = refl
 length_at g zero (x ∷ xs) = refl
 length_at g (suc n) (x ∷ xs) = ap suc (length_at g n xs)
 
-pub put_ordered : (a : Schedule) (j : Held) (n p : ℕ) → IsOrdered a → IsOrdered (put j n p a)
+pub put_ordered : (a : Schedule) (j : InstanceValue) (n p : ℕ) → IsOrdered a → IsOrdered (put j n p a)
 put_ordered a j n p h = record {
   runs = sym (rises_map key_before key (put j n p a).runs) ∙ ap (rises key_before) (map_at key (in_instance (λ i. j) p) n a.runs (λ r e. refl)) ∙ rises_map key_before key a.runs ∙ h.runs;
   graphs = h.graphs;
 }
 
-pub put_lens : (a : Schedule) (j : Held) (n p : ℕ) → lens (put j n p a) ≡ lens a
+pub put_lens : (a : Schedule) (j : InstanceValue) (n p : ℕ) → lens (put j n p a) ≡ lens a
 put_lens a j n p = map_at (λ (r : Run). length r.instances) (in_instance (λ i. j) p) n a.runs (λ r e. length_at (λ i. j) p r.instances)
 
 -- before the next place: at this one, or before it
@@ -173,5 +173,5 @@ dag_down tasks edges g e =
 pub sound_ordered : (a : Schedule) → IsSound a → IsOrdered a
 sound_ordered a s = record {
   runs = s.runs_by_key;
-  graphs = all_impl (is_sound_graph a) (λ (g : Graph). leads_down g.dag) (λ (g : Graph) e. dag_down a.limits.tasks a.limits.edges g.dag (and_left _ _ e)) a.graphs s.graphs;
+  graphs = all_impl (is_sound_graph a) (λ (g : LoadedGraph). leads_down g.dag) (λ (g : LoadedGraph) e. dag_down a.limits.tasks a.limits.edges g.dag (and_left _ _ e)) a.graphs s.graphs;
 }

@@ -9,7 +9,7 @@ use Rattle.dag_check.specs.Names.{ids_of, repeats}
 use Rattle.dag_check.specs.Graphs.{Dag, IsDag, ups}
 use Rattle.dag_check.proofs.LawLemmas.{all-in}
 use Rattle.sched_state.specs.Lists.{same}
-use Rattle.sched_state.specs.declared.graphs.Graph.{Graph}
+use Rattle.sched_state.specs.declared.graphs.LoadedGraph.{LoadedGraph}
 use Rattle.sched_state.proofs.OrderLemmas.{and_left, and_right, not_false}
 use Rattle.sched_model.specs.Lists.{map_places}
 use Rattle.sched_model.specs.Schedule.{Schedule, graph_among, dag_among, dag_named, no_dag}
@@ -60,10 +60,10 @@ dag_short tasks edges g p e =
     let h : length (ups g p) ≤ 0 + p = rows_short 0 p g.upstreams (and_right (length g.upstreams == length g.tasks) _ (and_right (not (repeats (ids_of g.tasks))) _ (and_right (nat_le (length g.tasks) tasks && nat_le (sum_by length g.upstreams) edges) _ e))) in
     omega arith
 
-among_short : (a : Schedule) (id : List ℕ) (p : ℕ) (gs : List Graph) → list_all (is_sound_graph a) gs ≡ true → length (ups (dag_among gs id) p) ≤ p
+among_short : (a : Schedule) (id : List ℕ) (p : ℕ) (gs : List LoadedGraph) → list_all (is_sound_graph a) gs ≡ true → length (ups (dag_among gs id) p) ≤ p
 among_short a id p [] e = omega arith
 among_short a id p (g ∷ gs) e =
-    elim (same g.dag.spec.dag_id id) as (λ b. length (ups (unwrap_or (option_map (λ (h : Graph). h.dag) (cond b (Some g) (graph_among gs id))) no_dag) p) ≤ p) [
+    elim (same g.dag.spec.dag_id id) as (λ b. length (ups (unwrap_or (option_map (λ (h : LoadedGraph). h.dag) (cond b (Some g) (graph_among gs id))) no_dag) p) ≤ p) [
       | true ↦ dag_short a.limits.tasks a.limits.edges g.dag p (and_left (is_sound_dag a.limits.tasks a.limits.edges g.dag) _ (and_left (is_sound_graph a g) _ e))
       | false ↦ among_short a id p gs (and_right (is_sound_graph a g) _ e)
     ]

@@ -2,7 +2,7 @@
 use Rattle.std.specs.Prelude.{◌≡◌, ℕ, ◌<◌, ◌≤◌, cond, true, false, Some, slice_get, List}
 use Rattle.sched_state.specs.Lists.{same}
 use Rattle.graph_file.specs.declared.task_specs.TaskSpec.{TaskSpec}
-use Rattle.instance_machine.specs.Instances.{Held}
+use Rattle.instance_machine.specs.Instances.{InstanceValue}
 use Rattle.sched_model.specs.Schedule.{Schedule, tasks_of, is_running, is_paused, size_of}
 use Rattle.sched_state.specs.declared.runs.Run.{Run}
 use Rattle.sched_model.specs.States.{occupied, in_flight}
@@ -12,7 +12,7 @@ use Rattle.sched_model.specs.Handout.{Offer, offer_of, is_ready, fits, ranks_bef
 pub record IsEligible (a : Schedule) (o : Offer) : Type 0 where
   pub run : Run
   pub task : TaskSpec
-  pub instance : Held
+  pub instance : InstanceValue
   pub run_is : slice_get a.runs o.run ≡ Some run
   pub task_is : slice_get (tasks_of a run) o.place ≡ Some task
   pub instance_is : slice_get run.instances o.place ≡ Some instance

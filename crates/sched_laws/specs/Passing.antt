@@ -1,6 +1,6 @@
 -- Hand-out as one pass over the eligible in the order of their ranks.
 use Rattle.std.specs.Prelude.{◌≡◌, ℕ, ◌≤◌, ◌⊎◌, true, false, List, [], ◌∷◌, length, Some, slice_get}
-use Rattle.instance_machine.specs.Instances.{Held}
+use Rattle.instance_machine.specs.Instances.{InstanceValue}
 use Rattle.sched_model.specs.Schedule.{Schedule}
 use Rattle.sched_state.specs.declared.runs.Run.{Run}
 use Rattle.sched_laws.specs.Offered.{IsEligible}
@@ -19,7 +19,7 @@ pub record IsReadyList (a : Schedule) (os : List Offer) : Type 0 where
 
 -- no clearing stands past the tries
 abbrev pub IsWithin : Schedule → Type 0
-IsWithin a = (n p : ℕ) (r : Run) (i : Held) → slice_get a.runs n ≡ Some r → slice_get r.instances p ≡ Some i → i.since ≤ length i.tries
+IsWithin a = (n p : ℕ) (r : Run) (i : InstanceValue) → slice_get a.runs n ≡ Some r → slice_get r.instances p ≡ Some i → i.since ≤ length i.tries
 
 -- each offer is handed out where it fits, and passed over where not
 abbrev pub pass : List Offer → Schedule → Schedule

@@ -5,10 +5,10 @@ use Rattle.std.specs.List.{list_all, enumerate_from}
 use Rattle.graph_file.specs.declared.task_specs.TaskSpec.{TaskSpec}
 use Rattle.dag_check.specs.Orders.{repeated}
 use Rattle.trigger_rules.specs.States.{is_finished}
-use Rattle.instance_machine.specs.Instances.{Held}
+use Rattle.instance_machine.specs.Instances.{InstanceValue}
 use Rattle.instance_machine.specs.States.{state_of}
 use Rattle.instance_machine.specs.declared.tries.Try.{Try}
-use Rattle.sched_state.specs.declared.graphs.Graph.{Graph}
+use Rattle.sched_state.specs.declared.graphs.LoadedGraph.{LoadedGraph}
 use Rattle.sched_state.specs.declared.runs.Run.{Run}
 use Rattle.sched_model.specs.Handout.{last_serial}
 use Rattle.sched_model.specs.Lists.{rises, all_pairs}
@@ -24,7 +24,7 @@ abbrev pub are_pools_right : Schedule → Bool
 are_pools_right a = list_all is_sound_pool a.pools && (has_pool a default_pool.name && nat_le (length a.pools) a.limits.pools)
 
 -- 3. no more tasks and edges than the limits, the pools of the tasks are there, and there are no more graphs than the limit
-abbrev pub is_graph_right : Schedule → Graph → Bool
+abbrev pub is_graph_right : Schedule → LoadedGraph → Bool
 is_graph_right a g =
     (nat_le (length g.dag.tasks) a.limits.tasks && nat_le (sum_by length g.dag.upstreams) a.limits.edges) && has_pools a g.dag
 
@@ -41,11 +41,11 @@ abbrev pub are_runs_right : Schedule → Bool
 are_runs_right a = list_all (is_run_right a) a.runs && nat_le (length a.runs) a.limits.runs
 
 -- of each run the instances stand one for each task, and each passes a test beside its task
-abbrev pub all_instances : (TaskSpec → Held → Bool) → Schedule → Bool
+abbrev pub all_instances : (TaskSpec → InstanceValue → Bool) → Schedule → Bool
 all_instances p a = list_all (λ (r : Run). all_pairs p (tasks_of a r) r.instances) a.runs
 
 -- 5. a verdict is none, Run, Skip or UpstreamFailed, and the last clearing lies within the tries
-abbrev pub is_instance_right : TaskSpec → Held → Bool
+abbrev pub is_instance_right : TaskSpec → InstanceValue → Bool
 is_instance_right t i = not (is_wait i.verdict) && nat_le i.since (length i.tries)
 
 -- 6. of the try with a number: its serial is from 1 to below the next one, its slots are the task's, its start and its end are moments where
@@ -55,20 +55,20 @@ is_try_right next t x = is_used next x.serial && ((x.slots == t.pool_slots) && (
 
 -- a try from before the last clearing has an end; one after it stands only where the verdict is Run, there are at most one more of these
 -- than retries, and each but the last try is failed or lost. Only the last try of the instance may be without an end
-abbrev pub is_turn_right : TaskSpec → Held → ℕ × Try → Bool
+abbrev pub is_turn_right : TaskSpec → InstanceValue → ℕ × Try → Bool
 is_turn_right t i e =
     cond (nat_le e.0 i.since)
     (has_end e.1)
     (is_run i.verdict && (nat_le e.0 (i.since + (1 + t.retries)) && (e.0 == length i.tries || has_failed e.1)))
 
 -- and the numbers of an instance are 1, 2, .. in the order of the serials
-abbrev pub are_tries_right : ℕ → TaskSpec → Held → Bool
+abbrev pub are_tries_right : ℕ → TaskSpec → InstanceValue → Bool
 are_tries_right next t i =
     list_all (λ (e : ℕ × Try). is_try_right next t e.1 && is_turn_right t i e) (enumerate_from 1 i.tries) && tries_rise i
 
 -- 7. a finished run has only finished instances
 abbrev pub is_end_right : Schedule → Run → Bool
-is_end_right a r = not (is_ended r.phase) || all_pairs (λ (t : TaskSpec) (i : Held). is_finished (state_of t i)) (tasks_of a r) r.instances
+is_end_right a r = not (is_ended r.phase) || all_pairs (λ (t : TaskSpec) (i : InstanceValue). is_finished (state_of t i)) (tasks_of a r) r.instances
 
 -- each key stands once, and the rules hold
 pub record FollowsRules (a : Schedule) : Type 0 where

@@ -10,8 +10,8 @@ use Rattle.trigger_rules.specs.declared.states.State.{State}
 use Rattle.trigger_rules.specs.declared.states.State.TheVariants as state
 use Rattle.instance_machine.specs.States.{state_of, opens_gate}
 use Rattle.sched_state.specs.Lists.{same}
-use Rattle.sched_state.specs.declared.graphs.Graph.{Graph}
-use Rattle.sched_state.specs.declared.runs.Phase.{Phase}
+use Rattle.sched_state.specs.declared.graphs.LoadedGraph.{LoadedGraph}
+use Rattle.sched_state.specs.declared.runs.RunPhase.{RunPhase}
 use Rattle.sched_model.specs.Lists.{zip_with, last_passing}
 use Rattle.sched_model.specs.Schedule.{Schedule, graph_among, dag_among, is_running, is_queued}
 use Rattle.sched_state.specs.declared.runs.Run.{Run}
@@ -33,16 +33,16 @@ seen state.UpstreamFailed = state.UpstreamFailed
 pub record Sight : Type 0 where
   pub graph : List ℕ
   pub logical : ℕ
-  pub phase : Phase
+  pub phase : RunPhase
   -- whether each instance is undecided
   pub undecided : List Bool
   -- what is seen of each instance's state
   pub states : List State
 
-abbrev pub tasks_among : List Graph → List ℕ → List TaskSpec
+abbrev pub tasks_among : List LoadedGraph → List ℕ → List TaskSpec
 tasks_among gs id = (dag_among gs id).tasks
 
-abbrev pub sight_of : List Graph → Run → Sight
+abbrev pub sight_of : List LoadedGraph → Run → Sight
 sight_of gs r = record {
   graph = r.graph;
   logical = r.logical;
@@ -68,10 +68,10 @@ abbrev pub seen_past : List Sight → Sight → TaskSpec → ℕ → Bool
 seen_past vs v t p = not t.depends_on_past || opens_gate (option_map (λ w. seen_at w p) (seen_before vs v))
 
 -- the verdict that a task would be given
-abbrev pub seen_verdict : List Graph → List Sight → Sight → ℕ → TaskSpec → Option Verdict
+abbrev pub seen_verdict : List LoadedGraph → List Sight → Sight → ℕ → TaskSpec → Option Verdict
 seen_verdict gs vs v p t = decides (seen_past vs v t p) (rule_verdict t.trigger_rule (map (seen_at v) (ups (dag_among gs v.graph) p)))
 
-abbrev pub has_verdict : List Graph → List Sight → Sight → ℕ → Option TaskSpec → Bool
+abbrev pub has_verdict : List LoadedGraph → List Sight → Sight → ℕ → Option TaskSpec → Bool
 has_verdict gs vs v p None = false
 has_verdict gs vs v p (Some t) = is_some (seen_verdict gs vs v p t)
 
@@ -79,10 +79,10 @@ abbrev pub any_from : {X : Type 0} → (ℕ → X → Bool) → ℕ → List X �
 any_from f i [] = false
 any_from f i (x ∷ xs) = f i x || any_from f (i + 1) xs
 
-abbrev pub can_decide : List Graph → List Sight → Sight → ℕ → Bool → Bool
+abbrev pub can_decide : List LoadedGraph → List Sight → Sight → ℕ → Bool → Bool
 can_decide gs vs v p b = b && has_verdict gs vs v p (slice_get (tasks_among gs v.graph) p)
 
-abbrev pub can_decide_in : List Graph → List Sight → Sight → Bool
+abbrev pub can_decide_in : List LoadedGraph → List Sight → Sight → Bool
 can_decide_in gs vs v = is_running v.phase && any_from (can_decide gs vs v) 0 v.undecided
 
 abbrev pub can_finish : Sight → Bool
@@ -91,15 +91,15 @@ can_finish v = is_running v.phase && list_all is_finished v.states
 abbrev pub seen_active : List Sight → List ℕ → ℕ
 seen_active vs id = count_by (λ (w : Sight). same w.graph id && is_running w.phase) vs
 
-abbrev pub most_among : List Graph → List ℕ → ℕ
+abbrev pub most_among : List LoadedGraph → List ℕ → ℕ
 most_among gs id = (dag_among gs id).spec.max_active_runs
 
-abbrev pub paused_among : List Graph → List ℕ → Bool
-paused_among gs id = unwrap_or (option_map (λ (g : Graph). g.paused) (graph_among gs id)) false
+abbrev pub paused_among : List LoadedGraph → List ℕ → Bool
+paused_among gs id = unwrap_or (option_map (λ (g : LoadedGraph). g.paused) (graph_among gs id)) false
 
-abbrev pub can_start_seen : List Graph → List Sight → Sight → Bool
+abbrev pub can_start_seen : List LoadedGraph → List Sight → Sight → Bool
 can_start_seen gs vs v = is_queued v.phase && (not (paused_among gs v.graph) && nat_lt (seen_active vs v.graph) (most_among gs v.graph))
 
 -- whether a move is possible
-abbrev pub can_move : List Graph → List Sight → Bool
+abbrev pub can_move : List LoadedGraph → List Sight → Bool
 can_move gs vs = list_any (can_decide_in gs vs) vs || (list_any can_finish vs || list_any (can_start_seen gs vs) vs)

@@ -3,13 +3,13 @@ use Rattle.sched_model.specs.Sound.{is_sound_row}
 use Rattle.dag_check.specs.Graphs.{Dag}
 use Rattle.std.specs.Prelude.{◌≡◌, ◌<◌, ◌||◌, Bool, true, nat_eq, slice_get, ℕ, map, Option, Some, None, option_map, unwrap_or, List}
 use Rattle.std.specs.List.{list_all}
-use Rattle.sched_state.specs.declared.runs.Phase.{Phase}
-use Rattle.sched_state.specs.declared.runs.Phase.TheVariants as phase
+use Rattle.sched_state.specs.declared.runs.RunPhase.{RunPhase}
+use Rattle.sched_state.specs.declared.runs.RunPhase.TheVariants as phase
 use Rattle.sched_state.specs.Lists.{same, first_change}
 use Rattle.sched_model.specs.Lists.{at, rises, map_places}
 use Rattle.sched_model.specs.Schedule.{Schedule, run_before}
 use Rattle.sched_state.specs.declared.runs.Run.{Run}
-use Rattle.sched_state.specs.declared.graphs.Graph.{Graph}
+use Rattle.sched_state.specs.declared.graphs.LoadedGraph.{LoadedGraph}
 use Rattle.sched_model.specs.Settle.{settle, finish_run, start_run, with_runs}
 use Rattle.sched_laws.specs.Sweep.{decide_one, Covers}
 
@@ -27,11 +27,11 @@ ended_run a r = unwrap_or (finish_run a r) r
 abbrev pub finish_every : Schedule → Schedule
 finish_every a = record a { runs = map (ended_run a) a.runs }
 
-abbrev pub in_phase : Phase → Run → Run
+abbrev pub in_phase : RunPhase → Run → Run
 in_phase ph r = record r { phase = ph }
 
 -- the run at the position is in this phase
-abbrev pub phase_at : Phase → ℕ → Schedule → Schedule
+abbrev pub phase_at : RunPhase → ℕ → Schedule → Schedule
 phase_at ph n a = record a { runs = at (in_phase ph) n a.runs }
 
 -- b is reached from a by moves, and no decision and no end is possible in it
@@ -69,7 +69,7 @@ leads_down g = list_all (λ b. b) (map_places is_sound_row 0 g.upstreams)
 -- the runs stand in the order of their keys, and each edge of a graph leads from a lower place to a higher one
 pub record IsOrdered (a : Schedule) : Type 0 where
   pub runs : rises run_before a.runs ≡ true
-  pub graphs : list_all (λ (g : Graph). leads_down g.dag) a.graphs ≡ true
+  pub graphs : list_all (λ (g : LoadedGraph). leads_down g.dag) a.graphs ≡ true
 
 -- w lies on the way that settling takes from start, and no move is possible in it outside what is marked
 pub record IsSettling (start w : Schedule) (dirty : ℕ → ℕ → Bool) (ends : ℕ → Bool) (starts : List ℕ → Bool) : Type 0 where

@@ -6,7 +6,7 @@ use Rattle.sched_state.specs.Lists.{first_change, repeat}
 use Rattle.sched_model.specs.Lists.{at}
 use Rattle.dag_check.specs.Orders.{is_in}
 use Rattle.graph_file.specs.declared.task_specs.TaskSpec.{TaskSpec}
-use Rattle.instance_machine.specs.Instances.{Held}
+use Rattle.instance_machine.specs.Instances.{InstanceValue}
 use Rattle.sched_model.specs.Schedule.{Schedule, tasks_of, is_running, dag_named}
 use Rattle.sched_state.specs.declared.runs.Run.{Run}
 use Rattle.sched_model.specs.Settle.{decide_instance, decide_run, moves_left, with_runs}
@@ -19,21 +19,21 @@ decide_one a = option_map (with_runs a) (first_change (decide_run a) a.runs)
 abbrev pub decide_all : Schedule → Schedule
 decide_all a = repeat (moves_left a) decide_one a
 
-abbrev pub decision_in : Schedule → ℕ → Run → Option Held
+abbrev pub decision_in : Schedule → ℕ → Run → Option InstanceValue
 decision_in a p r = elim (is_running r.phase) [
   | true ↦ option_and_then (decide_instance a r p) (slice_get r.instances p)
   | false ↦ None
 ]
 
 -- what the instance at the position would be decided to
-abbrev pub decision : Schedule → ℕ → ℕ → Option Held
+abbrev pub decision : Schedule → ℕ → ℕ → Option InstanceValue
 decision a n p = option_and_then (decision_in a p) (slice_get a.runs n)
 
 -- the instance at the position is changed
-abbrev pub change_at : (Held → Held) → ℕ → ℕ → Schedule → Schedule
+abbrev pub change_at : (InstanceValue → InstanceValue) → ℕ → ℕ → Schedule → Schedule
 change_at g n p a = record a { runs = at (in_instance g p) n a.runs }
 
-abbrev pub put : Held → ℕ → ℕ → Schedule → Schedule
+abbrev pub put : InstanceValue → ℕ → ℕ → Schedule → Schedule
 put j n p a = change_at (λ i. j) n p a
 
 -- the instance at the position is decided, where it can be
@@ -79,7 +79,7 @@ IsClean n p a = (m q : ℕ) → Before m q n p → decision a m q ≡ None
 
 -- each position at which a decision is possible is dirty
 abbrev pub Covers : (ℕ → ℕ → Bool) → Schedule → Type 0
-Covers dirty a = (m q : ℕ) (j : Held) → decision a m q ≡ Some j → dirty m q ≡ true
+Covers dirty a = (m q : ℕ) (j : InstanceValue) → decision a m q ≡ Some j → dirty m q ≡ true
 
 -- no position before run n and place p is dirty
 abbrev pub NoneBefore : (ℕ → ℕ → Bool) → ℕ → ℕ → Type 0

@@ -1,6 +1,6 @@
 -- What becomes of the tries that are there.
 use Rattle.std.specs.Prelude.{◌≡◌, ℕ, List, Option, Some, find, option_and_then, slice_get}
-use Rattle.instance_machine.specs.Instances.{Held}
+use Rattle.instance_machine.specs.Instances.{InstanceValue}
 use Rattle.instance_machine.specs.declared.tries.Try.{Try}
 use Rattle.instance_machine.specs.declared.tries.End.{End}
 use Rattle.sched_state.specs.declared.runs.Run.{Run}
@@ -19,7 +19,7 @@ run_at id date rs = find (is_at id date) rs
 
 -- a try of a run: of the instance at a place the one at a position, both counted from 0
 abbrev pub try_in : ℕ → ℕ → Run → Option Try
-try_in place n r = option_and_then (λ (i : Held). slice_get i.tries n) (slice_get r.instances place)
+try_in place n r = option_and_then (λ (i : InstanceValue). slice_get i.tries n) (slice_get r.instances place)
 
 -- the same of the run of a graph with a logical date
 abbrev pub try_at : Schedule → List ℕ → ℕ → ℕ → ℕ → Option Try

@@ -10,8 +10,13 @@ ghost use Rattle.sched_model.specs.Schedule.{Schedule, has_run_at};
 /// A backfill names a run for each interval of its span that has none, and for no other date; the dates that are present are those of the
 /// others. So after it each interval of the span has its run.
 pub fn backfills_name_the_missing_dates()
-    ensures named { (a : Schedule) (id : List ℕ) (low high date : ℕ) → list_any (is_for id date) (named_by_backfill a id low high)
+    ensures named { (a : Schedule) (id : List ℕ) (low high date : ℕ)
+        → list_any (is_for id date) (named_by_backfill a id low high)
         ≡ (has_date (starts (spanned a id low high)) date && not (has_run_at a id date)) }
-    ensures present { (a : Schedule) (id : List ℕ) (low high date : ℕ) → has_date (present_in a id low high) date ≡ (has_date (starts (spanned a id low high)) date && has_run_at a id date) }
-    ensures after { (a : Schedule) (id : List ℕ) (low high date : ℕ) → has_run_at (advance (named_by_backfill a id low high) a) id date ≡ (has_date (starts (spanned a id low high)) date || has_run_at a id date) }
+    ensures present { (a : Schedule) (id : List ℕ) (low high date : ℕ)
+        → has_date (present_in a id low high) date
+        ≡ (has_date (starts (spanned a id low high)) date && has_run_at a id date) }
+    ensures after { (a : Schedule) (id : List ℕ) (low high date : ℕ)
+        → has_run_at (advance (named_by_backfill a id low high) a) id date
+        ≡ (has_date (starts (spanned a id low high)) date || has_run_at a id date) }
 {}

@@ -2,9 +2,9 @@
 //! tasks).
 ghost use Rattle.std.specs.Prelude.{◌≡◌, ℕ, [], None, Some, true, false, slice_get, option_and_then, option_map};
 ghost use Rattle.graph_file.specs.declared.task_specs.TaskSpec.{TaskSpec};
-ghost use Rattle.instance_machine.specs.Instances.{Held, recent};
+ghost use Rattle.instance_machine.specs.Instances.{InstanceValue, recent};
 ghost use Rattle.instance_machine.specs.States.{state_of, has_retry};
-ghost use Rattle.sched_model.specs.Clearing.{Naming, cleared, requeued, clear};
+ghost use Rattle.sched_model.specs.Clearing.{Selection, cleared, requeued, clear};
 ghost use Rattle.sched_model.specs.Schedule.{Schedule, tasks_of};
 ghost use Rattle.sched_state.specs.declared.runs.Run.{Run};
 ghost use Rattle.trigger_rules.specs.declared.states.State.TheVariants as state;
@@ -12,25 +12,35 @@ ghost use Rattle.sched_laws.specs.Repairs.{instance_at};
 
 /// A clear touches the instances that it names and no other.
 pub fn clears_touch_what_they_name()
-    ensures named { (named : Naming) (a : Schedule) (n p : ℕ) (r : Run) (t : TaskSpec) (i : Held) → slice_get a.runs n ≡ Some r → slice_get (tasks_of a r) p ≡ Some t
-        → slice_get r.instances p ≡ Some i → named r p (t, i) ≡ true → instance_at (clear named a) n p ≡ Some (cleared i) }
-    ensures others { (named : Naming) (a : Schedule) (n p : ℕ) (r : Run) (t : TaskSpec) (i : Held) → slice_get a.runs n ≡ Some r → slice_get (tasks_of a r) p ≡ Some t
-        → slice_get r.instances p ≡ Some i → named r p (t, i) ≡ false → instance_at (clear named a) n p ≡ Some i }
+    ensures named { (named : Selection) (a : Schedule) (n p : ℕ) (r : Run) (t : TaskSpec)
+        (i : InstanceValue) → slice_get a.runs n ≡ Some r → slice_get (tasks_of a r) p ≡ Some t
+        → slice_get r.instances p ≡ Some i → named r p (t, i) ≡ true
+        → instance_at (clear named a) n p ≡ Some (cleared i) }
+    ensures others { (named : Selection) (a : Schedule) (n p : ℕ) (r : Run) (t : TaskSpec)
+        (i : InstanceValue) → slice_get a.runs n ≡ Some r → slice_get (tasks_of a r) p ≡ Some t
+        → slice_get r.instances p ≡ Some i → named r p (t, i) ≡ false
+        → instance_at (clear named a) n p ≡ Some i }
 {}
 
 /// An instance that was set back has the state none, keeps its tries, so that their numbers go on, and may have all of its tries anew.
 pub fn what_is_set_back_starts_anew()
-    ensures state { (t : TaskSpec) (i : Held) → state_of t (cleared i) ≡ state.None }
-    ensures kept { (i : Held) → (cleared i).tries ≡ i.tries }
-    ensures anew { (i : Held) → recent (cleared i) ≡ [] }
-    ensures allowed { (t : TaskSpec) (i : Held) → has_retry t (cleared i) ≡ true }
+    ensures state { (t : TaskSpec) (i : InstanceValue) → state_of t (cleared i) ≡ state.None }
+    ensures kept { (i : InstanceValue) → (cleared i).tries ≡ i.tries }
+    ensures anew { (i : InstanceValue) → recent (cleared i) ≡ [] }
+    ensures allowed { (t : TaskSpec) (i : InstanceValue) → has_retry t (cleared i) ≡ true }
 {}
 
 /// A run of which an instance is named is queued where it was finished, and a run of which none is named stays as it is. No run goes, and
 /// none changes its graph, its dates or how it came to be.
 pub fn clears_queue_finished_runs()
-    ensures queued { (named : Naming) (a : Schedule) (n p : ℕ) (r : Run) (t : TaskSpec) (i : Held) → slice_get a.runs n ≡ Some r → slice_get (tasks_of a r) p ≡ Some t
-        → slice_get r.instances p ≡ Some i → named r p (t, i) ≡ true → option_map (λ (q : Run). q.phase) (slice_get (clear named a).runs n) ≡ Some (requeued r.phase) }
-    ensures untouched { (named : Naming) (a : Schedule) (n : ℕ) (r : Run) → slice_get a.runs n ≡ Some r
-        → ((p : ℕ) (t : TaskSpec) (i : Held) → slice_get (tasks_of a r) p ≡ Some t → slice_get r.instances p ≡ Some i → named r p (t, i) ≡ false) → slice_get (clear named a).runs n ≡ Some r }
+    ensures queued { (named : Selection) (a : Schedule) (n p : ℕ) (r : Run) (t : TaskSpec)
+        (i : InstanceValue) → slice_get a.runs n ≡ Some r → slice_get (tasks_of a r) p ≡ Some t
+        → slice_get r.instances p ≡ Some i → named r p (t, i) ≡ true
+        → option_map (λ (q : Run). q.phase) (slice_get (clear named a).runs n)
+        ≡ Some (requeued r.phase) }
+    ensures untouched { (named : Selection) (a : Schedule) (n : ℕ) (r : Run)
+        → slice_get a.runs n ≡ Some r
+        → ((p : ℕ) (t : TaskSpec) (i : InstanceValue) → slice_get (tasks_of a r) p ≡ Some t
+        → slice_get r.instances p ≡ Some i → named r p (t, i) ≡ false)
+        → slice_get (clear named a).runs n ≡ Some r }
 {}

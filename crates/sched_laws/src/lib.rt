@@ -1,5 +1,8 @@
 //! The laws of the abstract schedule: the theorems about its definitions that a reader or a proof may rely on.
 //!
+//! In come definitions, out come facts about them: the clause `ends` of `settling_is_determined` is `move (settle a) ≡ None`, for every
+//! schedule `a`. A proof uses them by the lemmas in `proofs/`.
+//!
 //! Nothing here runs: the functions are empty, and their contracts are the laws. `settling` and `hand_outs` say that what follows an
 //! event is determined and leaves nothing undone, `sound` that it leaves a sound schedule, with each serial and each key once.
 //! `loading` and `naming` are about what comes in: a text that takes in a graph without runs leaves nothing to do, what it says

@@ -6,7 +6,7 @@ ghost use Rattle.graph_file.specs.declared.graph_specs.GraphSpec.{GraphSpec};
 ghost use Rattle.dag_check.specs.Orders.{repeated};
 ghost use Rattle.dag_check.specs.Graphs.{Dag, IsDag, IsGraphOf, ups};
 ghost use Rattle.sched_state.specs.Lists.{same};
-ghost use Rattle.sched_state.specs.declared.graphs.Graph.{Graph};
+ghost use Rattle.sched_state.specs.declared.graphs.LoadedGraph.{LoadedGraph};
 ghost use Rattle.sched_model.specs.Schedule.{Schedule, has_runs, has_pool, graph_named, dag_named};
 ghost use Rattle.sched_model.specs.Settle.{move};
 ghost use Rattle.sched_model.specs.Handout.{hand_one};
@@ -15,17 +15,23 @@ ghost use Rattle.sched_model.specs.Sound.{IsSound, is_sound_graph, Says, AllSay}
 
 /// A text that takes in a graph without runs enables no move and no hand-out, and the text that a graph has already changes nothing.
 pub fn loading_is_quiet()
-    ensures still { (text : List ℕ) (dag : Dag) (a : Schedule) → has_runs a dag.spec.dag_id ≡ false → move a ≡ None → move (load_graph text dag a) ≡ None }
-    ensures no_hand { (text : List ℕ) (dag : Dag) (a : Schedule) → has_runs a dag.spec.dag_id ≡ false → hand_one a ≡ None → hand_one (load_graph text dag a) ≡ None }
-    ensures again { (text : List ℕ) (dag : Dag) (a : Schedule) (g : Graph) → Says text dag → IsSound a → AllSay a.graphs → graph_named a dag.spec.dag_id ≡ Some g
+    ensures still { (text : List ℕ) (dag : Dag) (a : Schedule) → has_runs a dag.spec.dag_id ≡ false
+        → move a ≡ None → move (load_graph text dag a) ≡ None }
+    ensures no_hand { (text : List ℕ) (dag : Dag) (a : Schedule)
+        → has_runs a dag.spec.dag_id ≡ false → hand_one a ≡ None
+        → hand_one (load_graph text dag a) ≡ None }
+    ensures again { (text : List ℕ) (dag : Dag) (a : Schedule) (g : LoadedGraph) → Says text dag
+        → IsSound a → AllSay a.graphs → graph_named a dag.spec.dag_id ≡ Some g
         → IsTrue (same g.text text) → load_graph text dag a ≡ a }
 {}
 
 /// The graph that a text says is sound where its tasks and their upstreams are no more than the limits, and the pool of each task is
 /// there.
 pub fn said_graphs_are_sound()
-    ensures { (a : Schedule) (text : List ℕ) (dag : Dag) → Says text dag → length dag.spec.tasks ≤ a.limits.tasks
-        → sum_by (λ (t : TaskSpec). length t.upstream) dag.spec.tasks ≤ a.limits.edges → list_all (λ (t : TaskSpec). has_pool a t.pool) dag.spec.tasks ≡ true
+    ensures { (a : Schedule) (text : List ℕ) (dag : Dag) → Says text dag
+        → length dag.spec.tasks ≤ a.limits.tasks
+        → sum_by (λ (t : TaskSpec). length t.upstream) dag.spec.tasks ≤ a.limits.edges
+        → list_all (λ (t : TaskSpec). has_pool a t.pool) dag.spec.tasks ≡ true
         → IsTrue (is_sound_graph a (new_graph text dag)) }
 {}
 
@@ -33,6 +39,7 @@ pub fn said_graphs_are_sound()
 /// in every graph in which it has none twice.
 pub fn upstreams_are_few()
     ensures file { (spec : GraphSpec) (g : Dag) (p : ℕ) → IsGraphOf spec g → length (ups g p) ≤ p }
-    ensures sound { (a : Schedule) (id : List ℕ) (p : ℕ) → IsSound a → length (ups (dag_named a id) p) ≤ p }
+    ensures sound { (a : Schedule) (id : List ℕ) (p : ℕ) → IsSound a
+        → length (ups (dag_named a id) p) ≤ p }
     ensures once { (g : Dag) (p : ℕ) → IsDag g → repeated (ups g p) ≡ false → length (ups g p) ≤ p }
 {}

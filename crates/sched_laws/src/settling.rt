@@ -22,5 +22,6 @@ pub fn settling_goes_by_moves()
 
 /// Of an instance the moves see whether it is undecided, and its state where that is an end.
 pub fn moves_see_what_is_seen()
-    ensures { (a b : Schedule) → a.graphs ≡ b.graphs → sights a ≡ sights b → move a ≡ None → move b ≡ None }
+    ensures { (a b : Schedule) → a.graphs ≡ b.graphs → sights a ≡ sights b → move a ≡ None
+        → move b ≡ None }
 {}

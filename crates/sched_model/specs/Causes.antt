@@ -1,6 +1,6 @@
 -- Why an event may be refused, each cause by itself: this project's own profile. Their order comes with the events.
 use Rattle.std.specs.Prelude.{ℕ, ◌+◌, Bool, false, not, ◌&&◌, ◌==◌, List, length, map, flat_map, find, filter, Option, Some, None, option_and_then, is_none, nat_lt, nat_le}
-use Rattle.instance_machine.specs.Instances.{Held}
+use Rattle.instance_machine.specs.Instances.{InstanceValue}
 use Rattle.instance_machine.specs.Reports.{report_try}
 use Rattle.graph_file.specs.declared.task_specs.TaskSpec.{TaskSpec}
 use Rattle.instance_machine.specs.declared.tries.Try.{Try}
@@ -10,12 +10,12 @@ use Rattle.sched_model.specs.Schedule.{Schedule, dag_named, graph_named, has_poo
 use Rattle.sched_state.specs.declared.runs.Run.{Run}
 use Rattle.sched_model.specs.States.{is_open}
 use Rattle.sched_state.specs.declared.clearings.Clearing.{Clearing}
-use Rattle.sched_model.specs.Clearing.{Naming, named_pairs, place_of}
-use Rattle.sched_model.specs.NamedRuns.{Named}
+use Rattle.sched_model.specs.Clearing.{Selection, named_pairs, place_of}
+use Rattle.sched_model.specs.NamedRuns.{NamedRun}
 
 -- ---- a report
 abbrev pub tries_of : Schedule → List Try
-tries_of a = flat_map (λ (r : Run). flat_map (λ (i : Held). i.tries) r.instances) a.runs
+tries_of a = flat_map (λ (r : Run). flat_map (λ (i : InstanceValue). i.tries) r.instances) a.runs
 
 -- the try without an end that has this serial
 abbrev pub open_try : Schedule → ℕ → Option Try
@@ -51,8 +51,8 @@ is_bad_span low high = nat_lt high low
 abbrev pub open_serials : List Try → List ℕ
 open_serials ts = map (λ (t : Try). t.serial) (filter is_open ts)
 
-abbrev pub least_in_flight : Schedule → Naming → Option ℕ
-least_in_flight a named = least (open_serials (flat_map (λ (e : TaskSpec × Held). e.1.tries) (named_pairs a named)))
+abbrev pub least_in_flight : Schedule → Selection → Option ℕ
+least_in_flight a named = least (open_serials (flat_map (λ (e : TaskSpec × InstanceValue). e.1.tries) (named_pairs a named)))
 
 -- ---- what is added past a limit: a graph, a pool, runs
 abbrev pub has_too_many_graphs : Schedule → List ℕ → Bool
@@ -61,5 +61,5 @@ has_too_many_graphs a id = is_unknown_graph a id && nat_le a.limits.graphs (leng
 abbrev pub has_too_many_pools : Schedule → List ℕ → Bool
 has_too_many_pools a name = not (has_pool a name) && nat_le a.limits.pools (length a.pools)
 
-abbrev pub is_full_with : Schedule → List Named → Bool
+abbrev pub is_full_with : Schedule → List NamedRun → Bool
 is_full_with a ns = nat_lt a.limits.runs (length a.runs + length ns)

@@ -6,29 +6,29 @@ use Rattle.instance_machine.specs.Reports.{reported_try, lost_try}
 use Rattle.instance_machine.specs.declared.tries.Try.{Try}
 use Rattle.instance_machine.specs.declared.tries.Stage.{Stage}
 use Rattle.sched_state.specs.Lists.{same, insert_by}
-use Rattle.sched_state.specs.declared.graphs.Graph.{Graph}
+use Rattle.sched_state.specs.declared.graphs.LoadedGraph.{LoadedGraph}
 use Rattle.sched_model.specs.Schedule.{Schedule, Pool, graph_among, has_pool, graph_before, pool_before}
 use Rattle.sched_state.specs.declared.runs.Run.{Run}
 use Rattle.sched_model.specs.Settle.{settle}
 use Rattle.sched_model.specs.Handout.{hand_out}
-use Rattle.sched_model.specs.NamedRuns.{Named, add_runs}
+use Rattle.sched_model.specs.NamedRuns.{NamedRun, add_runs}
 
 -- ---- what follows every own change: the runs that the event names are added, moves are made, tries are handed out
-abbrev pub advance : List Named → Schedule → Schedule
+abbrev pub advance : List NamedRun → Schedule → Schedule
 advance ns a = hand_out (settle (add_runs ns a))
 
 -- ---- a graph is loaded
 -- a graph of this id takes another text in; its pause stays
-abbrev pub reloaded : List ℕ → Dag → Graph → Graph
+abbrev pub reloaded : List ℕ → Dag → LoadedGraph → LoadedGraph
 reloaded text dag g =
     if same g.dag.spec.dag_id dag.spec.dag_id then record { text = text; dag = dag; paused = g.paused } else g
 
 -- a new graph is not paused
-abbrev pub new_graph : List ℕ → Dag → Graph
+abbrev pub new_graph : List ℕ → Dag → LoadedGraph
 new_graph text dag = record { text = text; dag = dag; paused = false }
 
 -- a known graph takes the text in, a new one stands at its place
-abbrev pub with_graph : List ℕ → Dag → List Graph → List Graph
+abbrev pub with_graph : List ℕ → Dag → List LoadedGraph → List LoadedGraph
 with_graph text dag gs = elim (graph_among gs dag.spec.dag_id) [
   | Some g ↦ map (reloaded text dag) gs
   | None ↦ insert_by graph_before (new_graph text dag) gs
@@ -42,7 +42,7 @@ abbrev pub set_now : ℕ → Schedule → Schedule
 set_now t a = record a { now = t }
 
 -- ---- a graph is paused, or no more
-abbrev pub pause_graph : List ℕ → Bool → Graph → Graph
+abbrev pub pause_graph : List ℕ → Bool → LoadedGraph → LoadedGraph
 pause_graph id paused g = if same g.dag.spec.dag_id id then record g { paused = paused } else g
 
 abbrev pub set_paused : List ℕ → Bool → Schedule → Schedule

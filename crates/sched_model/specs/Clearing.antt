@@ -10,20 +10,20 @@ use Rattle.run_planner.specs.Index.{has_date}
 use Rattle.trigger_rules.specs.States.{is_bad}
 use Rattle.trigger_rules.specs.declared.states.State.{State}
 use Rattle.trigger_rules.specs.declared.states.State.TheVariants as state
-use Rattle.instance_machine.specs.Instances.{Held}
+use Rattle.instance_machine.specs.Instances.{InstanceValue}
 use Rattle.instance_machine.specs.States.{state_of}
 use Rattle.sched_state.specs.Lists.{same}
 use Rattle.sched_state.specs.declared.clearings.Clearing.{Clearing}
-use Rattle.sched_state.specs.declared.runs.Phase.{Phase}
-use Rattle.sched_state.specs.declared.runs.Phase.TheVariants as phase
+use Rattle.sched_state.specs.declared.runs.RunPhase.{RunPhase}
+use Rattle.sched_state.specs.declared.runs.RunPhase.TheVariants as phase
 use Rattle.sched_model.specs.Lists.{map_places}
 use Rattle.sched_model.specs.Schedule.{Schedule, dag_named, tasks_of}
 use Rattle.sched_state.specs.declared.runs.Run.{Run}
 
 -- ---- which instances are named
 -- a test of a run, of a place in it, and of the task and the instance there
-abbrev pub Naming : Type 0
-Naming = Run → ℕ → TaskSpec × Held → Bool
+abbrev pub Selection : Type 0
+Selection = Run → ℕ → TaskSpec × InstanceValue → Bool
 
 -- a clear asks for the runs of a graph in a span of dates, and of them all tasks, or one with what it reaches upstream or downstream;
 -- of these all instances, or only the failed and upstream_failed ones
@@ -45,52 +45,52 @@ names_place c g None p = true
 names_place c g (Some id) p = around c g (place_of g.tasks id) p
 
 -- the instances that a clear names
-abbrev pub cleared_by : Schedule → Clearing → Naming
+abbrev pub cleared_by : Schedule → Clearing → Selection
 cleared_by a c r p e =
     in_span c r && (names_place c (dag_named a r.graph) c.task p && (not c.only_failed || is_bad (state_of e.0 e.1)))
 
 -- the instances that the reset of a backfill names: all of the graph's runs with these dates
-abbrev pub reset_by : List ℕ → List ℕ → Naming
+abbrev pub reset_by : List ℕ → List ℕ → Selection
 reset_by id dates r p e = same r.graph id && has_date dates r.logical
 
 -- ---- clearing
 -- an instance set back: it has no verdict, and none of its tries counts
-abbrev pub cleared : Held → Held
+abbrev pub cleared : InstanceValue → InstanceValue
 cleared i = record { verdict = None; since = length i.tries; tries = i.tries }
 
-abbrev pub clear_pair : (ℕ → TaskSpec × Held → Bool) → ℕ → TaskSpec × Held → Held
+abbrev pub clear_pair : (ℕ → TaskSpec × InstanceValue → Bool) → ℕ → TaskSpec × InstanceValue → InstanceValue
 clear_pair named p e = cond (named p e) (cleared e.1) e.1
 
 -- the pairs of a run, each of a task and its instance, and those that are named
-abbrev pub pairs_of : Schedule → Run → List (TaskSpec × Held)
+abbrev pub pairs_of : Schedule → Run → List (TaskSpec × InstanceValue)
 pairs_of a r = zip (tasks_of a r) r.instances
 
-abbrev pub named_in : Schedule → Naming → Run → List (TaskSpec × Held)
-named_in a named r = map (λ (e : ℕ × (TaskSpec × Held)). e.1) (filter (λ (e : ℕ × (TaskSpec × Held)). named r e.0 e.1) (enumerate_from 0 (pairs_of a r)))
+abbrev pub named_in : Schedule → Selection → Run → List (TaskSpec × InstanceValue)
+named_in a named r = map (λ (e : ℕ × (TaskSpec × InstanceValue)). e.1) (filter (λ (e : ℕ × (TaskSpec × InstanceValue)). named r e.0 e.1) (enumerate_from 0 (pairs_of a r)))
 
 -- a finished run is queued again
-abbrev pub requeued : Phase → Phase
+abbrev pub requeued : RunPhase → RunPhase
 requeued phase.Queued = phase.Queued
 requeued phase.Running = phase.Running
 requeued phase.Success = phase.Queued
 requeued phase.Failed = phase.Queued
 
-abbrev pub with_cleared : Schedule → Naming → Run → Run
+abbrev pub with_cleared : Schedule → Selection → Run → Run
 with_cleared a named r = record r { phase = requeued r.phase; instances = map_places (clear_pair (named r)) 0 (pairs_of a r) }
 
 -- a run in which no instance is named stays as it is
-abbrev pub clear_if : Schedule → Naming → Run → List (TaskSpec × Held) → Run
+abbrev pub clear_if : Schedule → Selection → Run → List (TaskSpec × InstanceValue) → Run
 clear_if a named r [] = r
 clear_if a named r (e ∷ es) = with_cleared a named r
 
-abbrev pub clear_run : Schedule → Naming → Run → Run
+abbrev pub clear_run : Schedule → Selection → Run → Run
 clear_run a named r = clear_if a named r (named_in a named r)
 
-abbrev pub clear : Naming → Schedule → Schedule
+abbrev pub clear : Selection → Schedule → Schedule
 clear named a = record a { runs = map (clear_run a named) a.runs }
 
 -- ---- what a clear answers
-abbrev pub named_pairs : Schedule → Naming → List (TaskSpec × Held)
+abbrev pub named_pairs : Schedule → Selection → List (TaskSpec × InstanceValue)
 named_pairs a named = flat_map (named_in a named) a.runs
 
 abbrev pub is_none_state : State → Bool
@@ -98,5 +98,5 @@ is_none_state state.None = true
 is_none_state _ = false
 
 -- how many named instances were not none
-abbrev pub count_cleared : Schedule → Naming → ℕ
-count_cleared a named = count_by (λ (e : TaskSpec × Held). not (is_none_state (state_of e.0 e.1))) (named_pairs a named)
+abbrev pub count_cleared : Schedule → Selection → ℕ
+count_cleared a named = count_by (λ (e : TaskSpec × InstanceValue). not (is_none_state (state_of e.0 e.1))) (named_pairs a named)

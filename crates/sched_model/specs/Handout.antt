@@ -7,7 +7,7 @@ use Rattle.graph_file.specs.declared.task_specs.TaskSpec.{TaskSpec}
 use Rattle.priority_weights.specs.Weights.{effective_weight}
 use Rattle.trigger_rules.specs.declared.states.State.{State}
 use Rattle.trigger_rules.specs.declared.states.State.TheVariants as state
-use Rattle.instance_machine.specs.Instances.{Held}
+use Rattle.instance_machine.specs.Instances.{InstanceValue}
 use Rattle.instance_machine.specs.States.{state_of, retry_at}
 use Rattle.instance_machine.specs.declared.tries.Try.{Try}
 use Rattle.sched_state.specs.Lists.{name_cmp, is_less, repeat}
@@ -27,7 +27,7 @@ has_come now None = false
 has_come now (Some moment) = nat_le moment now
 
 -- scheduled, or up for retry with its delay passed
-abbrev pub is_ready : ℕ → TaskSpec → Held → Bool
+abbrev pub is_ready : ℕ → TaskSpec → InstanceValue → Bool
 is_ready now t i = is_scheduled (state_of t i) || has_come now (retry_at t i)
 
 -- ---- offers
@@ -54,7 +54,7 @@ offer_of a n r p t = record {
   slots = t.pool_slots;
 }
 
-abbrev pub offers_at : Schedule → ℕ → Run → ℕ × (TaskSpec × Held) → List Offer
+abbrev pub offers_at : Schedule → ℕ → Run → ℕ × (TaskSpec × InstanceValue) → List Offer
 offers_at a n r e = elim (is_ready a.now e.1.0 e.1.1) [ true ↦ offer_of a n r e.0 e.1.0 ∷ [] | false ↦ [] ]
 
 abbrev pub offers_in : Schedule → ℕ × Run → List Offer
@@ -93,11 +93,11 @@ best_offer a = best_by ranks_before (filter (fits a) (offers a))
 abbrev pub new_try : ℕ → ℕ → Try
 new_try serial slots = record { serial = serial; slots = slots; started = None; ended = None }
 
-abbrev pub with_try : Try → Held → Held
+abbrev pub with_try : Try → InstanceValue → InstanceValue
 with_try t i = record i { tries = i.tries ++ t ∷ [] }
 
 -- the instance at a place of a run is changed
-abbrev pub in_instance : (Held → Held) → ℕ → Run → Run
+abbrev pub in_instance : (InstanceValue → InstanceValue) → ℕ → Run → Run
 in_instance f p r = record r { instances = at f p r.instances }
 
 -- the offered instance gets a try with the next serial

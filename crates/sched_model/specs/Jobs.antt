@@ -2,7 +2,7 @@
 use Rattle.std.specs.Prelude.{ℕ, ◌-◌, ◌==◌, List, map, filter, flat_map}
 use Rattle.std.specs.List.{enumerate_from, range_with_len}
 use Rattle.graph_file.specs.declared.task_specs.TaskSpec.{TaskSpec}
-use Rattle.instance_machine.specs.Instances.{Held}
+use Rattle.instance_machine.specs.Instances.{InstanceValue}
 use Rattle.instance_machine.specs.declared.tries.Try.{Try}
 use Rattle.sched_state.specs.declared.jobs.Job.{Job}
 use Rattle.sched_model.specs.Schedule.{Schedule}
@@ -21,7 +21,7 @@ job_of r t e = record {
   slots = e.1.slots;
 }
 
-abbrev pub jobs_of : Run → TaskSpec × Held → List Job
+abbrev pub jobs_of : Run → TaskSpec × InstanceValue → List Job
 jobs_of r e = map (job_of r e.0) (enumerate_from 1 e.1.tries)
 
 -- a job for each try

@@ -10,14 +10,14 @@ use Rattle.instance_machine.specs.declared.tries.Stage.TheVariants.{Started, End
 use Rattle.instance_machine.specs.declared.tries.Outcome.{Outcome}
 use Rattle.instance_machine.specs.declared.tries.Outcome.TheVariants as outcome
 use Rattle.sched_state.specs.Limits.{ceilings}
-use Rattle.sched_state.specs.declared.graphs.Graph.{Graph}
-use Rattle.sched_state.specs.declared.runs.Kind.{Kind}
-use Rattle.sched_state.specs.declared.runs.Kind.TheVariants.{Scheduled, Manual, Backfill}
-use Rattle.sched_state.specs.declared.runs.Phase.{Phase}
+use Rattle.sched_state.specs.declared.graphs.LoadedGraph.{LoadedGraph}
+use Rattle.sched_state.specs.declared.runs.RunKind.{RunKind}
+use Rattle.sched_state.specs.declared.runs.RunKind.TheVariants.{Scheduled, Manual, Backfill}
+use Rattle.sched_state.specs.declared.runs.RunPhase.{RunPhase}
 use Rattle.sched_model.specs.Schedule.{Schedule, default_pool, empty_schedule}
 use Rattle.sched_state.specs.declared.runs.Run.{Run}
 use Rattle.sched_model.specs.States.{states}
-use Rattle.sched_model.specs.NamedRuns.{Named}
+use Rattle.sched_model.specs.NamedRuns.{NamedRun}
 use Rattle.sched_model.specs.Changes.{advance, set_now, report, restart, resize, set_paused}
 use Rattle.sched_model.specs.Clearing.{cleared_by, clear}
 use Rattle.sched_state.specs.declared.clearings.Clearing.{Clearing}
@@ -45,7 +45,7 @@ abbrev pub past_task : List ℕ → TaskSpec
 past_task id = record (task id) { depends_on_past = true }
 
 -- a graph of which so many runs may be running, with its tasks by place and the places of their upstreams
-abbrev pub graph : List ℕ → ℕ → List TaskSpec → List (List ℕ) → Graph
+abbrev pub graph : List ℕ → ℕ → List TaskSpec → List (List ℕ) → LoadedGraph
 graph id most tasks upstreams = record {
   text = [];
   dag = record {
@@ -56,23 +56,23 @@ graph id most tasks upstreams = record {
   paused = false;
 }
 
-abbrev pub holding : List Graph → Schedule
+abbrev pub holding : List LoadedGraph → Schedule
 holding gs = record (empty_schedule ceilings) { graphs = gs }
 
 -- ---- runs and events
 abbrev pub a_day : ℕ
 a_day = 86400
 
-abbrev pub dated : Kind → List ℕ → ℕ → Named
+abbrev pub dated : RunKind → List ℕ → ℕ → NamedRun
 dated kind id date = record { graph = id; logical = date; interval = record { start = date; end = date + a_day }; kind = kind }
 
-abbrev pub daily : List ℕ → ℕ → Named
+abbrev pub daily : List ℕ → ℕ → NamedRun
 daily id date = dated Scheduled id date
 
 abbrev pub with_lanes : ℕ → Schedule → Schedule
 with_lanes n a = advance [] (restart n a)
 
-abbrev pub tick : List Named → ℕ → Schedule → Schedule
+abbrev pub tick : List NamedRun → ℕ → Schedule → Schedule
 tick ns t a = advance ns (set_now t a)
 
 abbrev pub starts : ℕ → Schedule → Schedule
@@ -99,7 +99,7 @@ abbrev pub clears : Clearing → Schedule → Schedule
 clears c a = advance [] (clear (cleared_by a c) a)
 
 -- ---- what is looked at
-abbrev pub phases : Schedule → List Phase
+abbrev pub phases : Schedule → List RunPhase
 phases a = map (λ (r : Run). r.phase) a.runs
 
 abbrev pub all_states : Schedule → List (List State)
@@ -129,7 +129,7 @@ abbrev pub once_more : Schedule
 once_more = tick (daily (codes "g") 1704067200 ∷ []) 1704153600 (with_lanes 4 (holding (graph (codes "g") 16 (retried (codes "t") 1 ∷ []) ([] ∷ []) ∷ [])))
 
 -- ---- the past: two days of a task that depends on it, and a run by hand between two days
-abbrev pub past_graph : Graph
+abbrev pub past_graph : LoadedGraph
 past_graph = graph (codes "g") 16 (past_task (codes "t") ∷ []) ([] ∷ [])
 
 abbrev pub two_days : Schedule
@@ -139,7 +139,7 @@ abbrev pub hand_between : Schedule
 hand_between = tick (daily (codes "g") 1704067200 ∷ dated Manual (codes "g") 1704110400 ∷ daily (codes "g") 1704153600 ∷ []) 1704240000 (with_lanes 4 (holding (past_graph ∷ [])))
 
 -- ---- one daily task, and one lane
-abbrev pub one_task : Graph
+abbrev pub one_task : LoadedGraph
 one_task = graph (codes "one") 16 (task (codes "t") ∷ []) ([] ∷ [])
 
 abbrev pub one_lane : Schedule

@@ -7,10 +7,10 @@ use Rattle.graph_file.specs.declared.task_specs.TaskSpec.{TaskSpec}
 use Rattle.dag_check.specs.Graphs.{Dag}
 use Rattle.sched_state.specs.Lists.{same, name_cmp, is_less}
 use Rattle.sched_state.specs.Limits.{Bounds}
-use Rattle.sched_state.specs.declared.graphs.Graph.{Graph}
+use Rattle.sched_state.specs.declared.graphs.LoadedGraph.{LoadedGraph}
 use Rattle.sched_state.specs.declared.runs.Run.{Run}
-use Rattle.sched_state.specs.declared.runs.Phase.{Phase}
-use Rattle.sched_state.specs.declared.runs.Phase.TheVariants.{Queued, Running, Success, Failed}
+use Rattle.sched_state.specs.declared.runs.RunPhase.{RunPhase}
+use Rattle.sched_state.specs.declared.runs.RunPhase.TheVariants.{Queued, Running, Success, Failed}
 
 -- a bound on the slots that tries without an end take together (Airflow 2, 'Pools')
 pub record Pool : Type 0 where
@@ -20,7 +20,7 @@ pub record Pool : Type 0 where
 -- the graphs stand by id, the pools by name, the runs by graph and logical date
 pub record Schedule : Type 0 where
   pub limits : Bounds
-  pub graphs : List Graph
+  pub graphs : List LoadedGraph
   pub pools : List Pool
   -- the last moment that the schedule has seen
   pub now : ℕ
@@ -39,7 +39,7 @@ abbrev pub empty_schedule : Bounds → Schedule
 empty_schedule limits = record { limits = limits; graphs = []; pools = default_pool ∷ []; now = 0; lanes = 0; next = 1; runs = [] }
 
 -- ---- the orders of keys
-abbrev pub graph_before : Graph → Graph → Bool
+abbrev pub graph_before : LoadedGraph → LoadedGraph → Bool
 graph_before g h = is_less (name_cmp g.dag.spec.dag_id h.dag.spec.dag_id)
 
 abbrev pub pool_before : Pool → Pool → Bool
@@ -50,10 +50,10 @@ run_before r s = is_less (ordering_then (name_cmp r.graph s.graph) (nat_cmp r.lo
 
 -- ---- what is found by key
 -- the graph with this id, among some and in the schedule
-abbrev pub graph_among : List Graph → List ℕ → Option Graph
-graph_among gs id = find (λ (g : Graph). same g.dag.spec.dag_id id) gs
+abbrev pub graph_among : List LoadedGraph → List ℕ → Option LoadedGraph
+graph_among gs id = find (λ (g : LoadedGraph). same g.dag.spec.dag_id id) gs
 
-abbrev pub graph_named : Schedule → List ℕ → Option Graph
+abbrev pub graph_named : Schedule → List ℕ → Option LoadedGraph
 graph_named a id = graph_among a.graphs id
 
 -- what stands for the tasks and edges of a graph that is not there
@@ -65,8 +65,8 @@ no_dag = record {
 }
 
 -- the tasks and edges of the graph with this id
-abbrev pub dag_among : List Graph → List ℕ → Dag
-dag_among gs id = unwrap_or (option_map (λ (g : Graph). g.dag) (graph_among gs id)) no_dag
+abbrev pub dag_among : List LoadedGraph → List ℕ → Dag
+dag_among gs id = unwrap_or (option_map (λ (g : LoadedGraph). g.dag) (graph_among gs id)) no_dag
 
 abbrev pub dag_named : Schedule → List ℕ → Dag
 dag_named a id = dag_among a.graphs id
@@ -76,7 +76,7 @@ abbrev pub tasks_of : Schedule → Run → List TaskSpec
 tasks_of a r = (dag_named a r.graph).tasks
 
 abbrev pub is_paused : Schedule → List ℕ → Bool
-is_paused a id = unwrap_or (option_map (λ (g : Graph). g.paused) (graph_named a id)) false
+is_paused a id = unwrap_or (option_map (λ (g : LoadedGraph). g.paused) (graph_named a id)) false
 
 -- the most runs of a graph that may be running at once: 0 where there is no such graph
 abbrev pub max_active_runs_of : Schedule → List ℕ → ℕ
@@ -105,19 +105,19 @@ abbrev pub dates_of : Schedule → List ℕ → List ℕ
 dates_of a id = map (λ (r : Run). r.logical) (filter (λ (r : Run). same r.graph id) a.runs)
 
 -- ---- phases
-abbrev pub is_queued : Phase → Bool
+abbrev pub is_queued : RunPhase → Bool
 is_queued Queued = true
 is_queued Running = false
 is_queued Success = false
 is_queued Failed = false
 
-abbrev pub is_running : Phase → Bool
+abbrev pub is_running : RunPhase → Bool
 is_running Queued = false
 is_running Running = true
 is_running Success = false
 is_running Failed = false
 
-abbrev pub is_ended : Phase → Bool
+abbrev pub is_ended : RunPhase → Bool
 is_ended Queued = false
 is_ended Running = false
 is_ended Success = true

@@ -9,10 +9,10 @@ use Rattle.trigger_rules.specs.Rules.{rule_verdict}
 use Rattle.trigger_rules.specs.declared.states.State.{State}
 use Rattle.trigger_rules.specs.declared.verdicts.Verdict.{Verdict}
 use Rattle.trigger_rules.specs.declared.verdicts.Verdict.TheVariants as verdict
-use Rattle.instance_machine.specs.Instances.{Held}
+use Rattle.instance_machine.specs.Instances.{InstanceValue}
 use Rattle.sched_state.specs.Lists.{change_from, first_change, repeat}
-use Rattle.sched_state.specs.declared.runs.Phase.{Phase}
-use Rattle.sched_state.specs.declared.runs.Phase.TheVariants as phase
+use Rattle.sched_state.specs.declared.runs.RunPhase.{RunPhase}
+use Rattle.sched_state.specs.declared.runs.RunPhase.TheVariants as phase
 use Rattle.sched_model.specs.Lists.{map_places}
 use Rattle.sched_model.specs.Schedule.{Schedule, dag_named, tasks_of, is_paused, max_active_runs_of, is_queued, is_running}
 use Rattle.sched_state.specs.declared.runs.Run.{Run}
@@ -34,11 +34,11 @@ decides past verdict.UpstreamFailed = Some verdict.UpstreamFailed
 abbrev pub decided_verdict : Schedule → Run → ℕ → TaskSpec → Option Verdict
 decided_verdict a r p t = decides (past_is_open a r t p) (rule_verdict t.trigger_rule (upstream_states a r p))
 
-abbrev pub decide_task : Schedule → Run → ℕ → Held → TaskSpec → Option Held
+abbrev pub decide_task : Schedule → Run → ℕ → InstanceValue → TaskSpec → Option InstanceValue
 decide_task a r p i t = option_map (λ v. record i { verdict = Some v }) (decided_verdict a r p t)
 
 -- an instance without a verdict is given one, where its task decides
-abbrev pub decide_instance : Schedule → Run → ℕ → Held → Option Held
+abbrev pub decide_instance : Schedule → Run → ℕ → InstanceValue → Option InstanceValue
 decide_instance a r p i = elim i.verdict [
   | Some v ↦ None
   | None ↦ option_and_then (decide_task a r p i) (slice_get (tasks_of a r) p)
@@ -90,16 +90,16 @@ abbrev pub move : Schedule → Option Schedule
 move a = option_map (with_runs a) (move_runs a)
 
 -- no more moves than this can come: each decides an instance, ends a running run, or starts a queued one
-abbrev pub moves_left_in : Phase → ℕ
+abbrev pub moves_left_in : RunPhase → ℕ
 moves_left_in phase.Queued = 2
 moves_left_in phase.Running = 1
 moves_left_in phase.Success = 0
 moves_left_in phase.Failed = 0
 
-abbrev pub is_undecided : Held → Bool
+abbrev pub is_undecided : InstanceValue → Bool
 is_undecided i = is_none i.verdict
 
-abbrev pub decisions_left : Held → ℕ
+abbrev pub decisions_left : InstanceValue → ℕ
 decisions_left i = cond (is_undecided i) 1 0
 
 abbrev pub moves_left_of : Run → ℕ

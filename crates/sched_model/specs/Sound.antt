@@ -12,19 +12,19 @@ use Rattle.dag_check.specs.Orders.{repeated}
 use Rattle.trigger_rules.specs.States.{is_finished}
 use Rattle.trigger_rules.specs.declared.verdicts.Verdict.{Verdict}
 use Rattle.trigger_rules.specs.declared.verdicts.Verdict.TheVariants as verdict
-use Rattle.instance_machine.specs.Instances.{Held, recent}
+use Rattle.instance_machine.specs.Instances.{InstanceValue, recent}
 use Rattle.instance_machine.specs.States.{state_of}
 use Rattle.instance_machine.specs.declared.tries.Try.{Try}
 use Rattle.instance_machine.specs.declared.tries.End.{End}
 use Rattle.instance_machine.specs.declared.tries.Outcome.{Outcome}
 use Rattle.instance_machine.specs.declared.tries.Outcome.TheVariants as outcome
-use Rattle.sched_state.specs.declared.graphs.Graph.{Graph}
-use Rattle.sched_state.specs.declared.runs.Phase.{Phase}
+use Rattle.sched_state.specs.declared.graphs.LoadedGraph.{LoadedGraph}
+use Rattle.sched_state.specs.declared.runs.RunPhase.{RunPhase}
 use Rattle.sched_model.specs.Lists.{rises, map_places, all_pairs, but_last}
 use Rattle.sched_model.specs.Schedule.{Schedule, Pool, graph_among, dag_among, has_pool, default_pool, graph_before, pool_before, run_before, has_run_at, graph_named, is_ended}
 use Rattle.sched_state.specs.declared.runs.Run.{Run}
 use Rattle.sched_model.specs.Handout.{last_serial}
-use Rattle.sched_model.specs.NamedRuns.{Named, is_for}
+use Rattle.sched_model.specs.NamedRuns.{NamedRun, is_for}
 use Rattle.sched_model.specs.Causes.{tries_of}
 
 -- ---- tries
@@ -78,7 +78,7 @@ is_run (Some verdict.Run) = true
 is_run _ = false
 
 -- the tries before the last clearing
-abbrev pub earlier : Held → List Try
+abbrev pub earlier : InstanceValue → List Try
 earlier i = take i.since i.tries
 
 abbrev pub is_empty : {X : Type 0} → List X → Bool
@@ -92,7 +92,7 @@ are_sound_tries retries v ts = (is_empty ts || is_run v) && (nat_le (length ts) 
 
 -- the verdict is never Wait, the last clearing lies within the tries, each try is of its task, and those before the clearing
 -- have an end
-abbrev pub is_sound_instance : TaskSpec → Held → Bool
+abbrev pub is_sound_instance : TaskSpec → InstanceValue → Bool
 is_sound_instance t i =
     not (is_wait i.verdict)
     && (nat_le i.since (length i.tries)
@@ -104,7 +104,7 @@ abbrev pub try_before : Try → Try → Bool
 try_before t u = nat_lt t.serial u.serial
 
 -- the tries of an instance stand in the order in which they were handed out
-abbrev pub tries_rise : Held → Bool
+abbrev pub tries_rise : InstanceValue → Bool
 tries_rise i = rises try_before i.tries
 
 abbrev pub all_tries_rise : Run → Bool
@@ -112,11 +112,11 @@ all_tries_rise r = list_all tries_rise r.instances
 
 -- ---- runs
 -- an instance of a finished run is finished
-abbrev pub is_sound_in : Phase → TaskSpec → Held → Bool
+abbrev pub is_sound_in : RunPhase → TaskSpec → InstanceValue → Bool
 is_sound_in ph t i = is_sound_instance t i && (not (is_ended ph) || is_finished (state_of t i))
 
 -- the graph is there, the dates are moments, and there is one instance for each of its tasks
-abbrev pub is_sound_run : List Graph → Run → Bool
+abbrev pub is_sound_run : List LoadedGraph → Run → Bool
 is_sound_run gs r =
     is_some (graph_among gs r.graph)
     && ((is_moment r.logical && (is_moment r.interval.end && nat_le r.interval.start r.interval.end))
@@ -138,7 +138,7 @@ is_sound_dag tasks edges g =
 abbrev pub has_pools : Schedule → Dag → Bool
 has_pools a g = list_all (λ (t : TaskSpec). has_pool a t.pool) g.tasks
 
-abbrev pub is_sound_graph : Schedule → Graph → Bool
+abbrev pub is_sound_graph : Schedule → LoadedGraph → Bool
 is_sound_graph a g = is_sound_dag a.limits.tasks a.limits.edges g.dag && has_pools a g.dag
 
 -- ---- pools
@@ -186,18 +186,18 @@ pub record Says (text : List ℕ) (dag : Dag) : Type 0 where
   pub checked : IsGraphOf dag.spec dag
 
 -- each graph is what its text says
-abbrev pub AllSay : List Graph → Type 0
+abbrev pub AllSay : List LoadedGraph → Type 0
 AllSay [] = Unit {0}
 AllSay (g ∷ gs) = Says g.text g.dag × AllSay gs
 
 -- ---- new runs
 -- the graph is there, no run has the date, and the dates are moments
-abbrev pub is_new : Schedule → Named → Bool
+abbrev pub is_new : Schedule → NamedRun → Bool
 is_new a n =
     (is_some (graph_named a n.graph) && not (has_run_at a n.graph n.logical))
     && (is_moment n.logical && (is_moment n.interval.end && nat_le n.interval.start n.interval.end))
 
 -- and no other of them has it
-abbrev pub are_new : Schedule → List Named → Bool
+abbrev pub are_new : Schedule → List NamedRun → Bool
 are_new a [] = true
 are_new a (n ∷ ns) = is_new a n && (not (list_any (is_for n.graph n.logical) ns) && are_new a ns)

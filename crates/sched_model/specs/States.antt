@@ -4,7 +4,7 @@ use Rattle.std.specs.List.{zip}
 use Rattle.graph_file.specs.declared.task_specs.TaskSpec.{TaskSpec}
 use Rattle.trigger_rules.specs.declared.states.State.{State}
 use Rattle.trigger_rules.specs.declared.states.State.TheVariants as state
-use Rattle.instance_machine.specs.Instances.{Held}
+use Rattle.instance_machine.specs.Instances.{InstanceValue}
 use Rattle.instance_machine.specs.States.{state_of, opens_gate}
 use Rattle.instance_machine.specs.declared.tries.Try.{Try}
 use Rattle.sched_state.specs.Lists.{same}
@@ -43,7 +43,7 @@ abbrev pub is_open : Try → Bool
 is_open t = is_none t.ended
 
 -- the tries of an instance without an end, each beside its task
-abbrev pub open_of : TaskSpec × Held → List (TaskSpec × Try)
+abbrev pub open_of : TaskSpec × InstanceValue → List (TaskSpec × Try)
 open_of e = map (λ t. (e.0, t)) (filter is_open e.1.tries)
 
 abbrev pub open_tries : Schedule → List (TaskSpec × Try)

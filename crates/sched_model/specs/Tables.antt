@@ -4,28 +4,28 @@ use Rattle.std.specs.List.{enumerate_from}
 use Rattle.graph_file.specs.declared.task_specs.TaskSpec.{TaskSpec}
 use Rattle.trigger_rules.specs.declared.verdicts.Verdict.{Verdict}
 use Rattle.trigger_rules.specs.declared.verdicts.Verdict.TheVariants as verdict
-use Rattle.instance_machine.specs.Instances.{Held}
+use Rattle.instance_machine.specs.Instances.{InstanceValue}
 use Rattle.instance_machine.specs.declared.tries.Try.{Try}
 use Rattle.instance_machine.specs.declared.tries.End.{End}
 use Rattle.instance_machine.specs.declared.tries.Outcome.{Outcome}
 use Rattle.instance_machine.specs.declared.tries.Outcome.TheVariants as outcome
 use Rattle.sched_state.specs.Lists.{name_cmp, is_less, insert_by}
-use Rattle.sched_state.specs.declared.graphs.Graph.{Graph}
-use Rattle.sched_state.specs.declared.runs.Kind.{Kind}
-use Rattle.sched_state.specs.declared.runs.Kind.TheVariants as kind
-use Rattle.sched_state.specs.declared.runs.Phase.{Phase}
-use Rattle.sched_state.specs.declared.runs.Phase.TheVariants as phase
+use Rattle.sched_state.specs.declared.graphs.LoadedGraph.{LoadedGraph}
+use Rattle.sched_state.specs.declared.runs.RunKind.{RunKind}
+use Rattle.sched_state.specs.declared.runs.RunKind.TheVariants as kind
+use Rattle.sched_state.specs.declared.runs.RunPhase.{RunPhase}
+use Rattle.sched_state.specs.declared.runs.RunPhase.TheVariants as phase
 use Rattle.sched_model.specs.Schedule.{Schedule, Pool}
 use Rattle.sched_state.specs.declared.runs.Run.{Run}
 use Rattle.sched_model.specs.Clearing.{pairs_of}
 
 -- ---- codes
-abbrev pub kind_code : Kind → ℕ
+abbrev pub kind_code : RunKind → ℕ
 kind_code kind.Scheduled = 0
 kind_code kind.Manual = 1
 kind_code kind.Backfill = 2
 
-abbrev pub phase_code : Phase → ℕ
+abbrev pub phase_code : RunPhase → ℕ
 phase_code phase.Queued = 0
 phase_code phase.Running = 1
 phase_code phase.Success = 2
@@ -106,7 +106,7 @@ meta_row a = record { one = 1; version = 1; now = a.now; next_serial = a.next; l
 abbrev pub pool_row : Pool → PoolRow
 pool_row q = record { name = q.name; size = q.size }
 
-abbrev pub dag_row : Graph → DagRow
+abbrev pub dag_row : LoadedGraph → DagRow
 dag_row g = record { dag_id = g.dag.spec.dag_id; body = g.text; paused = flag_code g.paused }
 
 abbrev pub run_row : Run → RunRow
@@ -119,7 +119,7 @@ run_row r = record {
   phase = phase_code r.phase;
 }
 
-abbrev pub instance_row : Run → TaskSpec × Held → InstanceRow
+abbrev pub instance_row : Run → TaskSpec × InstanceValue → InstanceRow
 instance_row r e = record { dag_id = r.graph; logical = r.logical; task_id = e.0.task_id; verdict = verdict_code e.1.verdict; since = e.1.since }
 
 abbrev pub attempt_row : Run → TaskSpec → ℕ × Try → AttemptRow
@@ -147,7 +147,7 @@ task_before x y = is_less (name_cmp x.task_id y.task_id)
 abbrev pub instance_rows : Schedule → Run → List InstanceRow
 instance_rows a r = sort_by task_before (map (instance_row r) (pairs_of a r))
 
-abbrev pub attempt_rows : Run → TaskSpec × Held → List AttemptRow
+abbrev pub attempt_rows : Run → TaskSpec × InstanceValue → List AttemptRow
 attempt_rows r e = map (attempt_row r e.0) (enumerate_from 1 e.1.tries)
 
 abbrev pub serial_before : AttemptRow → AttemptRow → Bool

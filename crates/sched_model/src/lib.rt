@@ -5,6 +5,9 @@
 //! schedules, which the check computes. The laws of the definitions are those of `sched_laws`. Easy to get wrong: what is recomputed
 //! here (states, slots, weights) is never part of a schedule.
 //!
+//! In come a schedule and what an event says, out comes the schedule after it: `advance (named_by_tick a t) (set_now t a)` is the schedule `a`
+//! after a tick at `t`. A proof in a crate above says of its code that it gives this.
+//!
 //! After every event's own change, `advance` adds the runs that it names, makes moves until none is possible, and hands out tries until
 //! nothing that is ready fits.
 #![tactic(auto)]

@@ -3,7 +3,7 @@ ghost use Rattle.std.specs.Prelude.{◌≡◌, [], ◌∷◌, codes, map, true, 
 ghost use Rattle.trigger_rules.specs.declared.states.State.TheVariants as state;
 ghost use Rattle.instance_machine.specs.declared.tries.Stage.TheVariants.{Started, Ended};
 ghost use Rattle.instance_machine.specs.declared.tries.Outcome.TheVariants as outcome;
-ghost use Rattle.sched_state.specs.declared.runs.Phase.TheVariants as phase;
+ghost use Rattle.sched_state.specs.declared.runs.RunPhase.TheVariants as phase;
 ghost use Rattle.sched_model.specs.Causes.{is_not_in_flight, is_out_of_turn, least_in_flight};
 ghost use Rattle.sched_model.specs.Clearing.{cleared_by, count_cleared};
 ghost use Rattle.sched_model.specs.Sound.{IsSound};
@@ -16,20 +16,25 @@ ghost use Rattle.sched_model.specs.Rows.{phases, all_states, told_between, does,
 
 /// The first upstream that ends decides a task that wants all of them to succeed; and decisions come in the order of places.
 pub fn first_to_end_decides()
-    ensures skipped { all_states (ends 2 outcome.Failed (ends 1 outcome.Skipped two_running)) ≡ (state.Skipped ∷ state.Failed ∷ state.Skipped ∷ []) ∷ [] }
-    ensures failed { all_states (ends 1 outcome.Skipped (ends 2 outcome.Failed two_running)) ≡ (state.Skipped ∷ state.Failed ∷ state.UpstreamFailed ∷ []) ∷ [] }
-    ensures root { all_states (ends 1 outcome.Failed root_running) ≡ (state.Failed ∷ state.Skipped ∷ state.UpstreamFailed ∷ state.UpstreamFailed ∷ []) ∷ [] }
+    ensures skipped { all_states (ends 2 outcome.Failed (ends 1 outcome.Skipped two_running))
+        ≡ (state.Skipped ∷ state.Failed ∷ state.Skipped ∷ []) ∷ [] }
+    ensures failed { all_states (ends 1 outcome.Skipped (ends 2 outcome.Failed two_running))
+        ≡ (state.Skipped ∷ state.Failed ∷ state.UpstreamFailed ∷ []) ∷ [] }
+    ensures root { all_states (ends 1 outcome.Failed root_running)
+        ≡ (state.Failed ∷ state.Skipped ∷ state.UpstreamFailed ∷ state.UpstreamFailed ∷ []) ∷ [] }
 {}
 
 /// A failed try is followed by another one when its delay has passed, to the second. A clear gives a fresh allowance of tries.
 pub fn retries_wait_for_their_delay()
     ensures failed { all_states failed_once ≡ (state.UpForRetry ∷ []) ∷ [] }
     ensures early { told_between failed_once a_second_early ≡ [] }
-    ensures in_time { told_between a_second_early in_time ≡ (2, codes "g", 1704067200, codes "t") ∷ [] }
+    ensures in_time { told_between a_second_early in_time
+        ≡ (2, codes "g", 1704067200, codes "t") ∷ [] }
     ensures spent { all_states failed_twice ≡ (state.Failed ∷ []) ∷ [] }
     ensures run { phases failed_twice ≡ phase.Failed ∷ [] }
     ensures cleared { count_cleared failed_twice (cleared_by failed_twice (all_of 1704067200)) ≡ 1 }
-    ensures again { told_between failed_twice cleared_once ≡ (3, codes "g", 1704067200, codes "t") ∷ [] }
+    ensures again { told_between failed_twice cleared_once
+        ≡ (3, codes "g", 1704067200, codes "t") ∷ [] }
     ensures number { map (λ (j : Job). j.try_number) (handed failed_twice cleared_once) ≡ 3 ∷ [] }
     ensures running { phases cleared_once ≡ phase.Running ∷ [] }
     ensures fresh { all_states (does 3 outcome.Failed cleared_once) ≡ (state.UpForRetry ∷ []) ∷ [] }
@@ -39,11 +44,17 @@ pub fn retries_wait_for_their_delay()
 pub fn the_past_holds_back()
     ensures first { all_states two_days ≡ (state.Queued ∷ []) ∷ (state.None ∷ []) ∷ [] }
     ensures failed { all_states first_failed ≡ (state.Failed ∷ []) ∷ (state.None ∷ []) ∷ [] }
-    ensures success { all_states (does 2 outcome.Success first_cleared) ≡ (state.Success ∷ []) ∷ (state.Queued ∷ []) ∷ [] }
-    ensures skipped { all_states (does 2 outcome.Skipped first_cleared) ≡ (state.Skipped ∷ []) ∷ (state.Queued ∷ []) ∷ [] }
-    ensures by_hand { all_states (does 1 outcome.Success hand_between) ≡ (state.Success ∷ []) ∷ (state.Queued ∷ []) ∷ (state.None ∷ []) ∷ [] }
-    ensures hand_failed { all_states hand_failed ≡ (state.Success ∷ []) ∷ (state.Failed ∷ []) ∷ (state.None ∷ []) ∷ [] }
-    ensures hand_succeeded { all_states (does 2 outcome.Success (does 1 outcome.Success hand_between)) ≡ (state.Success ∷ []) ∷ (state.Success ∷ []) ∷ (state.Queued ∷ []) ∷ [] }
+    ensures success { all_states (does 2 outcome.Success first_cleared)
+        ≡ (state.Success ∷ []) ∷ (state.Queued ∷ []) ∷ [] }
+    ensures skipped { all_states (does 2 outcome.Skipped first_cleared)
+        ≡ (state.Skipped ∷ []) ∷ (state.Queued ∷ []) ∷ [] }
+    ensures by_hand { all_states (does 1 outcome.Success hand_between)
+        ≡ (state.Success ∷ []) ∷ (state.Queued ∷ []) ∷ (state.None ∷ []) ∷ [] }
+    ensures hand_failed { all_states hand_failed ≡ (state.Success ∷ []) ∷ (state.Failed ∷ [])
+        ∷ (state.None ∷ []) ∷ [] }
+    ensures hand_succeeded { all_states (does 2 outcome.Success
+        (does 1 outcome.Success hand_between))
+        ≡ (state.Success ∷ []) ∷ (state.Success ∷ []) ∷ (state.Queued ∷ []) ∷ [] }
 {}
 
 /// A try begins once, and ends after that; nobody reports it lost, and nothing is heard of it after its end.
@@ -61,16 +72,20 @@ pub fn reports_come_in_turn()
 /// With one lane a try is handed out when the one before has ended.
 pub fn one_lane_hands_out_one_by_one()
     ensures one { told_between one_lane two_due ≡ (1, codes "one", 1704067200, codes "t") ∷ [] }
-    ensures next { told_between two_due (does 1 outcome.Success two_due) ≡ (2, codes "one", 1704153600, codes "t") ∷ [] }
+    ensures next { told_between two_due (does 1 outcome.Success two_due)
+        ≡ (2, codes "one", 1704153600, codes "t") ∷ [] }
     ensures phases { phases (does 1 outcome.Success two_due) ≡ phase.Success ∷ phase.Running ∷ [] }
 {}
 
 /// A run fails by a leaf that is failed or upstream_failed, and by nothing else.
 pub fn bad_leaves_fail_a_run()
-    ensures failed { phases (does 2 outcome.Failed (does 1 outcome.Skipped two_leaves)) ≡ phase.Failed ∷ [] }
-    ensures skipped { phases (does 2 outcome.Skipped (does 1 outcome.Skipped two_leaves)) ≡ phase.Success ∷ [] }
+    ensures failed { phases (does 2 outcome.Failed (does 1 outcome.Skipped two_leaves))
+        ≡ phase.Failed ∷ [] }
+    ensures skipped { phases (does 2 outcome.Skipped (does 1 outcome.Skipped two_leaves))
+        ≡ phase.Success ∷ [] }
     ensures waits { phases (does 1 outcome.Failed two_leaves) ≡ phase.Running ∷ [] }
-    ensures no_leaf { phases (does 2 outcome.Success (does 1 outcome.Failed one_after)) ≡ phase.Success ∷ [] }
+    ensures no_leaf { phases (does 2 outcome.Success (does 1 outcome.Failed one_after))
+        ≡ phase.Success ∷ [] }
 {}
 
 /// Of what is ready the greatest weight goes first, then the earliest date, then graph and task by name.
@@ -88,26 +103,31 @@ pub fn rank_goes_by_weight_date_graph_and_task()
 /// What does not fit in its pool is passed over. A pool may be made smaller than what is occupied; then nothing is handed out
 /// before there is room again.
 pub fn slots_bound_a_pool()
-    ensures passed_over { told_between three_wanting three_handed ≡ (1, codes "g", 0, codes "a") ∷ (2, codes "g", 0, codes "c") ∷ [] }
+    ensures passed_over { told_between three_wanting three_handed
+        ≡ (1, codes "g", 0, codes "a") ∷ (2, codes "g", 0, codes "c") ∷ [] }
     ensures smaller { size_of made_smaller (codes "p") ≡ 1 }
     ensures occupied { occupied made_smaller (codes "p") ≡ 3 }
     ensures full { told_between made_smaller two_ended ≡ [] }
     ensures occupied_then { occupied two_ended (codes "p") ≡ 1 }
-    ensures room { told_between two_ended (does 3 outcome.Success two_ended) ≡ (4, codes "g", 0, codes "d") ∷ [] }
+    ensures room { told_between two_ended (does 3 outcome.Success two_ended)
+        ≡ (4, codes "g", 0, codes "d") ∷ [] }
 {}
 
 /// No more runs of a graph are running than may be, the earliest first, and none of a paused graph starts.
 pub fn one_run_at_a_time()
     ensures one { phases three_queued ≡ phase.Running ∷ phase.Queued ∷ phase.Queued ∷ [] }
-    ensures paused { phases (does 1 outcome.Success (pause true three_queued)) ≡ phase.Success ∷ phase.Queued ∷ phase.Queued ∷ [] }
-    ensures unpaused { phases (pause false (does 1 outcome.Success (pause true three_queued))) ≡ phase.Success ∷ phase.Running ∷ phase.Queued ∷ [] }
+    ensures paused { phases (does 1 outcome.Success (pause true three_queued))
+        ≡ phase.Success ∷ phase.Queued ∷ phase.Queued ∷ [] }
+    ensures unpaused { phases (pause false (does 1 outcome.Success (pause true three_queued)))
+        ≡ phase.Success ∷ phase.Running ∷ phase.Queued ∷ [] }
 {}
 
 /// A clear of a task and what comes after it touches these alone, and the run goes on.
 pub fn a_clear_names_what_comes_after()
     ensures count { count_cleared diamond_done (cleared_by diamond_done (from_b false)) ≡ 2 }
     ensures job { told_between diamond_done cleared_from_b ≡ (5, codes "g", 0, codes "b") ∷ [] }
-    ensures states { all_states cleared_from_b ≡ (state.Success ∷ state.Queued ∷ state.Success ∷ state.None ∷ []) ∷ [] }
+    ensures states { all_states cleared_from_b
+        ≡ (state.Success ∷ state.Queued ∷ state.Success ∷ state.None ∷ []) ∷ [] }
     ensures run { phases cleared_from_b ≡ phase.Running ∷ [] }
     ensures none_failed { count_cleared diamond_done (cleared_by diamond_done (from_b true)) ≡ 0 }
     ensures stays { phases (clears (from_b true) diamond_done) ≡ phase.Success ∷ [] }
@@ -117,22 +137,83 @@ pub fn a_clear_names_what_comes_after()
 
 /// The rows of a small record: a backfill of one day, then of the days beside it, and a report that the first try has begun.
 pub fn rows_of_the_tables()
-    ensures metas { (tables backfilled).metas ≡ record { one = 1; version = 1; now = 1704844800; next_serial = 4; lanes = 4 } ∷ [] }
-    ensures runs { (tables backfilled).runs
-        ≡ record { dag_id = codes "one"; logical = 1704067200; data_start = 1704067200; data_end = 1704153600; kind = 2; phase = 1 }
-        ∷ record { dag_id = codes "one"; logical = 1704153600; data_start = 1704153600; data_end = 1704240000; kind = 2; phase = 1 }
-        ∷ record { dag_id = codes "one"; logical = 1704240000; data_start = 1704240000; data_end = 1704326400; kind = 2; phase = 1 }
-        ∷ [] }
+    ensures metas { (tables backfilled).metas
+        ≡ record { one = 1; version = 1; now = 1704844800; next_serial = 4; lanes = 4 } ∷ [] }
+    ensures runs { (tables backfilled).runs ≡ record {
+      dag_id = codes "one";
+      logical = 1704067200;
+      data_start = 1704067200;
+      data_end =
+          1704153600;
+      kind = 2;
+      phase = 1;
+    } ∷ record {
+      dag_id = codes "one";
+      logical = 1704153600;
+      data_start = 1704153600;
+      data_end =
+          1704240000;
+      kind = 2;
+      phase = 1;
+    } ∷ record {
+      dag_id = codes "one";
+      logical = 1704240000;
+      data_start = 1704240000;
+      data_end =
+          1704326400;
+      kind = 2;
+      phase = 1;
+    } ∷ [] }
     ensures instances { (tables backfilled).instances
-        ≡ record { dag_id = codes "one"; logical = 1704067200; task_id = codes "t"; verdict = 1; since = 0 }
-        ∷ record { dag_id = codes "one"; logical = 1704153600; task_id = codes "t"; verdict = 1; since = 0 }
-        ∷ record { dag_id = codes "one"; logical = 1704240000; task_id = codes "t"; verdict = 1; since = 0 }
+        ≡ record {
+          dag_id = codes "one";
+          logical = 1704067200;
+          task_id = codes "t";
+          verdict = 1;
+          since = 0;
+        } ∷ record {
+          dag_id = codes "one";
+          logical = 1704153600;
+          task_id = codes "t";
+          verdict = 1;
+          since = 0;
+        } ∷ record
+        { dag_id = codes "one"; logical = 1704240000; task_id = codes "t"; verdict = 1; since = 0 }
         ∷ [] }
     ensures attempts { (tables backfilled).attempts
-        ≡ record { serial = 1; dag_id = codes "one"; logical = 1704153600; task_id = codes "t"; try_number = 1; slots = 1; started = Some 1704844800; ended = None; outcome = None }
-        ∷ record { serial = 2; dag_id = codes "one"; logical = 1704067200; task_id = codes "t"; try_number = 1; slots = 1; started = None; ended = None; outcome = None }
-        ∷ record { serial = 3; dag_id = codes "one"; logical = 1704240000; task_id = codes "t"; try_number = 1; slots = 1; started = None; ended = None; outcome = None }
-        ∷ [] }
+        ≡ record {
+          serial = 1;
+          dag_id = codes "one";
+          logical = 1704153600;
+          task_id = codes "t";
+          try_number = 1;
+          slots = 1;
+          started = Some 1704844800;
+          ended = None;
+          outcome = None;
+        }
+        ∷ record {
+          serial = 2;
+          dag_id = codes "one";
+          logical = 1704067200;
+          task_id = codes "t";
+          try_number = 1;
+          slots = 1;
+          started = None;
+          ended = None;
+          outcome = None;
+        } ∷ record {
+          serial = 3;
+          dag_id = codes "one";
+          logical = 1704240000;
+          task_id = codes "t";
+          try_number =
+              1;
+          slots = 1;
+          started = None;
+          ended = None;
+          outcome = None;
+        } ∷ [] }
 {}
 
 /// What these events leave is sound.

@@ -7,7 +7,7 @@ use Rattle.std.proofs.lemmas.List.{length-map, take_more, drop_all}
 use Rattle.std.proofs.lemmas.Option.{slice_get-map}
 use Rattle.trigger_rules.specs.Rules.{rule_verdict}
 use Rattle.trigger_rules.specs.declared.verdicts.Verdict.{Verdict}
-use Rattle.instance_machine.specs.Instances.{Held}
+use Rattle.instance_machine.specs.Instances.{InstanceValue}
 use Rattle.instance_machine.specs.States.{opens_gate}
 use Rattle.sched_state.specs.Lists.{same}
 use Rattle.sched_state.specs.declared.runs.Run.{Run}
@@ -87,12 +87,12 @@ verdict_is a r g t p v b is verdict past =
 pub decided_some : (a : Schedule) (n p : ℕ) (r : Run) (v : Verdict) → slice_get a.runs n ≡ Some r → Decides a r p v
     → record a { runs = at (in_instance (decided_as v) p) n a.runs } ≡ decide_at n p a
 decided_some a n p r v there d =
-    let j : Held = decided_as v d.instance in
+    let j : InstanceValue = decided_as v d.instance in
     let is : decision a n p ≡ Some j = ap (option_and_then (decision_in a p)) there ∙ d.decided in
     let inside : at (λ i. j) p r.instances ≡ at (decided_as v) p r.instances = at_known (decided_as v) p r.instances d.instance d.there in
     let runs : at (in_instance (λ i. j) p) n a.runs ≡ at (in_instance (decided_as v) p) n a.runs =
     sym (at_known (in_instance (λ i. j) p) n a.runs r there)
-    ∙ (ap (λ (is : List Held). at (λ (z : Run). record r { instances = is }) n a.runs) inside ∙ at_known (in_instance (decided_as v) p) n a.runs r there) in
+    ∙ (ap (λ (is : List InstanceValue). at (λ (z : Run). record r { instances = is }) n a.runs) inside ∙ at_known (in_instance (decided_as v) p) n a.runs r there) in
     let put_is : put j n p a ≡ record a { runs = at (in_instance (decided_as v) p) n a.runs } = ap (λ rs. record a { runs = rs }) runs in
     sym (rw (is, decide_at) put_is)
 

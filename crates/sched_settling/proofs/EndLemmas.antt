@@ -7,7 +7,7 @@ use Rattle.trigger_rules.specs.declared.states.State.{State}
 use Rattle.trigger_rules.specs.declared.states.State.TheVariants as state
 use Rattle.graph_file.proofs.WriteLemmas.{written, written_set}
 use Rattle.sched_state.specs.declared.runs.Run.{Run}
-use Rattle.sched_state.specs.declared.runs.Phase.{Phase}
+use Rattle.sched_state.specs.declared.runs.RunPhase.{RunPhase}
 use Rattle.sched_model.specs.Lists.{at, map_places}
 use Rattle.sched_model.specs.Schedule.{Schedule}
 use Rattle.sched_model.specs.Settle.{finish_run}
@@ -67,7 +67,7 @@ ended_to a n = record a { runs = written (ended_run a) a.runs n }
 graphs_same : (a d : Schedule) (n : ℕ) → d ≡ ended_to a n → (x : Schedule) → x ≡ d → (r : Run) → finish_run x r ≡ finish_run a r
 graphs_same a d n is x same r = ap (λ (s : Schedule). finish_run s r) (same ∙ is) ∙ sym (end_alone a (ended_to a n) r refl)
 
-pub end_turn : (a d b : Schedule) (n : ℕ) (r : Run) (ph : Phase) → d ≡ ended_to a n → n < length a.runs → r ≡ get_or d.runs n r → finish_run d r ≡ Some (in_phase ph r)
+pub end_turn : (a d b : Schedule) (n : ℕ) (r : Run) (ph : RunPhase) → d ≡ ended_to a n → n < length a.runs → r ≡ get_or d.runs n r → finish_run d r ≡ Some (in_phase ph r)
     → b ≡ record d { runs = at (in_phase ph) n d.runs } → b ≡ ended_to a (n + 1)
 end_turn a d b n r ph is inside read ends set_is =
     let f : in_phase ph r ≡ ended_run a r = ap (λ o. unwrap_or o r) (sym ends ∙ graphs_same a d n is d refl r) in

@@ -5,13 +5,13 @@ use Rattle.std.proofs.lemmas.List.Sums.{sum_by-cons}
 use Rattle.graph_file.specs.Lists.{when}
 use Rattle.trigger_rules.specs.States.{is_finished}
 use Rattle.sched_model.specs.States.{states}
-use Rattle.sched_state.specs.declared.runs.Phase.TheVariants as phase
+use Rattle.sched_state.specs.declared.runs.RunPhase.TheVariants as phase
 use Rattle.sched_state.specs.Lists.{repeat}
-use Rattle.sched_state.specs.declared.graphs.Graph.{Graph}
+use Rattle.sched_state.specs.declared.graphs.LoadedGraph.{LoadedGraph}
 use Rattle.sched_state.specs.declared.runs.Run.{Run}
-use Rattle.sched_state.specs.declared.runs.Phase.TheVariants.{Running}
+use Rattle.sched_state.specs.declared.runs.RunPhase.TheVariants.{Running}
 use Rattle.sched_state.proofs.RepeatLemmas.{Falls}
-use Rattle.instance_machine.specs.Instances.{Held}
+use Rattle.instance_machine.specs.Instances.{InstanceValue}
 use Rattle.sched_model.specs.Schedule.{Schedule, is_running}
 use Rattle.sched_model.specs.Settle.{settle, moves_left, moves_left_of, finish_run, has_bad_leaf}
 use Rattle.sched_model.specs.Handout.{in_instance}
@@ -27,7 +27,7 @@ use Rattle.sched_laws.proofs.StageLemmas.{ordered_ends, move_starts, start_settl
 
 -- ---- what the stages leave as it is
 pub record Frame : Type 0 where
-  pub graphs : List Graph
+  pub graphs : List LoadedGraph
   pub keys : List Key
 
 frame : Schedule → Frame
@@ -37,10 +37,10 @@ framed : (a b : Schedule) → frame b ≡ frame a → IsOrdered a → IsOrdered 
 unfolding frame
 framed a b e h = record {
   runs = same_order a.runs b.runs (ap (λ (f : Frame). f.keys) e) h.runs;
-  graphs = subst (λ (gs : List Graph). list_all (λ (g : Graph). leads_down g.dag) gs ≡ true) (sym (ap (λ (f : Frame). f.graphs) e)) h.graphs;
+  graphs = subst (λ (gs : List LoadedGraph). list_all (λ (g : LoadedGraph). leads_down g.dag) gs ≡ true) (sym (ap (λ (f : Frame). f.graphs) e)) h.graphs;
 }
 
-put_frame : (a : Schedule) (j : Held) (n p : ℕ) → frame (put j n p a) ≡ frame a
+put_frame : (a : Schedule) (j : InstanceValue) (n p : ℕ) → frame (put j n p a) ≡ frame a
 unfolding frame
 put_frame a j n p = ap (λ ks. record { graphs = a.graphs; keys = ks }) (map_at key (in_instance (λ i. j) p) n a.runs (λ r e. refl))
 

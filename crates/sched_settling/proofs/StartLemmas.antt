@@ -5,7 +5,7 @@ use Rattle.std.proofs.lemmas.Option.{slice_get_within}
 use Rattle.graph_file.specs.Lists.{when}
 use Rattle.sched_state.specs.Lists.{change_from, first_change}
 use Rattle.sched_state.specs.declared.runs.Run.{Run}
-use Rattle.sched_state.specs.declared.runs.Phase.TheVariants.{Running}
+use Rattle.sched_state.specs.declared.runs.RunPhase.TheVariants.{Running}
 use Rattle.sched_model.specs.Lists.{at}
 use Rattle.sched_model.specs.Schedule.{Schedule}
 use Rattle.sched_model.specs.Settle.{can_start, start_run}

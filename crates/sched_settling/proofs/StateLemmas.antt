@@ -6,7 +6,7 @@ use Rattle.std.proofs.lemmas.Bool.Decides.{nat_tests}
 use Rattle.graph_file.specs.declared.task_specs.TaskSpec.{TaskSpec}
 use Rattle.dag_check.specs.Graphs.{Dag, task_of, no_task}
 use Rattle.trigger_rules.specs.declared.states.State.TheVariants as state
-use Rattle.instance_machine.specs.Instances.{Held}
+use Rattle.instance_machine.specs.Instances.{InstanceValue}
 use Rattle.instance_machine.specs.States.{state_of}
 use Rattle.sched_settling.specs.States.{state_in}
 
@@ -60,7 +60,7 @@ pub past_end : (p n : ℕ) → false ≡ nat_lt p n → n ≤ p
 past_end p n e = grind (arith, nat_tests, e)
 
 -- the state at a place, by what stands there
-pub state_there : (g : Dag) (r : Run) (p : ℕ) (t : TaskSpec) (i : Held) → p < length g.tasks → t ≡ task_of g p → slice_get r.instances p ≡ Some i → state_of t i ≡ state_in g r p
+pub state_there : (g : Dag) (r : Run) (p : ℕ) (t : TaskSpec) (i : InstanceValue) → p < length g.tasks → t ≡ task_of g p → slice_get r.instances p ≡ Some i → state_of t i ≡ state_in g r p
 state_there g r p t i inside task there =
     ap (λ o. unwrap_or o state.None) (sym (zip_get state_of g.tasks r.instances p t i (read_at g.tasks p t no_task inside task) there))
 

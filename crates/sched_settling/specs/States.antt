@@ -5,7 +5,7 @@ use Rattle.trigger_rules.specs.declared.states.State.{State}
 use Rattle.trigger_rules.specs.declared.states.State.TheVariants as state
 use Rattle.trigger_rules.specs.declared.verdicts.Verdict.{Verdict}
 use Rattle.trigger_rules.specs.declared.verdicts.Verdict.TheVariants.{Wait}
-use Rattle.instance_machine.specs.Instances.{Held}
+use Rattle.instance_machine.specs.Instances.{InstanceValue}
 use Rattle.instance_machine.specs.States.{state_of}
 use Rattle.sched_state.specs.declared.runs.Run.{Run}
 use Rattle.sched_model.specs.Lists.{zip_with, last_passing}
@@ -28,7 +28,7 @@ IsPrevious r rs o = o ≡ last_passing (is_earlier r) rs
 
 -- the instance at the place of the run is decided to the verdict
 pub record Decides (a : Schedule) (r : Run) (p : ℕ) (v : Verdict) : Type 0 where
-  pub instance : Held
+  pub instance : InstanceValue
   pub there : slice_get r.instances p ≡ Some instance
   pub decided : decision_in a p r ≡ Some (decided_as v instance)
   pub verdict : v ≢ Wait

@@ -12,14 +12,14 @@ ghost use Rattle.sched_draft.specs.Parts.{instances_at};
 ghost use Rattle.sched_settling.specs.States.{state_in, IsDecision, IsPrevious};
 
 use crate::states::{dag_of, state_in};
-use dag_check::Graph as Dag;
+use dag_check::Graph;
 use instance_machine::past_gate;
 use sched_draft::Draft;
-use sched_state::{Phase, Run};
+use sched_state::{Run, RunPhase};
 use trigger_rules::{Counts, Verdict, verdict_of};
 
 // How many upstreams of a place are in which state.
-fn upstream_counts(dag: &Dag, run: &Run, place: usize) -> Counts
+fn upstream_counts(dag: &Graph, run: &Run, place: usize) -> Counts
     requires { place < length dag.now.tasks }
     ensures { result ≡ counts_of (map (state_in dag.now run.now) (ups dag.now place)) }
 {
@@ -53,7 +53,7 @@ fn previous<'a>(runs: &'a [Run], run: &Run) -> Option<&'a Run>
 }
 
 // Whether the past does not hold the task at a place back.
-fn past_is_open(draft: &Draft<'_>, run: &Run, dag: &Dag, place: usize) -> bool
+fn past_is_open(draft: &Draft<'_>, run: &Run, dag: &Graph, place: usize) -> bool
     requires graph { dag_named draft.now run.now.graph ≡ dag.now }
     requires place { place < length dag.now.tasks }
     ensures { result ≡ past_is_open draft.now run.now (task_of dag.now place) place }
@@ -68,7 +68,7 @@ fn past_is_open(draft: &Draft<'_>, run: &Run, dag: &Dag, place: usize) -> bool
 }
 
 // The verdict that the task at a place would be given.
-fn verdict_for(draft: &Draft<'_>, run: &Run, dag: &Dag, place: usize) -> Option<Verdict>
+fn verdict_for(draft: &Draft<'_>, run: &Run, dag: &Graph, place: usize) -> Option<Verdict>
     requires graph { dag_named draft.now run.now.graph ≡ dag.now }
     requires place { place < length dag.now.tasks }
     ensures verdict { result ≡ decided_verdict draft.now run.now place (task_of dag.now place) }
@@ -93,7 +93,7 @@ fn verdict_for(draft: &Draft<'_>, run: &Run, dag: &Dag, place: usize) -> Option<
 fn decision(draft: &Draft<'_>, run: &Run, place: usize) -> Option<Verdict>
     ensures { IsDecision draft.now run.now place result }
 {
-    if !matches!(run.phase, Phase::Running) {
+    if !matches!(run.phase, RunPhase::Running) {
         return None;
     }
     let instance = run.instances.as_slice().get(place)?;

@@ -8,13 +8,13 @@ ghost use Rattle.sched_laws.specs.Stages.{finish_every, in_phase};
 ghost use Rattle.sched_settling.specs.States.{states_in};
 
 use crate::states::{dag_of, state_in};
-use dag_check::Graph as Dag;
+use dag_check::Graph;
 use sched_draft::Draft;
-use sched_state::{Phase, Run};
+use sched_state::{Run, RunPhase};
 use trigger_rules::State;
 
 // Whether all instances of the run are finished.
-fn all_finished(dag: &Dag, run: &Run) -> bool
+fn all_finished(dag: &Graph, run: &Run) -> bool
     ensures { result ≡ list_all is_finished (states_in dag.now run.now) }
 {
     for place in 0..dag.len().min(run.instances.len()) {
@@ -33,8 +33,9 @@ fn is_bad(state: State) -> bool
 }
 
 // Whether a leaf of the run is failed or upstream_failed.
-fn has_bad_leaf(dag: &Dag, run: &Run) -> bool
-    ensures { result ≡ list_any (λ b. b) (map_places (λ p s. is_bad s && is_leaf dag.now p) 0 (states_in dag.now run.now)) }
+fn has_bad_leaf(dag: &Graph, run: &Run) -> bool
+    ensures { result ≡ list_any (λ b. b)
+        (map_places (λ p s. is_bad s && is_leaf dag.now p) 0 (states_in dag.now run.now)) }
 {
     for place in 0..dag.len().min(run.instances.len()) {
         if is_bad(state_in(dag, run, place)) && dag.is_leaf(place) {
@@ -45,21 +46,22 @@ fn has_bad_leaf(dag: &Dag, run: &Run) -> bool
 }
 
 // The phase in which the run ends, where it can.
-fn end_of(draft: &Draft<'_>, run: &Run) -> Option<Phase>
-    ensures { MatchOption result (finish_run draft.now run.now ≡ None) (λ phase. finish_run draft.now run.now ≡ Some (in_phase phase run.now)) }
+fn end_of(draft: &Draft<'_>, run: &Run) -> Option<RunPhase>
+    ensures { MatchOption result (finish_run draft.now run.now ≡ None)
+        (λ phase. finish_run draft.now run.now ≡ Some (in_phase phase run.now)) }
 {
-    if !matches!(run.phase, Phase::Running) {
+    if !matches!(run.phase, RunPhase::Running) {
         return None;
     }
     match dag_of(draft, run) {
-        None => Some(Phase::Success),
+        None => Some(RunPhase::Success),
         Some(dag) => {
             if !all_finished(dag, run) {
                 None
             } else if has_bad_leaf(dag, run) {
-                Some(Phase::Failed)
+                Some(RunPhase::Failed)
             } else {
-                Some(Phase::Success)
+                Some(RunPhase::Success)
             }
         }
     }

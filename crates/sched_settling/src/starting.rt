@@ -7,13 +7,13 @@ ghost use Rattle.sched_settling.specs.States.{IsFirstStart};
 
 use graph_file::Name;
 use sched_draft::Draft;
-use sched_state::{Phase, Run};
+use sched_state::{Run, RunPhase};
 
 // Whether this is a running run of the graph.
 fn is_active(run: &Run, id: &Name) -> bool
     ensures { result ≡ (same run.now.graph id.now && is_running run.now.phase) }
 {
-    run.graph == *id && matches!(run.phase, Phase::Running)
+    run.graph == *id && matches!(run.phase, RunPhase::Running)
 }
 
 // How many runs of the graph are running.
@@ -27,7 +27,7 @@ fn active_runs(runs: &[Run], id: &Name) -> usize
 fn can_start(draft: &Draft<'_>, run: &Run) -> bool
     ensures { result ≡ can_start draft.now run.now }
 {
-    if !matches!(run.phase, Phase::Queued) {
+    if !matches!(run.phase, RunPhase::Queued) {
         return false;
     }
     if draft.is_paused(&run.graph) {
@@ -47,7 +47,7 @@ pub fn start_first(draft: &mut Draft<'_>) -> bool
 {
     for position in 0..draft.runs().len() {
         if can_start(draft, &draft.runs()[position]) {
-            draft.set_phase(position, Phase::Running);
+            draft.set_phase(position, RunPhase::Running);
             return true;
         }
     }

@@ -1,14 +1,14 @@
 //! A graph as a schedule holds it.
-use crate::Text;
-use dag_check::Graph as Dag;
+use crate::GraphText;
+use dag_check::Graph;
 
 /// A graph that was loaded (Airflow 2, "DAGs").
 #[derive(Debug, Drop)]
-pub struct Graph {
+pub struct LoadedGraph {
     /// The text of its file.
-    pub text: Text,
+    pub text: GraphText,
     /// The graph of its file, with its tasks by place.
-    pub dag: Dag,
+    pub dag: Graph,
     /// Whether it is paused: then no run of it is made by its timetable or started.
     pub paused: bool,
 }

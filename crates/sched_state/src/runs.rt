@@ -9,7 +9,7 @@ use std::alloc::{AllocError, Global};
 
 /// How a run came to be, as the prefix of its run id says (Airflow 2, "DAG Runs").
 #[derive(Clone, Copy, Debug, PartialEq, Eq)]
-pub enum Kind {
+pub enum RunKind {
     /// By its timetable.
     Scheduled,
     /// By hand.
@@ -20,7 +20,7 @@ pub enum Kind {
 
 /// How far a run is.
 #[derive(Clone, Copy, Debug, PartialEq, Eq)]
-pub enum Phase {
+pub enum RunPhase {
     /// Made, and not started.
     Queued,
     Running,
@@ -37,8 +37,8 @@ pub struct Run {
     pub logical: Moment,
     /// The data interval.
     pub interval: Interval,
-    pub kind: Kind,
-    pub phase: Phase,
+    pub kind: RunKind,
+    pub phase: RunPhase,
     /// Its task instances, one for each task of its graph, by place (Airflow 2, "Tasks": task instances).
     pub instances: Sequence<Instance>,
 }

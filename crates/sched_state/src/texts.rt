@@ -7,11 +7,11 @@ use std::marker::Model;
 
 /// A text, as it was given. Contracts see its bytes.
 #[derive(Debug, Drop)]
-pub struct Text {
+pub struct GraphText {
     text: String,
 }
 
-impl Model for Text {
+impl Model for GraphText {
     ghost use Rattle.std.specs.Prelude.{ℕ, List, string_bytes};
 
     ghost Value = { List ℕ };
@@ -19,31 +19,31 @@ impl Model for Text {
     ghost view = { λ t. string_bytes t.text };
 }
 
-impl Text {
+impl GraphText {
     /// A copy of this text.
-    pub fn new(alloc: Global, text: &str) -> Result<Text, AllocError>
+    pub fn new(alloc: Global, text: &str) -> Result<GraphText, AllocError>
         ensures { IfOk result (λ t. t ≡ text.now) }
     {
         let text = String::from_str(alloc, text)?;
-        Ok(Text { text })
+        Ok(GraphText { text })
     }
 
     /// This text, which is taken over without memory.
-    pub fn from_string(text: String) -> Text
+    pub fn from_string(text: String) -> GraphText
         ensures { result ≡ string_bytes text }
     {
-        Text { text }
+        GraphText { text }
     }
 
     /// A second text with the same bytes.
-    pub fn copy(&self, alloc: Global) -> Result<Text, AllocError>
+    pub fn copy(&self, alloc: Global) -> Result<GraphText, AllocError>
         ensures { IfOk result (λ t. t ≡ self.now) }
     {
-        Text::new(alloc, self.as_str())
+        GraphText::new(alloc, self.as_str())
     }
 
     /// Whether the other text has the same bytes.
-    pub fn is_same(&self, other: &Text) -> bool
+    pub fn is_same(&self, other: &GraphText) -> bool
         ensures { result ≡ same self.now other.now }
     {
         self.as_str() == other.as_str()

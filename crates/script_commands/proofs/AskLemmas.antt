@@ -7,10 +7,10 @@ use Rattle.std.proofs.Math.Bool.{or-true}
 use Rattle.text_words.specs.Words.{is_blank, words}
 use Rattle.text_words.proofs.WordLemmas.{words-blank, words-some}
 use Rattle.script_lines.specs.Lines.{line_limit}
-use Rattle.script_commands.specs.Asked.{asked_by}
-use Rattle.script_commands.specs.Commands.{asked_of, is_bad, is_comment, is_skipped}
-use Rattle.script_commands.specs.declared.asked.Asked.{Asked}
-use Rattle.script_commands.specs.declared.asked.Asked.TheVariants.{Nothing, Fault}
+use Rattle.script_commands.specs.Meanings.{meaning_by}
+use Rattle.script_commands.specs.Commands.{meaning_of, is_bad, is_comment, is_skipped}
+use Rattle.script_commands.specs.declared.meanings.LineMeaning.{LineMeaning}
+use Rattle.script_commands.specs.declared.meanings.LineMeaning.TheVariants.{Nothing, Fault}
 use Rattle.script_commands.specs.declared.commands.UsageFault.TheVariants.{BadLine}
 
 -- a beginning tells a comment
@@ -25,23 +25,23 @@ comment-take n (x ∷ xs) =
 pub bad-long : (line : List ℕ) → line_limit < length line → is_bad line ≡ true
 bad-long line h = ap (λ (b : Bool). b || not (is_utf8 line)) (lt-ltb line_limit (length line) h)
 
-skipped-at : (s b : Bool) (x y z : Asked) → s ≡ true → x ≡ cond s x (cond b y z)
+skipped-at : (s b : Bool) (x y z : LineMeaning) → s ≡ true → x ≡ cond s x (cond b y z)
 skipped-at true b x y z h = refl
 skipped-at false b x y z h = absurd (true≢false (sym h))
 
-bad-at : (s b : Bool) (x y z : Asked) → s ≡ false → b ≡ true → y ≡ cond s x (cond b y z)
+bad-at : (s b : Bool) (x y z : LineMeaning) → s ≡ false → b ≡ true → y ≡ cond s x (cond b y z)
 bad-at true b x y z h k = absurd (true≢false h)
 bad-at false true x y z h k = refl
 bad-at false false x y z h k = absurd (true≢false (sym k))
 
 -- a line that is passed over asks for nothing
-pub asked-skipped : (line : List ℕ) → is_skipped line ≡ true → Nothing ≡ asked_of line
-asked-skipped line h = skipped-at (is_skipped line) (is_bad line) Nothing (Fault BadLine) (asked_by (words line)) h
+pub asked-skipped : (line : List ℕ) → is_skipped line ≡ true → Nothing ≡ meaning_of line
+asked-skipped line h = skipped-at (is_skipped line) (is_bad line) Nothing (Fault BadLine) (meaning_by (words line)) h
 
-pub asked-comment : (line : List ℕ) → is_comment line ≡ true → Nothing ≡ asked_of line
+pub asked-comment : (line : List ℕ) → is_comment line ≡ true → Nothing ≡ meaning_of line
 asked-comment line h = asked-skipped line (ap (λ (b : Bool). b || (length (words line) == 0)) h)
 
-pub asked-blank : (line : List ℕ) → list_all is_blank line ≡ true → Nothing ≡ asked_of line
+pub asked-blank : (line : List ℕ) → list_all is_blank line ≡ true → Nothing ≡ meaning_of line
 asked-blank line h =
     let none : (length (words line) == 0) ≡ true = ap (λ (ws : List (List ℕ)). length ws == 0) (words-blank line h) in
     asked-skipped line (ap (λ (b : Bool). is_comment line || b) none ∙ or-true (is_comment line))
@@ -50,11 +50,11 @@ some-at : (n : ℕ) → 0 < n → (n == 0) ≡ false
 some-at n h = ne_eqb n 0 (λ e. absurd (omega arith))
 
 -- a bad line that isn't passed over is refused
-pub asked-bad : (line : List ℕ) → is_comment line ≡ false → list_all is_blank line ≡ false → is_bad line ≡ true → Fault BadLine ≡ asked_of line
+pub asked-bad : (line : List ℕ) → is_comment line ≡ false → list_all is_blank line ≡ false → is_bad line ≡ true → Fault BadLine ≡ meaning_of line
 asked-bad line h k bad =
     let some : (length (words line) == 0) ≡ false = some-at (length (words line)) (words-some line k) in
     let passed : is_skipped line ≡ false = ap (λ (b : Bool). b || (length (words line) == 0)) h ∙ some in
-    bad-at (is_skipped line) (is_bad line) Nothing (Fault BadLine) (asked_by (words line)) passed bad
+    bad-at (is_skipped line) (is_bad line) Nothing (Fault BadLine) (meaning_by (words line)) passed bad
 
 -- a line that is not too long is a bad one where it is no UTF-8
 pub good-text : (line : List ℕ) → length line ≤ line_limit → is_utf8 line ≡ true → is_bad line ≡ false

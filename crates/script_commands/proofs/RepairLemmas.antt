@@ -5,12 +5,12 @@ use Rattle.std.specs.Option.{option_copied}
 use Rattle.graph_file.specs.Names.{is_name}
 use Rattle.moment_core.specs.Reading.{read_of}
 use Rattle.sched_events.specs.declared.events.Event.TheVariants.{Backfill, Clear}
-use Rattle.script_commands.specs.Asked.{IsReadAs, can_lack}
+use Rattle.script_commands.specs.Meanings.{IsReadAs, needs_memory}
 use Rattle.script_commands.specs.Holding.{Holds}
 use Rattle.script_commands.specs.Options.{Part, Word, said}
 use Rattle.script_commands.specs.Repairs.{both, of_backfill, of_clear, with_task}
-use Rattle.script_commands.specs.declared.asked.Asked.{Asked}
-use Rattle.script_commands.specs.declared.asked.Asked.TheVariants.{This}
+use Rattle.script_commands.specs.declared.meanings.LineMeaning.{LineMeaning}
+use Rattle.script_commands.specs.declared.meanings.LineMeaning.TheVariants.{This}
 use Rattle.script_commands.specs.declared.commands.Command.TheVariants.{Step}
 use Rattle.script_commands.specs.declared.options.Flag.TheVariants.{Reset, Upstream, Downstream, OnlyFailed}
 use Rattle.script_commands.specs.declared.options.Parts.{Parts}
@@ -18,7 +18,7 @@ use Rattle.script_commands.specs.declared.options.Values.TheVariants.{Three}
 use Rattle.script_commands.proofs.PartLemmas.{said-held}
 
 -- what lacks memory
-pub read-lack : {E : Type 0} (wanted : Asked) (result : Result Asked E) → IsErr result → can_lack wanted ≡ true → IsReadAs wanted result
+pub read-lack : {E : Type 0} (wanted : LineMeaning) (result : Result LineMeaning E) → IsErr result → needs_memory wanted ≡ true → IsReadAs wanted result
 read-lack wanted (Ok asked) h e = absurd (true≢false (sym h))
 read-lack wanted (Err lack) h e = e
 

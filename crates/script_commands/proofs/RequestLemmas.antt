@@ -1,11 +1,11 @@
 -- The commands of what is left of a script.
 use Rattle.std.proofs.Common.{◌≡◌, ◌∙◌, ℕ, List, [], ◌∷◌, Option, Some, Ok, Err, refl, sym, ap, inl, inr, true, true≢false}
 use Rattle.script_lines.specs.Lines.{lines_of, IsFirstLine}
-use Rattle.script_commands.specs.Asked.{can_lack, wants_memory}
-use Rattle.script_commands.specs.Commands.{Request, IsFirst, asked_of, given_by, commands_from, commands_in}
+use Rattle.script_commands.specs.Meanings.{needs_memory, wants_memory}
+use Rattle.script_commands.specs.Commands.{Request, IsFirst, meaning_of, given_by, commands_from, commands_in}
 use Rattle.script_commands.specs.Commands.Place.{Outside, Inside}
-use Rattle.script_commands.specs.declared.asked.Asked.{Asked}
-use Rattle.script_commands.specs.declared.asked.Asked.TheVariants as asks
+use Rattle.script_commands.specs.declared.meanings.LineMeaning.{LineMeaning}
+use Rattle.script_commands.specs.declared.meanings.LineMeaning.TheVariants as means
 use Rattle.script_commands.specs.declared.commands.Command.{Command}
 use Rattle.script_commands.specs.declared.commands.UsageFault.{UsageFault}
 use Rattle.script_commands.specs.declared.commands.CommandFault.TheVariants.{Usage, Memory}
@@ -17,20 +17,20 @@ pub record Left (rest : Option (List ℕ)) (commands : List Request) : Type 0 wh
   pub same : commands ≡ commands_in left
 
 -- the next line of bytes asks for this
-abbrev pub Asks : List ℕ → Asked → Option (List ℕ) → Type 0
-Asks bytes asked rest = (line : List ℕ) × IsFirstLine bytes line rest × (asked ≡ asked_of line)
+abbrev pub Asks : List ℕ → LineMeaning → Option (List ℕ) → Type 0
+Asks bytes asked rest = (line : List ℕ) × IsFirstLine bytes line rest × (asked ≡ meaning_of line)
 
 -- what the next line gives, and what those after it give
-pub commands-next : (bytes line left : List ℕ) (asked : Asked) → lines_of bytes ≡ line ∷ lines_of left → asked ≡ asked_of line → commands_in bytes ≡ given_by asked (λ place. commands_from place (lines_of left))
+pub commands-next : (bytes line left : List ℕ) (asked : LineMeaning) → lines_of bytes ≡ line ∷ lines_of left → asked ≡ meaning_of line → commands_in bytes ≡ given_by asked (λ place. commands_from place (lines_of left))
 unfolding commands_in
 commands-next bytes line left asked lines e =
-    ap (commands_from Outside) lines ∙ ap (λ (a : Asked). given_by a (λ place. commands_from place (lines_of left))) (sym e)
+    ap (commands_from Outside) lines ∙ ap (λ (a : LineMeaning). given_by a (λ place. commands_from place (lines_of left))) (sym e)
 
 -- a line that asks for nothing
-pub left-nothing : (rest rest' : Option (List ℕ)) (commands : List Request) (l : Left rest commands) → Asks l.left asks.Nothing rest' → Left rest' commands
+pub left-nothing : (rest rest' : Option (List ℕ)) (commands : List Request) (l : Left rest commands) → Asks l.left means.Nothing rest' → Left rest' commands
 unfolding commands_in
 left-nothing rest rest' commands l (line, first, e) =
-    record { left = first.left; known = first.known; same = l.same ∙ commands-next l.left line first.left asks.Nothing first.lines e }
+    record { left = first.left; known = first.known; same = l.same ∙ commands-next l.left line first.left means.Nothing first.lines e }
 
 -- the end of the script
 pub left-end : (rest rest' : Option (List ℕ)) (commands : List Request) (l : Left rest commands) → l.left ≡ [] → commands ≡ []
@@ -38,49 +38,49 @@ unfolding commands_in
 left-end rest rest' commands l e = l.same ∙ ap commands_in e
 
 -- a command of one line
-pub left-this : (rest rest' : Option (List ℕ)) (commands : List Request) (command : Command) (l : Left rest commands) → Asks l.left (asks.This command) rest' → IsFirst commands (Ok command) rest'
+pub left-this : (rest rest' : Option (List ℕ)) (commands : List Request) (command : Command) (l : Left rest commands) → Asks l.left (means.This command) rest' → IsFirst commands (Ok command) rest'
 unfolding commands_in
 left-this rest rest' commands command l (line, first, e) = record {
   wanted = Ok command;
   left = first.left;
   known = first.known;
-  first = l.same ∙ commands-next l.left line first.left (asks.This command) first.lines e;
+  first = l.same ∙ commands-next l.left line first.left (means.This command) first.lines e;
   same = inl refl;
 }
 
 -- what memory can run out for is a command that holds a name
-lacking : (asked : Asked) → can_lack asked ≡ true → (command : Command) × (asked ≡ asks.This command) × (wants_memory command ≡ true)
-lacking asks.Nothing e = absurd (true≢false (sym e))
-lacking asks.Text e = absurd (true≢false (sym e))
-lacking (asks.Fault fault) e = absurd (true≢false (sym e))
-lacking (asks.This command) e = (command, refl, e)
+lacking : (asked : LineMeaning) → needs_memory asked ≡ true → (command : Command) × (asked ≡ means.This command) × (wants_memory command ≡ true)
+lacking means.Nothing e = absurd (true≢false (sym e))
+lacking means.Text e = absurd (true≢false (sym e))
+lacking (means.Fault fault) e = absurd (true≢false (sym e))
+lacking (means.This command) e = (command, refl, e)
 
 -- a command of one line, for which there was no memory
-pub left-lack : (rest rest' : Option (List ℕ)) (commands : List Request) (l : Left rest commands) → (line : List ℕ) × IsFirstLine l.left line rest' × (can_lack (asked_of line) ≡ true) → IsFirst commands (Err Memory) rest'
+pub left-lack : (rest rest' : Option (List ℕ)) (commands : List Request) (l : Left rest commands) → (line : List ℕ) × IsFirstLine l.left line rest' × (needs_memory (meaning_of line) ≡ true) → IsFirst commands (Err Memory) rest'
 unfolding commands_in
 left-lack rest rest' commands l (line, first, e) =
-    let k = lacking (asked_of line) e in
+    let k = lacking (meaning_of line) e in
     record {
       wanted = Ok k.0;
       left = first.left;
       known = first.known;
-      first = l.same ∙ commands-next l.left line first.left (asks.This k.0) first.lines (sym k.1);
+      first = l.same ∙ commands-next l.left line first.left (means.This k.0) first.lines (sym k.1);
       same = inr (refl, (k.0, refl, k.2));
     }
 
 -- a line that is no command
-pub left-fault : (rest rest' : Option (List ℕ)) (commands : List Request) (fault : UsageFault) (l : Left rest commands) → Asks l.left (asks.Fault fault) rest' → IsFirst commands (Err (Usage fault)) rest'
+pub left-fault : (rest rest' : Option (List ℕ)) (commands : List Request) (fault : UsageFault) (l : Left rest commands) → Asks l.left (means.Fault fault) rest' → IsFirst commands (Err (Usage fault)) rest'
 unfolding commands_in
 left-fault rest rest' commands fault l (line, first, e) = record {
   wanted = Err (Usage fault);
   left = first.left;
   known = first.known;
-  first = l.same ∙ commands-next l.left line first.left (asks.Fault fault) first.lines e;
+  first = l.same ∙ commands-next l.left line first.left (means.Fault fault) first.lines e;
   same = inl refl;
 }
 
 -- a graph's text
-pub left-text : (rest rest' rest'' : Option (List ℕ)) (commands : List Request) (given : Request) (l : Left rest commands) → Asks l.left asks.Text rest' → ((bytes : List ℕ) → rest' ≡ Some bytes → IsFirst (commands_from (Inside (Some [])) (lines_of bytes)) given rest'') → IsFirst commands given rest''
+pub left-text : (rest rest' rest'' : Option (List ℕ)) (commands : List Request) (given : Request) (l : Left rest commands) → Asks l.left means.Text rest' → ((bytes : List ℕ) → rest' ≡ Some bytes → IsFirst (commands_from (Inside (Some [])) (lines_of bytes)) given rest'') → IsFirst commands given rest''
 unfolding commands_in
 left-text rest rest' rest'' commands given l (line, first, e) text =
     let at = text first.left first.known in
@@ -88,6 +88,6 @@ left-text rest rest' rest'' commands given l (line, first, e) text =
       wanted = at.wanted;
       left = at.left;
       known = at.known;
-      first = l.same ∙ (commands-next l.left line first.left asks.Text first.lines e ∙ at.first);
+      first = l.same ∙ (commands-next l.left line first.left means.Text first.lines e ∙ at.first);
       same = at.same;
     }

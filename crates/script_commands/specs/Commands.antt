@@ -4,9 +4,9 @@ use Rattle.std.specs.Str.{bytes_eq, is_utf8}
 use Rattle.text_words.specs.Words.{words}
 use Rattle.script_lines.specs.Lines.{lines_of, line_limit, newline, IsFirstLine}
 use Rattle.sched_events.specs.declared.events.Event.TheVariants.{Load}
-use Rattle.script_commands.specs.Asked.{asked_by, wants_memory, IsReadAs}
-use Rattle.script_commands.specs.declared.asked.Asked.{Asked}
-use Rattle.script_commands.specs.declared.asked.Asked.TheVariants as asks
+use Rattle.script_commands.specs.Meanings.{meaning_by, wants_memory, IsReadAs}
+use Rattle.script_commands.specs.declared.meanings.LineMeaning.{LineMeaning}
+use Rattle.script_commands.specs.declared.meanings.LineMeaning.TheVariants as means
 use Rattle.script_commands.specs.declared.commands.Command.{Command}
 use Rattle.script_commands.specs.declared.commands.Command.TheVariants.{Step}
 use Rattle.script_commands.specs.declared.commands.UsageFault.TheVariants.{BadLine}
@@ -31,10 +31,10 @@ abbrev pub is_skipped : List ℕ → Bool
 is_skipped line = is_comment line || (length (words line) == 0)
 
 -- what a line outside of a graph's text asks for; one that is passed over asks for nothing, be it bad or not
-abbrev pub asked_of : List ℕ → Asked
-asked_of line =
-    if is_skipped line then asks.Nothing
-    else (if is_bad line then asks.Fault BadLine else asked_by (words line))
+abbrev pub meaning_of : List ℕ → LineMeaning
+meaning_of line =
+    if is_skipped line then means.Nothing
+    else (if is_bad line then means.Fault BadLine else meaning_by (words line))
 
 -- where a script stands: outside of a graph's text, or inside of one, with what it has so far, or none after a bad line
 pub data Place : Type 0 where
@@ -55,11 +55,11 @@ load_of (Some text) = Ok (Step (Load text))
 load_of None = Err (Usage BadLine)
 
 -- what an asking line gives, before what the lines after it give from a place on
-abbrev pub given_by : Asked → (Place → List Request) → List Request
-given_by asks.Nothing after = after Outside
-given_by asks.Text after = after (Inside (Some []))
-given_by (asks.This command) after = Ok command ∷ after Outside
-given_by (asks.Fault fault) after = Err (Usage fault) ∷ after Outside
+abbrev pub given_by : LineMeaning → (Place → List Request) → List Request
+given_by means.Nothing after = after Outside
+given_by means.Text after = after (Inside (Some []))
+given_by (means.This command) after = Ok command ∷ after Outside
+given_by (means.Fault fault) after = Err (Usage fault) ∷ after Outside
 
 -- the line that ends a graph's text
 abbrev pub ends_text : List ℕ → Bool
@@ -69,7 +69,7 @@ ends_text line = bytes_eq line (codes ".")
 abbrev pub commands_from : Place → List (List ℕ) → List Request
 commands_from Outside [] = []
 commands_from (Inside text) [] = Err (Source NoEnd) ∷ []
-commands_from Outside (l ∷ ls) = given_by (asked_of l) (λ place. commands_from place ls)
+commands_from Outside (l ∷ ls) = given_by (meaning_of l) (λ place. commands_from place ls)
 commands_from (Inside text) (l ∷ ls) =
     if ends_text l then load_of text ∷ commands_from Outside ls else commands_from (Inside (with_line text l)) ls
 
@@ -78,9 +78,9 @@ unfoldable pub commands_in : List ℕ → List Request
 commands_in bytes = commands_from Outside (lines_of bytes)
 
 -- what the next line of bytes asks for, or their end
-abbrev pub IsAsked : {E : Type 0} → List ℕ → Option (Result Asked E) → Option (List ℕ) → Type 0
-IsAsked bytes next rest = MatchOption next ((bytes ≡ []) × (rest ≡ Some []))
-    (λ asked. (line : List ℕ) × IsFirstLine bytes line rest × IsReadAs (asked_of line) asked)
+abbrev pub IsMeaning : {E : Type 0} → List ℕ → Option (Result LineMeaning E) → Option (List ℕ) → Type 0
+IsMeaning bytes next rest = MatchOption next ((bytes ≡ []) × (rest ≡ Some []))
+    (λ asked. (line : List ℕ) × IsFirstLine bytes line rest × IsReadAs (meaning_of line) asked)
 
 -- want of memory can come in the place of a command that holds a text or a name, and of nothing else
 abbrev pub IsGiven : Request → Request → Type 0

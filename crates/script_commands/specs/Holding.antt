@@ -4,8 +4,8 @@ use Rattle.std.specs.Borrow.{Bor}
 use Rattle.script_commands.specs.Options.{Options, Part, Said, Word, value, flag, given, values_of, flags_of, givens_of, is_among, are_once, said}
 use Rattle.script_commands.specs.Repairs.{backfill_options, clear_options}
 use Rattle.script_commands.specs.Values.{three}
-use Rattle.script_commands.specs.declared.options.Repair.{Repair}
-use Rattle.script_commands.specs.declared.options.Repair.TheVariants as repair
+use Rattle.script_commands.specs.declared.options.SpanCommand.{SpanCommand}
+use Rattle.script_commands.specs.declared.options.SpanCommand.TheVariants as repair
 use Rattle.script_commands.specs.declared.options.Flag.{Flag}
 use Rattle.script_commands.specs.declared.options.Flag.TheVariants.{Reset, Upstream, Downstream, OnlyFailed}
 use Rattle.script_commands.specs.declared.options.Flags.{Flags}
@@ -15,7 +15,7 @@ use Rattle.script_commands.specs.declared.options.Values.{Values}
 use Rattle.script_commands.specs.declared.options.Values.TheVariants.{Zero, One, Two, Three}
 use Rattle.script_commands.specs.declared.options.Parts.{Parts}
 
-abbrev pub options_of : Repair → Options
+abbrev pub options_of : SpanCommand → Options
 options_of repair.Backfill = backfill_options
 options_of repair.Clear = clear_options
 

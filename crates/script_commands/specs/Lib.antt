@@ -2,8 +2,8 @@ pub mod Values
 pub mod Options
 pub mod Sizes
 pub mod Repairs
-pub mod Asked
+pub mod Meanings
 pub mod Commands
 pub mod Gathered
 pub mod Holding
-pub mod OfGraph
+pub mod GraphCommands

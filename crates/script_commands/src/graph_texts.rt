@@ -12,7 +12,7 @@ ghost use Rattle.script_commands.specs.Gathered.{Gathers};
 use crate::commands::{Command, CommandFault, SourceFault, UsageFault};
 use crate::requests::{MOST_LINES, text_of};
 use sched_events::Event;
-use sched_state::Text;
+use sched_state::GraphText;
 use script_lines::{Found, LineReader};
 use std::alloc::{AllocError, Global};
 use std::io::{self, ErrorKind, Read};
@@ -32,7 +32,8 @@ impl Gathered {
     // With one more line, which is not too long.
     fn with_line(self, line: &[u8]) -> Gathered
         requires { length line.now ≤ line_limit }
-        ensures { (text : Option (List ℕ)) → Gathers text self → Gathers (with_line text line.now) result }
+        ensures { (text : Option (List ℕ)) → Gathers text self
+            → Gathers (with_line text line.now) result }
     {
         match text_of(line) {
             Some(line) => self.with_text(line),
@@ -42,7 +43,8 @@ impl Gathered {
 
     // With one more good line.
     fn with_text(self, line: &str) -> Gathered
-        ensures { (text : Option (List ℕ)) → Gathers text self → Gathers (with_newline text line.now) result }
+        ensures { (text : Option (List ℕ)) → Gathers text self
+            → Gathers (with_newline text line.now) result }
     {
         match self {
             Gathered::Text(mut text) => match push_line(&mut text, line) {
@@ -59,7 +61,7 @@ impl Gathered {
         ensures { (text : Option (List ℕ)) → Gathers text self → IsGiven (load_of text) result }
     {
         match self {
-            Gathered::Text(text) => Ok(Command::Step(Event::Load(Text::from_string(text)))),
+            Gathered::Text(text) => Ok(Command::Step(Event::Load(GraphText::from_string(text)))),
             Gathered::BadLine => Err(CommandFault::Usage(UsageFault::BadLine)),
             Gathered::Memory => Err(CommandFault::Memory),
         }
@@ -80,8 +82,8 @@ pub(crate) fn read_text<R: Read>(
     lines: &mut LineReader,
     input: &mut R,
 ) -> io::Result<Result<Command, CommandFault>>
-    ensures { IfOk result (λ given. (bytes : List ℕ) → R.remaining input.old ≡ Some bytes
-        → IsFirst (commands_from (Inside (Some [])) (lines_of bytes)) given (R.remaining input.new)) }
+    ensures { IfOk result (λ given. (bytes : List ℕ) → R.remaining input.old ≡ Some bytes → IsFirst
+        (commands_from (Inside (Some [])) (lines_of bytes)) given (R.remaining input.new)) }
 {
     let mut gathered = Gathered::Text(String::new(alloc));
     for _line in 0..MOST_LINES {

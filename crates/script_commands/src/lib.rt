@@ -1,6 +1,6 @@
 //! The commands of a script: what its lines ask for, in order.
 //!
-//! A script is read line by line. [`Asked::by`] says what one line asks for, and [`next_command`] reads the next command of an
+//! A script is read line by line. [`LineMeaning::by`] says what one line asks for, and [`next_command`] reads the next command of an
 //! input: a line of its own, or a graph's text that stands between `load inline` and a line that is `.` alone. A line that is no command is
 //! answered by its fault, and reading goes on after it. Lines are read in bounded memory; only the text of a graph and a name want more.
 //!
@@ -22,10 +22,10 @@
 //! ```
 #![tactic(auto)]
 
-mod asked;
 mod commands;
 mod graph_texts;
 mod laws;
+mod meanings;
 mod names;
 mod options;
 mod pool_sizes;
@@ -33,7 +33,7 @@ mod repairs;
 mod requests;
 mod words;
 
-pub use asked::Asked;
 pub use commands::{Command, CommandFault, SourceFault, UsageFault};
 pub use laws::a_command_without_options_has_values_alone;
+pub use meanings::LineMeaning;
 pub use requests::next_command;

@@ -1,11 +1,11 @@
 //! Names, and the commands that name a graph alone.
 ghost use Rattle.std.specs.Prelude.{◌≡◌, IfOk, MatchOption, false, true};
 ghost use Rattle.graph_file.specs.Names.{is_name};
-ghost use Rattle.script_commands.specs.Asked.{IsReadAs, of_name};
-ghost use Rattle.script_commands.specs.OfGraph as spec;
+ghost use Rattle.script_commands.specs.Meanings.{IsReadAs, of_name};
+ghost use Rattle.script_commands.specs.GraphCommands as spec;
 
-use crate::asked::Asked;
 use crate::commands::{Command, UsageFault};
+use crate::meanings::LineMeaning;
 use graph_file::{Name, NameFault};
 use sched_events::Event;
 use std::alloc::{AllocError, Global};
@@ -13,32 +13,36 @@ use std::str;
 
 // A command whose one value is a graph's name.
 #[derive(Clone, Copy)]
-pub(crate) enum OfGraph {
+pub(crate) enum GraphCommand {
     Trigger,
     Pause,
     Unpause,
 }
 
-impl OfGraph {
+impl GraphCommand {
     // Its event for the graph with this id.
     fn event(self, id: Name) -> Event
         ensures { result ≡ spec.event_of self id }
     {
         match self {
-            OfGraph::Trigger => Event::Trigger(id),
-            OfGraph::Pause => Event::Pause(id),
-            OfGraph::Unpause => Event::Unpause(id),
+            GraphCommand::Trigger => Event::Trigger(id),
+            GraphCommand::Pause => Event::Pause(id),
+            GraphCommand::Unpause => Event::Unpause(id),
         }
     }
 }
 
 // What such a command asks for.
-pub(crate) fn to_named(alloc: Global, command: OfGraph, value: &[u8]) -> Result<Asked, AllocError>
+pub(crate) fn to_named(
+    alloc: Global,
+    command: GraphCommand,
+    value: &[u8],
+) -> Result<LineMeaning, AllocError>
     ensures { IsReadAs (of_name (spec.event_of command) value.now) result }
 {
     match name_of(alloc, value) {
-        Some(id) => Ok(Asked::This(Command::Step(command.event(id?)))),
-        None => Ok(Asked::Fault(UsageFault::BadName)),
+        Some(id) => Ok(LineMeaning::This(Command::Step(command.event(id?)))),
+        None => Ok(LineMeaning::Fault(UsageFault::BadName)),
     }
 }
 

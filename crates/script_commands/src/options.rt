@@ -14,7 +14,7 @@ use text_words::next_word;
 
 // A command that has options.
 #[derive(Clone, Copy)]
-pub(crate) enum Repair {
+pub(crate) enum SpanCommand {
     Backfill,
     Clear,
 }
@@ -28,17 +28,18 @@ pub(crate) enum Flag {
     OnlyFailed,
 }
 
-impl Repair {
+impl SpanCommand {
     // The flag that a word is, if it is one of the command's.
     fn flag(self, word: &[u8]) -> Option<Flag>
         ensures { MatchOption result (is_among word.now (options_of self).flags ≡ false)
-            (λ flag. (word.now ≡ word_of flag) × (is_among word.now (options_of self).flags ≡ true)) }
+            (λ flag. (word.now ≡ word_of flag) ×
+            (is_among word.now (options_of self).flags ≡ true)) }
     {
         match self {
-            Repair::Backfill if word == b"--reset".as_slice() => Some(Flag::Reset),
-            Repair::Clear if word == b"--upstream".as_slice() => Some(Flag::Upstream),
-            Repair::Clear if word == b"--downstream".as_slice() => Some(Flag::Downstream),
-            Repair::Clear if word == b"--only-failed".as_slice() => Some(Flag::OnlyFailed),
+            SpanCommand::Backfill if word == b"--reset".as_slice() => Some(Flag::Reset),
+            SpanCommand::Clear if word == b"--upstream".as_slice() => Some(Flag::Upstream),
+            SpanCommand::Clear if word == b"--downstream".as_slice() => Some(Flag::Downstream),
+            SpanCommand::Clear if word == b"--only-failed".as_slice() => Some(Flag::OnlyFailed),
             _ => None,
         }
     }
@@ -47,7 +48,7 @@ impl Repair {
     fn is_valued(self, word: &[u8]) -> bool
         ensures { result ≡ is_valued (options_of self) word.now }
     {
-        matches!(self, Repair::Clear) && word == b"--task".as_slice()
+        matches!(self, SpanCommand::Clear) && word == b"--task".as_slice()
     }
 
     // The value that stands in the word of its option.
@@ -55,8 +56,8 @@ impl Repair {
         ensures { option_map (λ v. v.now) result ≡ value_within (options_of self) word.now }
     {
         match self {
-            Repair::Backfill => None,
-            Repair::Clear => word.strip_prefix(b"--task=".as_slice()),
+            SpanCommand::Backfill => None,
+            SpanCommand::Clear => word.strip_prefix(b"--task=".as_slice()),
         }
     }
 }
@@ -109,7 +110,8 @@ pub(crate) enum Values<'a> {
 impl<'a> Values<'a> {
     // With one more, where there is room.
     fn with(self, value: &'a [u8]) -> Option<Values<'a>>
-        ensures { MatchOption result (length (list_of self.entry) ≡ 3) (λ values. list_of values ≡ list_of self.entry ++ value.entry.now ∷ []) }
+        ensures { MatchOption result (length (list_of self.entry) ≡ 3)
+            (λ values. list_of values ≡ list_of self.entry ++ value.entry.now ∷ []) }
     {
         match self {
             Values::Zero => Some(Values::One(value)),
@@ -139,17 +141,20 @@ pub(crate) struct Parts<'a> {
 
 impl<'a> Parts<'a> {
     // The parts of a text, where its words are the command's.
-    pub(crate) fn read(command: Repair, text: &'a [u8]) -> Option<Parts<'a>>
-        ensures { MatchOption result (three_of (said_by (options_of command) (words text.entry.now)) ≡ None)
-            (λ read. (ps : List spec.Part) × (parts (options_of command) (words text.entry.now) ≡ Some ps) × Holds ps read) }
+    pub(crate) fn read(command: SpanCommand, text: &'a [u8]) -> Option<Parts<'a>>
+        ensures { MatchOption result (three_of (said_by (options_of command) (words text.entry.now))
+            ≡ None) (λ read. (ps : List spec.Part) ×
+            (parts (options_of command) (words text.entry.now) ≡ Some ps) × Holds ps read) }
     {
         Parts::none().with_text(command, text)
     }
 
     // With the parts of a text.
-    fn with_text(self, command: Repair, text: &'a [u8]) -> Option<Parts<'a>>
-        ensures { Holds [] self.entry → MatchOption result (three_of (said_by (options_of command) (words text.entry.now)) ≡ None)
-            (λ read. (ps : List spec.Part) × (parts (options_of command) (words text.entry.now) ≡ Some ps) × Holds ps read) }
+    fn with_text(self, command: SpanCommand, text: &'a [u8]) -> Option<Parts<'a>>
+        ensures { Holds [] self.entry → MatchOption result
+            (three_of (said_by (options_of command) (words text.entry.now)) ≡ None)
+            (λ read. (ps : List spec.Part) ×
+            (parts (options_of command) (words text.entry.now) ≡ Some ps) × Holds ps read) }
     {
         let mut read = self;
         let mut rest = text;
@@ -164,14 +169,18 @@ impl<'a> Parts<'a> {
     // With the part that begins with a word, and the text after it; after `--` none is left.
     fn with_word(
         self,
-        command: Repair,
+        command: SpanCommand,
         word: &'a [u8],
         after: &'a [u8],
     ) -> Option<(Parts<'a>, &'a [u8])>
-        ensures parts { (ps : List spec.Part) → Holds ps self.entry → MatchOption result
-            (IsRefused (option_map (λ qs. ps ++ qs) (parts (options_of command) (word.entry.now ∷ words after.entry.now))))
-            (λ p. Goes ps p.0 (parts (options_of command) (word.entry.now ∷ words after.entry.now)) (parts (options_of command) (words p.1.now))) }
-        ensures less { IfSome result (λ p. length (words p.1.now) ≤ length (words after.entry.now)) }
+        ensures parts { (ps : List spec.Part) → Holds ps self.entry
+            → MatchOption result (IsRefused
+            (option_map (λ qs. ps ++ qs)
+            (parts (options_of command) (word.entry.now ∷ words after.entry.now))))
+            (λ p. Goes ps p.0 (parts (options_of command) (word.entry.now ∷ words after.entry.now))
+            (parts (options_of command) (words p.1.now))) }
+        ensures less { IfSome result (λ p. length (words p.1.now) ≤ length
+            (words after.entry.now)) }
     {
         if word == b"--".as_slice() {
             return Some((self.with_values(after)?, b"".as_slice()));
@@ -198,7 +207,8 @@ impl<'a> Parts<'a> {
     // With one more, unless it is a fourth value, or an option that is given already.
     fn with(self, part: Part<'a>) -> Option<Parts<'a>>
         ensures { (ps : List spec.Part) → Holds ps self.entry
-            → MatchOption result (AreRefused (ps ++ part_of part.entry ∷ [])) (Holds (ps ++ part_of part.entry ∷ [])) }
+            → MatchOption result (AreRefused (ps ++ part_of part.entry ∷ []))
+            (Holds (ps ++ part_of part.entry ∷ [])) }
     {
         match part {
             Part::Value(value) => self.with_value(value),
@@ -209,7 +219,8 @@ impl<'a> Parts<'a> {
 
     fn with_value(mut self, value: &'a [u8]) -> Option<Parts<'a>>
         ensures { (ps : List spec.Part) → Holds ps self.entry
-            → MatchOption result (AreRefused (ps ++ spec.value value.entry.now ∷ [])) (Holds (ps ++ spec.value value.entry.now ∷ [])) }
+            → MatchOption result (AreRefused (ps ++ spec.value value.entry.now ∷ []))
+            (Holds (ps ++ spec.value value.entry.now ∷ [])) }
     {
         self.values = self.values.with(value)?;
         Some(self)
@@ -217,7 +228,8 @@ impl<'a> Parts<'a> {
 
     fn with_flag(mut self, flag: Flag) -> Option<Parts<'a>>
         ensures { (ps : List spec.Part) → Holds ps self.entry
-            → MatchOption result (AreRefused (ps ++ spec.flag (word_of flag) ∷ [])) (Holds (ps ++ spec.flag (word_of flag) ∷ [])) }
+            → MatchOption result (AreRefused (ps ++ spec.flag (word_of flag) ∷ []))
+            (Holds (ps ++ spec.flag (word_of flag) ∷ [])) }
     {
         if self.flags.has(flag) {
             return None;
@@ -228,7 +240,8 @@ impl<'a> Parts<'a> {
 
     fn with_task(mut self, task: &'a [u8]) -> Option<Parts<'a>>
         ensures { (ps : List spec.Part) → Holds ps self.entry
-            → MatchOption result (AreRefused (ps ++ spec.given task.entry.now ∷ [])) (Holds (ps ++ spec.given task.entry.now ∷ [])) }
+            → MatchOption result (AreRefused (ps ++ spec.given task.entry.now ∷ []))
+            (Holds (ps ++ spec.given task.entry.now ∷ [])) }
     {
         if self.task.is_some() {
             return None;
@@ -240,7 +253,8 @@ impl<'a> Parts<'a> {
     // With all words of a text as values.
     fn with_values(self, text: &'a [u8]) -> Option<Parts<'a>>
         ensures { (ps : List spec.Part) → Holds ps self.entry
-            → MatchOption result (AreRefused (ps ++ map spec.value (words text.entry.now))) (Holds (ps ++ map spec.value (words text.entry.now))) }
+            → MatchOption result (AreRefused (ps ++ map spec.value (words text.entry.now)))
+            (Holds (ps ++ map spec.value (words text.entry.now))) }
     {
         let mut read = self;
         let mut rest = text;
@@ -253,12 +267,17 @@ impl<'a> Parts<'a> {
 }
 
 // The part that begins with a word other than `--`, and the text after it.
-fn next_part<'a>(command: Repair, word: &'a [u8], after: &'a [u8]) -> Option<(Part<'a>, &'a [u8])>
+fn next_part<'a>(
+    command: SpanCommand,
+    word: &'a [u8],
+    after: &'a [u8],
+) -> Option<(Part<'a>, &'a [u8])>
     requires { ends_options word.now ≡ false }
-    ensures { MatchOption result (parts (options_of command) (word.entry.now ∷ words after.entry.now) ≡ None)
-        (λ p. (parts (options_of command) (word.entry.now ∷ words after.entry.now)
-        ≡ option_map (λ ps. part_of p.0 ∷ ps) (parts (options_of command) (words p.1.now)))
-        × (length (words p.1.now) ≤ length (words after.entry.now))) }
+    ensures { MatchOption result (parts (options_of command)
+        (word.entry.now ∷ words after.entry.now) ≡ None)
+        (λ p. (parts (options_of command) (word.entry.now ∷ words after.entry.now) ≡ option_map
+        (λ ps. part_of p.0 ∷ ps) (parts (options_of command) (words p.1.now))) ×
+        (length (words p.1.now) ≤ length (words after.entry.now))) }
 {
     if !is_option(word) {
         return Some((Part::Value(word), after));

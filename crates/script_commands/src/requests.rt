@@ -5,13 +5,13 @@ ghost use Rattle.std.specs.Prelude.{◌≡◌, ℕ, ◌<◌, ◌≤◌, true, fa
 ghost use Rattle.std.specs.List.{list_all};
 ghost use Rattle.text_words.specs.Words.{is_blank as is_blank_byte, words};
 ghost use Rattle.script_lines.specs.Lines.{line_limit};
-ghost use Rattle.script_commands.specs.Asked.{IsReadAs};
+ghost use Rattle.script_commands.specs.Meanings.{IsReadAs};
 ghost use Rattle.script_commands.specs.Commands as spec;
-ghost use Rattle.script_commands.specs.Commands.{IsNext, IsAsked, is_bad};
+ghost use Rattle.script_commands.specs.Commands.{IsNext, IsMeaning, is_bad};
 
-use crate::asked::Asked;
 use crate::commands::{Command, CommandFault, UsageFault};
 use crate::graph_texts::read_text;
+use crate::meanings::LineMeaning;
 use script_lines::{Found, LineReader};
 use std::alloc::{AllocError, Global};
 use std::io::{self, ErrorKind, Read};
@@ -37,12 +37,12 @@ pub fn next_command<R: Read>(
         → IsNext bytes next (R.remaining input.new)) }
 {
     for _line in 0..MOST_LINES {
-        match next_asked(alloc, lines, input)? {
+        match next_meaning(alloc, lines, input)? {
             None => return Ok(None),
-            Some(Ok(Asked::Nothing)) => {}
-            Some(Ok(Asked::Text)) => return Ok(Some(read_text(alloc, lines, input)?)),
-            Some(Ok(Asked::This(command))) => return Ok(Some(Ok(command))),
-            Some(Ok(Asked::Fault(fault))) => return Ok(Some(Err(CommandFault::Usage(fault)))),
+            Some(Ok(LineMeaning::Nothing)) => {}
+            Some(Ok(LineMeaning::Text)) => return Ok(Some(read_text(alloc, lines, input)?)),
+            Some(Ok(LineMeaning::This(command))) => return Ok(Some(Ok(command))),
+            Some(Ok(LineMeaning::Fault(fault))) => return Ok(Some(Err(CommandFault::Usage(fault)))),
             Some(Err(_)) => return Ok(Some(Err(CommandFault::Memory))),
         }
     }
@@ -50,47 +50,47 @@ pub fn next_command<R: Read>(
 }
 
 // Reads the next line, and what it asks for.
-fn next_asked<R: Read>(
+fn next_meaning<R: Read>(
     alloc: Global,
     lines: &mut LineReader,
     input: &mut R,
-) -> io::Result<Option<Result<Asked, AllocError>>>
+) -> io::Result<Option<Result<LineMeaning, AllocError>>>
     ensures { IfOk result (λ asked. (bytes : List ℕ) → R.remaining input.old ≡ Some bytes
-        → IsAsked bytes asked (R.remaining input.new)) }
+        → IsMeaning bytes asked (R.remaining input.new)) }
 {
     match lines.read(input)? {
-        Found::Line => Ok(Some(asked_of(alloc, lines.line()))),
-        Found::LongLine { is_blank } => Ok(Some(Ok(asked_of_long(lines.line(), is_blank)))),
+        Found::Line => Ok(Some(meaning_of(alloc, lines.line()))),
+        Found::LongLine { is_blank } => Ok(Some(Ok(meaning_of_long(lines.line(), is_blank)))),
         Found::End => Ok(None),
     }
 }
 
 // What a line asks for that is not too long.
-fn asked_of(alloc: Global, line: &[u8]) -> Result<Asked, AllocError>
+fn meaning_of(alloc: Global, line: &[u8]) -> Result<LineMeaning, AllocError>
     requires { length line.now ≤ line_limit }
-    ensures { IsReadAs (spec.asked_of line.now) result }
+    ensures { IsReadAs (spec.meaning_of line.now) result }
 {
     if is_skipped(line) {
-        return Ok(Asked::Nothing);
+        return Ok(LineMeaning::Nothing);
     }
     match text_of(line) {
-        Some(_) => Asked::by(alloc, line),
-        None => Ok(Asked::Fault(UsageFault::BadLine)),
+        Some(_) => LineMeaning::by(alloc, line),
+        None => Ok(LineMeaning::Fault(UsageFault::BadLine)),
     }
 }
 
 // What a line asks for that is too long, of which this is the beginning.
-fn asked_of_long(start: &[u8], is_blank: bool) -> Asked
-    ensures { (line : List ℕ) → line_limit < length line → start.now ≡ take line_limit line → is_blank ≡ list_all is_blank_byte line
-        → result ≡ spec.asked_of line }
+fn meaning_of_long(start: &[u8], is_blank: bool) -> LineMeaning
+    ensures { (line : List ℕ) → line_limit < length line → start.now ≡ take line_limit line
+        → is_blank ≡ list_all is_blank_byte line → result ≡ spec.meaning_of line }
 {
     if is_comment(start) {
-        return Asked::Nothing;
+        return LineMeaning::Nothing;
     }
     if is_blank {
-        return Asked::Nothing;
+        return LineMeaning::Nothing;
     }
-    Asked::Fault(UsageFault::BadLine)
+    LineMeaning::Fault(UsageFault::BadLine)
 }
 
 // Whether the line is passed over.
@@ -119,7 +119,8 @@ fn is_comment(line: &[u8]) -> bool
 // The text of a line that is not too long, where it is no bad line.
 pub(crate) fn text_of(line: &[u8]) -> Option<&str>
     requires { length line.now ≤ line_limit }
-    ensures { MatchOption result (is_bad line.now ≡ true) (λ text. (is_bad line.now ≡ false) × (text.now ≡ line.now)) }
+    ensures { MatchOption result (is_bad line.now ≡ true)
+        (λ text. (is_bad line.now ≡ false) × (text.now ≡ line.now)) }
 {
     match str::from_utf8(line) {
         Ok(text) => Some(text),

@@ -8,7 +8,8 @@ use text_words::next_word;
 
 // The value of a text whose words give one value and no more.
 pub(crate) fn only_value(text: &[u8]) -> Option<&[u8]>
-    ensures { MatchOption result (only (values (words text.now)) ≡ None) (λ v. only (values (words text.now)) ≡ Some v.now) }
+    ensures { MatchOption result (only (values (words text.now)) ≡ None)
+        (λ v. only (values (words text.now)) ≡ Some v.now) }
 {
     let (first, rest) = next_word(text)?;
     if first == b"--".as_slice() {
@@ -22,7 +23,8 @@ pub(crate) fn only_value(text: &[u8]) -> Option<&[u8]>
 
 // The values of a text whose words give two values and no more.
 pub(crate) fn two_values(text: &[u8]) -> Option<(&[u8], &[u8])>
-    ensures { MatchOption result (two (values (words text.now)) ≡ None) (λ p. two (values (words text.now)) ≡ Some (p.0.now, p.1.now)) }
+    ensures { MatchOption result (two (values (words text.now)) ≡ None)
+        (λ p. two (values (words text.now)) ≡ Some (p.0.now, p.1.now)) }
 {
     let (first, rest) = next_word(text)?;
     if first == b"--".as_slice() {
@@ -37,7 +39,8 @@ pub(crate) fn two_values(text: &[u8]) -> Option<(&[u8], &[u8])>
 
 // The words of a text that has two words and no more.
 fn two_words(text: &[u8]) -> Option<(&[u8], &[u8])>
-    ensures { MatchOption result (two (Some (words text.now)) ≡ None) (λ p. two (Some (words text.now)) ≡ Some (p.0.now, p.1.now)) }
+    ensures { MatchOption result (two (Some (words text.now)) ≡ None)
+        (λ p. two (Some (words text.now)) ≡ Some (p.0.now, p.1.now)) }
 {
     let (first, rest) = next_word(text)?;
     let second = only_word(rest)?;
@@ -46,7 +49,8 @@ fn two_words(text: &[u8]) -> Option<(&[u8], &[u8])>
 
 // The word of a text that has one word and no more.
 fn only_word(text: &[u8]) -> Option<&[u8]>
-    ensures { MatchOption result (only (Some (words text.now)) ≡ None) (λ v. only (Some (words text.now)) ≡ Some v.now) }
+    ensures { MatchOption result (only (Some (words text.now)) ≡ None)
+        (λ v. only (Some (words text.now)) ≡ Some v.now) }
 {
     let (first, rest) = next_word(text)?;
     match next_word(rest) {

@@ -9,7 +9,7 @@ use Rattle.sched_events.specs.declared.events.Event.{Event}
 use Rattle.sched_events.specs.declared.refusals.Refusal.{Refusal}
 use Rattle.sched_events.specs.declared.refusals.Refusal.TheVariants as refusal
 use Rattle.sched_core.specs.Views.{all_rows, pool_rows}
-use Rattle.script_commands.specs.Asked.{wants_memory}
+use Rattle.script_commands.specs.Meanings.{wants_memory}
 use Rattle.script_commands.specs.Commands.{Request, IsGiven}
 use Rattle.script_commands.specs.declared.commands.Command.{Command}
 use Rattle.script_commands.specs.declared.commands.Command.TheVariants.{Step, ListRuns, ListTasks, ListPools}

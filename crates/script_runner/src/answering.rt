@@ -18,7 +18,8 @@ pub(crate) fn answer<W: Write>(
     request: Result<Command, CommandFault>,
     output: &mut W,
 ) -> io::Result<u8>
-    ensures { IsAnswered request schedule.old.content schedule.new.content (W.contents output.old) (W.contents output.new) result }
+    ensures { IsAnswered request schedule.old.content schedule.new.content (W.contents output.old)
+        (W.contents output.new) result }
 {
     match request {
         Ok(Command::Step(event)) => step(alloc, schedule, &event, output),
@@ -49,7 +50,8 @@ fn step<W: Write>(
     event: &Event,
     output: &mut W,
 ) -> io::Result<u8>
-    ensures { IsAnswered (Ok (Step event.now)) schedule.old.content schedule.new.content (W.contents output.old) (W.contents output.new) result }
+    ensures { IsAnswered (Ok (Step event.now)) schedule.old.content schedule.new.content
+        (W.contents output.old) (W.contents output.new) result }
 {
     match schedule.step(alloc, event) {
         Ok(answer) => {

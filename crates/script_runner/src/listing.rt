@@ -12,7 +12,8 @@ use std::io::{self, Write};
 
 // Writes a row for each task instance, and `ok`.
 pub(crate) fn put_tasks<W: Write>(output: &mut W, schedule: &Schedule) -> io::Result<()>
-    ensures { OnOk result (Appends (W.contents output.old) (W.contents output.new) (tasks_text (all_rows schedule.now.content))) }
+    ensures { OnOk result (Appends (W.contents output.old) (W.contents output.new)
+        (tasks_text (all_rows schedule.now.content))) }
 {
     put_rows(output, schedule)?;
     put_ok(output)
@@ -20,7 +21,8 @@ pub(crate) fn put_tasks<W: Write>(output: &mut W, schedule: &Schedule) -> io::Re
 
 // Writes a row for each task instance.
 fn put_rows<W: Write>(output: &mut W, schedule: &Schedule) -> io::Result<()>
-    ensures { OnOk result (Appends (W.contents output.old) (W.contents output.new) (flat_map task_line (all_rows schedule.now.content))) }
+    ensures { OnOk result (Appends (W.contents output.old) (W.contents output.new)
+        (flat_map task_line (all_rows schedule.now.content))) }
 {
     for row in schedule.instances() {
         put_task(output, &row)?;
@@ -30,7 +32,8 @@ fn put_rows<W: Write>(output: &mut W, schedule: &Schedule) -> io::Result<()>
 
 // Writes a row for each pool, and `ok`.
 pub(crate) fn put_pools<W: Write>(output: &mut W, schedule: &Schedule) -> io::Result<()>
-    ensures { OnOk result (Appends (W.contents output.old) (W.contents output.new) (pools_text (pool_rows schedule.now.content))) }
+    ensures { OnOk result (Appends (W.contents output.old) (W.contents output.new)
+        (pools_text (pool_rows schedule.now.content))) }
 {
     put_pool_rows(output, schedule)?;
     put_ok(output)
@@ -38,7 +41,8 @@ pub(crate) fn put_pools<W: Write>(output: &mut W, schedule: &Schedule) -> io::Re
 
 // Writes a row for each pool.
 fn put_pool_rows<W: Write>(output: &mut W, schedule: &Schedule) -> io::Result<()>
-    ensures { OnOk result (Appends (W.contents output.old) (W.contents output.new) (flat_map pool_line (pool_rows schedule.now.content))) }
+    ensures { OnOk result (Appends (W.contents output.old) (W.contents output.new)
+        (flat_map pool_line (pool_rows schedule.now.content))) }
 {
     for row in schedule.pools() {
         put_pool(output, &row)?;

@@ -22,7 +22,8 @@ pub fn run_script<R: Read, W: Write>(
     input: &mut R,
     output: &mut W,
 ) -> io::Result<u8>
-    ensures { IsScriptRun (R.remaining input.old) schedule.old.content schedule.new.content (W.contents output.old) (W.contents output.new) result }
+    ensures { IsScriptRun (R.remaining input.old) schedule.old.content schedule.new.content
+        (W.contents output.old) (W.contents output.new) result }
 {
     let mut status = 0;
     for _command in 0..MOST_COMMANDS {

@@ -25,7 +25,8 @@ pub fn run_serial<R: BufRead + Drop, W: Write + Drop>(
     mut input: R,
     mut output: W,
 ) -> Result<(Schedule, u8), Refusal>
-    ensures run { IfOk result (λ end. IsSerialRun (R.Read.remaining input) lanes end.0.content end.1) }
+    ensures run { IfOk result (λ end. IsSerialRun (R.Read.remaining input) lanes end.0.content
+        end.1) }
     ensures refused { IfErr result (IsRefusal (empty_schedule ceilings) (Restart lanes)) }
 {
     let mut lines = LineReader::new(alloc)?;

@@ -1,5 +1,5 @@
 //! Graphs and schedules of the greatest size.
-use sched_core::{Event, Limits, Moment, Outcome, Schedule, Stage, Text};
+use sched_core::{Event, GraphText, Limits, Moment, Outcome, Schedule, Stage};
 use script_runner::run_serial;
 use std::alloc::{AllocError, Global};
 use std::test::Fail;
@@ -45,7 +45,7 @@ fn a_graph_may_have_256_tasks(rt: HostRuntime) -> Result<(), Fail> {
 // The events by which a graph of 256 tasks gets a hundred days.
 fn hundred_days(alloc: Global) -> Result<Vec<Event>, Fail> {
     let day = Moment::read("2024-04-10").map_err(|_| "no moment")?;
-    let text = Text::from_string(file(alloc, 256, false)?);
+    let text = GraphText::from_string(file(alloc, 256, false)?);
     let mut events = vec![in alloc; Event::Restart(64), Event::Load(text)]?;
     for _tick in 0..10 {
         events.push(Event::Tick(day))?;

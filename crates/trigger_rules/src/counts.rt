@@ -66,7 +66,8 @@ impl Counts {
     /// Counts one more upstream.
     pub fn add(&mut self, state: State)
         requires { total self.old < 256 }
-        ensures counted { (s : List StateOf) → self.old ≡ counts_of s → self.new ≡ counts_of (s ++ state ∷ []) }
+        ensures counted { (s : List StateOf) → self.old ≡ counts_of s
+            → self.new ≡ counts_of (s ++ state ∷ []) }
         ensures one { total self.new ≡ total self.old + 1 }
     {
         match state {
@@ -90,7 +91,8 @@ impl Counts {
     // How many are failed or upstream_failed.
     pub(crate) fn bad(&self) -> u16
         ensures value { result ≡ self.now.failed + self.now.upstream_failed }
-        ensures bound { self.now.success + (result + (self.now.skipped + self.now.unfinished)) ≤ 256 }
+        ensures bound { self.now.success + (result + (self.now.skipped + self.now.unfinished)) ≤
+            256 }
     {
         self.failed + self.upstream_failed
     }

@@ -1,7 +1,7 @@
 //! What an event leaves: `= CLOCK, N of LANES in flight, next SERIAL`, and for each run, by graph id and date, its phase and each task with
 //! the state of its instance, in the order of the graph's places.
 use graph_file::TaskSpec;
-use sched_core::{Phase, Run, Schedule};
+use sched_core::{Run, RunPhase, Schedule};
 use std::io::{self, Write};
 
 /// Writes what the schedule holds, in one line.
@@ -33,12 +33,12 @@ fn put_run<W: Write>(schedule: &Schedule, run: &Run, output: &mut W) -> io::Resu
     Ok(())
 }
 
-fn phase_name(phase: Phase) -> &'static str {
+fn phase_name(phase: RunPhase) -> &'static str {
     match phase {
-        Phase::Queued => "queued",
-        Phase::Running => "running",
-        Phase::Success => "success",
-        Phase::Failed => "failed",
+        RunPhase::Queued => "queued",
+        RunPhase::Running => "running",
+        RunPhase::Success => "success",
+        RunPhase::Failed => "failed",
     }
 }
 

@@ -1,20 +1,20 @@
 use Rattle.std.proofs.Common.{◌≡◌, ◌+◌, ◌<◌, ap, arith, ℕ, length}
 use Rattle.sched_state.proofs.ElementLemmas.{element_at}
 use Rattle.sched_model.specs.Schedule.{Schedule}
-use Rattle.sched_clearing.specs.Namings.{Parts}
+use Rattle.sched_clearing.specs.Selections.{SelectionParts}
 use Rattle.sched_clearing.proofs.ClearLemmas.{clear_begins, clear_there, clear_turn, clear_long, clear_over, count_begins, count_turn, count_over}
 use Rattle.sched_clearing.proofs.clearing.clear.Goals as goal
 
 pub loop-position-init : goal.loop-position-init
 loop-position-init c = record {
-  draft = clear_begins c.args.draft.now c.args.naming.now;
+  draft = clear_begins c.args.draft.now c.args.selection.now;
   few = omega arith;
-  count = λ few. count_begins c.args.draft.now c.args.naming.now;
+  count = λ few. count_begins c.args.draft.now c.args.selection.now;
 }
 
 pub clear_run-requires : goal.clear_run-requires
 clear_run-requires c =
-    let long = clear_long c.args.draft.now c.loop-position.draft c.args.naming.now c.loop-position.position c.loop-position.invariant.draft in
+    let long = clear_long c.args.draft.now c.loop-position.draft c.args.selection.now c.loop-position.position c.loop-position.invariant.draft in
     let same = ap length c.runs-position-end.ensures in
     omega (arith, long, same, c.loop-position-test.true)
 
@@ -22,7 +22,7 @@ pub loop-position-preserved : goal.loop-position-preserved
 loop-position-preserved c =
     let a : Schedule = c.args.draft.now in
     let d : Schedule = c.loop-position.draft in
-    let k : Parts = c.args.naming.now in
+    let k : SelectionParts = c.args.selection.now in
     let n : ℕ = c.loop-position.position in
     let same = ap length c.runs-position-end.ensures in
     let inside : n < length a.runs = omega (arith, same, c.loop-position-test.true) in
@@ -40,9 +40,9 @@ loop-position-preserved c =
 pub returns-clause-draft : goal.returns-clause-draft
 returns-clause-draft c s =
     let same = ap length c.runs-position-end.ensures in
-    clear_over c.args.draft.now c.loop-position.draft c.args.naming.now c.loop-position.position (omega (arith, same, c.loop-position-test.false)) c.loop-position.invariant.draft s
+    clear_over c.args.draft.now c.loop-position.draft c.args.selection.now c.loop-position.position (omega (arith, same, c.loop-position-test.false)) c.loop-position.invariant.draft s
 
 pub returns-clause-count : goal.returns-clause-count
 returns-clause-count c few =
     let same = ap length c.runs-position-end.ensures in
-    count_over c.args.draft.now c.args.naming.now c.loop-position.position c.loop-position.count _ (omega (arith, same, c.loop-position-test.false)) (c.loop-position.invariant.count few)
+    count_over c.args.draft.now c.args.selection.now c.loop-position.position c.loop-position.count _ (omega (arith, same, c.loop-position-test.false)) (c.loop-position.invariant.count few)

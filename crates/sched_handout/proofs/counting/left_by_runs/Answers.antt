@@ -3,7 +3,7 @@ use Rattle.std.specs.List.{zip}
 use Rattle.std.proofs.lemmas.Option.{slice_get_read}
 use Rattle.graph_file.specs.declared.task_specs.TaskSpec.{TaskSpec}
 use Rattle.dag_check.specs.Graphs.{Dag}
-use Rattle.sched_state.specs.declared.graphs.Graph.{Graph}
+use Rattle.sched_state.specs.declared.graphs.LoadedGraph.{LoadedGraph}
 use Rattle.sched_state.specs.declared.runs.Run.{Run}
 use Rattle.sched_model.specs.Schedule.{Schedule, no_dag, tasks_of}
 use Rattle.sched_model.specs.States.{open_of}
@@ -25,6 +25,6 @@ loop-run-preserved c =
       | in-Some w ↦
           let tasks = sym (ap (λ (o : Option Dag). (unwrap_or o no_dag).tasks) w.in-Some.ensures) in
           w.left-is ∙ (w.left_by_run-left.ensures ∙ ap (λ (ts : List TaskSpec). left_by left (flat_map open_of (zip ts r.instances))) tasks)
-      | in_default w ↦ w.left-is ∙ sym (ap (λ (o : Option Graph). left_by left (flat_map open_of (zip (unwrap_or (option_map (λ (g : Graph). g.dag) o) no_dag).tasks r.instances))) w.in_default.ensures)
+      | in_default w ↦ w.left-is ∙ sym (ap (λ (o : Option LoadedGraph). left_by left (flat_map open_of (zip (unwrap_or (option_map (λ (g : LoadedGraph). g.dag) o) no_dag).tasks r.instances))) w.in_default.ensures)
     ] in
     left_turn (λ (q : Run). flat_map open_of (zip (tasks_of a q) q.instances)) rs n r left c.match-dag.left there next ∙ c.loop-run.invariant

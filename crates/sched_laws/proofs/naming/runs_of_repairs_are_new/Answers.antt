@@ -1,10 +1,10 @@
 use Rattle.std.proofs.Common.{◌≡◌, true, false, is_some, is_none, Option, Some, None, refl}
-use Rattle.sched_state.specs.declared.graphs.Graph.{Graph}
+use Rattle.sched_state.specs.declared.graphs.LoadedGraph.{LoadedGraph}
 use Rattle.sched_model.specs.Schedule.{graph_named}
 use Rattle.sched_laws.proofs.ByHandLemmas.{by_hand_new, backfill_new}
 use Rattle.sched_laws.proofs.naming.runs_of_repairs_are_new.Goals as goal
 
-there : (o : Option Graph) → is_none o ≡ false → is_some o ≡ true
+there : (o : Option LoadedGraph) → is_none o ≡ false → is_some o ≡ true
 there None e = absurd (let c : ◌≡◌ true false = e in cc)
 there (Some g) e = refl
 

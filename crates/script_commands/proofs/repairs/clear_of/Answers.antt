@@ -1,8 +1,8 @@
 use Rattle.std.proofs.Common.{◌≡◌, ◌∙◌, ℕ, List, Option, ap, sym}
 use Rattle.std.specs.Option.{option_copied}
 use Rattle.sched_events.specs.declared.events.Event.TheVariants.{Clear}
-use Rattle.script_commands.specs.Asked.{can_lack}
-use Rattle.script_commands.specs.declared.asked.Asked.TheVariants.{This}
+use Rattle.script_commands.specs.Meanings.{needs_memory}
+use Rattle.script_commands.specs.declared.meanings.LineMeaning.TheVariants.{This}
 use Rattle.script_commands.specs.declared.commands.Command.TheVariants.{Step}
 use Rattle.script_commands.proofs.RepairLemmas.{at_ok, clear-at, read-lack}
 use Rattle.script_commands.proofs.repairs.clear_of.Goals as goal
@@ -14,13 +14,13 @@ returns-in_default-task_of c = λ ps h.
 
 pub returns-in_err-graph : goal.returns-in_err-graph
 returns-in_err-graph c = λ ps h.
-    read-lack _ c.from_residual.result c.from_residual.ensures.0 (ap can_lack
+    read-lack _ c.from_residual.result c.from_residual.ensures.0 (ap needs_memory
     (clear-at ps c.args.parts c.in-Three.graph c.in-Three.from c.in-Three.to c.in-Ok.moments.0 c.in-Ok.moments.1 h c.in-Three.is c.in-Some.ensures.0 (sym c.moments_of.ensures ∙ c.in-Ok.is)
     ∙ (c.in-Some-task_of.ensures _).0))
 
 pub returns-in_err-task : goal.returns-in_err-task
 returns-in_err-task c = λ ps h.
-    read-lack _ c.from_residual-in_err-task.result c.from_residual-in_err-task.ensures.0 (ap can_lack
+    read-lack _ c.from_residual-in_err-task.result c.from_residual-in_err-task.ensures.0 (ap needs_memory
     (clear-at ps c.args.parts c.in-Three.graph c.in-Three.from c.in-Three.to c.in-Ok.moments.0 c.in-Ok.moments.1 h c.in-Three.is c.in-Some.ensures.0 (sym c.moments_of.ensures ∙ c.in-Ok.is)
     ∙ (c.in-Some-task_of.ensures _).0))
 

@@ -11,12 +11,12 @@ use Rattle.dag_check.specs.declared.graphs.Direction.TheVariants.{Upstream, Down
 use Rattle.dag_check.proofs.GraphLemmas.{rows-same, back-same, ups-down, downs-all, downs-up, reached-of, tasks-long}
 use Rattle.dag_check.proofs.graphs.Graph.reach.Goals as goal
 
-pub reach_down-requires-clause-down : goal.reach_down-requires-clause-down
-reach_down-requires-clause-down c =
+pub reach_earlier-requires-clause-down : goal.reach_earlier-requires-clause-down
+reach_earlier-requires-clause-down c =
     subst (λ (rs : List (Vec ℕ Global)). LeadsDown (edges_of rs)) (sym c.deref.ensures.value) (ups-down c.self.inside c.self.invariant)
 
-pub reach_up-requires-clause-up : goal.reach_up-requires-clause-up
-reach_up-requires-clause-up c =
+pub reach_later-requires-clause-up : goal.reach_later-requires-clause-up
+reach_later-requires-clause-up c =
     subst (λ (rs : List (Vec ℕ Global)). LeadsUp (edges_of rs) (length rs)) (sym c.deref-in-Downstream.ensures.value) (downs-up c.self.inside c.self.invariant)
 
 pub returns-in_ok-marks-in-Upstream : goal.returns-in_ok-marks-in-Upstream

@@ -4,7 +4,7 @@ use Rattle.sched_model.specs.Schedule.{Schedule}
 use Rattle.sched_model.specs.Handout.{last_serial}
 use Rattle.sched_model.specs.States.{in_flight}
 use Rattle.sched_draft.specs.Books.{pools_in}
-use Rattle.sched_core.specs.Changes.{Held}
+use Rattle.sched_core.specs.Changes.{ScheduleValue}
 use Rattle.sched_core.specs.Inside.{open_in}
 use Rattle.sched_core.proofs.ViewLemmas.{flight_is, flight_small}
 use Rattle.sched_core.proofs.schedules.Schedule.in_flight.Goals as goal
@@ -17,4 +17,4 @@ open_in_all-requires c =
 pub returns : goal.returns
 returns c =
     let a : Schedule = record { limits = c.self.inside.limits; graphs = c.self.inside.graphs.items; pools = pools_in c.self.inside.pools.pools; now = c.self.inside.clock; lanes = c.self.inside.lanes; next = c.self.inside.next; runs = c.self.inside.runs.items } in
-    c.open_in_all.ensures ∙ (ap (sum_by open_in) c.as_slice.ensures.value ∙ (sym (flight_is a c.self.invariant.kept.sound) ∙ ap (λ (h : Held). in_flight h.content) c.self.view_is))
+    c.open_in_all.ensures ∙ (ap (sum_by open_in) c.as_slice.ensures.value ∙ (sym (flight_is a c.self.invariant.kept.sound) ∙ ap (λ (h : ScheduleValue). in_flight h.content) c.self.view_is))

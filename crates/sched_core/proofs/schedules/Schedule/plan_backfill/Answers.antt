@@ -3,16 +3,16 @@ use Rattle.std.proofs.lemmas.Bool.Decides.{nat_tests}
 use Rattle.std.proofs.lemmas.Result.{err_from_is_err_and}
 use Rattle.sched_model.specs.NamedRuns.{named_by_backfill}
 use Rattle.sched_model.specs.Schedule.{Schedule}
-use Rattle.sched_naming.specs.ByHand.{IsBackfillOf}
-use Rattle.sched_naming.specs.declared.backfills.Backfill.{Backfill as Found}
+use Rattle.sched_creation.specs.ByHand.{IsBackfillOf}
+use Rattle.sched_creation.specs.declared.backfills.Backfill.{Backfill as Found}
 use Rattle.sched_events.specs.Events.{set_back_by}
-use Rattle.sched_events.specs.Kept.{IsKept}
+use Rattle.sched_events.specs.SettledAndSound.{IsSettledAndSound}
 use Rattle.sched_events.specs.Outcomes.{IsRefusal}
 use Rattle.sched_events.specs.declared.answers.Answer.{Answer}
 use Rattle.sched_events.specs.declared.events.Event.TheVariants.{Backfill}
 use Rattle.sched_events.specs.declared.refusals.Refusal.{Refusal}
 use Rattle.sched_core.specs.Books.{IsCounted}
-use Rattle.sched_core.specs.Changes.{Held}
+use Rattle.sched_core.specs.Changes.{ScheduleValue}
 use Rattle.sched_core.specs.Plans.{run_id}
 use Rattle.sched_core.specs.Repairs.{IsSetBack, reset_of}
 use Rattle.sched_core.proofs.BookLemmas.{repair_counted}
@@ -30,7 +30,7 @@ returns-in_err-cleared-clause-refused c =
     let h : IsBackfillOf a id c.args.from c.args.to most (Some b) =
     found_is a d id c.args.from c.args.to most b c.in_ok-draft.ensures (subst (IsBackfillOf d id c.args.from c.args.to most) c.in-Some.is c.in_ok-named.ensures) in
     let good : nat_lt c.args.to c.args.from ≡ false = grind (arith, nat_tests, c.lt.ensures, c.if-lt.false) in
-    let kept : IsKept a = subst (λ (s : Held). IsKept s.content) c.self.view_is c.self.invariant.kept in
+    let kept : IsSettledAndSound a = subst (λ (s : ScheduleValue). IsSettledAndSound s.content) c.self.view_is c.self.invariant.kept in
     let r : Refusal = c.in_err-cleared.field-0.0 in
     let e : Schedule = c.reset_if.new.draft in
     let set = subst (λ (ds : List ℕ). IsSetBack (reset_of c.args.reset id ds) d e (Err r)) c.deref.ensures.value c.in_err-cleared.ensures in
@@ -38,8 +38,8 @@ returns-in_err-cleared-clause-refused c =
     let shown = err_from_is_err_and c.from_residual-in_err-cleared.result c.from_residual-in_err-cleared.ensures.1 in
     rw shown.1 (subst (IsRefusal a (Backfill id c.args.from c.args.to c.args.reset)) (sym shown.2) waits)
 
-pub finished-requires-clause-sound : goal.finished-requires-clause-sound
-finished-requires-clause-sound c =
+pub finish-requires-clause-sound : goal.finish-requires-clause-sound
+finish-requires-clause-sound c =
     let a : Schedule = c.args.self.now.content in
     let d : Schedule = c.in_ok-draft.draft in
     let id : List ℕ = c.args.graph.now in
@@ -48,9 +48,9 @@ finished-requires-clause-sound c =
     let h : IsBackfillOf a id c.args.from c.args.to most (Some b) =
     found_is a d id c.args.from c.args.to most b c.in_ok-draft.ensures (subst (IsBackfillOf d id c.args.from c.args.to most) c.in-Some.is c.in_ok-named.ensures) in
     let good : nat_lt c.args.to c.args.from ≡ false = grind (arith, nat_tests, c.lt.ensures, c.if-lt.false) in
-    let kept : IsKept a = subst (λ (s : Held). IsKept s.content) c.self.view_is c.self.invariant.kept in
-    let limit : c.self.inside.limits.runs ≡ a.limits.runs = ap (λ (s : Held). s.content.limits.runs) c.self.view_is in
-    let long : length c.self.inside.runs.items ≡ length a.runs = ap (λ (s : Held). length s.content.runs) c.self.view_is in
+    let kept : IsSettledAndSound a = subst (λ (s : ScheduleValue). IsSettledAndSound s.content) c.self.view_is c.self.invariant.kept in
+    let limit : c.self.inside.limits.runs ≡ a.limits.runs = ap (λ (s : ScheduleValue). s.content.limits.runs) c.self.view_is in
+    let long : length c.self.inside.runs.items ≡ length a.runs = ap (λ (s : ScheduleValue). length s.content.runs) c.self.view_is in
     let few : length a.runs ≤ a.limits.runs = grind (arith, nat_tests, kept.sound.few_runs) in
     let room : most ≡ a.limits.runs - length a.runs = omega (arith, c.saturating_sub-room.ensures, c.runs.ensures.value, c.len.ensures, limit, long) in
     let fits = back_room a id c.args.from c.args.to most b false h room few c.if-named.false in
@@ -59,8 +59,8 @@ finished-requires-clause-sound c =
     back_done a d e c.add.new.draft id c.args.from c.args.to most c.args.reset b c.in_ok-made.made c.in_ok-cleared.cleared c.in_ok-draft.ensures h good (subst (λ (ds : List ℕ). IsSetBack (reset_of c.args.reset id ds) d e (Ok c.in_ok-cleared.cleared)) c.deref.ensures.value c.in_ok-cleared.ensures) c.if-named.false fits c.in_ok-add.ensures (c.in_ok-made.ensures ∙ ap (map run_id) c.deref-2.ensures.value) in
     draft_sound (Backfill id c.args.from c.args.to c.args.reset) a c.add.new.draft tt done.accepted kept done.is
 
-pub finished-requires-clause-kept : goal.finished-requires-clause-kept
-finished-requires-clause-kept c =
+pub finish-requires-clause-kept : goal.finish-requires-clause-kept
+finish-requires-clause-kept c =
     let a : Schedule = c.args.self.now.content in
     let d : Schedule = c.in_ok-draft.draft in
     let id : List ℕ = c.args.graph.now in
@@ -69,9 +69,9 @@ finished-requires-clause-kept c =
     let h : IsBackfillOf a id c.args.from c.args.to most (Some b) =
     found_is a d id c.args.from c.args.to most b c.in_ok-draft.ensures (subst (IsBackfillOf d id c.args.from c.args.to most) c.in-Some.is c.in_ok-named.ensures) in
     let good : nat_lt c.args.to c.args.from ≡ false = grind (arith, nat_tests, c.lt.ensures, c.if-lt.false) in
-    let kept : IsKept a = subst (λ (s : Held). IsKept s.content) c.self.view_is c.self.invariant.kept in
-    let limit : c.self.inside.limits.runs ≡ a.limits.runs = ap (λ (s : Held). s.content.limits.runs) c.self.view_is in
-    let long : length c.self.inside.runs.items ≡ length a.runs = ap (λ (s : Held). length s.content.runs) c.self.view_is in
+    let kept : IsSettledAndSound a = subst (λ (s : ScheduleValue). IsSettledAndSound s.content) c.self.view_is c.self.invariant.kept in
+    let limit : c.self.inside.limits.runs ≡ a.limits.runs = ap (λ (s : ScheduleValue). s.content.limits.runs) c.self.view_is in
+    let long : length c.self.inside.runs.items ≡ length a.runs = ap (λ (s : ScheduleValue). length s.content.runs) c.self.view_is in
     let few : length a.runs ≤ a.limits.runs = grind (arith, nat_tests, kept.sound.few_runs) in
     let room : most ≡ a.limits.runs - length a.runs = omega (arith, c.saturating_sub-room.ensures, c.runs.ensures.value, c.len.ensures, limit, long) in
     let fits = back_room a id c.args.from c.args.to most b false h room few c.if-named.false in
@@ -80,8 +80,8 @@ finished-requires-clause-kept c =
     back_done a d e c.add.new.draft id c.args.from c.args.to most c.args.reset b c.in_ok-made.made c.in_ok-cleared.cleared c.in_ok-draft.ensures h good (subst (λ (ds : List ℕ). IsSetBack (reset_of c.args.reset id ds) d e (Ok c.in_ok-cleared.cleared)) c.deref.ensures.value c.in_ok-cleared.ensures) c.if-named.false fits c.in_ok-add.ensures (c.in_ok-made.ensures ∙ ap (map run_id) c.deref-2.ensures.value) in
     draft_kept (Backfill id c.args.from c.args.to c.args.reset) a c.add.new.draft tt done.accepted kept done.is
 
-pub finished-requires-clause-counted : goal.finished-requires-clause-counted
-finished-requires-clause-counted c =
+pub finish-requires-clause-counted : goal.finish-requires-clause-counted
+finish-requires-clause-counted c =
     let a : Schedule = c.args.self.now.content in
     let d : Schedule = c.in_ok-draft.draft in
     let id : List ℕ = c.args.graph.now in
@@ -90,16 +90,16 @@ finished-requires-clause-counted c =
     let h : IsBackfillOf a id c.args.from c.args.to most (Some b) =
     found_is a d id c.args.from c.args.to most b c.in_ok-draft.ensures (subst (IsBackfillOf d id c.args.from c.args.to most) c.in-Some.is c.in_ok-named.ensures) in
     let good : nat_lt c.args.to c.args.from ≡ false = grind (arith, nat_tests, c.lt.ensures, c.if-lt.false) in
-    let kept : IsKept a = subst (λ (s : Held). IsKept s.content) c.self.view_is c.self.invariant.kept in
-    let limit : c.self.inside.limits.runs ≡ a.limits.runs = ap (λ (s : Held). s.content.limits.runs) c.self.view_is in
-    let long : length c.self.inside.runs.items ≡ length a.runs = ap (λ (s : Held). length s.content.runs) c.self.view_is in
+    let kept : IsSettledAndSound a = subst (λ (s : ScheduleValue). IsSettledAndSound s.content) c.self.view_is c.self.invariant.kept in
+    let limit : c.self.inside.limits.runs ≡ a.limits.runs = ap (λ (s : ScheduleValue). s.content.limits.runs) c.self.view_is in
+    let long : length c.self.inside.runs.items ≡ length a.runs = ap (λ (s : ScheduleValue). length s.content.runs) c.self.view_is in
     let few : length a.runs ≤ a.limits.runs = grind (arith, nat_tests, kept.sound.few_runs) in
     let room : most ≡ a.limits.runs - length a.runs = omega (arith, c.saturating_sub-room.ensures, c.runs.ensures.value, c.len.ensures, limit, long) in
     let fits = back_room a id c.args.from c.args.to most b false h room few c.if-named.false in
     let e : Schedule = c.reset_if.new.draft in
     let done : IsFilled a id c.args.from c.args.to c.args.reset c.add.new.draft c.in_ok-made.made c.in_ok-cleared.cleared =
     back_done a d e c.add.new.draft id c.args.from c.args.to most c.args.reset b c.in_ok-made.made c.in_ok-cleared.cleared c.in_ok-draft.ensures h good (subst (λ (ds : List ℕ). IsSetBack (reset_of c.args.reset id ds) d e (Ok c.in_ok-cleared.cleared)) c.deref.ensures.value c.in_ok-cleared.ensures) c.if-named.false fits c.in_ok-add.ensures (c.in_ok-made.ensures ∙ ap (map run_id) c.deref-2.ensures.value) in
-    let counted : IsCounted a = subst (λ (s : Held). IsCounted s.content) c.self.view_is c.self.invariant.counted in
+    let counted : IsCounted a = subst (λ (s : ScheduleValue). IsCounted s.content) c.self.view_is c.self.invariant.counted in
     subst IsCounted (sym done.is) (repair_counted (named_by_backfill a id c.args.from c.args.to) (set_back_by (Backfill id c.args.from c.args.to c.args.reset) a) a counted)
 
 pub returns-clause-accepted : goal.returns-clause-accepted
@@ -112,14 +112,14 @@ returns-clause-accepted c =
     let h : IsBackfillOf a id c.args.from c.args.to most (Some b) =
     found_is a d id c.args.from c.args.to most b c.in_ok-draft.ensures (subst (IsBackfillOf d id c.args.from c.args.to most) c.in-Some.is c.in_ok-named.ensures) in
     let good : nat_lt c.args.to c.args.from ≡ false = grind (arith, nat_tests, c.lt.ensures, c.if-lt.false) in
-    let kept : IsKept a = subst (λ (s : Held). IsKept s.content) c.self.view_is c.self.invariant.kept in
-    let limit : c.self.inside.limits.runs ≡ a.limits.runs = ap (λ (s : Held). s.content.limits.runs) c.self.view_is in
-    let long : length c.self.inside.runs.items ≡ length a.runs = ap (λ (s : Held). length s.content.runs) c.self.view_is in
+    let kept : IsSettledAndSound a = subst (λ (s : ScheduleValue). IsSettledAndSound s.content) c.self.view_is c.self.invariant.kept in
+    let limit : c.self.inside.limits.runs ≡ a.limits.runs = ap (λ (s : ScheduleValue). s.content.limits.runs) c.self.view_is in
+    let long : length c.self.inside.runs.items ≡ length a.runs = ap (λ (s : ScheduleValue). length s.content.runs) c.self.view_is in
     let few : length a.runs ≤ a.limits.runs = grind (arith, nat_tests, kept.sound.few_runs) in
     let room : most ≡ a.limits.runs - length a.runs = omega (arith, c.saturating_sub-room.ensures, c.runs.ensures.value, c.len.ensures, limit, long) in
     let fits = back_room a id c.args.from c.args.to most b false h room few c.if-named.false in
     let e : Schedule = c.reset_if.new.draft in
     let done : IsFilled a id c.args.from c.args.to c.args.reset c.add.new.draft c.in_ok-made.made c.in_ok-cleared.cleared =
     back_done a d e c.add.new.draft id c.args.from c.args.to most c.args.reset b c.in_ok-made.made c.in_ok-cleared.cleared c.in_ok-draft.ensures h good (subst (λ (ds : List ℕ). IsSetBack (reset_of c.args.reset id ds) d e (Ok c.in_ok-cleared.cleared)) c.deref.ensures.value c.in_ok-cleared.ensures) c.if-named.false fits c.in_ok-add.ensures (c.in_ok-made.ensures ∙ ap (map run_id) c.deref-2.ensures.value) in
-    draft_planned (Backfill id c.args.from c.args.to c.args.reset) a c.add.new.draft _ c.in_ok-finished.field-0 tt done.accepted done.is
-    (told_by (Backfill id c.args.from c.args.to c.args.reset) a c.quiet_answer.result c.in_ok-made.made _ c.in_ok-cleared.cleared c.quiet_answer.ensures done.ids_is (ap (λ (q : Answer). q.more) c.quiet_answer.ensures) done.count_is) c.in_ok-finished.ensures
+    draft_planned (Backfill id c.args.from c.args.to c.args.reset) a c.add.new.draft _ c.in_ok-finish.field-0 tt done.accepted done.is
+    (told_by (Backfill id c.args.from c.args.to c.args.reset) a c.quiet_answer.result c.in_ok-made.made _ c.in_ok-cleared.cleared c.quiet_answer.ensures done.ids_is (ap (λ (q : Answer). q.more) c.quiet_answer.ensures) done.count_is) c.in_ok-finish.ensures

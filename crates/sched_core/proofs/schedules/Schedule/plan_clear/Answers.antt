@@ -3,14 +3,14 @@ use Rattle.std.proofs.lemmas.Bool.Decides.{nat_tests}
 use Rattle.std.proofs.lemmas.Result.{err_from_is_err_and}
 use Rattle.sched_state.specs.declared.clearings.Clearing.{Clearing}
 use Rattle.sched_model.specs.Schedule.{Schedule}
-use Rattle.sched_clearing.specs.Namings.{Parts, IsClear}
+use Rattle.sched_clearing.specs.Selections.{SelectionParts, IsClear}
 use Rattle.sched_events.specs.Events.{set_back_by}
-use Rattle.sched_events.specs.Kept.{IsKept}
+use Rattle.sched_events.specs.SettledAndSound.{IsSettledAndSound}
 use Rattle.sched_events.specs.Outcomes.{IsRefusal}
 use Rattle.sched_events.specs.declared.answers.Answer.{Answer}
 use Rattle.sched_events.specs.declared.events.Event.TheVariants.{Clear}
 use Rattle.sched_core.specs.Books.{IsCounted}
-use Rattle.sched_core.specs.Changes.{Held}
+use Rattle.sched_core.specs.Changes.{ScheduleValue}
 use Rattle.sched_core.proofs.BookLemmas.{repair_counted}
 use Rattle.sched_core.proofs.PlanLemmas.{draft_sound, draft_kept, draft_planned, told_by}
 use Rattle.sched_core.proofs.RepairLemmas.{cleared_is, clear_waits, IsCleared, clear_done}
@@ -20,52 +20,52 @@ pub returns-in_err-cleared-clause-refused : goal.returns-in_err-cleared-clause-r
 returns-in_err-cleared-clause-refused c =
     let a : Schedule = c.args.self.now.content in
     let x : Clearing = c.args.clearing.now in
-    let n : Parts = c.in-Ok.naming in
+    let n : SelectionParts = c.in-Ok.selection in
     let h : IsClear a x (Ok n) = cleared_is a c.in_ok-draft.draft x n c.in_ok-draft.ensures (subst (IsClear c.in_ok-draft.draft x) c.in-Ok.is c.named_by_clear.ensures) in
     let good : nat_lt x.to x.from ≡ false = grind (arith, nat_tests, c.lt.ensures, c.if-lt.false) in
     let waits : IsRefusal a (Clear x) c.in_err-cleared.field-0.0 = clear_waits a c.in_ok-draft.draft c.set_back.new.draft x n c.in_err-cleared.field-0.0 c.in_ok-draft.ensures h good c.in_err-cleared.ensures in
     let shown = err_from_is_err_and c.from_residual-in_err-cleared.result c.from_residual-in_err-cleared.ensures.1 in
     rw shown.1 (subst (IsRefusal a (Clear x)) (sym shown.2) waits)
 
-pub finished-requires-clause-sound : goal.finished-requires-clause-sound
-finished-requires-clause-sound c =
+pub finish-requires-clause-sound : goal.finish-requires-clause-sound
+finish-requires-clause-sound c =
     let a : Schedule = c.args.self.now.content in
     let x : Clearing = c.args.clearing.now in
-    let n : Parts = c.in-Ok.naming in
+    let n : SelectionParts = c.in-Ok.selection in
     let h : IsClear a x (Ok n) = cleared_is a c.in_ok-draft.draft x n c.in_ok-draft.ensures (subst (IsClear c.in_ok-draft.draft x) c.in-Ok.is c.named_by_clear.ensures) in
     let good : nat_lt x.to x.from ≡ false = grind (arith, nat_tests, c.lt.ensures, c.if-lt.false) in
     let done : IsCleared a x c.set_back.new.draft c.in_ok-cleared.cleared = clear_done a c.in_ok-draft.draft c.set_back.new.draft x n c.in_ok-cleared.cleared c.in_ok-draft.ensures h good c.in_ok-cleared.ensures in
-    draft_sound (Clear x) a c.set_back.new.draft tt done.accepted (subst (λ (s : Held). IsKept s.content) c.self.view_is c.self.invariant.kept) done.is
+    draft_sound (Clear x) a c.set_back.new.draft tt done.accepted (subst (λ (s : ScheduleValue). IsSettledAndSound s.content) c.self.view_is c.self.invariant.kept) done.is
 
-pub finished-requires-clause-kept : goal.finished-requires-clause-kept
-finished-requires-clause-kept c =
+pub finish-requires-clause-kept : goal.finish-requires-clause-kept
+finish-requires-clause-kept c =
     let a : Schedule = c.args.self.now.content in
     let x : Clearing = c.args.clearing.now in
-    let n : Parts = c.in-Ok.naming in
+    let n : SelectionParts = c.in-Ok.selection in
     let h : IsClear a x (Ok n) = cleared_is a c.in_ok-draft.draft x n c.in_ok-draft.ensures (subst (IsClear c.in_ok-draft.draft x) c.in-Ok.is c.named_by_clear.ensures) in
     let good : nat_lt x.to x.from ≡ false = grind (arith, nat_tests, c.lt.ensures, c.if-lt.false) in
     let done : IsCleared a x c.set_back.new.draft c.in_ok-cleared.cleared = clear_done a c.in_ok-draft.draft c.set_back.new.draft x n c.in_ok-cleared.cleared c.in_ok-draft.ensures h good c.in_ok-cleared.ensures in
-    draft_kept (Clear x) a c.set_back.new.draft tt done.accepted (subst (λ (s : Held). IsKept s.content) c.self.view_is c.self.invariant.kept) done.is
+    draft_kept (Clear x) a c.set_back.new.draft tt done.accepted (subst (λ (s : ScheduleValue). IsSettledAndSound s.content) c.self.view_is c.self.invariant.kept) done.is
 
-pub finished-requires-clause-counted : goal.finished-requires-clause-counted
-finished-requires-clause-counted c =
+pub finish-requires-clause-counted : goal.finish-requires-clause-counted
+finish-requires-clause-counted c =
     let a : Schedule = c.args.self.now.content in
     let x : Clearing = c.args.clearing.now in
-    let n : Parts = c.in-Ok.naming in
+    let n : SelectionParts = c.in-Ok.selection in
     let h : IsClear a x (Ok n) = cleared_is a c.in_ok-draft.draft x n c.in_ok-draft.ensures (subst (IsClear c.in_ok-draft.draft x) c.in-Ok.is c.named_by_clear.ensures) in
     let good : nat_lt x.to x.from ≡ false = grind (arith, nat_tests, c.lt.ensures, c.if-lt.false) in
     let done : IsCleared a x c.set_back.new.draft c.in_ok-cleared.cleared = clear_done a c.in_ok-draft.draft c.set_back.new.draft x n c.in_ok-cleared.cleared c.in_ok-draft.ensures h good c.in_ok-cleared.ensures in
-    let counted : IsCounted a = subst (λ (s : Held). IsCounted s.content) c.self.view_is c.self.invariant.counted in
+    let counted : IsCounted a = subst (λ (s : ScheduleValue). IsCounted s.content) c.self.view_is c.self.invariant.counted in
     subst IsCounted (sym done.is) (repair_counted [] (set_back_by (Clear x) a) a counted)
 
 pub returns-clause-accepted : goal.returns-clause-accepted
 returns-clause-accepted c =
     let a : Schedule = c.args.self.now.content in
     let x : Clearing = c.args.clearing.now in
-    let n : Parts = c.in-Ok.naming in
+    let n : SelectionParts = c.in-Ok.selection in
     let h : IsClear a x (Ok n) = cleared_is a c.in_ok-draft.draft x n c.in_ok-draft.ensures (subst (IsClear c.in_ok-draft.draft x) c.in-Ok.is c.named_by_clear.ensures) in
     let good : nat_lt x.to x.from ≡ false = grind (arith, nat_tests, c.lt.ensures, c.if-lt.false) in
     let done : IsCleared a x c.set_back.new.draft c.in_ok-cleared.cleared = clear_done a c.in_ok-draft.draft c.set_back.new.draft x n c.in_ok-cleared.cleared c.in_ok-draft.ensures h good c.in_ok-cleared.ensures in
     let quiet = c.quiet_answer.ensures in
-    draft_planned (Clear x) a c.set_back.new.draft _ c.in_ok-finished.field-0 tt done.accepted done.is
-    (told_by (Clear x) a c.quiet_answer.result _ _ c.in_ok-cleared.cleared quiet (ap (λ (q : Answer). q.made) quiet) (ap (λ (q : Answer). q.more) quiet) done.count_is) c.in_ok-finished.ensures
+    draft_planned (Clear x) a c.set_back.new.draft _ c.in_ok-finish.field-0 tt done.accepted done.is
+    (told_by (Clear x) a c.quiet_answer.result _ _ c.in_ok-cleared.cleared quiet (ap (λ (q : Answer). q.made) quiet) (ap (λ (q : Answer). q.more) quiet) done.count_is) c.in_ok-finish.ensures

@@ -5,11 +5,11 @@ use Rattle.graph_file.specs.declared.graph_specs.GraphSpec.{GraphSpec}
 use Rattle.sched_state.specs.Lists.{same}
 use Rattle.sched_model.specs.Schedule.{has_runs}
 use Rattle.sched_model.specs.Schedule.{Schedule}
-use Rattle.sched_state.specs.declared.graphs.Graph.{Graph}
+use Rattle.sched_state.specs.declared.graphs.LoadedGraph.{LoadedGraph}
 use Rattle.sched_state.specs.declared.runs.Run.{Run}
 use Rattle.sched_core.proofs.GraphLemmas.{unknown_no_runs}
 use Rattle.sched_draft.specs.Books.{pools_in}
-use Rattle.sched_core.specs.Changes.{Held, Planned}
+use Rattle.sched_core.specs.Changes.{ScheduleValue, Planned}
 use Rattle.sched_events.specs.Causes.{refused}
 use Rattle.sched_core.specs.Inside.{StandsAt, IsTaken}
 use Rattle.sched_core.specs.Plans.{IsPlanned}
@@ -23,80 +23,80 @@ pub returns-then-graphs-len-clause-refused : goal.returns-then-graphs-len-clause
 returns-then-graphs-len-clause-refused c =
     let a : Schedule = record { limits = c.self.inside.limits; graphs = c.self.inside.graphs.items; pools = pools_in c.self.inside.pools.pools; now = c.self.inside.clock; lanes = c.self.inside.lanes; next = c.self.inside.next; runs = c.self.inside.runs.items } in
     let dag = c.in_ok-dag.dag in
-    let taken = subst (λ (h : Held). IsTaken h.content c.args.text.now dag) (sym c.self.view_is) c.in_ok-dag.ensures.taken in
-    let unknown = subst (λ (s : GraphSpec). list_any (λ (g : Graph). same g.dag.spec.dag_id s.dag_id) a.graphs ≡ false) c.spec.ensures.spec
-    (ap (list_any (λ (g : Graph). same g.dag.spec.dag_id c.spec.result.now.dag_id)) (sym c.deref.ensures.value) ∙ c.in-None.ensures) in
-    inr (record { first = subst (λ (h : Held). refused h.content (Load c.args.text.now) ≡ Some refusal.TooManyGraphs) c.self.view_is (refused_full a c.args.text.now dag taken unknown (omega (arith, c.graphs.ensures, c.len.ensures, c.if-graphs-len.true))); shown = tt })
+    let taken = subst (λ (h : ScheduleValue). IsTaken h.content c.args.text.now dag) (sym c.self.view_is) c.in_ok-dag.ensures.taken in
+    let unknown = subst (λ (s : GraphSpec). list_any (λ (g : LoadedGraph). same g.dag.spec.dag_id s.dag_id) a.graphs ≡ false) c.spec.ensures.spec
+    (ap (list_any (λ (g : LoadedGraph). same g.dag.spec.dag_id c.spec.result.now.dag_id)) (sym c.deref.ensures.value) ∙ c.in-None.ensures) in
+    inr (record { first = subst (λ (h : ScheduleValue). refused h.content (Load c.args.text.now) ≡ Some refusal.TooManyGraphs) c.self.view_is (refused_full a c.args.text.now dag taken unknown (omega (arith, c.graphs.ensures, c.len.ensures, c.if-graphs-len.true))); shown = tt })
 
 pub taken_in-requires-clause-quiet : goal.taken_in-requires-clause-quiet
 taken_in-requires-clause-quiet c =
     let a : Schedule = record { limits = c.self.inside.limits; graphs = c.self.inside.graphs.items; pools = pools_in c.self.inside.pools.pools; now = c.self.inside.clock; lanes = c.self.inside.lanes; next = c.self.inside.next; runs = c.self.inside.runs.items } in
     let dag = c.in_ok-dag.dag in
-    let taken = subst (λ (h : Held). IsTaken h.content c.args.text.now dag) (sym c.self.view_is) c.in_ok-dag.ensures.taken in
-    let unknown = subst (λ (s : GraphSpec). list_any (λ (g : Graph). same g.dag.spec.dag_id s.dag_id) a.graphs ≡ false) c.spec.ensures.spec
-    (ap (list_any (λ (g : Graph). same g.dag.spec.dag_id c.spec.result.now.dag_id)) (sym c.deref.ensures.value) ∙ c.in-None.ensures) in
-    subst (λ (h : Held). has_runs h.content dag.spec.dag_id ≡ false) c.self.view_is (unknown_no_runs a dag.spec.dag_id c.self.invariant.kept.sound unknown)
+    let taken = subst (λ (h : ScheduleValue). IsTaken h.content c.args.text.now dag) (sym c.self.view_is) c.in_ok-dag.ensures.taken in
+    let unknown = subst (λ (s : GraphSpec). list_any (λ (g : LoadedGraph). same g.dag.spec.dag_id s.dag_id) a.graphs ≡ false) c.spec.ensures.spec
+    (ap (list_any (λ (g : LoadedGraph). same g.dag.spec.dag_id c.spec.result.now.dag_id)) (sym c.deref.ensures.value) ∙ c.in-None.ensures) in
+    subst (λ (h : ScheduleValue). has_runs h.content dag.spec.dag_id ≡ false) c.self.view_is (unknown_no_runs a dag.spec.dag_id c.self.invariant.kept.sound unknown)
 
 pub taken_in-requires-clause-accepted : goal.taken_in-requires-clause-accepted
 taken_in-requires-clause-accepted c =
     let a : Schedule = record { limits = c.self.inside.limits; graphs = c.self.inside.graphs.items; pools = pools_in c.self.inside.pools.pools; now = c.self.inside.clock; lanes = c.self.inside.lanes; next = c.self.inside.next; runs = c.self.inside.runs.items } in
     let dag = c.in_ok-dag.dag in
-    let taken = subst (λ (h : Held). IsTaken h.content c.args.text.now dag) (sym c.self.view_is) c.in_ok-dag.ensures.taken in
-    let unknown = subst (λ (s : GraphSpec). list_any (λ (g : Graph). same g.dag.spec.dag_id s.dag_id) a.graphs ≡ false) c.spec.ensures.spec
-    (ap (list_any (λ (g : Graph). same g.dag.spec.dag_id c.spec.result.now.dag_id)) (sym c.deref.ensures.value) ∙ c.in-None.ensures) in
+    let taken = subst (λ (h : ScheduleValue). IsTaken h.content c.args.text.now dag) (sym c.self.view_is) c.in_ok-dag.ensures.taken in
+    let unknown = subst (λ (s : GraphSpec). list_any (λ (g : LoadedGraph). same g.dag.spec.dag_id s.dag_id) a.graphs ≡ false) c.spec.ensures.spec
+    (ap (list_any (λ (g : LoadedGraph). same g.dag.spec.dag_id c.spec.result.now.dag_id)) (sym c.deref.ensures.value) ∙ c.in-None.ensures) in
     let room : nat_le a.limits.graphs (length a.graphs) ≡ false = grind (arith, nat_tests, c.graphs.ensures, c.len.ensures) in
-    subst (λ (h : Held). refused h.content (Load c.args.text.now) ≡ None) c.self.view_is
+    subst (λ (h : ScheduleValue). refused h.content (Load c.args.text.now) ≡ None) c.self.view_is
     (accepted_new a c.args.text.now dag taken unknown room)
 
 pub returns-then-is_same-clause-accepted : goal.returns-then-is_same-clause-accepted
 returns-then-is_same-clause-accepted c =
     let a : Schedule = record { limits = c.self.inside.limits; graphs = c.self.inside.graphs.items; pools = pools_in c.self.inside.pools.pools; now = c.self.inside.clock; lanes = c.self.inside.lanes; next = c.self.inside.next; runs = c.self.inside.runs.items } in
     let dag = c.in_ok-dag.dag in
-    let taken = subst (λ (h : Held). IsTaken h.content c.args.text.now dag) (sym c.self.view_is) c.in_ok-dag.ensures.taken in
+    let taken = subst (λ (h : ScheduleValue). IsTaken h.content c.args.text.now dag) (sym c.self.view_is) c.in_ok-dag.ensures.taken in
     let g = c.index.result.now in
     let stands = subst (λ (s : GraphSpec). StandsAt s.dag_id a.graphs c.in-Some.place) c.spec.ensures.spec
-    (subst (λ (gs : List Graph). StandsAt c.spec.result.now.dag_id gs c.in-Some.place) c.deref.ensures.value c.in-Some.ensures) in
+    (subst (λ (gs : List LoadedGraph). StandsAt c.spec.result.now.dag_id gs c.in-Some.place) c.deref.ensures.value c.in-Some.ensures) in
     let known = known_is a.graphs dag.spec.dag_id c.in-Some.place g stands c.index.ensures in
     let text_is : same g.text c.args.text.now ≡ true = sym c.if-is_same.ensures in
     let accepted = accepted_same a c.args.text.now dag c.in-Some.place g c.self.invariant.kept taken known.0 known.1 text_is in
     let planned = planned_same a c.args.text.now dag c.in-Some.place g c.self.invariant.kept taken.says accepted known.0 known.1 text_is in
     subst (λ (p : Planned). IsPlanned c.args.self.now.content (Load c.args.text.now) p) (sym c.quiet_change.ensures)
-    (subst (λ (h : Held). IsPlanned h.content (Load c.args.text.now) (record { before = h.content; after = h.content; answer = no_runs })) c.self.view_is planned)
+    (subst (λ (h : ScheduleValue). IsPlanned h.content (Load c.args.text.now) (record { before = h.content; after = h.content; answer = no_runs })) c.self.view_is planned)
 
 pub returns-then-has_runs-clause-refused : goal.returns-then-has_runs-clause-refused
 returns-then-has_runs-clause-refused c =
     let a : Schedule = record { limits = c.self.inside.limits; graphs = c.self.inside.graphs.items; pools = pools_in c.self.inside.pools.pools; now = c.self.inside.clock; lanes = c.self.inside.lanes; next = c.self.inside.next; runs = c.self.inside.runs.items } in
     let dag = c.in_ok-dag.dag in
-    let taken = subst (λ (h : Held). IsTaken h.content c.args.text.now dag) (sym c.self.view_is) c.in_ok-dag.ensures.taken in
+    let taken = subst (λ (h : ScheduleValue). IsTaken h.content c.args.text.now dag) (sym c.self.view_is) c.in_ok-dag.ensures.taken in
     let g = c.index.result.now in
     let stands = subst (λ (s : GraphSpec). StandsAt s.dag_id a.graphs c.in-Some.place) c.spec.ensures.spec
-    (subst (λ (gs : List Graph). StandsAt c.spec.result.now.dag_id gs c.in-Some.place) c.deref.ensures.value c.in-Some.ensures) in
+    (subst (λ (gs : List LoadedGraph). StandsAt c.spec.result.now.dag_id gs c.in-Some.place) c.deref.ensures.value c.in-Some.ensures) in
     let known = known_is a.graphs dag.spec.dag_id c.in-Some.place g stands c.index.ensures in
     let other : same g.text c.args.text.now ≡ false = sym c.if-is_same.ensures in
     let runs = subst (λ (s : GraphSpec). has_runs a s.dag_id ≡ true) c.spec.ensures.spec
     (ap (list_any (λ (r : Run). same r.graph c.spec.result.now.dag_id)) (sym c.deref-in-Some.ensures.value) ∙ sym c.if-has_runs.ensures) in
-    inr (record { first = subst (λ (h : Held). refused h.content (Load c.args.text.now) ≡ Some refusal.GraphDiffers) c.self.view_is (refused_differs a c.args.text.now dag c.in-Some.place g c.self.invariant.kept taken known.0 known.1 other runs); shown = tt })
+    inr (record { first = subst (λ (h : ScheduleValue). refused h.content (Load c.args.text.now) ≡ Some refusal.GraphDiffers) c.self.view_is (refused_differs a c.args.text.now dag c.in-Some.place g c.self.invariant.kept taken known.0 known.1 other runs); shown = tt })
 
 pub taken_in-requires-in-Some-clause-accepted : goal.taken_in-requires-in-Some-clause-accepted
 taken_in-requires-in-Some-clause-accepted c =
     let a : Schedule = record { limits = c.self.inside.limits; graphs = c.self.inside.graphs.items; pools = pools_in c.self.inside.pools.pools; now = c.self.inside.clock; lanes = c.self.inside.lanes; next = c.self.inside.next; runs = c.self.inside.runs.items } in
     let dag = c.in_ok-dag.dag in
-    let taken = subst (λ (h : Held). IsTaken h.content c.args.text.now dag) (sym c.self.view_is) c.in_ok-dag.ensures.taken in
+    let taken = subst (λ (h : ScheduleValue). IsTaken h.content c.args.text.now dag) (sym c.self.view_is) c.in_ok-dag.ensures.taken in
     let g = c.index.result.now in
     let stands = subst (λ (s : GraphSpec). StandsAt s.dag_id a.graphs c.in-Some.place) c.spec.ensures.spec
-    (subst (λ (gs : List Graph). StandsAt c.spec.result.now.dag_id gs c.in-Some.place) c.deref.ensures.value c.in-Some.ensures) in
+    (subst (λ (gs : List LoadedGraph). StandsAt c.spec.result.now.dag_id gs c.in-Some.place) c.deref.ensures.value c.in-Some.ensures) in
     let known = known_is a.graphs dag.spec.dag_id c.in-Some.place g stands c.index.ensures in
     let other : same g.text c.args.text.now ≡ false = sym c.if-is_same.ensures in
     let runs = subst (λ (s : GraphSpec). has_runs a s.dag_id ≡ false) c.spec.ensures.spec
     (ap (list_any (λ (r : Run). same r.graph c.spec.result.now.dag_id)) (sym c.deref-in-Some.ensures.value) ∙ sym c.if-has_runs.ensures) in
-    subst (λ (h : Held). refused h.content (Load c.args.text.now) ≡ None) c.self.view_is
+    subst (λ (h : ScheduleValue). refused h.content (Load c.args.text.now) ≡ None) c.self.view_is
     (accepted_other a c.args.text.now dag c.in-Some.place g c.self.invariant.kept taken known.0 known.1 other runs)
 
 pub taken_in-requires-in-Some-clause-quiet : goal.taken_in-requires-in-Some-clause-quiet
 taken_in-requires-in-Some-clause-quiet c =
     let a : Schedule = record { limits = c.self.inside.limits; graphs = c.self.inside.graphs.items; pools = pools_in c.self.inside.pools.pools; now = c.self.inside.clock; lanes = c.self.inside.lanes; next = c.self.inside.next; runs = c.self.inside.runs.items } in
     let dag = c.in_ok-dag.dag in
-    let taken = subst (λ (h : Held). IsTaken h.content c.args.text.now dag) (sym c.self.view_is) c.in_ok-dag.ensures.taken in
+    let taken = subst (λ (h : ScheduleValue). IsTaken h.content c.args.text.now dag) (sym c.self.view_is) c.in_ok-dag.ensures.taken in
     let runs = subst (λ (s : GraphSpec). has_runs a s.dag_id ≡ false) c.spec.ensures.spec
     (ap (list_any (λ (r : Run). same r.graph c.spec.result.now.dag_id)) (sym c.deref-in-Some.ensures.value) ∙ sym c.if-has_runs.ensures) in
-    subst (λ (h : Held). has_runs h.content dag.spec.dag_id ≡ false) c.self.view_is runs
+    subst (λ (h : ScheduleValue). has_runs h.content dag.spec.dag_id ≡ false) c.self.view_is runs

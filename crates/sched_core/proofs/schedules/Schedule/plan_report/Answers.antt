@@ -2,10 +2,10 @@ use Rattle.std.proofs.Common.{◌≡◌, ◌∙◌, sym, ap, subst, inr, is_some
 use Rattle.instance_machine.specs.Reports.{report_try}
 use Rattle.sched_model.specs.Changes.{report}
 use Rattle.sched_model.specs.Schedule.{Schedule}
-use Rattle.sched_events.specs.Kept.{IsKept}
+use Rattle.sched_events.specs.SettledAndSound.{IsSettledAndSound}
 use Rattle.sched_events.specs.declared.events.Event.TheVariants.{Report}
 use Rattle.sched_core.specs.Books.{IsCounted}
-use Rattle.sched_core.specs.Changes.{Held}
+use Rattle.sched_core.specs.Changes.{ScheduleValue}
 use Rattle.sched_core.proofs.BookLemmas.{report_counted}
 use Rattle.sched_core.proofs.PlanLemmas.{found_try, not_in_flight, out_of_turn, in_turn, report_draft, draft_sound, draft_kept, draft_planned}
 use Rattle.sched_core.proofs.schedules.Schedule.plan_report.Goals as goal
@@ -13,42 +13,42 @@ use Rattle.sched_core.proofs.schedules.Schedule.plan_report.Goals as goal
 pub returns-in_default-clause-refused : goal.returns-in_default-clause-refused
 returns-in_default-clause-refused c =
     let a : Schedule = c.args.self.now.content in
-    let found = found_try a c.args.serial c.deref.result.now c.open_try.result (c.deref.ensures.value ∙ ap (λ (h : Held). h.content.runs) c.self.view_is) c.open_try.ensures in
+    let found = found_try a c.args.serial c.deref.result.now c.open_try.result (c.deref.ensures.value ∙ ap (λ (h : ScheduleValue). h.content.runs) c.self.view_is) c.open_try.ensures in
     inr (record { first = not_in_flight a c.args.serial c.args.stage (sym c.in_default.is ∙ found); shown = tt })
 
 pub returns-then-not-takes-clause-refused : goal.returns-then-not-takes-clause-refused
 returns-then-not-takes-clause-refused c =
     let a : Schedule = c.args.self.now.content in
-    let found = found_try a c.args.serial c.deref.result.now c.open_try.result (c.deref.ensures.value ∙ ap (λ (h : Held). h.content.runs) c.self.view_is) c.open_try.ensures in
+    let found = found_try a c.args.serial c.deref.result.now c.open_try.result (c.deref.ensures.value ∙ ap (λ (h : ScheduleValue). h.content.runs) c.self.view_is) c.open_try.ensures in
     let turn : is_some (report_try c.args.stage a.now c.in-Some.one) ≡ false = sym (c.if-not-takes.ensures a.now) in
     inr (record { first = out_of_turn a c.args.serial c.args.stage c.in-Some.one (sym c.in-Some.is ∙ found) turn; shown = tt })
 
-pub finished-requires-clause-sound : goal.finished-requires-clause-sound
-finished-requires-clause-sound c =
+pub finish-requires-clause-sound : goal.finish-requires-clause-sound
+finish-requires-clause-sound c =
     let a : Schedule = c.args.self.now.content in
-    let found = found_try a c.args.serial c.deref.result.now c.open_try.result (c.deref.ensures.value ∙ ap (λ (h : Held). h.content.runs) c.self.view_is) c.open_try.ensures in
+    let found = found_try a c.args.serial c.deref.result.now c.open_try.result (c.deref.ensures.value ∙ ap (λ (h : ScheduleValue). h.content.runs) c.self.view_is) c.open_try.ensures in
     let turn : is_some (report_try c.args.stage a.now c.in-Some.one) ≡ true = sym (c.if-not-takes.ensures a.now) in
     draft_sound (Report c.args.serial c.args.stage) a c.report.new.self tt (in_turn a c.args.serial c.args.stage c.in-Some.one (sym c.in-Some.is ∙ found) turn)
-    (subst (λ (h : Held). IsKept h.content) c.self.view_is c.self.invariant.kept) (report_draft a c.in_ok-draft.draft c.report.new.self c.args.serial c.args.stage c.in_ok-draft.ensures c.report.ensures)
+    (subst (λ (h : ScheduleValue). IsSettledAndSound h.content) c.self.view_is c.self.invariant.kept) (report_draft a c.in_ok-draft.draft c.report.new.self c.args.serial c.args.stage c.in_ok-draft.ensures c.report.ensures)
 
-pub finished-requires-clause-kept : goal.finished-requires-clause-kept
-finished-requires-clause-kept c =
+pub finish-requires-clause-kept : goal.finish-requires-clause-kept
+finish-requires-clause-kept c =
     let a : Schedule = c.args.self.now.content in
-    let found = found_try a c.args.serial c.deref.result.now c.open_try.result (c.deref.ensures.value ∙ ap (λ (h : Held). h.content.runs) c.self.view_is) c.open_try.ensures in
+    let found = found_try a c.args.serial c.deref.result.now c.open_try.result (c.deref.ensures.value ∙ ap (λ (h : ScheduleValue). h.content.runs) c.self.view_is) c.open_try.ensures in
     let turn : is_some (report_try c.args.stage a.now c.in-Some.one) ≡ true = sym (c.if-not-takes.ensures a.now) in
     draft_kept (Report c.args.serial c.args.stage) a c.report.new.self tt (in_turn a c.args.serial c.args.stage c.in-Some.one (sym c.in-Some.is ∙ found) turn)
-    (subst (λ (h : Held). IsKept h.content) c.self.view_is c.self.invariant.kept) (report_draft a c.in_ok-draft.draft c.report.new.self c.args.serial c.args.stage c.in_ok-draft.ensures c.report.ensures)
+    (subst (λ (h : ScheduleValue). IsSettledAndSound h.content) c.self.view_is c.self.invariant.kept) (report_draft a c.in_ok-draft.draft c.report.new.self c.args.serial c.args.stage c.in_ok-draft.ensures c.report.ensures)
 
-pub finished-requires-clause-counted : goal.finished-requires-clause-counted
-finished-requires-clause-counted c =
+pub finish-requires-clause-counted : goal.finish-requires-clause-counted
+finish-requires-clause-counted c =
     let a : Schedule = c.args.self.now.content in
-    let counted : IsCounted a = subst (λ (h : Held). IsCounted h.content) c.self.view_is c.self.invariant.counted in
+    let counted : IsCounted a = subst (λ (h : ScheduleValue). IsCounted h.content) c.self.view_is c.self.invariant.counted in
     subst IsCounted (sym (c.report.ensures ∙ ap (report c.args.serial c.args.stage) c.in_ok-draft.ensures)) (report_counted c.args.serial c.args.stage a counted)
 
 pub returns-clause-accepted : goal.returns-clause-accepted
 returns-clause-accepted c =
     let a : Schedule = c.args.self.now.content in
-    let found = found_try a c.args.serial c.deref.result.now c.open_try.result (c.deref.ensures.value ∙ ap (λ (h : Held). h.content.runs) c.self.view_is) c.open_try.ensures in
+    let found = found_try a c.args.serial c.deref.result.now c.open_try.result (c.deref.ensures.value ∙ ap (λ (h : ScheduleValue). h.content.runs) c.self.view_is) c.open_try.ensures in
     let turn : is_some (report_try c.args.stage a.now c.in-Some.one) ≡ true = sym (c.if-not-takes.ensures a.now) in
-    draft_planned (Report c.args.serial c.args.stage) a c.report.new.self c.quiet_answer.result c.in_ok-finished.field-0 tt (in_turn a c.args.serial c.args.stage c.in-Some.one (sym c.in-Some.is ∙ found) turn)
-    (report_draft a c.in_ok-draft.draft c.report.new.self c.args.serial c.args.stage c.in_ok-draft.ensures c.report.ensures) c.quiet_answer.ensures c.in_ok-finished.ensures
+    draft_planned (Report c.args.serial c.args.stage) a c.report.new.self c.quiet_answer.result c.in_ok-finish.field-0 tt (in_turn a c.args.serial c.args.stage c.in-Some.one (sym c.in-Some.is ∙ found) turn)
+    (report_draft a c.in_ok-draft.draft c.report.new.self c.args.serial c.args.stage c.in_ok-draft.ensures c.report.ensures) c.quiet_answer.ensures c.in_ok-finish.ensures

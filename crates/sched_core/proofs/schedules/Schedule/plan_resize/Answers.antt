@@ -9,10 +9,10 @@ use Rattle.sched_model.specs.Changes.{new_pool, resize}
 use Rattle.sched_model.specs.Schedule.{Schedule}
 use Rattle.sched_model.specs.Sound.{is_sound_pool}
 use Rattle.sched_events.specs.Causes.{refused}
-use Rattle.sched_events.specs.Kept.{IsKept}
+use Rattle.sched_events.specs.SettledAndSound.{IsSettledAndSound}
 use Rattle.sched_events.specs.declared.events.Event.TheVariants.{Resize}
 use Rattle.sched_draft.specs.Books.{pools_in}
-use Rattle.sched_core.specs.Changes.{Held}
+use Rattle.sched_core.specs.Changes.{ScheduleValue}
 use Rattle.sched_core.specs.Inside.{over}
 use Rattle.sched_core.specs.Plans.{no_runs}
 use Rattle.sched_core.proofs.PlanLemmas.{draft_sound, draft_kept, draft_planned}
@@ -24,19 +24,19 @@ pub returns-then-pools-len-clause-refused : goal.returns-then-pools-len-clause-r
 returns-then-pools-len-clause-refused c =
     let a : Schedule = c.args.self.now.content in
     let es : Entries = c.self.inside.pools.pools in
-    let pools : pools_in es ≡ a.pools = ap (λ (h : Held). h.content.pools) c.self.view_is in
+    let pools : pools_in es ≡ a.pools = ap (λ (h : ScheduleValue). h.content.pools) c.self.view_is in
     let unknown = known_by a es c.args.name.now c.size.result c.is_none.result pools c.size.ensures c.is_none.ensures ∙ ap not c.if-is_none.true in
-    let limit = ap (λ (h : Held). h.content.limits.pools) c.self.view_is in
+    let limit = ap (λ (h : ScheduleValue). h.content.limits.pools) c.self.view_is in
     inr (record { first = too_many a es c.args.name.now c.args.size pools unknown (omega (arith, limit, c.pools.ensures.value, c.len.ensures.len, c.if-pools-len.true)); shown = tt })
 
 pub returns-in_err-resize-clause-refused : goal.returns-in_err-resize-clause-refused
 returns-in_err-resize-clause-refused c =
     let a : Schedule = c.args.self.now.content in
     let es : Entries = c.self.inside.pools.pools in
-    let pools : pools_in es ≡ a.pools = ap (λ (h : Held). h.content.pools) c.self.view_is in
+    let pools : pools_in es ≡ a.pools = ap (λ (h : ScheduleValue). h.content.pools) c.self.view_is in
     let place : HasPlace a es c.args.name.now = elim c.else-is_none.branch [
       | else-is_none-via-then-is_none+else-pools-len w ↦
-          let few : nat_le a.limits.pools (length es) ≡ false = grind (arith, nat_tests, w.pools.ensures.value, w.len.ensures.len, w.if-pools-len.false, ap (λ (h : Held). h.content.limits.pools) c.self.view_is) in
+          let few : nat_le a.limits.pools (length es) ≡ false = grind (arith, nat_tests, w.pools.ensures.value, w.len.ensures.len, w.if-pools-len.false, ap (λ (h : ScheduleValue). h.content.limits.pools) c.self.view_is) in
           let high : nat_le pool_limit (length es) ≡ false = grind (arith, nat_tests, w.pools.ensures.high, w.len.ensures.len, w.if-pools-len.false) in
           new_place a es c.args.name.now pools few high
       | else-is_none-via-else-is_none w ↦
@@ -50,16 +50,16 @@ pub over-requires-clause-sound : goal.over-requires-clause-sound
 over-requires-clause-sound c =
     let a : Schedule = c.args.self.now.content in
     let es : Entries = c.self.inside.pools.pools in
-    let pools : pools_in es ≡ a.pools = ap (λ (h : Held). h.content.pools) c.self.view_is in
+    let pools : pools_in es ≡ a.pools = ap (λ (h : ScheduleValue). h.content.pools) c.self.view_is in
     let place : HasPlace a es c.args.name.now = elim c.else-is_none.branch [
       | else-is_none-via-then-is_none+else-pools-len w ↦
-          let few : nat_le a.limits.pools (length es) ≡ false = grind (arith, nat_tests, w.pools.ensures.value, w.len.ensures.len, w.if-pools-len.false, ap (λ (h : Held). h.content.limits.pools) c.self.view_is) in
+          let few : nat_le a.limits.pools (length es) ≡ false = grind (arith, nat_tests, w.pools.ensures.value, w.len.ensures.len, w.if-pools-len.false, ap (λ (h : ScheduleValue). h.content.limits.pools) c.self.view_is) in
           let high : nat_le pool_limit (length es) ≡ false = grind (arith, nat_tests, w.pools.ensures.high, w.len.ensures.len, w.if-pools-len.false) in
           new_place a es c.args.name.now pools few high
       | else-is_none-via-else-is_none w ↦
           known_place a es c.args.name.now pools (known_by a es c.args.name.now c.size.result c.is_none.result pools c.size.ensures c.is_none.ensures ∙ ap not w.if-is_none.false)
     ] in
-    let kept : IsKept a = subst (λ (h : Held). IsKept h.content) c.self.view_is c.self.invariant.kept in
+    let kept : IsSettledAndSound a = subst (λ (h : ScheduleValue). IsSettledAndSound h.content) c.self.view_is c.self.invariant.kept in
     let accepted : refused a (Resize c.args.name.now c.args.size) ≡ None = resize_accepted a es c.args.name.now c.args.size place in
     let is : over c.resize.new.self.pools a ≡ resize c.args.name.now c.args.size a =
     over_is a es c.in_ok-pools.pools.pools c.resize.new.self.pools c.args.name.now c.in_ok-name.name c.args.size pools kept.sound.pools_by_name c.in_ok-pools.ensures c.in_ok-name.ensures c.in_ok-resize.ensures.pools in
@@ -71,16 +71,16 @@ pub over-requires-clause-kept : goal.over-requires-clause-kept
 over-requires-clause-kept c =
     let a : Schedule = c.args.self.now.content in
     let es : Entries = c.self.inside.pools.pools in
-    let pools : pools_in es ≡ a.pools = ap (λ (h : Held). h.content.pools) c.self.view_is in
+    let pools : pools_in es ≡ a.pools = ap (λ (h : ScheduleValue). h.content.pools) c.self.view_is in
     let place : HasPlace a es c.args.name.now = elim c.else-is_none.branch [
       | else-is_none-via-then-is_none+else-pools-len w ↦
-          let few : nat_le a.limits.pools (length es) ≡ false = grind (arith, nat_tests, w.pools.ensures.value, w.len.ensures.len, w.if-pools-len.false, ap (λ (h : Held). h.content.limits.pools) c.self.view_is) in
+          let few : nat_le a.limits.pools (length es) ≡ false = grind (arith, nat_tests, w.pools.ensures.value, w.len.ensures.len, w.if-pools-len.false, ap (λ (h : ScheduleValue). h.content.limits.pools) c.self.view_is) in
           let high : nat_le pool_limit (length es) ≡ false = grind (arith, nat_tests, w.pools.ensures.high, w.len.ensures.len, w.if-pools-len.false) in
           new_place a es c.args.name.now pools few high
       | else-is_none-via-else-is_none w ↦
           known_place a es c.args.name.now pools (known_by a es c.args.name.now c.size.result c.is_none.result pools c.size.ensures c.is_none.ensures ∙ ap not w.if-is_none.false)
     ] in
-    let kept : IsKept a = subst (λ (h : Held). IsKept h.content) c.self.view_is c.self.invariant.kept in
+    let kept : IsSettledAndSound a = subst (λ (h : ScheduleValue). IsSettledAndSound h.content) c.self.view_is c.self.invariant.kept in
     let accepted : refused a (Resize c.args.name.now c.args.size) ≡ None = resize_accepted a es c.args.name.now c.args.size place in
     let is : over c.resize.new.self.pools a ≡ resize c.args.name.now c.args.size a =
     over_is a es c.in_ok-pools.pools.pools c.resize.new.self.pools c.args.name.now c.in_ok-name.name c.args.size pools kept.sound.pools_by_name c.in_ok-pools.ensures c.in_ok-name.ensures c.in_ok-resize.ensures.pools in
@@ -92,16 +92,16 @@ pub returns-clause-accepted : goal.returns-clause-accepted
 returns-clause-accepted c =
     let a : Schedule = c.args.self.now.content in
     let es : Entries = c.self.inside.pools.pools in
-    let pools : pools_in es ≡ a.pools = ap (λ (h : Held). h.content.pools) c.self.view_is in
+    let pools : pools_in es ≡ a.pools = ap (λ (h : ScheduleValue). h.content.pools) c.self.view_is in
     let place : HasPlace a es c.args.name.now = elim c.else-is_none.branch [
       | else-is_none-via-then-is_none+else-pools-len w ↦
-          let few : nat_le a.limits.pools (length es) ≡ false = grind (arith, nat_tests, w.pools.ensures.value, w.len.ensures.len, w.if-pools-len.false, ap (λ (h : Held). h.content.limits.pools) c.self.view_is) in
+          let few : nat_le a.limits.pools (length es) ≡ false = grind (arith, nat_tests, w.pools.ensures.value, w.len.ensures.len, w.if-pools-len.false, ap (λ (h : ScheduleValue). h.content.limits.pools) c.self.view_is) in
           let high : nat_le pool_limit (length es) ≡ false = grind (arith, nat_tests, w.pools.ensures.high, w.len.ensures.len, w.if-pools-len.false) in
           new_place a es c.args.name.now pools few high
       | else-is_none-via-else-is_none w ↦
           known_place a es c.args.name.now pools (known_by a es c.args.name.now c.size.result c.is_none.result pools c.size.ensures c.is_none.ensures ∙ ap not w.if-is_none.false)
     ] in
-    let kept : IsKept a = subst (λ (h : Held). IsKept h.content) c.self.view_is c.self.invariant.kept in
+    let kept : IsSettledAndSound a = subst (λ (h : ScheduleValue). IsSettledAndSound h.content) c.self.view_is c.self.invariant.kept in
     let accepted : refused a (Resize c.args.name.now c.args.size) ≡ None = resize_accepted a es c.args.name.now c.args.size place in
     let is : over c.resize.new.self.pools a ≡ resize c.args.name.now c.args.size a =
     over_is a es c.in_ok-pools.pools.pools c.resize.new.self.pools c.args.name.now c.in_ok-name.name c.args.size pools kept.sound.pools_by_name c.in_ok-pools.ensures c.in_ok-name.ensures c.in_ok-resize.ensures.pools in

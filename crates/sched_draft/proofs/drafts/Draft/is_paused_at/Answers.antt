@@ -1,6 +1,6 @@
 use Rattle.std.proofs.Common.{◌≡◌, ◌∙◌, ℕ, Bool, List, Option, Some, ap, sym, length, option_map, slice_get, arith}
 use Rattle.std.specs.Option.{option_copied}
-use Rattle.sched_state.specs.declared.graphs.Graph.{Graph}
+use Rattle.sched_state.specs.declared.graphs.LoadedGraph.{LoadedGraph}
 use Rattle.sched_model.specs.Schedule.{Schedule}
 use Rattle.sched_draft.specs.Parts.{with_unpaused}
 use Rattle.sched_state.proofs.ElementLemmas.{element_at}
@@ -14,10 +14,10 @@ is_paused_in-requires c =
 
 pub returns : goal.returns
 returns c =
-    let gs : List Graph = c.self.inside.graphs.now in
+    let gs : List LoadedGraph = c.self.inside.graphs.now in
     let u : Option (List ℕ) = option_copied c.self.inside.unpaused in
     let n : ℕ = c.args.position in
     let view : with_unpaused u gs ≡ c.args.self.now.graphs = ap (λ (s : Schedule). s.graphs) c.self.view_is in
     let long = ap length view in
     let g = element_at gs n (omega (arith, c.requires, long, count_is u gs)) in
-    ap (λ (hs : List Graph). option_map (λ (k : Graph). k.paused) (slice_get hs n)) (sym view) ∙ (pause_is u gs n g.0 g.1 ∙ ap (λ (b : Bool). Some b) (sym (c.is_paused_in.ensures g.0 g.1)))
+    ap (λ (hs : List LoadedGraph). option_map (λ (k : LoadedGraph). k.paused) (slice_get hs n)) (sym view) ∙ (pause_is u gs n g.0 g.1 ∙ ap (λ (b : Bool). Some b) (sym (c.is_paused_in.ensures g.0 g.1)))

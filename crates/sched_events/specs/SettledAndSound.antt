@@ -1,0 +1,13 @@
+-- What is true of each schedule that is held.
+use Rattle.std.specs.Prelude.{◌≡◌, None}
+use Rattle.sched_model.specs.Schedule.{Schedule}
+use Rattle.sched_model.specs.Settle.{move}
+use Rattle.sched_model.specs.Handout.{hand_one}
+use Rattle.sched_model.specs.Sound.{IsSound, AllSay}
+
+-- it is sound, its graphs are what their texts say, and neither a move nor a hand-out is possible
+pub record IsSettledAndSound (a : Schedule) : Type 0 where
+  pub sound : IsSound a
+  pub said : AllSay a.graphs
+  pub settled : move a ≡ None
+  pub handed : hand_one a ≡ None

@@ -1,0 +1,134 @@
+//! The best of the offers.
+ghost use Rattle.std.specs.Prelude.{◌≡◌, ◌<◌, ◌+◌, ◌&&◌, Some, length, nat_le, nat_lt, slice_get, flat_map};
+ghost use Rattle.std.specs.List.{enumerate_from, zip};
+ghost use Rattle.sched_model.specs.Handout.{last_serial};
+ghost use Rattle.sched_model.specs.Schedule.{Schedule, dag_named, size_of};
+ghost use Rattle.sched_model.specs.States.{occupied};
+ghost use Rattle.sched_model.specs.Handout as model;
+ghost use Rattle.sched_handout.specs.Rooms.{IsRoomIn};
+ghost use Rattle.sched_handout.specs.Choices as choices;
+ghost use Rattle.sched_handout.specs.Weighing.{WeighTasks, WeighGraphs};
+ghost use Rattle.sched_state.specs.declared.runs.Run as runs;
+
+use crate::counting::Room;
+use crate::offering::offer_at;
+use crate::ranking::{Offer, better};
+use dag_check::Graph;
+use pool_book::Slots;
+use sched_draft::Draft;
+use sched_state::{Run, RunPhase};
+
+// The greatest serial.
+const LAST_SERIAL: u64 = 1 << 62;
+
+/// Whether a lane is free and a serial is left.
+pub fn has_lane(draft: &Draft<'_>, room: &Room) -> bool
+    ensures { result ≡ (nat_lt 0 room.now.lanes && nat_le draft.now.next last_serial) }
+{
+    room.lanes > 0 && draft.next_serial() <= LAST_SERIAL
+}
+
+// Whether the slots of the offer are open in its pool.
+fn has_slots(room: &Room, offer: &Offer<'_>) -> bool
+    ensures { (a : Schedule) → IsRoomIn a room.now
+        → result ≡ nat_le (occupied a offer.now.pool + offer.now.slots) (size_of a offer.now.pool) }
+{
+    room.pools.fits(offer.pool, Slots::of(offer.slots.get()))
+}
+
+// Whether the offer can be handed out.
+fn fits(draft: &Draft<'_>, room: &Room, offer: &Offer<'_>) -> bool
+    requires { IsRoomIn draft.now room.now }
+    ensures { result ≡ model.fits draft.now offer.now }
+{
+    has_slots(room, offer) && has_lane(draft, room)
+}
+
+// The offer, where it fits and what was chosen does not rank before it.
+fn choose<'d>(
+    draft: &Draft<'_>,
+    room: &Room,
+    offer: Offer<'d>,
+    best: Option<Offer<'d>>,
+) -> Option<Offer<'d>>
+    requires { IsRoomIn draft.now room.now }
+    ensures { result ≡ choices.choose draft.now offer.entry best.entry }
+{
+    if fits(draft, room, &offer) {
+        better(offer, best)
+    } else {
+        best
+    }
+}
+
+// The best of the offers of a run of an unpaused graph, and of what was chosen after them.
+fn choose_in_run<'d>(
+    draft: &'d Draft<'_>,
+    room: &Room,
+    position: usize,
+    run: &'d Run,
+    dag: &'d Graph,
+    weights: &[u64],
+    best: Option<Offer<'d>>,
+) -> Option<Offer<'d>>
+    requires room { IsRoomIn draft.now room.now }
+    requires dag { dag.now ≡ dag_named draft.now run.now.graph }
+    requires weights { WeighTasks dag.now weights.now }
+    ensures { result ≡ choices.choose_all draft.now
+        (flat_map (model.offers_at draft.now position run.now)
+        (enumerate_from 0 (zip dag.now.tasks run.now.instances))) best.entry }
+{
+    let mut best = best;
+    let mut place = dag.len().min(run.instances.len());
+    while place > 0 {
+        place -= 1;
+        if let Some(offer) = offer_at(draft.clock(), position, run, dag, weights, place) {
+            best = choose(draft, room, offer, best);
+        }
+    }
+    best
+}
+
+// The best of the offers of the run at a position, and of what was chosen after them.
+fn choose_at<'d>(
+    draft: &'d Draft<'_>,
+    room: &Room,
+    weights: &[Vec<u64>],
+    position: usize,
+    best: Option<Offer<'d>>,
+) -> Option<Offer<'d>>
+    requires room { IsRoomIn draft.now room.now }
+    requires weights { WeighGraphs draft.now.graphs weights.now }
+    requires position { position < length draft.now.runs }
+    ensures { (r : runs.Run) → slice_get draft.now.runs position ≡ Some r
+        → result ≡ choices.choose_all draft.now (model.offers_in draft.now (position, r))
+        best.entry }
+{
+    let run = &draft.runs()[position];
+    if !matches!(run.phase, RunPhase::Running) {
+        return best;
+    }
+    let Some(index) = draft.position_of(&run.graph) else {
+        return best;
+    };
+    if draft.is_paused_at(index) {
+        return best;
+    }
+    let dag = draft.dag_at(index);
+    choose_in_run(draft, room, position, run, dag, &weights[index], best)
+}
+
+/// The first in rank of the offers that fit.
+pub fn best_offer<'d>(draft: &'d Draft<'_>, room: &Room, weights: &[Vec<u64>]) -> Option<Offer<'d>>
+    requires room { IsRoomIn draft.now room.now }
+    requires weights { WeighGraphs draft.now.graphs weights.now }
+    ensures { result ≡ model.best_offer draft.now }
+{
+    let mut best = None;
+    let mut position = draft.runs().len();
+    while position > 0 {
+        position -= 1;
+        best = choose_at(draft, room, weights, position, best);
+    }
+    best
+}

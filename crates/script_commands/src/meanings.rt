@@ -1,0 +1,124 @@
+//! What one line asks for.
+ghost use Rattle.std.specs.Prelude.{◌≡◌};
+ghost use Rattle.text_words.specs.Words.{words};
+ghost use Rattle.script_commands.specs.Meanings as spec;
+ghost use Rattle.script_commands.specs.Meanings.{IsReadAs, meaning_by};
+
+use crate::commands::{Command, UsageFault};
+use crate::names::{GraphCommand, to_named};
+use crate::pool_sizes::to_resize;
+use crate::repairs::{to_backfill, to_clear};
+use crate::words::only_value;
+use moment_core::Moment;
+use sched_events::Event;
+use std::alloc::{AllocError, Global};
+use text_words::next_word;
+
+/// What a line outside of a graph's text asks for.
+#[derive(Debug, Drop)]
+pub enum LineMeaning {
+    /// Nothing: it has no word.
+    Nothing,
+    /// `load inline`: the lines that follow are a graph's text.
+    Text,
+    /// A command of one line.
+    This(Command),
+    /// It is no command.
+    Fault(UsageFault),
+}
+
+impl LineMeaning {
+    /// What the words of a line ask for.
+    ///
+    /// Words stand between blanks; there are no quotes. As with other command lines (clap 4) options and values may stand in any order,
+    /// and a word `--` ends the options, so that what follows it is a value even where it begins with `-`. Only for a name memory is
+    /// wanted.
+    pub fn by(alloc: Global, line: &[u8]) -> Result<LineMeaning, AllocError>
+        ensures { IsReadAs (meaning_by (words line.now)) result }
+    {
+        let Some((name, rest)) = next_word(line) else {
+            return Ok(LineMeaning::Nothing);
+        };
+        with_words(alloc, name, rest)
+    }
+}
+
+// What a command's name and the text of its words ask for.
+fn with_words(alloc: Global, name: &[u8], text: &[u8]) -> Result<LineMeaning, AllocError>
+    ensures { IsReadAs (spec.with_words name.now (words text.now)) result }
+{
+    if name == b"backfill".as_slice() {
+        return to_backfill(alloc, text);
+    }
+    if name == b"clear".as_slice() {
+        return to_clear(alloc, text);
+    }
+    if name == b"resize".as_slice() {
+        return to_resize(alloc, text);
+    }
+    match only_value(text) {
+        Some(value) => with_value(alloc, name, value),
+        None => Ok(LineMeaning::Fault(UsageFault::Words)),
+    }
+}
+
+// What a command's name and its one value ask for.
+fn with_value(alloc: Global, name: &[u8], value: &[u8]) -> Result<LineMeaning, AllocError>
+    ensures { IsReadAs (spec.with_value name.now value.now) result }
+{
+    if name == b"trigger".as_slice() {
+        return to_named(alloc, GraphCommand::Trigger, value);
+    }
+    if name == b"pause".as_slice() {
+        return to_named(alloc, GraphCommand::Pause, value);
+    }
+    if name == b"unpause".as_slice() {
+        return to_named(alloc, GraphCommand::Unpause, value);
+    }
+    Ok(without_name(name, value))
+}
+
+// The same, of a command whose value is no name.
+fn without_name(name: &[u8], value: &[u8]) -> LineMeaning
+    ensures { result ≡ spec.without_name name.now value.now }
+{
+    if name == b"tick".as_slice() {
+        return at_moment(value);
+    }
+    if name == b"load".as_slice() && value == b"inline".as_slice() {
+        return LineMeaning::Text;
+    }
+    if name == b"list".as_slice() {
+        return listed(value);
+    }
+    LineMeaning::Fault(UsageFault::Words)
+}
+
+// What `list` asks for.
+fn listed(value: &[u8]) -> LineMeaning
+    ensures { result ≡ spec.listed value.now }
+{
+    if value == b"runs".as_slice() {
+        return LineMeaning::This(Command::ListRuns);
+    }
+    if value == b"tasks".as_slice() {
+        return LineMeaning::This(Command::ListTasks);
+    }
+    if value == b"pools".as_slice() {
+        return LineMeaning::This(Command::ListPools);
+    }
+    LineMeaning::Fault(UsageFault::Words)
+}
+
+// What `tick` asks for.
+fn at_moment(value: &[u8]) -> LineMeaning
+    ensures { result ≡ spec.at_moment value.now }
+{
+    if value == b"now".as_slice() {
+        return LineMeaning::Fault(UsageFault::Words);
+    }
+    match Moment::read_bytes(value) {
+        Ok(moment) => LineMeaning::This(Command::Step(Event::Tick(moment))),
+        Err(fault) => LineMeaning::Fault(UsageFault::BadMoment(fault)),
+    }
+}
