@@ -1,5 +1,6 @@
 -- The graph of a file: its tasks and their edges by place.
 use Rattle.std.specs.Prelude.{◌≡◌, ℕ, zero, suc, if◌then◌else◌, ◌<◌, ◌≤◌, Bool, true, false, List, [], ◌∷◌, ◌++◌, length, map, slice_index_or}
+use Rattle.graph_file.specs.TaskLists.{task_limit}
 use Rattle.graph_file.specs.declared.task_specs.TaskSpec.{TaskSpec}
 use Rattle.graph_file.specs.declared.graph_specs.GraphSpec.{GraphSpec}
 use Rattle.graph_file.specs.declared.operators.Operator.TheVariants.{Noop}
@@ -88,4 +89,4 @@ pub record IsGraphOf (spec : GraphSpec) (g : Dag) : Type 0 where
 pub record IsDag (g : Dag) : Type 0 where
   pub rows : length g.upstreams ≡ length g.tasks
   pub down : (j y : ℕ) → is_in (ups g j) y ≡ true → y < j
-  pub few : length g.tasks ≤ 256
+  pub few : length g.tasks ≤ task_limit

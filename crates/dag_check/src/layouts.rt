@@ -1,5 +1,6 @@
 //! The places of a file's tasks, and their edges by place.
 ghost use Rattle.std.specs.Prelude.{◌≡◌, ◌<◌, ◌≤◌, ◌++◌, ◌∷◌, [], if◌then◌else◌, ℕ, true, false, IfOk, IfErr, IsOk, length, map, take, slice_index, vec_len};
+ghost use Rattle.graph_file.specs.TaskLists.{task_limit};
 ghost use Rattle.dag_check.specs.Orders.{is_in, repeated, edges_of, AllBelow, IsPlacement, place_in};
 ghost use Rattle.dag_check.specs.Names.{up_of, rows_of, IsPlain, NoneBelow};
 ghost use Rattle.dag_check.specs.Layouts.{IsLayout};
@@ -144,7 +145,7 @@ fn placed(alloc: Global, order: Vec<usize>, rows: &[Vec<usize>]) -> Result<Layou
 
 // The edges between positions, or the first fault that isn't a cycle.
 fn edges(alloc: Global, tasks: &[TaskSpec]) -> Result<Vec<Vec<usize>>, DagFault>
-    requires { length tasks.now ≤ 256 }
+    requires { length tasks.now ≤ task_limit }
     ensures ok { IfOk result (λ v. (map (λ r. r.items) v.items ≡ rows_of tasks.now) × IsPlain
         tasks.now) }
     ensures fault { IfErr result (Stands tasks.now) }
@@ -168,7 +169,7 @@ fn edges(alloc: Global, tasks: &[TaskSpec]) -> Result<Vec<Vec<usize>>, DagFault>
 
 // The layout of a file's tasks, or the first fault.
 pub(crate) fn lay_out(alloc: Global, tasks: &[TaskSpec]) -> Result<Layout, DagFault>
-    requires { length tasks.now ≤ 256 }
+    requires { length tasks.now ≤ task_limit }
     ensures ok { IfOk result (λ l. IsPlain tasks.now × IsLayout (up_of tasks.now) (length tasks.now)
         l) }
     ensures fault { IfErr result (Stands tasks.now) }

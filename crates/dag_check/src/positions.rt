@@ -1,6 +1,7 @@
 //! Names become positions in the file, and the faults that show in names.
 ghost use Rattle.std.specs.Prelude.{◌≡◌, ◌<◌, ◌≤◌, ℕ, true, false, not, IfOk, IfErr, MatchOption, length, map};
 ghost use Rattle.std.specs.List.{list_any};
+ghost use Rattle.graph_file.specs.TaskLists.{task_limit};
 ghost use Rattle.dag_check.specs.Orders.{is_in, repeated, edges_of, AllBelow};
 ghost use Rattle.dag_check.specs.Names.{has, ids_of, is_double, is_unknown, NoneBelow, FirstBelow, position_of, rows_of};
 ghost use Rattle.dag_check.specs.NameFaults.{IsDoubleAt, IsUnknownAt};
@@ -18,7 +19,7 @@ pub(crate) enum Unplaced {
 
 // The names of the tasks, in the order of the file, or the first task whose name stands before.
 pub(crate) fn ids(alloc: Global, tasks: &[TaskSpec]) -> Result<IndexSet<Name>, Unplaced>
-    requires { length tasks.now ≤ 256 }
+    requires { length tasks.now ≤ task_limit }
     ensures ids { IfOk result (λ s. (s.keys ≡ ids_of tasks.now) × NoneBelow (is_double tasks.now)
         (length tasks.now)) }
     ensures fault { IfErr result (IsDoubleAt tasks.now) }
@@ -64,7 +65,7 @@ pub(crate) fn rows(
     ids: &IndexSet<Name>,
     tasks: &[TaskSpec],
 ) -> Result<Vec<Vec<usize>>, Unplaced>
-    requires few { length tasks.now ≤ 256 }
+    requires few { length tasks.now ≤ task_limit }
     requires ids { ids.now.keys ≡ ids_of tasks.now }
     ensures rows { IfOk result (λ v. (map (λ r. r.items) v.items ≡ rows_of tasks.now) × NoneBelow
         (is_unknown tasks.now) (length tasks.now)) }

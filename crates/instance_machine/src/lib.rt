@@ -5,7 +5,7 @@
 //!
 //! ```text
 //! instance.state(&task)                          // State::Queued
-//! instance.apply_report(Stage::Started, now)?;   // State::Running from here on
+//! instance.report(serial, Stage::Started, now);   // State::Running from here on
 //! ```
 #![tactic(auto)]
 

@@ -1,5 +1,5 @@
-//! Reports of workers.
-ghost use Rattle.std.specs.Prelude.{◌≡◌};
+//! What reports of workers, and a restart, do to a try.
+ghost use Rattle.std.specs.Prelude.{◌≡◌, ℕ, is_some};
 ghost use Rattle.instance_machine.specs.Reports as spec;
 ghost use Rattle.instance_machine.specs.Reports.{reported, report_try};
 
@@ -26,26 +26,40 @@ impl Instance {
     }
 }
 
-// The try after a report, if it takes it.
+impl Try {
+    /// Whether it is its turn to report this: an open try begins once, ends after that, and is never reported lost.
+    pub fn takes(&self, stage: Stage) -> bool
+        ensures { (now : ℕ) → result ≡ is_some (report_try stage now self.now) }
+    {
+        if self.ended.is_some() {
+            return false;
+        }
+        match stage {
+            Stage::Started => self.started.is_none(),
+            Stage::Ended(outcome) => self.started.is_some() && outcome != Outcome::Lost,
+        }
+    }
+}
+
+// The try after a report, where it is its turn.
 fn after_report(last: Try, stage: Stage, now: Moment) -> Option<Try>
     ensures { result ≡ report_try stage now last }
 {
-    if last.ended.is_some() {
+    if !last.takes(stage) {
         return None;
     }
     match stage {
-        Stage::Started if last.started.is_none() => Some(Try {
+        Stage::Started => Some(Try {
             started: Some(now),
             ..last
         }),
-        Stage::Ended(outcome) if last.started.is_some() && outcome != Outcome::Lost => Some(Try {
+        Stage::Ended(outcome) => Some(Try {
             ended: Some(End {
                 moment: now,
                 outcome,
             }),
             ..last
         }),
-        _ => None,
     }
 }
 

@@ -1,4 +1,4 @@
-//! The state of an instance.
+//! The state of a task instance, when a further try may come after `retry_delay`, and when the past lets a task run.
 ghost use Rattle.std.specs.Prelude.{◌≡◌};
 ghost use Rattle.instance_machine.specs.States as spec;
 

@@ -4,10 +4,11 @@ use Rattle.std.specs.BTreeSet.{insert_key}
 use Rattle.std.specs.List.{list_any}
 use Rattle.std.specs.List.Sorted.{IsStrictlySortedBy, IsPartitionPoint}
 use Rattle.std.specs.declared.cmp.Ordering.{Ordering}
-use Rattle.std.specs.Ordering.{nat_cmp, ordering_then, is_lt}
+use Rattle.std.specs.Ordering.{is_lt}
 use Rattle.std.specs.declared.cmp.Ordering.TheVariants.{Less, Equal, Greater}
+use Rattle.pool_book.specs.Ranks.{RankParts, rank_cmp}
 use Rattle.pool_book.specs.declared.keys.Key.{Key}
-use Rattle.pool_book.specs.Pools.{Entries, PoolUse, name_cmp, pool_of}
+use Rattle.pool_book.specs.Pools.{Entries, PoolUse, pool_of}
 
 -- the keys that are offered, in the order of their rank, and how many more there is memory for
 pub record Offered : Type 0 where
@@ -15,8 +16,11 @@ pub record Offered : Type 0 where
   pub room : ℕ
 
 -- the greater weight first, then the earlier logical date, then the graph's name, then the task's
+abbrev pub parts_of : Key → RankParts
+parts_of k = record { weight = k.weight; logical = k.logical; graph = k.graph; task = k.task }
+
 abbrev pub rank : Key → Key → Ordering
-rank x y = ordering_then (nat_cmp y.weight x.weight) (ordering_then (nat_cmp x.logical y.logical) (ordering_then (name_cmp x.graph y.graph) (name_cmp x.task y.task)))
+rank x y = rank_cmp (parts_of x) (parts_of y)
 
 abbrev pub ranks_before : Key → Key → Bool
 ranks_before x y = is_lt (rank x y)

@@ -1,3 +1,4 @@
 pub mod Limits
 pub mod Pools
+pub mod Ranks
 pub mod Keys

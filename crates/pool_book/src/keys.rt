@@ -1,8 +1,8 @@
 //! Keys: task instances that could be handed out, and their rank.
 ghost use Rattle.std.specs.Prelude.{◌≡◌, IfOk};
-ghost use Rattle.pool_book.specs.Keys.{rank, same_instance, same_key, fits};
+ghost use Rattle.pool_book.specs.Keys.{parts_of, rank, same_instance, same_key, fits};
 
-use crate::{Pools, Slots};
+use crate::{Pools, Rank, Slots};
 use graph_file::Name;
 use moment_core::Moment;
 use std::alloc::{AllocError, Global};
@@ -40,17 +40,23 @@ impl Key {
         })
     }
 
-    // Where it ranks against another: the greater weight is first, then the earlier logical date, then the lesser name of the
-    // graph, then that of the task, both by bytes.
+    // What it ranks by.
+    fn parts(&self) -> Rank<'_>
+        ensures { result ≡ parts_of self.now }
+    {
+        Rank {
+            weight: self.weight,
+            logical: self.logical,
+            graph: &self.graph,
+            task: &self.task,
+        }
+    }
+
+    // Where it ranks against another.
     pub(crate) fn rank(&self, other: &Key) -> Ordering
         ensures { result ≡ rank self.now other.now }
     {
-        other
-            .weight
-            .cmp(&self.weight)
-            .then(self.logical.cmp(&other.logical))
-            .then(self.graph.cmp(&other.graph))
-            .then(self.task.cmp(&other.task))
+        self.parts().compare(&other.parts())
     }
 
     // Whether it is of the same task instance.

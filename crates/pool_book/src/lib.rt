@@ -18,6 +18,7 @@ mod keys;
 mod laws;
 mod pool_uses;
 mod pools;
+mod ranks;
 mod ready;
 mod slots;
 
@@ -28,5 +29,6 @@ pub use laws::{
 };
 pub use pool_uses::Pool;
 pub use pools::{PoolFault, Pools};
+pub use ranks::Rank;
 pub use ready::Ready;
 pub use slots::Slots;

@@ -1,4 +1,5 @@
-//! What is ready to be handed out, in the order of its rank.
+//! What is ready to be handed out, in the order of its rank. No crate above uses this yet: hand-outs choose in
+//! `sched_handout/src/fitting.rt`.
 //!
 //! Easy to get wrong: a key that is offered is withdrawn only by a key that is the same in all its parts.
 ghost use Rattle.std.specs.Prelude.{◌≡◌, ◌+◌, ◌<◌, ◌≤◌, [], false, length, MatchOption, OnOk};

@@ -1,5 +1,6 @@
 //! The sum of the weights over a task and what it reaches.
 ghost use Rattle.std.specs.Prelude.{◌≡◌, ◌<◌, ◌≤◌, ◌+◌, ◌*◌, ℕ, true, IfOk, length, sum_by};
+ghost use Rattle.graph_file.specs.TaskLists.{task_limit};
 ghost use Rattle.dag_check.specs.Orders.{is_in};
 ghost use Rattle.priority_weights.specs.Weights.{own_weight, IsWeight, AreWeights};
 
@@ -39,7 +40,7 @@ fn weight_of(alloc: Global, graph: &Graph, place: usize) -> Result<u64, AllocErr
 fn total(graph: &Graph, place: usize, places: &[usize]) -> u64
     requires place_in { place < length graph.now.tasks }
     requires places_in { (y : ℕ) → is_in places.now y ≡ true → y < length graph.now.tasks }
-    requires few { length places.now ≤ 256 }
+    requires few { length places.now ≤ task_limit }
     ensures { result ≡ own_weight graph.now place + sum_by (own_weight graph.now) places.now }
 {
     let mut total = own(graph, place);

@@ -1,6 +1,7 @@
 //! Setting named instances back.
 ghost use Rattle.std.specs.Prelude.{◌≡◌, ◌<◌, ◌≤◌, ◌&&◌, not, count_by, length, slice_get, Some};
 ghost use Rattle.std.specs.List.{zip};
+ghost use Rattle.graph_file.specs.TaskLists.{task_limit};
 ghost use Rattle.sched_model.specs.Clearing as model;
 ghost use Rattle.sched_model.specs.Clearing.{count_cleared, named_in};
 ghost use Rattle.sched_model.specs.Lists.{at};
@@ -45,7 +46,7 @@ fn counts(selection: &Selection<'_>, place: usize, task: &TaskSpec, instance: &I
 fn count_in(selection: &Selection<'_>, dag: &Graph, run: &Run) -> u32
     ensures count { result ≡ count_by was_set
         (passing_from (names_instance selection.now) 0 (zip dag.now.tasks run.now.instances)) }
-    ensures few { result ≤ 256 }
+    ensures few { result ≤ task_limit }
 {
     let instances = run.instances.as_slice();
     let mut count = 0;
@@ -90,7 +91,7 @@ fn clear_run(draft: &mut Draft<'_>, selection: &Selection<'_>, position: usize) 
         { runs = at (run_cleared draft.old selection.now) position draft.old.runs } }
     ensures count { (r : runs.Run) → slice_get draft.old.runs position ≡ Some r
         → result ≡ count_by was_set (named_in draft.old (selection_of selection.now) r) }
-    ensures few { result ≤ 256 }
+    ensures few { result ≤ task_limit }
 {
     let run = &draft.runs()[position];
     let Some(dag) = selection.dag_of(draft, run) else {

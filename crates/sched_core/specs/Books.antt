@@ -4,8 +4,21 @@ use Rattle.pool_book.specs.Limits.{most_taken}
 use Rattle.pool_book.specs.Pools.{Entries}
 use Rattle.sched_model.specs.Schedule.{Schedule}
 use Rattle.sched_model.specs.States.{occupied}
-use Rattle.sched_draft.specs.Books.{Takes}
+use Rattle.sched_draft.specs.Books.{Takes, pools_in}
 use Rattle.sched_events.specs.SettledAndSound.{IsSettledAndSound}
+use Rattle.sched_core.specs.declared.schedules.Schedule.TheInside.{Inside}
+
+-- what a schedule in memory holds
+abbrev pub content_inside : Inside → Schedule
+content_inside s = record {
+  limits = s.limits;
+  graphs = s.graphs.items;
+  pools = pools_in s.pools.pools;
+  now = s.clock;
+  lanes = s.lanes;
+  next = s.next;
+  runs = s.runs.items;
+}
 
 -- of no pool more slots are taken than a book counts
 abbrev pub IsCounted : Schedule → Type 0

@@ -16,8 +16,6 @@ use Rattle.instance_machine.specs.Instances.{InstanceValue}
 use Rattle.sched_state.specs.Lists.{same}
 use Rattle.sched_state.specs.declared.graphs.LoadedGraph.{LoadedGraph}
 use Rattle.sched_state.specs.declared.runs.Run.{Run}
-use Rattle.sched_creation.specs.declared.by_hand.ByHandFault.{ByHandFault}
-use Rattle.sched_creation.specs.declared.by_hand.ByHandFault.TheVariants as hand
 use Rattle.sched_model.specs.Schedule.{Schedule}
 use Rattle.sched_model.specs.States.{is_open}
 use Rattle.sched_events.specs.Rows.{Row, PoolLine}
@@ -81,13 +79,6 @@ over es a = record a { pools = pools_in es }
 -- how many tries of a run are without an end
 abbrev pub open_in : Run → ℕ
 open_in r = sum_by (λ (i : InstanceValue). count_by is_open i.tries) r.instances
-
--- why a trigger is refused for which there is no run by hand
-abbrev pub hand_refusal : ByHandFault → Refusal
-hand_refusal hand.UnknownGraph = refusal.UnknownGraph
-hand_refusal hand.RunExists = refusal.RunExists
-hand_refusal hand.NoInterval = refusal.NoInterval
-hand_refusal hand.Memory = refusal.Memory
 
 -- ---- the search for the next row
 -- the first of two

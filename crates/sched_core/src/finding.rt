@@ -1,12 +1,11 @@
 //! Tries, found by their serials.
-ghost use Rattle.std.specs.Prelude.{◌≡◌, ℕ, ◌&&◌, ◌==◌, find, flat_map, is_some};
+ghost use Rattle.std.specs.Prelude.{◌≡◌, ◌&&◌, ◌==◌, find, flat_map};
 ghost use Rattle.std.specs.Option.{option_copied};
 ghost use Rattle.instance_machine.specs.Instances.{InstanceValue};
-ghost use Rattle.instance_machine.specs.Reports.{report_try};
 ghost use Rattle.sched_state.specs.declared.runs.Run.{Run as RunRecord};
 ghost use Rattle.sched_model.specs.States.{is_open};
 
-use instance_machine::{Instance, Outcome, Stage, Try};
+use instance_machine::{Instance, Try};
 use sched_state::Run;
 
 // Whether the try has no end, and this serial.
@@ -48,17 +47,4 @@ pub fn open_try(runs: &[Run], serial: u64) -> Option<Try>
         }
     }
     None
-}
-
-// Whether the try may report this.
-pub fn takes(one: &Try, stage: Stage) -> bool
-    ensures { (now : ℕ) → result ≡ is_some (report_try stage now one.now) }
-{
-    if one.ended.is_some() {
-        return false;
-    }
-    match stage {
-        Stage::Started => one.started.is_none(),
-        Stage::Ended(outcome) => one.started.is_some() && outcome != Outcome::Lost,
-    }
 }

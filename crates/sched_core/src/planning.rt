@@ -15,7 +15,7 @@ ghost use Rattle.sched_core.specs.Effects.{applied, KeepsAgreement};
 ghost use Rattle.sched_core.specs.Inside.{IsOver, over};
 
 use crate::changes::{Change, Effect, Next};
-use crate::finding::{open_try, takes};
+use crate::finding::open_try;
 use crate::lookups::graph_named;
 use crate::schedules::Schedule;
 use graph_file::{Name, Sequence};
@@ -233,7 +233,7 @@ impl Schedule {
         let Some(one) = open_try(&self.runs, serial) else {
             return Err(Refusal::NotInFlight(serial));
         };
-        if !takes(&one, stage) {
+        if !one.takes(stage) {
             return Err(Refusal::OutOfTurn(serial));
         }
         let mut draft = self.draft(alloc, None)?;

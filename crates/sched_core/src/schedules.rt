@@ -43,18 +43,17 @@ pub struct Schedule {
 
 impl Model for Schedule {
     ghost use Rattle.std.specs.Prelude.{◌-◌, vec_len, vec_capacity};
-    ghost use Rattle.sched_draft.specs.Books.{pools_in};
-    ghost use Rattle.sched_core.specs.Books.{AgreesWithBook};
+    ghost use Rattle.sched_core.specs.Books.{AgreesWithBook, content_inside};
     ghost use Rattle.sched_core.specs.Changes.{ScheduleValue};
 
     ghost Value = { ScheduleValue };
 
     ghost view = { λ s. record {
-      content = record { limits = s.limits; graphs = s.graphs.items; pools = pools_in s.pools.pools; now = s.clock; lanes = s.lanes; next = s.next; runs = s.runs.items };
+      content = content_inside s;
       room = record { graphs = vec_capacity s.graphs - vec_len s.graphs };
     } };
 
-    ghost invariant = { λ s. AgreesWithBook (record { limits = s.limits; graphs = s.graphs.items; pools = pools_in s.pools.pools; now = s.clock; lanes = s.lanes; next = s.next; runs = s.runs.items }) s.pools.pools };
+    ghost invariant = { λ s. AgreesWithBook (content_inside s) s.pools.pools };
 }
 
 impl Schedule {

@@ -2,14 +2,13 @@
 ghost use Rattle.std.specs.Prelude.{◌≡◌, [], ◌∷◌, IfOk, IfErr};
 ghost use Rattle.sched_events.specs.Outcomes.{IsRefusal};
 ghost use Rattle.sched_events.specs.declared.events.Event.TheVariants.{Trigger};
-ghost use Rattle.sched_core.specs.Inside.{hand_refusal};
 ghost use Rattle.sched_core.specs.Plans.{IsPlanned};
 
 use crate::changes::Change;
 use crate::planning::{ids_of, quiet_answer};
 use crate::schedules::Schedule;
 use graph_file::Name;
-use sched_creation::{ByHandFault, add, named_by_hand};
+use sched_creation::{add, named_by_hand};
 use sched_events::{Answer, Refusal};
 use sched_state::Run;
 use std::alloc::{AllocError, Global};
@@ -21,9 +20,12 @@ impl Schedule {
         ensures refused { IfErr result (IsRefusal self.now.content (Trigger id.now)) }
     {
         let mut draft = self.draft(alloc, None)?;
-        let run = match named_by_hand(alloc, &draft, id) {
+        let Some(planned) = named_by_hand(alloc, &draft, id)? else {
+            return Err(Refusal::UnknownGraph);
+        };
+        let run = match planned {
             Ok(run) => run,
-            Err(fault) => return Err(refusal_of(fault)),
+            Err(fault) => return Err(Refusal::from(fault)),
         };
         if self.limits.runs() as usize <= self.runs.len() {
             return Err(Refusal::RecordFull);
@@ -46,16 +48,4 @@ fn alone(alloc: Global, run: Run) -> Result<Vec<Run>, AllocError>
     let mut runs = Vec::new(alloc);
     runs.push(run)?;
     Ok(runs)
-}
-
-// Why a trigger is refused for which there is no run by hand.
-fn refusal_of(fault: ByHandFault) -> Refusal
-    ensures { result ≡ hand_refusal fault }
-{
-    match fault {
-        ByHandFault::UnknownGraph => Refusal::UnknownGraph,
-        ByHandFault::RunExists => Refusal::RunExists,
-        ByHandFault::NoInterval => Refusal::NoInterval,
-        ByHandFault::Memory => Refusal::Memory,
-    }
 }

@@ -1,5 +1,5 @@
 -- What is planned by hand and for a span is what the definitions name.
-use Rattle.std.proofs.Common.{◌≡◌, ◌∙◌, ◌⊎◌, inl, inr, refl, sym, ap, ℕ, zero, suc, List, [], ◌∷◌, true, false, not, map, take, length, nat_lt, Result, Ok, Err, Some, None, option_map, unwrap_or, is_none, subst}
+use Rattle.std.proofs.Common.{◌≡◌, ◌∙◌, ◌⊎◌, inl, inr, refl, sym, ap, ℕ, zero, suc, List, [], ◌∷◌, true, false, not, map, take, length, nat_lt, Result, Ok, Err, Option, Some, None, option_map, unwrap_or, is_none, subst}
 use Rattle.std.proofs.lemmas.List.{length-map}
 use Rattle.std.specs.Cmp.Lexicographic.{same_text}
 use Rattle.cron_timetable.specs.declared.timetables.Interval.{Interval}
@@ -23,7 +23,7 @@ use Rattle.sched_laws.proofs.SettleLemmas.{map_some}
 use Rattle.sched_model.specs.NamedRuns.{NamedRun, manual_run, named_by_hand, named_by_backfill, present_in, queued_run, run_from}
 use Rattle.sched_laws.proofs.NamedLemmas.{filtered_date}
 use Rattle.sched_creation.specs.NewRuns.{new_run, run_of}
-use Rattle.sched_creation.specs.ByHand.{IsPlanned, IsByHand, fault_of}
+use Rattle.sched_creation.specs.ByHand.{IsPlanned, IsByHand}
 use Rattle.sched_creation.proofs.NamingLemmas.{queued_is, filter_same}
 use Rattle.sched_state.proofs.NameLemmas.{find_passes}
 
@@ -122,6 +122,7 @@ named_dag a id g there =
       ap is_none k.1,
     )
 
-pub by_fault : (a : Schedule) (id : List ℕ) (fault : PlanFault) → is_unknown_graph a id ≡ false → IsPlanned a id (Err fault) → IsByHand a id (Err (fault_of fault))
-by_fault a id RunExists known h = (known, h)
-by_fault a id NoInterval known h = (known, h)
+-- where there is a run by hand
+pub run_named : (a : Schedule) (id : List ℕ) (o : Option (Result Run PlanFault)) (planned : Result Run PlanFault) (run : Run) → o ≡ Some planned → planned ≡ Ok run → IsByHand a id o
+    → (is_unknown_graph a id ≡ false) × IsPlanned a id (Ok run)
+run_named a id o planned run e f h = subst (IsByHand a id) (e ∙ ap (λ (r : Result Run PlanFault). Some r) f) h

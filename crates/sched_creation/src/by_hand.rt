@@ -12,56 +12,19 @@ use sched_draft::Draft;
 use sched_state::{Run, RunKind};
 use std::alloc::{AllocError, Global};
 
-/// Why there is no run by hand. Where several hold the first is answered.
-#[derive(Clone, Copy, Debug, PartialEq, Eq)]
-pub enum ByHandFault {
-    /// There is no graph with this id.
-    UnknownGraph,
-    /// A run of the graph has this logical date.
-    RunExists,
-    /// No interval of the timetable has ended.
-    NoInterval,
-    /// Memory ran out. This comes at any point before.
-    Memory,
-}
-
-impl From<AllocError> for ByHandFault {
-    ghost use Rattle.std.specs.Prelude.{◌≡◌};
-    ghost use Rattle.sched_creation.specs.declared.by_hand.ByHandFault.TheVariants.{Memory};
-
-    ghost from_gives = { λ _ fault. fault ≡ Memory };
-
-    fn from(_error: AllocError) -> ByHandFault {
-        ByHandFault::Memory
-    }
-}
-
-impl From<PlanFault> for ByHandFault {
-    ghost use Rattle.std.specs.Prelude.{◌≡◌};
-    ghost use Rattle.sched_creation.specs.ByHand.{fault_of};
-
-    ghost from_gives = { λ planned fault. fault ≡ fault_of planned };
-
-    fn from(planned: PlanFault) -> ByHandFault {
-        match planned {
-            PlanFault::RunExists => ByHandFault::RunExists,
-            PlanFault::NoInterval => ByHandFault::NoInterval,
-        }
-    }
-}
-
-/// The run by hand of the graph with this id, or why there is none: its logical date is the draft's clock (Airflow 2, "DAG Runs":
-/// external triggers).
-pub fn named_by_hand(alloc: Global, draft: &Draft<'_>, id: &Name) -> Result<Run, ByHandFault>
-    ensures { IsByHand draft.now id.now result }
+/// The run by hand of the graph with this id, or the first reason against it; nothing where there is no such graph. Its logical date is the
+/// draft's clock (Airflow 2, "DAG Runs": external triggers).
+pub fn named_by_hand(
+    alloc: Global,
+    draft: &Draft<'_>,
+    id: &Name,
+) -> Result<Option<Result<Run, PlanFault>>, AllocError>
+    ensures { IfOk result (IsByHand draft.now id.now) }
 {
     let Some(dag) = draft.dag(id) else {
-        return Err(ByHandFault::UnknownGraph);
+        return Ok(None);
     };
-    match planned(alloc, draft, dag)? {
-        Ok(run) => Ok(run),
-        Err(fault) => Err(ByHandFault::from(fault)),
-    }
+    Ok(Some(planned(alloc, draft, dag)?))
 }
 
 // The same of a graph that is there.

@@ -7,6 +7,8 @@ use Rattle.dag_check.specs.declared.faults.DagFault.{DagFault}
 use Rattle.dag_check.specs.declared.faults.DagFault.TheVariants as fault
 use Rattle.pool_book.specs.declared.pools.PoolFault.{PoolFault}
 use Rattle.pool_book.specs.declared.pools.PoolFault.TheVariants as pool
+use Rattle.run_planner.specs.declared.by_hand.PlanFault.{PlanFault}
+use Rattle.run_planner.specs.declared.by_hand.PlanFault.TheVariants as plan
 use Rattle.sched_model.specs.Schedule.{Schedule}
 use Rattle.sched_events.specs.Causes.{refused}
 use Rattle.sched_events.specs.Events.{IsInRange}
@@ -29,6 +31,11 @@ refusal_of fault.Memory = refusal.Memory
 abbrev pub refusal_of_pool : PoolFault → Refusal
 refusal_of_pool pool.TooManyPools = refusal.PoolFault pool.TooManyPools
 refusal_of_pool pool.Memory = refusal.Memory
+
+-- the refusal for a reason against a run by hand
+abbrev pub refusal_of_plan : PlanFault → Refusal
+refusal_of_plan plan.RunExists = refusal.RunExists
+refusal_of_plan plan.NoInterval = refusal.NoInterval
 
 -- the event is within its ranges and accepted, the schedule after it is its step, and this is its answer
 pub record IsStepped (a : Schedule) (e : Event) (b : Schedule) (given : Answer) : Type 0 where

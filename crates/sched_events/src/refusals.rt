@@ -3,6 +3,7 @@ use dag_check::DagFault;
 use graph_file::{GraphFault, Name};
 use moment_core::Moment;
 use pool_book::PoolFault;
+use run_planner::PlanFault;
 use std::alloc::AllocError;
 
 /// Why an event is refused. Where several causes stand, the first in this order is answered, and nothing changes.
@@ -81,6 +82,20 @@ impl From<PoolFault> for Refusal {
         match fault {
             PoolFault::TooManyPools => Refusal::PoolFault(PoolFault::TooManyPools),
             PoolFault::Memory => Refusal::Memory,
+        }
+    }
+}
+
+impl From<PlanFault> for Refusal {
+    ghost use Rattle.std.specs.Prelude.{◌≡◌};
+    ghost use Rattle.sched_events.specs.Outcomes.{refusal_of_plan};
+
+    ghost from_gives = { λ fault refusal. refusal ≡ refusal_of_plan fault };
+
+    fn from(fault: PlanFault) -> Refusal {
+        match fault {
+            PlanFault::RunExists => Refusal::RunExists,
+            PlanFault::NoInterval => Refusal::NoInterval,
         }
     }
 }

@@ -1,7 +1,6 @@
 -- Hand-out: the first in rank of the ready instances that fit gets a try, until none fits.
 use Rattle.std.specs.Prelude.{ℕ, ◌+◌, ◌-◌, ◌^◌, Bool, true, false, not, ◌&&◌, ◌||◌, List, [], ◌∷◌, ◌++◌, filter, flat_map, Option, Some, None, option_map, nat_lt, nat_le}
 use Rattle.std.specs.List.{zip, enumerate_from}
-use Rattle.std.specs.Ordering.{nat_cmp, ordering_then}
 use Rattle.std.specs.declared.cmp.Ordering.{Ordering}
 use Rattle.graph_file.specs.declared.task_specs.TaskSpec.{TaskSpec}
 use Rattle.priority_weights.specs.Weights.{effective_weight}
@@ -10,7 +9,8 @@ use Rattle.trigger_rules.specs.declared.states.State.TheVariants as state
 use Rattle.instance_machine.specs.Instances.{InstanceValue}
 use Rattle.instance_machine.specs.States.{state_of, retry_at}
 use Rattle.instance_machine.specs.declared.tries.Try.{Try}
-use Rattle.sched_state.specs.Lists.{name_cmp, is_less, repeat}
+use Rattle.pool_book.specs.Ranks.{RankParts, rank_cmp}
+use Rattle.sched_state.specs.Lists.{is_less, repeat}
 use Rattle.sched_model.specs.Lists.{at, best_by}
 use Rattle.sched_model.specs.Schedule.{Schedule, dag_named, tasks_of, is_paused, size_of, is_running}
 use Rattle.sched_state.specs.declared.runs.Run.{Run}
@@ -69,9 +69,11 @@ offers a = flat_map (offers_in a) (enumerate_from 0 a.runs)
 
 -- ---- rank (Airflow 2, 'Priority Weights'; what comes after the weight is this project's own profile)
 -- greater weight, then earlier date, then graph, then task
+abbrev pub rank_parts : Offer → RankParts
+rank_parts o = record { weight = o.weight; logical = o.logical; graph = o.graph; task = o.task }
+
 abbrev pub rank : Offer → Offer → Ordering
-rank x y = ordering_then (nat_cmp y.weight x.weight)
-    (ordering_then (nat_cmp x.logical y.logical) (ordering_then (name_cmp x.graph y.graph) (name_cmp x.task y.task)))
+rank x y = rank_cmp (rank_parts x) (rank_parts y)
 
 abbrev pub ranks_before : Offer → Offer → Bool
 ranks_before x y = is_less (rank x y)

@@ -17,15 +17,22 @@ pub struct Limits {
 
 impl Model for Limits {
     ghost use Rattle.std.specs.Prelude.{◌≡◌, true};
-    ghost use Rattle.sched_state.specs.Limits.{Bounds, is_allowed};
+    ghost use Rattle.sched_state.specs.Limits.{Bounds, bounds_inside, is_allowed};
 
     ghost Value = { Bounds };
 
-    ghost view = { λ l. record { graphs = l.graphs; tasks = l.tasks; edges = l.edges; pools = l.pools; runs = l.runs; lanes = l.lanes } };
+    ghost view = { bounds_inside };
 
-    ghost invariant = { λ l. is_allowed (record { graphs = l.graphs; tasks = l.tasks; edges = l.edges; pools = l.pools; runs = l.runs; lanes = l.lanes }) ≡ true };
+    ghost invariant = { λ l. is_allowed (bounds_inside l) ≡ true };
 
-    ghost inverse = { λ b. record { graphs = b.graphs; tasks = b.tasks; edges = b.edges; pools = b.pools; runs = b.runs; lanes = b.lanes } };
+    ghost inverse = { λ b. record {
+      graphs = b.graphs;
+      tasks = b.tasks;
+      edges = b.edges;
+      pools = b.pools;
+      runs = b.runs;
+      lanes = b.lanes;
+    } };
 }
 
 impl Limits {

@@ -41,7 +41,8 @@ not_zero : (r : Refusal) (a : Schedule) (o : Outcome) → o ≡ refused_for r a 
 not_zero r a o h z = some-status r (sym (ap (λ (x : Outcome). x.status) h) ∙ z)
 
 -- one that is refused is left out, unless memory was wanting
-left_out : (e : Event) (a : Schedule) (r : Refusal) (o : Outcome) (more : List Event) → IsRefusal a e r → o ≡ refused_for r a → o.status < 4 → accepted_among (e ∷ more) a ≡ accepted_among more a
+left_out : (e : Event) (a : Schedule) (r : Refusal) (o : Outcome) (more : List Event) → IsRefusal a e r → o ≡ refused_for r a → o.status < 4
+    → accepted_among (e ∷ more) a ≡ accepted_among more a
 left_out e a r o more (inl memory) h few =
     let four : o.status ≡ 4 = ap (λ (x : Outcome). x.status) h ∙ ap refusal_status memory in
     absurd (omega (arith, four, few))

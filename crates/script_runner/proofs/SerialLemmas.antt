@@ -4,7 +4,7 @@ use Rattle.std.proofs.lemmas.Result.{IfOk-at_ok, IfOk-weaker}
 use Rattle.sched_state.specs.Limits.{ceilings}
 use Rattle.sched_model.specs.Schedule.{Schedule, empty_schedule}
 use Rattle.sched_events.specs.Outcomes.{IsStepped}
-use Rattle.sched_events.specs.Steps.{step, steps, AreAccepted, accepted_among}
+use Rattle.sched_events.specs.Steps.{steps, AreAccepted, accepted_among}
 use Rattle.sched_events.specs.declared.answers.Answer.{Answer}
 use Rattle.sched_events.specs.declared.events.Event.{Event}
 use Rattle.sched_events.specs.declared.events.Event.TheVariants.{Restart}

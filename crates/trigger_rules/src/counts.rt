@@ -1,5 +1,6 @@
 //! How many upstreams are in which state.
 ghost use Rattle.std.specs.Prelude.{◌≡◌, ◌+◌, ◌<◌, ◌≤◌, List, [], ◌∷◌, ◌++◌};
+ghost use Rattle.graph_file.specs.TaskLists.{task_limit};
 ghost use Rattle.trigger_rules.specs.Counts.{counts_of, total};
 ghost use Rattle.trigger_rules.specs.declared.states.State.{State as StateOf};
 
@@ -19,6 +20,7 @@ pub struct Counts {
 }
 
 impl Model for Counts {
+    ghost use Rattle.graph_file.specs.TaskLists.{task_limit};
     ghost use Rattle.std.specs.Prelude.{◌≤◌};
     ghost use Rattle.trigger_rules.specs.Counts.{Tally, total};
 
@@ -38,7 +40,7 @@ impl Model for Counts {
       upstream_failed = c.upstream_failed;
       skipped = c.skipped;
       unfinished = c.unfinished;
-    }) ≤ 256 };
+    }) ≤ task_limit };
 
     ghost inverse = { λ t. record {
       success = t.success;
@@ -65,7 +67,7 @@ impl Counts {
 
     /// Counts one more upstream.
     pub fn add(&mut self, state: State)
-        requires { total self.old < 256 }
+        requires { total self.old < task_limit }
         ensures counted { (s : List StateOf) → self.old ≡ counts_of s
             → self.new ≡ counts_of (s ++ state ∷ []) }
         ensures one { total self.new ≡ total self.old + 1 }

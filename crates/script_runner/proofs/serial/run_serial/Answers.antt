@@ -4,7 +4,6 @@ use Rattle.sched_state.specs.Limits.{ceilings}
 use Rattle.sched_model.specs.Schedule.{Schedule, empty_schedule}
 use Rattle.sched_events.specs.Outcomes.{IsStepped, IsRefusal}
 use Rattle.sched_events.specs.declared.refusals.Refusal.{Refusal}
-use Rattle.sched_events.specs.Steps.{step}
 use Rattle.sched_events.specs.declared.events.Event.TheVariants.{Restart}
 use Rattle.script_runner.proofs.SerialLemmas.{serial-run}
 use Rattle.script_runner.proofs.serial.run_serial.Goals as goal

@@ -3,7 +3,7 @@ use Rattle.std.proofs.lemmas.Bool.Decides.{nat_tests}
 use Rattle.sched_state.specs.declared.runs.Run.{Run}
 use Rattle.sched_model.specs.Schedule.{Schedule}
 use Rattle.sched_model.specs.NamedRuns.{named_by_hand, add_runs}
-use Rattle.sched_creation.specs.ByHand.{IsByHand}
+use Rattle.sched_creation.proofs.ByHandLemmas.{run_named}
 use Rattle.sched_events.specs.Causes.{refused}
 use Rattle.sched_events.specs.Events.{named_by, change_by}
 use Rattle.sched_events.specs.SettledAndSound.{IsSettledAndSound}
@@ -23,7 +23,7 @@ finish-requires-clause-sound c =
     let id : List ℕ = c.args.id.now in
     let d : Schedule = c.in_ok-draft.draft in
     let run : Run = c.in-Ok.run' in
-    let h = subst (IsByHand d id) c.in-Ok.is c.named_by_hand.ensures in
+    let h = run_named d id _ _ c.in-Ok.run' c.in-Some.is c.in-Ok.is c.in_ok-planned.ensures in
     let limit : c.self.inside.limits.runs ≡ a.limits.runs = ap (λ (s : ScheduleValue). s.content.limits.runs) c.self.view_is in
     let long : length c.self.inside.runs.items ≡ length a.runs = ap (λ (s : ScheduleValue). length s.content.runs) c.self.view_is in
     let full : nat_lt a.limits.runs (length a.runs + 1) ≡ false = grind (arith, nat_tests, c.runs.ensures.value, c.len.ensures, limit, long, c.if-runs-len.false) in
@@ -38,7 +38,7 @@ finish-requires-clause-kept c =
     let id : List ℕ = c.args.id.now in
     let d : Schedule = c.in_ok-draft.draft in
     let run : Run = c.in-Ok.run' in
-    let h = subst (IsByHand d id) c.in-Ok.is c.named_by_hand.ensures in
+    let h = run_named d id _ _ c.in-Ok.run' c.in-Some.is c.in-Ok.is c.in_ok-planned.ensures in
     let limit : c.self.inside.limits.runs ≡ a.limits.runs = ap (λ (s : ScheduleValue). s.content.limits.runs) c.self.view_is in
     let long : length c.self.inside.runs.items ≡ length a.runs = ap (λ (s : ScheduleValue). length s.content.runs) c.self.view_is in
     let full : nat_lt a.limits.runs (length a.runs + 1) ≡ false = grind (arith, nat_tests, c.runs.ensures.value, c.len.ensures, limit, long, c.if-runs-len.false) in
@@ -52,7 +52,7 @@ finish-requires-clause-counted c =
     let a : Schedule = c.args.self.now.content in
     let id : List ℕ = c.args.id.now in
     let d : Schedule = c.in_ok-draft.draft in
-    let h = subst (IsByHand d id) c.in-Ok.is c.named_by_hand.ensures in
+    let h = run_named d id _ _ c.in-Ok.run' c.in-Some.is c.in-Ok.is c.in_ok-planned.ensures in
     let counted : IsCounted a = subst (λ (s : ScheduleValue). IsCounted s.content) c.self.view_is c.self.invariant.counted in
     let is : c.add.new.draft ≡ add_runs (named_by (Trigger id) a) (change_by (Trigger id) a) =
     trigger_draft a d c.add.new.draft id c.in-Ok.run' c.in_ok-runs.runs.items c.in_ok-draft.ensures h.1.1 c.in_ok-runs.ensures c.in_ok-add.ensures in
@@ -64,7 +64,7 @@ returns-clause-accepted c =
     let id : List ℕ = c.args.id.now in
     let d : Schedule = c.in_ok-draft.draft in
     let run : Run = c.in-Ok.run' in
-    let h = subst (IsByHand d id) c.in-Ok.is c.named_by_hand.ensures in
+    let h = run_named d id _ _ c.in-Ok.run' c.in-Some.is c.in-Ok.is c.in_ok-planned.ensures in
     let limit : c.self.inside.limits.runs ≡ a.limits.runs = ap (λ (s : ScheduleValue). s.content.limits.runs) c.self.view_is in
     let long : length c.self.inside.runs.items ≡ length a.runs = ap (λ (s : ScheduleValue). length s.content.runs) c.self.view_is in
     let full : nat_lt a.limits.runs (length a.runs + 1) ≡ false = grind (arith, nat_tests, c.runs.ensures.value, c.len.ensures, limit, long, c.if-runs-len.false) in
