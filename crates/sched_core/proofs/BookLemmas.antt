@@ -30,7 +30,7 @@ use Rattle.sched_laws.proofs.OccupyingLemmas.{open_paused, open_cleared, open_ad
 use Rattle.sched_laws.proofs.SlotLemmas.{open_settled, out_filled}
 use Rattle.sched_laws.proofs.SoundLemmas.{settle_sound}
 use Rattle.sched_events.specs.Events.{set_back}
-use Rattle.sched_events.specs.SettledAndSound.{IsSettledAndSound}
+use Rattle.sched_events.specs.SettledAndSound.{IsSoundAndSaid, IsSettled}
 use Rattle.sched_events.specs.Rows.{PoolLine}
 use Rattle.sched_draft.specs.Books.{pools_in, Takes, IsBookOf}
 use Rattle.sched_draft.proofs.BookLemmas.{has_is}
@@ -41,12 +41,13 @@ use Rattle.sched_laws.proofs.RankLemmas.{less_is}
 use Rattle.sched_laws.proofs.ResizeLemmas.{resize_other}
 
 -- ---- the same tries take the same slots
-counted_same : (a b : Schedule) → open_tries b ≡ open_tries a → IsCounted a → IsCounted b
+pub counted_same : (a b : Schedule) → open_tries b ≡ open_tries a → IsCounted a → IsCounted b
 counted_same a b e counted name = subst (λ n. n ≤ most_taken) (ap (sum_by (slots_in name)) (sym e)) (counted name)
 
-pub quiet_held : (a b : Schedule) (es : Entries) → IsSettledAndSound b → open_tries b ≡ open_tries a → AgreesWithBook a es → AgreesWithBook b es
-quiet_held a b es kept e held = record {
+pub quiet_held : (a b : Schedule) (es : Entries) (was : Bool) → IsSoundAndSaid b → IsSettled b → open_tries b ≡ open_tries a → AgreesWithBook was a es → AgreesWithBook true b es
+quiet_held a b es was kept still e held = record {
   kept = kept;
+  settled = λ known. still;
   counted = counted_same a b e held.counted;
   taken = λ name p there. held.taken name p there ∙ ap (sum_by (slots_in name)) (sym e);
 }
@@ -65,8 +66,8 @@ open_back (Some named) a = open_cleared named a
 pub repair_counted : (ns : List NamedRun) (named : Option Selection) (a : Schedule) → IsCounted a → IsCounted (add_runs ns (set_back named a))
 repair_counted ns named a counted = counted_same a (add_runs ns (set_back named a)) (open_added ns (set_back named a) ∙ open_back named a) counted
 
-pub unpause_counted : (id : List ℕ) (a : Schedule) → IsCounted a → IsCounted (set_paused id false a)
-unpause_counted id a counted = counted_same a (set_paused id false a) (open_paused id false a) counted
+pub pause_counted : (id : List ℕ) (paused : Bool) (a : Schedule) → IsCounted a → IsCounted (set_paused id paused a)
+pause_counted id paused a counted = counted_same a (set_paused id paused a) (open_paused id paused a) counted
 
 pub report_counted : (serial : ℕ) (stage : Stage) (a : Schedule) → IsCounted a → IsCounted (report serial stage a)
 report_counted serial stage a counted name =
@@ -192,5 +193,5 @@ rows_in a (e ∷ es) order h =
     ap (λ (n : ℕ). let w : PoolLine = record { name = e.0; size = e.1.size; occupied = n; open_slots = pos e.1.size -ℤ pos n } in w ∷ map row_in es) here ∙ ap (λ (ws : List PoolLine). pool_row a (line e) ∷ ws) rest
 
 -- the rows of the book are those of the schedule
-pub rows_held : (a : Schedule) (es : Entries) → pools_in es ≡ a.pools → AgreesWithBook a es → map row_in es ≡ pool_rows a
-rows_held a es pools held = rows_in a es (ap (rises pool_before) pools ∙ held.kept.sound.pools_by_name) held.taken ∙ ap (map (pool_row a)) pools
+pub rows_held : (is_settled : Bool) (a : Schedule) (es : Entries) → pools_in es ≡ a.pools → AgreesWithBook is_settled a es → map row_in es ≡ pool_rows a
+rows_held is_settled a es pools held = rows_in a es (ap (rises pool_before) pools ∙ held.kept.sound.pools_by_name) held.taken ∙ ap (map (pool_row a)) pools

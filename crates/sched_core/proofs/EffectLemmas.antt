@@ -1,24 +1,96 @@
 -- What the effect of a change makes of a schedule that is held.
-use Rattle.std.proofs.Common.{◌≡◌, subst, List, ℕ, false, true}
-use Rattle.dag_check.specs.Graphs.{Dag}
+use Rattle.std.proofs.Common.{◌≡◌, ◌∙◌, refl, sym, ap, subst, Bool, true, Option, Some, None}
 use Rattle.pool_book.specs.Pools.{Entries}
-use Rattle.sched_model.specs.Changes.{load_graph, set_paused}
-use Rattle.sched_model.specs.Schedule.{Schedule, has_runs}
-use Rattle.sched_laws.proofs.LoadLemmas.{load_open}
+use Rattle.sched_model.specs.Changes.{set_paused}
+use Rattle.sched_model.specs.Handout.{hand_out}
+use Rattle.sched_model.specs.Schedule.{Schedule}
+use Rattle.sched_model.specs.Settle.{settle}
+use Rattle.sched_model.specs.States.{open_tries}
+use Rattle.sched_model.specs.Jobs.{handed}
+use Rattle.sched_laws.proofs.BesideLemmas.{load_beside, no_runs_after, load_handed}
+use Rattle.sched_laws.proofs.HandOutLemmas.{hand_still}
+use Rattle.sched_laws.proofs.LoadLemmas.{load_open, load_still, load_no_hand}
 use Rattle.sched_laws.proofs.OccupyingLemmas.{open_paused}
-use Rattle.sched_events.specs.SettledAndSound.{IsSettledAndSound}
+use Rattle.sched_laws.proofs.PauseLemmas.{pause_still, pause_no_hand}
+use Rattle.sched_laws.proofs.SettleLemmas.{settle_still}
+use Rattle.sched_events.specs.SettledAndSound.{IsSoundAndSaid, IsSettled}
+use Rattle.sched_events.specs.declared.answers.Answer.{Answer}
 use Rattle.sched_core.specs.Books.{AgreesWithBook}
-use Rattle.sched_core.specs.Effects.{applied, book_after, KeepsAgreement}
+use Rattle.sched_core.specs.Changes.{Planned}
+use Rattle.sched_core.specs.Plans.{no_runs}
+use Rattle.sched_core.specs.Effects.{with_change, with_rest, applied, book_after, KeepsAgreement, IsQuiet}
+use Rattle.sched_core.specs.Inside.{IsOver, IsLast, completed}
 use Rattle.sched_core.specs.declared.changes.Effect.{Effect}
-use Rattle.sched_core.specs.declared.changes.Effect.TheVariants as effect
+use Rattle.sched_core.specs.declared.changes.Rest.{Rest}
+use Rattle.sched_core.specs.declared.changes.GraphChange.{GraphChange}
+use Rattle.sched_core.specs.declared.changes.GraphChange.TheVariants as graphs
 use Rattle.sched_core.proofs.BookLemmas.{quiet_held}
+use Rattle.sched_core.proofs.PlanLemmas.{no_jobs}
 
 -- what an effect keeps, where it is this one and the schedule this
-pub done_held : (e f : Effect) (a b : Schedule) (es : Entries) → KeepsAgreement e a → e ≡ f → a ≡ b → AgreesWithBook b es → AgreesWithBook (applied f b) (book_after f es)
-done_held e f a b es keeps is there held = subst (λ (g : Effect). KeepsAgreement g b) is (subst (KeepsAgreement e) there keeps) es held
+pub done_held : (e f : Effect) (a b : Schedule) (es : Entries) (was : Bool) → KeepsAgreement e a → e ≡ f → a ≡ b → AgreesWithBook was b es → AgreesWithBook true (applied f b) (book_after f.rest es)
+done_held e f a b es was keeps is there held = subst (λ (g : Effect). KeepsAgreement g b) is (subst (KeepsAgreement e) there keeps) es was held
 
-pub load_held : (text : List ℕ) (dag : Dag) (a : Schedule) → IsSettledAndSound (load_graph text dag a) → has_runs a dag.spec.dag_id ≡ false → KeepsAgreement (effect.Load text dag) a
-load_held text dag a kept quiet es held = quiet_held a (load_graph text dag a) es kept (load_open text dag a quiet) held
+-- the graphs are those that the change makes
+pub rest_graphs : (o : Option Rest) (a : Schedule) → (with_rest o a).graphs ≡ a.graphs
+rest_graphs None a = refl
+rest_graphs (Some n) a = refl
 
-pub pause_held : (id : List ℕ) (a : Schedule) → IsSettledAndSound (set_paused id true a) → KeepsAgreement (effect.Pause id) a
-pause_held id a kept es held = quiet_held a (set_paused id true a) es kept (open_paused id true a) held
+-- ---- changes that enable nothing
+pub quiet_settled : (g : GraphChange) (a : Schedule) → IsQuiet g a → IsSettled a → IsSettled (with_change g a)
+quiet_settled graphs.Same a quiet still = still
+quiet_settled (graphs.Load text dag) a quiet still = record { settled = load_still text dag a quiet still.settled; handed = load_no_hand text dag a quiet still.handed }
+quiet_settled (graphs.Pause id paused) a quiet still =
+    subst (λ (p : Bool). IsSettled (set_paused id p a)) (sym quiet) (record { settled = pause_still id a still.settled; handed = pause_no_hand id a still.handed })
+
+quiet_open : (g : GraphChange) (a : Schedule) → IsQuiet g a → open_tries (with_change g a) ≡ open_tries a
+quiet_open graphs.Same a quiet = refl
+quiet_open (graphs.Load text dag) a quiet = load_open text dag a quiet
+quiet_open (graphs.Pause id paused) a quiet = open_paused id paused a
+
+pub quiet_keeps : (g : GraphChange) (a : Schedule) → IsSoundAndSaid (with_change g a) → IsQuiet g a → IsSettled a → KeepsAgreement (record { graphs = g; rest = None }) a
+quiet_keeps g a sound quiet still es was held = quiet_held a (with_change g a) es was sound (quiet_settled g a quiet still) (quiet_open g a quiet) held
+
+-- nothing follows of them in a schedule that is settled
+pub quiet_step : (g : GraphChange) (a : Schedule) → IsQuiet g a → IsSettled a → hand_out (settle (with_change g a)) ≡ with_change g a
+quiet_step g a quiet still =
+    let b : Schedule = with_change g a in
+    let after = quiet_settled g a quiet still in
+    ap hand_out (settle_still b after.settled) ∙ hand_still b after.handed
+
+-- and in any they may be made last
+pub quiet_last : (g : GraphChange) (a : Schedule) → IsQuiet g a → IsLast g a
+quiet_last graphs.Same a quiet = tt
+quiet_last (graphs.Load text dag) a quiet = quiet
+quiet_last (graphs.Pause id paused) a quiet = tt
+
+pub made_last : (g : GraphChange) (a : Schedule) → IsQuiet g a → IsOver g a a → completed g (hand_out (settle a)) ≡ hand_out (settle (with_change g a))
+made_last graphs.Same a quiet over = refl
+made_last (graphs.Load text dag) a quiet over = sym (load_beside text dag a quiet)
+made_last (graphs.Pause id paused) a quiet over = ap (λ gs. let b : Schedule = record a { graphs = gs } in hand_out (settle b)) over.graphs
+
+-- so a quiet change is what the change and what follows of it are, with no try handed out
+pub quiet_whole : (g : GraphChange) (a : Schedule) (c : Planned) → IsQuiet g a → IsSettled a → c ≡ record { before = a; after = with_change g a; answer = no_runs }
+    → c ≡ record { before = a; after = hand_out (settle (with_change g a)); answer = record no_runs { jobs = handed a (hand_out (settle (with_change g a))) } }
+quiet_whole g a c quiet still is =
+    let b : Schedule = with_change g a in
+    let e = quiet_step g a quiet still in
+    is
+    ∙ (ap (λ js. let p : Planned = record { before = a; after = b; answer = record no_runs { jobs = js } } in p) (sym (no_jobs a b refl))
+    ∙ ap (λ (s : Schedule). let p : Planned = record { before = a; after = s; answer = record no_runs { jobs = handed a s } } in p) (sym e))
+
+-- ---- changes that are made last
+last_jobs : (g : GraphChange) (a b : Schedule) → IsLast g b → handed a (completed g (hand_out (settle b))) ≡ handed a (hand_out (settle b))
+last_jobs graphs.Same a b last = refl
+last_jobs (graphs.Load text dag) a b last = load_handed text dag a (hand_out (settle b)) (no_runs_after b dag.spec.dag_id ∙ last)
+last_jobs (graphs.Pause id paused) a b last = refl
+
+pub last_whole : (g : GraphChange) (a d : Schedule) (answer : Answer) (c : Planned) → IsQuiet g a → IsOver g a a → d ≡ a → answer ≡ no_runs
+    → c ≡ record { before = a; after = completed g (hand_out (settle d)); answer = record answer { jobs = handed a (hand_out (settle d)) } }
+    → c ≡ record { before = a; after = hand_out (settle (with_change g a)); answer = record no_runs { jobs = handed a (hand_out (settle (with_change g a))) } }
+last_whole g a d answer c quiet over draft quiet_answer is =
+    is
+    ∙ (ap (λ (s : Schedule). let p : Planned = record { before = a; after = completed g (hand_out (settle s)); answer = record answer { jobs = handed a (hand_out (settle s)) } } in p) draft
+    ∙ (ap (λ (q : Answer). let p : Planned = record { before = a; after = completed g (hand_out (settle a)); answer = record q { jobs = handed a (hand_out (settle a)) } } in p) quiet_answer
+    ∙ (ap (λ js. let p : Planned = record { before = a; after = completed g (hand_out (settle a)); answer = record no_runs { jobs = js } } in p) (sym (last_jobs g a a (quiet_last g a quiet)))
+    ∙ ap (λ (s : Schedule). let p : Planned = record { before = a; after = s; answer = record no_runs { jobs = handed a s } } in p) (made_last g a quiet over))))

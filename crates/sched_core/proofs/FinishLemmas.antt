@@ -1,5 +1,5 @@
 -- A draft that is settled and handed out stays over the same limits and graphs, and its book is true.
-use Rattle.std.proofs.Common.{◌≡◌, ◌∙◌, sym, ap, ℕ, List, Option, Some}
+use Rattle.std.proofs.Common.{◌≡◌, ◌∙◌, refl, sym, ap, ℕ, List, Some, sum_by, true}
 use Rattle.sched_state.specs.Limits.{Bounds}
 use Rattle.sched_state.specs.declared.graphs.LoadedGraph.{LoadedGraph}
 use Rattle.sched_state.specs.declared.runs.Run.{Run}
@@ -7,15 +7,20 @@ use Rattle.sched_model.specs.Schedule.{Schedule, Pool}
 use Rattle.sched_model.specs.Settle.{move, move_runs, with_runs, moves_left, settle}
 use Rattle.sched_model.specs.Handout.{hand, hand_one, best_offer, serials_left, hand_out}
 use Rattle.sched_laws.proofs.SettleLemmas.{map_some}
-use Rattle.sched_events.proofs.StepLemmas.{repeat_keeps, settle_graphs, out_graphs}
+use Rattle.sched_laws.proofs.BesideLemmas.{no_runs_after}
+use Rattle.sched_laws.proofs.LoadLemmas.{load_open}
+use Rattle.sched_events.proofs.StepLemmas.{repeat_keeps, settle_graphs, out_graphs, without_settled}
 use Rattle.pool_book.specs.Pools.{Entries}
 use Rattle.sched_model.specs.Sound.{IsSound}
 use Rattle.sched_events.specs.SettledAndSound.{IsSettledAndSound}
 use Rattle.sched_draft.specs.Books.{IsBookOf}
-use Rattle.sched_draft.specs.Parts.{with_unpaused}
 use Rattle.sched_core.specs.Books.{IsCounted, AgreesWithBook}
-use Rattle.sched_core.proofs.BookLemmas.{end_counted, book_taken}
-use Rattle.sched_core.specs.Inside.{IsOver}
+use Rattle.sched_core.proofs.BookLemmas.{counted_same, end_counted, book_taken}
+use Rattle.sched_core.specs.Inside.{IsOver, IsLast, drafted, completed}
+use Rattle.sched_core.specs.Effects.{changed}
+use Rattle.sched_core.specs.declared.changes.GraphChange.{GraphChange}
+use Rattle.sched_core.specs.declared.changes.GraphChange.TheVariants as graphs
+use Rattle.sched_model.specs.States.{open_tries, slots_in}
 
 move_limits : (a b : Schedule) → move a ≡ Some b → b.limits ≡ a.limits
 move_limits a b e = let t = map_some (with_runs a) (move_runs a) b e in ap (λ (c : Schedule). c.limits) (sym t.2)
@@ -28,14 +33,14 @@ finished_limits b =
     repeat_keeps (λ (c : Schedule). c.limits) hand_one hand_limits (serials_left (settle b)) (settle b) ∙ repeat_keeps (λ (c : Schedule). c.limits) move move_limits (moves_left b) b
 
 -- so its parts over them are the whole
-pub finished_is : (u : Option (List ℕ)) (a b d : Schedule) (qs : List Pool) (now lanes next : ℕ) (runs : List Run) → IsOver u a b → d ≡ hand_out (settle b)
+drafted_is : (g : GraphChange) (a b d : Schedule) (qs : List Pool) (now lanes next : ℕ) (runs : List Run) → IsOver g a b → d ≡ hand_out (settle b)
     → qs ≡ (hand_out (settle b)).pools → now ≡ d.now → lanes ≡ d.lanes → next ≡ d.next → runs ≡ d.runs
-    → record a { graphs = with_unpaused u a.graphs; pools = qs; now = now; lanes = lanes; next = next; runs = runs } ≡ hand_out (settle b)
-finished_is u a b d qs now lanes next runs over end pools_are now_is lanes_is next_is runs_are =
+    → record a { graphs = drafted g a.graphs; pools = qs; now = now; lanes = lanes; next = next; runs = runs } ≡ hand_out (settle b)
+drafted_is g a b d qs now lanes next runs over end pools_are now_is lanes_is next_is runs_are =
     let limits : a.limits ≡ d.limits = sym (ap (λ (c : Schedule). c.limits) end ∙ (finished_limits b ∙ over.limits)) in
-    let graphs : with_unpaused u a.graphs ≡ d.graphs = sym (ap (λ (c : Schedule). c.graphs) end ∙ (out_graphs (settle b) ∙ (settle_graphs b ∙ over.graphs))) in
+    let graphs : drafted g a.graphs ≡ d.graphs = sym (ap (λ (c : Schedule). c.graphs) end ∙ (out_graphs (settle b) ∙ (settle_graphs b ∙ over.graphs))) in
     let pools : qs ≡ d.pools = pools_are ∙ ap (λ (c : Schedule). c.pools) (sym end) in
-    ap (λ (l : Bounds). let c : Schedule = record { limits = l; graphs = with_unpaused u a.graphs; pools = qs; now = now; lanes = lanes; next = next; runs = runs } in c) limits
+    ap (λ (l : Bounds). let c : Schedule = record { limits = l; graphs = drafted g a.graphs; pools = qs; now = now; lanes = lanes; next = next; runs = runs } in c) limits
     ∙ (ap (λ (gs : List LoadedGraph). let c : Schedule = record { limits = d.limits; graphs = gs; pools = qs; now = now; lanes = lanes; next = next; runs = runs } in c) graphs
     ∙ (ap (λ (ps : List Pool). let c : Schedule = record { limits = d.limits; graphs = d.graphs; pools = ps; now = now; lanes = lanes; next = next; runs = runs } in c) pools
     ∙ (ap (λ (n : ℕ). record d { now = n; lanes = lanes; next = next; runs = runs }) now_is
@@ -43,8 +48,35 @@ finished_is u a b d qs now lanes next runs over end pools_are now_is lanes_is ne
     ∙ (ap (λ (n : ℕ). record d { next = n; runs = runs }) next_is
     ∙ (ap (λ (rs : List Run). record d { runs = rs }) runs_are ∙ end))))))
 
+-- with a text that is taken in last
+completed_by : (g : GraphChange) (a : Schedule) (qs : List Pool) (now lanes next : ℕ) (runs : List Run)
+    → record a { graphs = changed g a.graphs; pools = qs; now = now; lanes = lanes; next = next; runs = runs } ≡ completed g (record a { graphs = drafted g a.graphs; pools = qs; now = now; lanes = lanes; next = next; runs = runs })
+completed_by graphs.Same a qs now lanes next runs = refl
+completed_by (graphs.Load text dag) a qs now lanes next runs = refl
+completed_by (graphs.Pause id paused) a qs now lanes next runs = refl
+
+pub finished_is : (g : GraphChange) (a b d : Schedule) (qs : List Pool) (now lanes next : ℕ) (runs : List Run) → IsOver g a b → d ≡ hand_out (settle b)
+    → qs ≡ (hand_out (settle b)).pools → now ≡ d.now → lanes ≡ d.lanes → next ≡ d.next → runs ≡ d.runs
+    → record a { graphs = changed g a.graphs; pools = qs; now = now; lanes = lanes; next = next; runs = runs } ≡ completed g (hand_out (settle b))
+finished_is g a b d qs now lanes next runs over end pools_are now_is lanes_is next_is runs_are =
+    completed_by g a qs now lanes next runs ∙ ap (completed g) (drafted_is g a b d qs now lanes next runs over end pools_are now_is lanes_is next_is runs_are)
+
+completed_open : (g : GraphChange) (b : Schedule) → IsLast g b → open_tries (completed g (hand_out (settle b))) ≡ open_tries (hand_out (settle b))
+completed_open graphs.Same b last = refl
+completed_open (graphs.Load text dag) b last = load_open text dag (hand_out (settle b)) (no_runs_after b dag.spec.dag_id ∙ last)
+completed_open (graphs.Pause id paused) b last = refl
+
 -- the book of the hand-outs is true of it
-pub finished_held : (b : Schedule) (es : Entries) → IsSound b → IsCounted b → IsSettledAndSound (hand_out (settle b)) → IsBookOf (hand_out (settle b)) es → AgreesWithBook (hand_out (settle b)) es
-finished_held b es sound counted kept book =
+pub finished_held : (g : GraphChange) (b : Schedule) (es : Entries) → IsSound b → IsCounted b → IsLast g b → IsSettledAndSound (completed g (hand_out (settle b))) → IsBookOf (hand_out (settle b)) es
+    → AgreesWithBook true (completed g (hand_out (settle b))) es
+finished_held g b es sound counted last kept book =
+    let end : Schedule = hand_out (settle b) in
     let low = end_counted b sound counted in
-    record { kept = kept; counted = low; taken = book_taken (hand_out (settle b)) es low book }
+    let taken = book_taken end es low book in
+    let tries = completed_open g b last in
+    record {
+      kept = without_settled (completed g end) kept;
+      settled = λ known. record { settled = kept.settled; handed = kept.handed };
+      counted = counted_same end (completed g end) tries low;
+      taken = λ name p there. taken name p there ∙ ap (sum_by (slots_in name)) (sym tries);
+    }

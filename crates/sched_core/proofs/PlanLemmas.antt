@@ -28,13 +28,11 @@ use Rattle.sched_model.specs.NamedRuns.{NamedRun, named_by_tick, queued_run, ins
 use Rattle.sched_model.specs.Changes.{load_graph, set_now, set_paused, report, restart}
 use Rattle.sched_model.specs.Causes.{open_try, has_too_many_graphs, is_full_with}
 use Rattle.sched_model.specs.Sound.{IsSound, Says, AllSay}
-use Rattle.sched_laws.proofs.SettleLemmas.{settle_still}
-use Rattle.sched_laws.proofs.HandOutLemmas.{hand_still}
-use Rattle.sched_laws.proofs.LoadLemmas.{load_still, load_no_hand, load_again}
+use Rattle.sched_laws.proofs.LoadLemmas.{load_again}
 use Rattle.sched_events.specs.Events.{named_by, set_back_by, count_in, change_by, leaves_more_by, load_result, IsInRange}
 use Rattle.sched_events.specs.Causes.{exceeds, unknown_pool, differs, refused_text, refused}
 use Rattle.sched_events.specs.Steps.{step, id_of, answer_to}
-use Rattle.sched_events.specs.SettledAndSound.{IsSettledAndSound}
+use Rattle.sched_events.specs.SettledAndSound.{IsSoundAndSaid, IsSettledAndSound}
 use Rattle.sched_events.specs.declared.answers.Answer.{Answer}
 use Rattle.sched_events.specs.declared.answers.RunId.{RunId}
 use Rattle.sched_events.specs.declared.events.Event.{Event}
@@ -42,7 +40,7 @@ use Rattle.sched_events.specs.declared.events.Event.TheVariants.{Load, Tick, Pau
 use Rattle.sched_events.specs.declared.refusals.Refusal.{Refusal}
 use Rattle.sched_events.specs.declared.refusals.Refusal.TheVariants as refusal
 use Rattle.sched_events.proofs.AcceptLemmas.{change_kept}
-use Rattle.sched_events.proofs.StepLemmas.{added_sound, step_kept, pause_step}
+use Rattle.sched_events.proofs.StepLemmas.{added_sound, step_kept}
 use Rattle.sched_core.specs.Changes.{Planned}
 use Rattle.sched_core.specs.Plans.{IsPlanned, no_runs, run_id}
 use Rattle.sched_core.specs.Inside.{StandsAt, IsTaken}
@@ -114,25 +112,25 @@ known_is gs id i g stands read =
     let is : stands.graph ≡ g = cc in
     (at, ap (λ (k : LoadedGraph). same k.dag.spec.dag_id id) (sym is) ∙ stands.named)
 
-known_causes : (a : Schedule) (text : List ℕ) (dag : Dag) (i : ℕ) (g : LoadedGraph) → IsSettledAndSound a → IsTaken a text dag
+known_causes : (a : Schedule) (text : List ℕ) (dag : Dag) (i : ℕ) (g : LoadedGraph) → IsSoundAndSaid a → IsTaken a text dag
     → slice_get a.graphs i ≡ Some g → same g.dag.spec.dag_id dag.spec.dag_id ≡ true → refused a (Load text) ≡ two false (not (same g.text text) && has_runs a dag.spec.dag_id)
 known_causes a text dag i g kept taken at named =
     let found = found_at dag.spec.dag_id a.graphs i g at named kept.sound.graphs_by_id in
     causes a text dag taken
     ∙ ap (λ (o : Option LoadedGraph). two (is_none o && nat_le a.limits.graphs (length a.graphs)) (holds_at (λ (k : LoadedGraph). not (same k.text text)) o && has_runs a dag.spec.dag_id)) found
 
-pub accepted_same : (a : Schedule) (text : List ℕ) (dag : Dag) (i : ℕ) (g : LoadedGraph) → IsSettledAndSound a → IsTaken a text dag
+pub accepted_same : (a : Schedule) (text : List ℕ) (dag : Dag) (i : ℕ) (g : LoadedGraph) → IsSoundAndSaid a → IsTaken a text dag
     → slice_get a.graphs i ≡ Some g → same g.dag.spec.dag_id dag.spec.dag_id ≡ true → same g.text text ≡ true → refused a (Load text) ≡ None
 accepted_same a text dag i g kept taken at named text_is =
     known_causes a text dag i g kept taken at named ∙ ap (λ b. two false (not b && has_runs a dag.spec.dag_id)) text_is
 
-pub refused_differs : (a : Schedule) (text : List ℕ) (dag : Dag) (i : ℕ) (g : LoadedGraph) → IsSettledAndSound a → IsTaken a text dag
+pub refused_differs : (a : Schedule) (text : List ℕ) (dag : Dag) (i : ℕ) (g : LoadedGraph) → IsSoundAndSaid a → IsTaken a text dag
     → slice_get a.graphs i ≡ Some g → same g.dag.spec.dag_id dag.spec.dag_id ≡ true → same g.text text ≡ false → has_runs a dag.spec.dag_id ≡ true → refused a (Load text) ≡ Some refusal.GraphDiffers
 refused_differs a text dag i g kept taken at named other runs =
     known_causes a text dag i g kept taken at named
     ∙ (ap (λ b. two false (not b && has_runs a dag.spec.dag_id)) other ∙ ap (λ b. two false b) runs)
 
-pub accepted_other : (a : Schedule) (text : List ℕ) (dag : Dag) (i : ℕ) (g : LoadedGraph) → IsSettledAndSound a → IsTaken a text dag
+pub accepted_other : (a : Schedule) (text : List ℕ) (dag : Dag) (i : ℕ) (g : LoadedGraph) → IsSoundAndSaid a → IsTaken a text dag
     → slice_get a.graphs i ≡ Some g → same g.dag.spec.dag_id dag.spec.dag_id ≡ true → same g.text text ≡ false → has_runs a dag.spec.dag_id ≡ false → refused a (Load text) ≡ None
 accepted_other a text dag i g kept taken at named other runs =
     known_causes a text dag i g kept taken at named
@@ -140,61 +138,35 @@ accepted_other a text dag i g kept taken at named other runs =
 
 -- ---- steps
 -- where the next serial stays no try is handed out
-no_jobs : (a b : Schedule) → b.next ≡ a.next → handed a b ≡ []
+pub no_jobs : (a b : Schedule) → b.next ≡ a.next → handed a b ≡ []
 no_jobs a b e =
     let none : b.next - a.next ≡ 0 = omega (arith, e) in
     ap (λ (n : ℕ). flat_map (job_at b) (range_with_len a.next n)) none
 
-pub load_step : (a : Schedule) (text : List ℕ) (dag : Dag) → Says text dag → step (Load text) a ≡ hand_out (settle (load_graph text dag a))
-unfolding step
-load_step a text dag said =
-    ap (λ r. hand_out (settle (load_result text r a))) said.read
-    ∙ (ap (λ (o : Option DagFault). let b : Schedule = elim o [ None ↦ load_graph text (dag_of dag.spec) a | Some f ↦ a ] in hand_out (settle b)) (faultless dag.spec dag said.checked)
-    ∙ ap (λ (d : Dag). hand_out (settle (load_graph text d a))) (sym said.checked.is))
+-- what a text makes of the schedule, and that the text of a graph that is there makes nothing of it
+pub load_change : (a : Schedule) (text : List ℕ) (dag : Dag) → Says text dag → load_graph text dag a ≡ add_runs (named_by (Load text) a) (change_by (Load text) a)
+load_change a text dag said =
+    sym (ap (λ r. load_result text r a) said.read
+    ∙ (ap (λ (o : Option DagFault). let b : Schedule = elim o [ None ↦ load_graph text (dag_of dag.spec) a | Some f ↦ a ] in b) (faultless dag.spec dag said.checked)
+    ∙ ap (λ (d : Dag). load_graph text d a) (sym said.checked.is)))
 
--- a step that ends where nothing is handed out answers nothing
-quiet_answer : (a b : Schedule) (text : List ℕ) → step (Load text) a ≡ b → b.next ≡ a.next → no_runs ≡ answer_to (Load text) a
-quiet_answer a b text is next = ap (λ js. record no_runs { jobs = js }) (sym (ap (handed a) is ∙ no_jobs a b next))
-
--- the same text changes nothing
-pub planned_same : (a : Schedule) (text : List ℕ) (dag : Dag) (i : ℕ) (g : LoadedGraph) → IsSettledAndSound a → Says text dag → refused a (Load text) ≡ None
-    → slice_get a.graphs i ≡ Some g → same g.dag.spec.dag_id dag.spec.dag_id ≡ true → same g.text text ≡ true → IsPlanned a (Load text) (record { before = a; after = a; answer = no_runs })
-planned_same a text dag i g kept said accepted there named text_is =
+pub again_change : (a : Schedule) (text : List ℕ) (dag : Dag) (i : ℕ) (g : LoadedGraph) → IsSoundAndSaid a → Says text dag
+    → slice_get a.graphs i ≡ Some g → same g.dag.spec.dag_id dag.spec.dag_id ≡ true → same g.text text ≡ true → a ≡ add_runs (named_by (Load text) a) (change_by (Load text) a)
+again_change a text dag i g kept said there named text_is =
     let found = found_at dag.spec.dag_id a.graphs i g there named kept.sound.graphs_by_id in
-    let is : step (Load text) a ≡ a =
-    load_step a text dag said
-    ∙ (ap (λ (b : Schedule). hand_out (settle b)) (load_again text dag a g said kept.sound kept.said found text_is)
-    ∙ (ap hand_out (settle_still a kept.settled) ∙ hand_still a kept.handed)) in
-    record { ranged = tt; accepted = accepted; before = refl; after = sym is; answer = quiet_answer a a text is refl }
+    sym (load_again text dag a g said kept.sound kept.said found text_is) ∙ load_change a text dag said
 
--- a text that takes no run's graph is taken in, and nothing moves
-pub loaded_kept : (a : Schedule) (text : List ℕ) (dag : Dag) → IsSettledAndSound a → IsTaken a text dag → has_runs a dag.spec.dag_id ≡ false → refused a (Load text) ≡ None → IsSettledAndSound (load_graph text dag a)
-loaded_kept a text dag kept t quiet accepted =
-    let is : change_by (Load text) a ≡ load_graph text dag a =
-    ap (λ r. load_result text r a) t.says.read
-    ∙ (ap (λ (o : Option DagFault). let b : Schedule = elim o [ None ↦ load_graph text (dag_of dag.spec) a | Some f ↦ a ] in b) (faultless dag.spec dag t.says.checked)
-    ∙ ap (λ (d : Dag). load_graph text d a) (sym t.says.checked.is)) in
-    let c = change_kept (Load text) a tt accepted kept in
-    record {
-      sound = subst IsSound is c.0;
-      said = subst (λ (b : Schedule). AllSay b.graphs) is c.1;
-      settled = load_still text dag a quiet kept.settled;
-      handed = load_no_hand text dag a quiet kept.handed;
-    }
-
-pub planned_load : (a : Schedule) (text : List ℕ) (dag : Dag) → IsSettledAndSound a → Says text dag → has_runs a dag.spec.dag_id ≡ false → refused a (Load text) ≡ None
-    → IsPlanned a (Load text) (record { before = a; after = load_graph text dag a; answer = no_runs })
-planned_load a text dag kept said quiet accepted =
-    let b : Schedule = load_graph text dag a in
-    let is : step (Load text) a ≡ b =
-    load_step a text dag said ∙ (ap hand_out (settle_still b (load_still text dag a quiet kept.settled)) ∙ hand_still b (load_no_hand text dag a quiet kept.handed)) in
-    record { ranged = tt; accepted = accepted; before = refl; after = sym is; answer = quiet_answer a b text is refl }
+-- an accepted event's own change keeps what is held
+pub change_held : (e : Event) (a b : Schedule) → IsInRange e → refused a e ≡ None → IsSoundAndSaid a → b ≡ change_by e a → IsSoundAndSaid b
+change_held e a b ranged accepted kept is =
+    let c = change_kept e a ranged accepted kept in
+    record { sound = subst IsSound (sym is) c.0; said = subst (λ (s : Schedule). AllSay s.graphs) (sym is) c.1 }
 
 -- ---- by a draft
-pub draft_sound : (e : Event) (a b : Schedule) → IsInRange e → refused a e ≡ None → IsSettledAndSound a → b ≡ add_runs (named_by e a) (change_by e a) → IsSound b
+pub draft_sound : (e : Event) (a b : Schedule) → IsInRange e → refused a e ≡ None → IsSoundAndSaid a → b ≡ add_runs (named_by e a) (change_by e a) → IsSound b
 draft_sound e a b dated accepted kept is = subst IsSound (sym is) (added_sound e a dated accepted kept (change_kept e a dated accepted kept).0)
 
-pub draft_kept : (e : Event) (a b : Schedule) → IsInRange e → refused a e ≡ None → IsSettledAndSound a → b ≡ add_runs (named_by e a) (change_by e a) → IsSettledAndSound (hand_out (settle b))
+pub draft_kept : (e : Event) (a b : Schedule) → IsInRange e → refused a e ≡ None → IsSoundAndSaid a → b ≡ add_runs (named_by e a) (change_by e a) → IsSettledAndSound (hand_out (settle b))
 unfolding step
 draft_kept e a b dated accepted kept is = subst (λ (c : Schedule). IsSettledAndSound (hand_out (settle c))) (sym is) (step_kept e a dated accepted kept)
 
@@ -269,20 +241,6 @@ pub looked_up : (a : Schedule) (gs : List LoadedGraph) (id : List ℕ) (o : Opti
 looked_up a gs id o b same_graphs looked is =
     ap (λ (ks : List LoadedGraph). is_none (graph_among ks id)) (sym same_graphs) ∙ (ap is_none (sym looked) ∙ (none_copied o ∙ (ap not is ∙ twice b)))
 
-pub pause_kept : (a : Schedule) (id : List ℕ) → IsSettledAndSound a → is_none (graph_named a id) ≡ false → IsSettledAndSound (set_paused id true a)
-pause_kept a id kept there = subst IsSettledAndSound (pause_step id a kept) (step_kept (Pause id) a tt (pause_accepted a id there) kept)
-
-pub planned_pause : (a : Schedule) (id : List ℕ) → IsSettledAndSound a → is_none (graph_named a id) ≡ false → IsPlanned a (Pause id) (record { before = a; after = set_paused id true a; answer = no_runs })
-planned_pause a id kept there =
-    let is : step (Pause id) a ≡ set_paused id true a = pause_step id a kept in
-    record {
-      ranged = tt;
-      accepted = pause_accepted a id there;
-      before = refl;
-      after = sym is;
-      answer = ap (λ js. record no_runs { jobs = js }) (sym (ap (handed a) is ∙ no_jobs a (set_paused id true a) refl));
-    }
-
 -- ---- what the drafts of events are
 pub tick_draft : (a d e b : Schedule) (t : ℕ) (rs : List Run) → d ≡ a → e ≡ set_now t d → rs ≡ map (queued_run d) (named_by_tick d t) → b ≡ record e { runs = insert_runs rs e.runs }
     → b ≡ add_runs (named_by (Tick t) a) (change_by (Tick t) a)
@@ -294,6 +252,9 @@ tick_draft a d e b t rs draft clock named added =
 
 pub report_draft : (a d b : Schedule) (serial : ℕ) (stage : Stage) → d ≡ a → b ≡ report serial stage d → b ≡ add_runs (named_by (Report serial stage) a) (change_by (Report serial stage) a)
 report_draft a d b serial stage draft is = is ∙ ap (report serial stage) draft
+
+pub pause_draft : (a d : Schedule) (id : List ℕ) → d ≡ set_paused id true a → d ≡ add_runs (named_by (Pause id) a) (change_by (Pause id) a)
+pause_draft a d id is = is
 
 pub unpause_draft : (a d : Schedule) (id : List ℕ) → d ≡ set_paused id false a → d ≡ add_runs (named_by (Unpause id) a) (change_by (Unpause id) a)
 unpause_draft a d id is = is

@@ -1,11 +1,11 @@
 -- A schedule beside the book of its pools.
-use Rattle.std.specs.Prelude.{ℕ, ◌≤◌, List}
+use Rattle.std.specs.Prelude.{◌≡◌, ℕ, ◌≤◌, Bool, true, List}
 use Rattle.pool_book.specs.Limits.{most_taken}
 use Rattle.pool_book.specs.Pools.{Entries}
 use Rattle.sched_model.specs.Schedule.{Schedule}
 use Rattle.sched_model.specs.States.{occupied}
 use Rattle.sched_draft.specs.Books.{Takes, pools_in}
-use Rattle.sched_events.specs.SettledAndSound.{IsSettledAndSound}
+use Rattle.sched_events.specs.SettledAndSound.{IsSoundAndSaid, IsSettled}
 use Rattle.sched_core.specs.declared.schedules.Schedule.TheInside.{Inside}
 
 -- what a schedule in memory holds
@@ -24,8 +24,9 @@ content_inside s = record {
 abbrev pub IsCounted : Schedule → Type 0
 IsCounted a = (name : List ℕ) → occupied a name ≤ most_taken
 
--- the schedule is kept, and the book says what is taken of each of its pools
-pub record AgreesWithBook (a : Schedule) (es : Entries) : Type 0 where
-  pub kept : IsSettledAndSound a
+-- the schedule is sound and said by its texts, and settled where it is known to be; and the book says what is taken of each of its pools
+pub record AgreesWithBook (is_settled : Bool) (a : Schedule) (es : Entries) : Type 0 where
+  pub kept : IsSoundAndSaid a
+  pub settled : is_settled ≡ true → IsSettled a
   pub counted : IsCounted a
   pub taken : Takes (occupied a) es

@@ -1,5 +1,5 @@
 -- What the core's own functions say of each other.
-use Rattle.std.specs.Prelude.{◌≡◌, ℕ, ◌-ℤ◌, pos, ◌<◌, ◌≤◌, Bool, true, false, cond, List, [], ◌∷◌, length, take, sum_by, count_by, Option, MatchOption, Some, None, slice_get, Ok, Err, ◌⊎◌}
+use Rattle.std.specs.Prelude.{◌≡◌, ℕ, ◌-ℤ◌, pos, ◌<◌, ◌≤◌, Bool, true, false, cond, List, [], ◌∷◌, length, map, take, sum_by, count_by, Option, MatchOption, Some, None, slice_get, Ok, Err, ◌⊎◌}
 use Rattle.graph_file.specs.Graphs.{graph_of}
 use Rattle.graph_file.specs.declared.faults.GraphFault.{GraphFault}
 use Rattle.graph_file.specs.declared.graph_specs.GraphSpec.{GraphSpec}
@@ -9,14 +9,16 @@ use Rattle.dag_check.specs.declared.faults.DagFault.{DagFault}
 use Rattle.pool_book.specs.Pools.{Entries, PoolUse}
 use Rattle.sched_model.specs.Sound.{Says}
 use Rattle.sched_draft.specs.Books.{pools_in}
-use Rattle.sched_draft.specs.Parts.{with_unpaused}
+use Rattle.sched_core.specs.declared.changes.GraphChange.{GraphChange}
+use Rattle.sched_core.specs.declared.changes.GraphChange.TheVariants as graphs
 use Rattle.sched_events.specs.Causes.{exceeds, unknown_pool}
 use Rattle.std.specs.List.{list_any}
 use Rattle.instance_machine.specs.Instances.{InstanceValue}
 use Rattle.sched_state.specs.Lists.{same}
 use Rattle.sched_state.specs.declared.graphs.LoadedGraph.{LoadedGraph}
 use Rattle.sched_state.specs.declared.runs.Run.{Run}
-use Rattle.sched_model.specs.Schedule.{Schedule}
+use Rattle.sched_model.specs.Schedule.{Schedule, has_runs}
+use Rattle.sched_model.specs.Changes.{pause_graph, load_graph}
 use Rattle.sched_model.specs.States.{is_open}
 use Rattle.sched_events.specs.Rows.{Row, PoolLine}
 use Rattle.sched_events.specs.declared.refusals.Refusal.{Refusal}
@@ -67,10 +69,28 @@ IsCheckFault spec r = (r ≡ refusal.Memory) ⊎ ((fault : DagFault) × (r ≡ r
 abbrev pub IsReadFault : List ℕ → Refusal → Type 0
 IsReadFault text r = (r ≡ refusal.Memory) ⊎ ((fault : GraphFault) × (r ≡ refusal.GraphFault fault) × (graph_of text ≡ Err fault))
 
--- the draft is over the same limits, and over the same graphs, of which one may be paused no more
-pub record IsOver (unpaused : Option (List ℕ)) (a b : Schedule) : Type 0 where
+-- the graphs of a draft: a pause is made before it is settled, a text is taken in after it
+abbrev pub drafted : GraphChange → List LoadedGraph → List LoadedGraph
+drafted graphs.Same gs = gs
+drafted (graphs.Load text dag) gs = gs
+drafted (graphs.Pause id paused) gs = map (pause_graph id paused) gs
+
+-- the draft is over the same limits, and over these graphs
+pub record IsOver (g : GraphChange) (a b : Schedule) : Type 0 where
   pub limits : b.limits ≡ a.limits
-  pub graphs : b.graphs ≡ with_unpaused unpaused a.graphs
+  pub graphs : b.graphs ≡ drafted g a.graphs
+
+-- what a settled draft is made into
+abbrev pub completed : GraphChange → Schedule → Schedule
+completed graphs.Same b = b
+completed (graphs.Load text dag) b = load_graph text dag b
+completed (graphs.Pause id paused) b = b
+
+-- a text that is taken in after the draft takes in a graph without runs
+abbrev pub IsLast : GraphChange → Schedule → Type 0
+IsLast graphs.Same b = Unit {0}
+IsLast (graphs.Load text dag) b = has_runs b dag.spec.dag_id ≡ false
+IsLast (graphs.Pause id paused) b = Unit {0}
 
 -- the schedule over the pools of a book
 abbrev pub over : Entries → Schedule → Schedule

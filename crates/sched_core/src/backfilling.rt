@@ -7,7 +7,7 @@ ghost use Rattle.sched_state.specs.Limits.{ceilings};
 ghost use Rattle.sched_core.specs.Plans.{IsPlanned};
 ghost use Rattle.sched_core.specs.Repairs.{IsSetBack, reset_of};
 
-use crate::changes::Change;
+use crate::changes::{Change, GraphChange};
 use crate::clearing::set_back;
 use crate::planning::{ids_of, quiet_answer};
 use crate::schedules::Schedule;
@@ -34,7 +34,7 @@ impl Schedule {
         ensures refused { IfErr result (IsRefusal self.now.content
             (Backfill graph.now from to reset)) }
     {
-        let mut draft = self.draft(alloc, None)?;
+        let mut draft = self.draft(alloc, None, false)?;
         let room = (self.limits.runs() as usize).saturating_sub(self.runs.len());
         let Some(named) = named_by_backfill(alloc, &draft, graph, from, to, room)? else {
             return Err(Refusal::UnknownGraph);
@@ -53,7 +53,7 @@ impl Schedule {
             cleared,
             ..quiet_answer(alloc)
         };
-        Ok(self.finish(alloc, draft, None, answer)?)
+        Ok(self.finish(alloc, draft, GraphChange::Same, answer)?)
     }
 }
 

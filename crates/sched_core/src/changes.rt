@@ -10,24 +10,27 @@ use sched_state::{GraphText, Run};
 use std::marker::Model;
 use std::snapshot::Snapshot;
 
-// What a change does to the schedule that it was planned for.
+// What a change does to the schedule that it was planned for: to its graphs, and to all else, where that does not stay.
 #[derive(Drop)]
-pub enum Effect {
-    // Nothing.
-    Nothing,
+pub struct Effect {
+    pub graphs: GraphChange,
+    pub rest: Option<Rest>,
+}
+
+// What becomes of the graphs.
+#[derive(Drop)]
+pub enum GraphChange {
+    // They stay.
+    Same,
     // A text is taken in, which says this graph.
     Load(GraphText, Graph),
-    // The graph with this id is paused.
-    Pause(Name),
-    // All but the graphs is this, and of them one may be paused no more.
-    Next(Next),
+    // The graph with this id is paused, or is no more.
+    Pause(Name, bool),
 }
 
 // What an event leaves, but for the graphs.
 #[derive(Drop)]
-pub struct Next {
-    // The id of the graph that is paused no more.
-    pub unpaused: Option<Name>,
+pub struct Rest {
     // The pools, with what is taken of each.
     pub pools: Pools,
     pub clock: Moment,

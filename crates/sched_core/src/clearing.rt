@@ -8,7 +8,7 @@ ghost use Rattle.sched_state.specs.Limits.{ceilings};
 ghost use Rattle.sched_core.specs.Plans.{IsPlanned};
 ghost use Rattle.sched_core.specs.Repairs.{IsSetBack, clear_refusal};
 
-use crate::changes::Change;
+use crate::changes::{Change, GraphChange};
 use crate::planning::quiet_answer;
 use crate::schedules::Schedule;
 use sched_clearing::{ClearFault, Selection, clear, least_in_flight, named_by_clear};
@@ -23,7 +23,7 @@ impl Schedule {
         ensures accepted { IfOk result (IsPlanned self.now.content (Clear clearing.now)) }
         ensures refused { IfErr result (IsRefusal self.now.content (Clear clearing.now)) }
     {
-        let mut draft = self.draft(alloc, None)?;
+        let mut draft = self.draft(alloc, None, false)?;
         let selection = match named_by_clear(alloc, &draft, clearing) {
             Ok(selection) => selection,
             Err(fault) => return Err(refusal_of(fault)),
@@ -37,7 +37,7 @@ impl Schedule {
             cleared,
             ..quiet_answer(alloc)
         };
-        Ok(self.finish(alloc, draft, None, answer)?)
+        Ok(self.finish(alloc, draft, GraphChange::Same, answer)?)
     }
 }
 

@@ -7,11 +7,11 @@ ghost use Rattle.sched_model.specs.Schedule.{has_runs};
 ghost use Rattle.sched_events.specs.Causes.{refused, exceeds, edge_count};
 ghost use Rattle.sched_core.specs.Plans.{IsPlanned};
 ghost use Rattle.sched_events.specs.Outcomes.{IsRefusal};
-ghost use Rattle.sched_events.specs.SettledAndSound.{IsSettledAndSound};
+ghost use Rattle.sched_events.specs.SettledAndSound.{IsSoundAndSaid};
 ghost use Rattle.sched_events.specs.declared.events.Event.TheVariants.{Load};
 ghost use Rattle.sched_core.specs.Inside.{IsRead, IsReadFault, IsChecked, IsCheckFault, IsTaken};
 
-use crate::changes::{Change, Effect};
+use crate::changes::{Change, GraphChange};
 use crate::lookups::{has_runs, position_of};
 use crate::schedules::Schedule;
 use dag_check::{Graph, check};
@@ -38,7 +38,7 @@ impl Schedule {
             }
             Some(place) => {
                 if self.graphs[place].text.is_same(text) {
-                    return Ok(self.quiet_change(alloc, Effect::Nothing));
+                    return Ok(self.graph_change(alloc, GraphChange::Same)?);
                 }
                 if has_runs(&self.runs, id) {
                     return Err(Refusal::GraphDiffers);
@@ -66,7 +66,7 @@ impl Schedule {
 
     // The text is taken in, against which there is no cause.
     fn taken_in(&self, alloc: Global, text: &GraphText, dag: Graph) -> Result<Change, Refusal>
-        requires kept { IsSettledAndSound self.now.content }
+        requires kept { IsSoundAndSaid self.now.content }
         requires taken { IsTaken self.now.content text.now dag }
         requires quiet { has_runs self.now.content dag.spec.dag_id ≡ false }
         requires accepted { refused self.now.content (Load text.now) ≡ None }
@@ -74,7 +74,7 @@ impl Schedule {
         ensures refused { IfErr result (IsRefusal self.now.content (Load text.now)) }
     {
         let text = text.copy(alloc)?;
-        Ok(self.quiet_change(alloc, Effect::Load(text, dag)))
+        Ok(self.graph_change(alloc, GraphChange::Load(text, dag))?)
     }
 }
 

@@ -1,7 +1,6 @@
 //! Pausing a graph, and letting it go on.
 ghost use Rattle.std.specs.Prelude.{◌≡◌, map};
 ghost use Rattle.sched_model.specs.Changes.{pause_graph};
-ghost use Rattle.sched_draft.specs.Parts.{with_unpaused};
 
 use graph_file::Name;
 use sched_state::LoadedGraph;
@@ -21,14 +20,5 @@ pub fn set_paused(graphs: &mut Vec<LoadedGraph>, id: &Name, paused: bool)
 {
     for place in 0..graphs.len() {
         set_paused_if(&mut graphs[place], id, paused);
-    }
-}
-
-// The graph that is named, if one is, is paused no more.
-pub fn unpause(graphs: &mut Vec<LoadedGraph>, named: Option<Name>)
-    ensures { graphs.new.items ≡ with_unpaused named graphs.old.items }
-{
-    if let Some(id) = named {
-        set_paused(graphs, &id, false);
     }
 }

@@ -1,20 +1,20 @@
 //! Planning an event: refused for its first cause, or a change that does exactly its step.
 ghost use Rattle.std.specs.Prelude.{◌≡◌, IfOk, IfErr, map};
 ghost use Rattle.std.specs.Option.{option_copied};
-ghost use Rattle.sched_draft.specs.Parts.{with_unpaused};
+ghost use Rattle.sched_draft.specs.Parts.{with_pause};
 ghost use Rattle.sched_model.specs.Settle.{settle};
 ghost use Rattle.sched_model.specs.Handout.{hand_out};
 ghost use Rattle.sched_model.specs.Jobs.{handed};
 ghost use Rattle.sched_model.specs.Sound.{IsSound};
-ghost use Rattle.sched_events.specs.SettledAndSound.{IsSettledAndSound};
+ghost use Rattle.sched_events.specs.SettledAndSound.{IsSoundAndSaid, IsSettled, IsSettledAndSound};
 ghost use Rattle.sched_events.specs.Outcomes.{IsRefusal};
 ghost use Rattle.sched_events.specs.declared.events.Event.TheVariants.{Tick, Pause, Unpause, Resize, Report, Restart};
 ghost use Rattle.sched_core.specs.Plans.{IsPlanned, no_runs, run_id};
 ghost use Rattle.sched_core.specs.Books.{IsCounted};
-ghost use Rattle.sched_core.specs.Effects.{applied, KeepsAgreement};
-ghost use Rattle.sched_core.specs.Inside.{IsOver, over};
+ghost use Rattle.sched_core.specs.Effects.{with_change, IsQuiet};
+ghost use Rattle.sched_core.specs.Inside.{IsOver, IsLast, completed, over};
 
-use crate::changes::{Change, Effect, Next};
+use crate::changes::{Change, Effect, GraphChange, Rest};
 use crate::finding::open_try;
 use crate::lookups::graph_named;
 use crate::schedules::Schedule;
@@ -59,33 +59,61 @@ impl Schedule {
         }
     }
 
-    // A change that makes no run and hands out no try.
-    pub(crate) fn quiet_change(&self, alloc: Global, effect: Effect) -> Change
-        requires { KeepsAgreement effect self.now.content }
+    // A change of the graphs after which nothing else follows, for a schedule that is settled.
+    fn quiet_change(&self, alloc: Global, graphs: GraphChange) -> Change
+        requires sound { IsSoundAndSaid (with_change graphs self.now.content) }
+        requires quiet { IsQuiet graphs self.now.content }
+        requires settled { IsSettled self.now.content }
         ensures { result ≡ record {
           before = self.now.content;
-          after = applied effect
+          after = with_change graphs
               self.now.content;
           answer = no_runs;
         } }
     {
         Change {
             before: Snapshot::of(self),
-            effect,
+            effect: Effect { graphs, rest: None },
             answer: quiet_answer(alloc),
         }
     }
 
-    // The schedule as a draft, in which the graph with the id `unpaused` is not paused.
+    // The change that makes this of the graphs, and what follows of it: nothing where the schedule is settled.
+    pub(crate) fn graph_change(
+        &self,
+        alloc: Global,
+        graphs: GraphChange,
+    ) -> Result<Change, AllocError>
+        requires sound { IsSoundAndSaid (with_change graphs self.now.content) }
+        requires quiet { IsQuiet graphs self.now.content }
+        requires over { IsOver graphs self.now.content self.now.content }
+        ensures { IfOk result (λ change. change ≡ record {
+          before = self.now.content;
+          after = hand_out (settle (with_change graphs self.now.content));
+          answer = record no_runs {
+            jobs = handed self.now.content
+                (hand_out (settle (with_change graphs self.now.content)));
+          };
+        }) }
+    {
+        if self.is_settled {
+            return Ok(self.quiet_change(alloc, graphs));
+        }
+        let draft = self.draft(alloc, None, false)?;
+        self.finish(alloc, draft, graphs, quiet_answer(alloc))
+    }
+
+    // The schedule as a draft, in which the graph with the id `named` is paused or not as `paused` says.
     pub(crate) fn draft<'d>(
         &'d self,
         alloc: Global,
-        unpaused: Option<&'d Name>,
+        named: Option<&'d Name>,
+        paused: bool,
     ) -> Result<Draft<'d>, AllocError>
         ensures { IfOk result (λ draft. draft ≡ record self.now.content
-            { graphs = with_unpaused (option_copied unpaused.entry) self.now.content.graphs }) }
+            { graphs = with_pause (option_copied named.entry) paused self.now.content.graphs }) }
     {
-        self.draft_over(alloc, &self.pools, unpaused)
+        self.draft_over(alloc, &self.pools, named, paused)
     }
 
     // The same over the pools of another book.
@@ -93,16 +121,18 @@ impl Schedule {
         &'d self,
         alloc: Global,
         pools: &'d Pools,
-        unpaused: Option<&'d Name>,
+        named: Option<&'d Name>,
+        paused: bool,
     ) -> Result<Draft<'d>, AllocError>
         ensures { IfOk result (λ draft. draft ≡ record (over pools.now.pools self.now.content)
-            { graphs = with_unpaused (option_copied unpaused.entry) self.now.content.graphs }) }
+            { graphs = with_pause (option_copied named.entry) paused self.now.content.graphs }) }
     {
         let runs = copied(alloc, &self.runs)?;
         Ok(Draft::new(
             self.limits,
             &self.graphs,
-            unpaused,
+            named,
+            paused,
             pools,
             self.clock,
             self.lanes,
@@ -111,22 +141,23 @@ impl Schedule {
         ))
     }
 
-    // The change that ends in this draft, settled and handed out, with this answer and the tries that are handed out. In it the graph
-    // with the id `unpaused` is paused no more.
+    // The change that ends in this draft, settled and handed out, with this answer and the tries that are handed out. A text is taken in
+    // after that, a pause stands in the draft already.
     pub(crate) fn finish(
         &self,
         alloc: Global,
         draft: Draft<'_>,
-        unpaused: Option<Name>,
+        graphs: GraphChange,
         answer: Answer,
     ) -> Result<Change, AllocError>
         requires sound { IsSound draft }
-        requires over { IsOver unpaused self.now.content draft }
-        requires kept { IsSettledAndSound (hand_out (settle draft)) }
+        requires over { IsOver graphs self.now.content draft }
+        requires last { IsLast graphs draft }
+        requires kept { IsSettledAndSound (completed graphs (hand_out (settle draft))) }
         requires counted { IsCounted draft }
         ensures { IfOk result (λ change. change ≡ record {
           before = self.now.content;
-          after = hand_out (settle draft.entry);
+          after = completed graphs (hand_out (settle draft.entry));
           answer = record answer { jobs = handed self.now.content (hand_out (settle draft.entry)) };
         }) }
     {
@@ -134,8 +165,7 @@ impl Schedule {
         settle(&mut draft);
         let pools = hand_out(alloc, &mut draft)?;
         let jobs = draft.jobs_from(alloc, self.next)?;
-        let next = Next {
-            unpaused,
+        let rest = Rest {
             pools,
             clock: draft.clock(),
             lanes: draft.lanes(),
@@ -144,7 +174,10 @@ impl Schedule {
         };
         Ok(Change {
             before: Snapshot::of(self),
-            effect: Effect::Next(next),
+            effect: Effect {
+                graphs,
+                rest: Some(rest),
+            },
             answer: Answer { jobs, ..answer },
         })
     }
@@ -156,7 +189,7 @@ impl Schedule {
         if moment.secs() < self.clock.secs() {
             return Err(Refusal::ClockBack(self.clock));
         }
-        let mut draft = self.draft(alloc, None)?;
+        let mut draft = self.draft(alloc, None, false)?;
         let named = named_by_tick(alloc, &draft, moment)?;
         if (self.limits.runs() as usize) < self.runs.len() + named.runs.len() {
             return Err(Refusal::RecordFull);
@@ -169,7 +202,7 @@ impl Schedule {
             more: named.more,
             ..quiet_answer(alloc)
         };
-        Ok(self.finish(alloc, draft, None, answer)?)
+        Ok(self.finish(alloc, draft, GraphChange::Same, answer)?)
     }
 
     fn plan_pause(&self, alloc: Global, id: &Name) -> Result<Change, Refusal>
@@ -179,8 +212,12 @@ impl Schedule {
         if graph_named(self.graphs.as_slice(), id).is_none() {
             return Err(Refusal::UnknownGraph);
         }
-        let id = id.copy(alloc)?;
-        Ok(self.quiet_change(alloc, Effect::Pause(id)))
+        let change = GraphChange::Pause(id.copy(alloc)?, true);
+        if self.is_settled {
+            return Ok(self.quiet_change(alloc, change));
+        }
+        let draft = self.draft(alloc, Some(id), true)?;
+        Ok(self.finish(alloc, draft, change, quiet_answer(alloc))?)
     }
 
     fn plan_unpause(&self, alloc: Global, id: &Name) -> Result<Change, Refusal>
@@ -190,9 +227,9 @@ impl Schedule {
         if graph_named(self.graphs.as_slice(), id).is_none() {
             return Err(Refusal::UnknownGraph);
         }
-        let draft = self.draft(alloc, Some(id))?;
-        let unpaused = id.copy(alloc)?;
-        Ok(self.finish(alloc, draft, Some(unpaused), quiet_answer(alloc))?)
+        let draft = self.draft(alloc, Some(id), false)?;
+        let change = GraphChange::Pause(id.copy(alloc)?, false);
+        Ok(self.finish(alloc, draft, change, quiet_answer(alloc))?)
     }
 
     fn plan_resize(&self, alloc: Global, name: &Name, size: Slots) -> Result<Change, Refusal>
@@ -222,8 +259,8 @@ impl Schedule {
           answer = record no_runs { jobs = handed self.now.content (hand_out (settle (over pools.now.pools self.now.content))) };
         }) }
     {
-        let draft = self.draft_over(alloc, pools, None)?;
-        self.finish(alloc, draft, None, quiet_answer(alloc))
+        let draft = self.draft_over(alloc, pools, None, false)?;
+        self.finish(alloc, draft, GraphChange::Same, quiet_answer(alloc))
     }
 
     fn plan_report(&self, alloc: Global, serial: u64, stage: Stage) -> Result<Change, Refusal>
@@ -236,9 +273,9 @@ impl Schedule {
         if !one.takes(stage) {
             return Err(Refusal::OutOfTurn(serial));
         }
-        let mut draft = self.draft(alloc, None)?;
+        let mut draft = self.draft(alloc, None, false)?;
         draft.report(serial, stage);
-        Ok(self.finish(alloc, draft, None, quiet_answer(alloc))?)
+        Ok(self.finish(alloc, draft, GraphChange::Same, quiet_answer(alloc))?)
     }
 
     fn plan_restart(&self, alloc: Global, lanes: u32) -> Result<Change, Refusal>
@@ -248,9 +285,9 @@ impl Schedule {
         if self.limits.lanes() < lanes {
             return Err(Refusal::LanesTooMany);
         }
-        let mut draft = self.draft(alloc, None)?;
+        let mut draft = self.draft(alloc, None, false)?;
         draft.restart(lanes);
-        Ok(self.finish(alloc, draft, None, quiet_answer(alloc))?)
+        Ok(self.finish(alloc, draft, GraphChange::Same, quiet_answer(alloc))?)
     }
 }
 

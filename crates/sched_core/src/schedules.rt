@@ -7,15 +7,16 @@ ghost use Rattle.std.specs.Option.{option_copied};
 ghost use Rattle.sched_model.specs.Lists.{rises};
 ghost use Rattle.sched_model.specs.Schedule.{empty_schedule, graph_before, graph_named};
 ghost use Rattle.sched_model.specs.Changes.{with_graph};
-ghost use Rattle.sched_events.specs.SettledAndSound.{IsSettledAndSound};
+ghost use Rattle.sched_events.specs.SettledAndSound.{IsSoundAndSaid};
 ghost use Rattle.sched_events.specs.Outcomes.{IsStepped, IsRefusal};
 ghost use Rattle.sched_core.specs.Changes.{HasRoom};
+ghost use Rattle.sched_core.specs.Effects.{changed};
 
-use crate::changes::{Change, Effect};
+use crate::changes::{Change, Effect, GraphChange};
 use crate::default_pools::default_pools;
 use crate::lookups::{graph_named, position_of};
 use crate::ordering::place_for_graph;
-use crate::pausing::{set_paused, unpause};
+use crate::pausing::set_paused;
 use dag_check::Graph;
 use graph_file::Name;
 use moment_core::Moment;
@@ -39,6 +40,8 @@ pub struct Schedule {
     // The serial of the next try.
     pub(crate) next: u64,
     pub(crate) runs: Vec<Run>,
+    // Neither a move nor a hand-out is possible: so each commit leaves it. One that was read from a record may be unsettled.
+    pub(crate) is_settled: bool,
 }
 
 impl Model for Schedule {
@@ -53,7 +56,7 @@ impl Model for Schedule {
       room = record { graphs = vec_capacity s.graphs - vec_len s.graphs };
     } };
 
-    ghost invariant = { λ s. AgreesWithBook (content_inside s) s.pools.pools };
+    ghost invariant = { λ s. AgreesWithBook s.is_settled (content_inside s) s.pools.pools };
 }
 
 impl Schedule {
@@ -70,6 +73,7 @@ impl Schedule {
             lanes: 0,
             next: 1,
             runs: Vec::new(alloc),
+            is_settled: true,
         })
     }
 
@@ -97,7 +101,7 @@ impl Schedule {
     /// The runs, by graph id and logical date.
     pub fn runs(&self) -> &[Run]
         ensures runs { result.now ≡ self.now.content.runs }
-        ensures kept { IsSettledAndSound self.now.content }
+        ensures kept { IsSoundAndSaid self.now.content }
     {
         self.runs.as_slice()
     }
@@ -114,9 +118,9 @@ impl Schedule {
         ensures content { self.new.content ≡ self.old.content }
         ensures room { OnOk result (HasRoom change.now self.new) }
     {
-        match &change.effect {
-            Effect::Load(_, _) => self.graphs.reserve(1),
-            Effect::Nothing | Effect::Pause(_) | Effect::Next(_) => Ok(()),
+        match &change.effect.graphs {
+            GraphChange::Load(_, _) => self.graphs.reserve(1),
+            GraphChange::Same | GraphChange::Pause(_, _) => Ok(()),
         }
     }
 
@@ -129,22 +133,18 @@ impl Schedule {
     {
         let Change {
             before: _,
-            effect,
+            effect: Effect { graphs, rest },
             answer,
         } = change;
-        match effect {
-            Effect::Nothing => {}
-            Effect::Load(text, dag) => take_in(&mut self.graphs, text, dag),
-            Effect::Pause(id) => set_paused(&mut self.graphs, &id, true),
-            Effect::Next(next) => {
-                unpause(&mut self.graphs, next.unpaused);
-                self.pools = next.pools;
-                self.clock = next.clock;
-                self.lanes = next.lanes;
-                self.next = next.serial;
-                self.runs = next.runs;
-            }
+        change_graphs(&mut self.graphs, graphs);
+        if let Some(rest) = rest {
+            self.pools = rest.pools;
+            self.clock = rest.clock;
+            self.lanes = rest.lanes;
+            self.next = rest.serial;
+            self.runs = rest.runs;
         }
+        self.is_settled = true;
         answer
     }
 
@@ -157,6 +157,19 @@ impl Schedule {
         let change = self.plan(alloc, event)?;
         self.reserve(&change)?;
         Ok(self.commit(change))
+    }
+}
+
+// The graphs are changed so.
+fn change_graphs(graphs: &mut Vec<LoadedGraph>, change: GraphChange)
+    requires order { rises graph_before graphs.old.items ≡ true }
+    requires room { length (changed change graphs.old.items) ≤ vec_capacity graphs.old }
+    ensures { graphs.new.items ≡ changed change graphs.old.items }
+{
+    match change {
+        GraphChange::Same => {}
+        GraphChange::Load(text, dag) => take_in(graphs, text, dag),
+        GraphChange::Pause(id, paused) => set_paused(graphs, &id, paused),
     }
 }
 

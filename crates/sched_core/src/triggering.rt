@@ -4,7 +4,7 @@ ghost use Rattle.sched_events.specs.Outcomes.{IsRefusal};
 ghost use Rattle.sched_events.specs.declared.events.Event.TheVariants.{Trigger};
 ghost use Rattle.sched_core.specs.Plans.{IsPlanned};
 
-use crate::changes::Change;
+use crate::changes::{Change, GraphChange};
 use crate::planning::{ids_of, quiet_answer};
 use crate::schedules::Schedule;
 use graph_file::Name;
@@ -19,7 +19,7 @@ impl Schedule {
         ensures accepted { IfOk result (IsPlanned self.now.content (Trigger id.now)) }
         ensures refused { IfErr result (IsRefusal self.now.content (Trigger id.now)) }
     {
-        let mut draft = self.draft(alloc, None)?;
+        let mut draft = self.draft(alloc, None, false)?;
         let Some(planned) = named_by_hand(alloc, &draft, id)? else {
             return Err(Refusal::UnknownGraph);
         };
@@ -37,7 +37,7 @@ impl Schedule {
             made,
             ..quiet_answer(alloc)
         };
-        Ok(self.finish(alloc, draft, None, answer)?)
+        Ok(self.finish(alloc, draft, GraphChange::Same, answer)?)
     }
 }
 

@@ -17,10 +17,10 @@ abbrev pub is_named : Option (List ℕ) → List ℕ → Bool
 is_named None id = false
 is_named (Some named) id = same id named
 
--- the graphs, of which the one with this id, if one is named, is not paused
-abbrev pub with_unpaused : Option (List ℕ) → List LoadedGraph → List LoadedGraph
-with_unpaused None gs = gs
-with_unpaused (Some id) gs = map (pause_graph id false) gs
+-- the graphs, of which the one with this id, if one is named, is paused or not as is said
+abbrev pub with_pause : Option (List ℕ) → Bool → List LoadedGraph → List LoadedGraph
+with_pause None paused gs = gs
+with_pause (Some id) paused gs = map (pause_graph id paused) gs
 
 abbrev pub in_phase : RunPhase → Run → Run
 in_phase ph r = record r { phase = ph }

@@ -9,7 +9,7 @@ ghost use Rattle.sched_model.specs.Schedule.{run_before};
 ghost use Rattle.sched_model.specs.Changes.{set_now, report, restart};
 ghost use Rattle.sched_model.specs.Handout.{in_instance, last_serial};
 ghost use Rattle.sched_draft.specs.Books.{pools_in};
-ghost use Rattle.sched_draft.specs.Parts.{decided_as, in_phase, instances_at, handed_at, with_unpaused};
+ghost use Rattle.sched_draft.specs.Parts.{decided_as, in_phase, instances_at, handed_at, with_pause};
 
 use crate::ordering::position_for;
 use crate::reporting::{lose_in_runs, report_in_runs};
@@ -22,14 +22,15 @@ use std::alloc::AllocError;
 use std::marker::Model;
 use trigger_rules::Verdict;
 
-/// A schedule that is being made. Its graphs are those of a schedule that is there, of which one may be unpaused, and its pools are those
-/// of a book; the rest is its own. What the book has of taken slots is not looked at.
+/// A schedule that is being made. Its graphs are those of a schedule that is there, of which one may have another pause, and its pools are
+/// those of a book; the rest is its own. What the book has of taken slots is not looked at.
 #[derive(Drop)]
 pub struct Draft<'a> {
     limits: Limits,
     pub(crate) graphs: &'a [LoadedGraph],
-    // The graph with this id is not paused, whatever it says.
-    pub(crate) unpaused: Option<&'a Name>,
+    // The graph with this id is paused or not as `paused` says, whatever it says itself.
+    pub(crate) named: Option<&'a Name>,
+    pub(crate) paused: bool,
     pools: &'a Pools,
     clock: Moment,
     lanes: u32,
@@ -41,13 +42,13 @@ impl<'a> Model for Draft<'a> {
     ghost use Rattle.std.specs.Option.{option_copied};
     ghost use Rattle.sched_model.specs.Schedule.{Schedule};
     ghost use Rattle.sched_draft.specs.Books.{pools_in};
-    ghost use Rattle.sched_draft.specs.Parts.{with_unpaused};
+    ghost use Rattle.sched_draft.specs.Parts.{with_pause};
 
     ghost Value = { Schedule };
 
     ghost view = { λ d. record {
       limits = d.limits;
-      graphs = with_unpaused (option_copied d.unpaused) d.graphs.now;
+      graphs = with_pause (option_copied d.named) d.paused d.graphs.now;
       pools = pools_in d.pools.now.pools;
       now = d.clock;
       lanes = d.lanes;
@@ -57,11 +58,12 @@ impl<'a> Model for Draft<'a> {
 }
 
 impl<'a> Draft<'a> {
-    /// A draft of these parts, in which the graph with the id `unpaused` is not paused.
+    /// A draft of these parts, in which the graph with the id `named` is paused or not as `paused` says.
     pub fn new(
         limits: Limits,
         graphs: &'a [LoadedGraph],
-        unpaused: Option<&'a Name>,
+        named: Option<&'a Name>,
+        paused: bool,
         pools: &'a Pools,
         clock: Moment,
         lanes: u32,
@@ -70,8 +72,8 @@ impl<'a> Draft<'a> {
     ) -> Draft<'a>
         ensures { result ≡ record {
           limits = limits;
-          graphs = with_unpaused
-              (option_copied unpaused.entry) graphs.now;
+          graphs = with_pause
+              (option_copied named.entry) paused graphs.now;
           pools = pools_in pools.now.pools;
           now =
               clock;
@@ -83,7 +85,8 @@ impl<'a> Draft<'a> {
         Draft {
             limits,
             graphs,
-            unpaused,
+            named,
+            paused,
             pools,
             clock,
             lanes,

@@ -1,5 +1,5 @@
 //! The graphs of a draft, by id and by position. They stand in the order of their ids.
-ghost use Rattle.std.specs.Prelude.{◌≡◌, ◌<◌, ◌&&◌, not, IfSome, MatchOption, None, Some, length, option_and_then, option_map, slice_get};
+ghost use Rattle.std.specs.Prelude.{◌≡◌, ◌<◌, cond, IfSome, MatchOption, None, Some, length, option_and_then, option_map, slice_get};
 ghost use Rattle.std.specs.Option.{option_copied};
 ghost use Rattle.sched_model.specs.Schedule.{graph_among, graph_named, is_paused};
 ghost use Rattle.sched_draft.specs.Parts.{is_named};
@@ -42,7 +42,7 @@ impl<'a> Draft<'a> {
         ensures { option_map (λ (g : states.LoadedGraph). g.paused)
             (slice_get self.now.graphs position) ≡ Some result }
     {
-        is_paused_in(self.graphs, self.unpaused, position)
+        is_paused_in(self.graphs, self.named, self.paused, position)
     }
 
     /// The tasks and edges of the graph with this id.
@@ -75,14 +75,18 @@ fn dag_in(graphs: &[LoadedGraph], position: usize) -> &Graph
     &graphs[position].dag
 }
 
-// Whether the graph at a position is paused, where the one that is named is not.
-fn is_paused_in(graphs: &[LoadedGraph], unpaused: Option<&Name>, position: usize) -> bool
+// Whether the graph at a position is paused, where the one that is named is paused or not as is said.
+fn is_paused_in(graphs: &[LoadedGraph], named: Option<&Name>, paused: bool, position: usize) -> bool
     requires { position < length graphs.now }
     ensures { (g : states.LoadedGraph) → slice_get graphs.now position ≡ Some g
-        → result ≡ (g.paused && not (is_named (option_copied unpaused.entry) g.dag.spec.dag_id)) }
+        → result ≡ cond (is_named (option_copied named.entry) g.dag.spec.dag_id) paused g.paused }
 {
     let graph = &graphs[position];
-    graph.paused && !is_named(unpaused, &graph.dag.spec().dag_id)
+    if is_named(named, &graph.dag.spec().dag_id) {
+        paused
+    } else {
+        graph.paused
+    }
 }
 
 // Whether this is the id that is named.

@@ -30,7 +30,7 @@ use Rattle.sched_laws.proofs.SoundLemmas.{clock_sound, report_sound, restart_sou
 use Rattle.sched_laws.proofs.TextLemmas.{load_says, pause_says}
 use Rattle.sched_events.specs.Events.{set_back_by, change_by, load_result, IsInRange}
 use Rattle.sched_events.specs.Causes.{exceeds, edge_count, unknown_pool, differs, has_no_interval, refused, refused_text}
-use Rattle.sched_events.specs.SettledAndSound.{IsSettledAndSound}
+use Rattle.sched_events.specs.SettledAndSound.{IsSoundAndSaid}
 use Rattle.sched_events.specs.declared.events.Event.{Event}
 use Rattle.sched_events.specs.declared.events.Event.TheVariants.{Load, Tick, Trigger, Backfill, Clear, Pause, Unpause, Resize, Report, Restart}
 use Rattle.sched_events.specs.declared.refusals.Refusal.{Refusal}
@@ -88,7 +88,7 @@ same_there : (a : Schedule) (text id : List ℕ) (o : Option LoadedGraph) → gr
 same_there a text id None e some same_text = absurd (true≢false (sym some))
 same_there a text id (Some g) e some same_text = (g, e, doubly (same g.text text) same_text)
 
-loaded_kept : (a : Schedule) (text : List ℕ) (spec : GraphSpec) → IsTaken a text spec → IsSettledAndSound a → IsSound (load_graph text (dag_of spec) a) × AllSay (load_graph text (dag_of spec) a).graphs
+loaded_kept : (a : Schedule) (text : List ℕ) (spec : GraphSpec) → IsTaken a text spec → IsSoundAndSaid a → IsSound (load_graph text (dag_of spec) a) × AllSay (load_graph text (dag_of spec) a).graphs
 loaded_kept a text spec t kept =
     let dag : Dag = dag_of spec in
     let says : Says text dag = record { read = t.read; checked = graph-of-faultless spec t.faultless } in
@@ -105,7 +105,7 @@ loaded_kept a text spec t kept =
           (load_sound text dag a none (said_sound a text dag says tasks edges (no_task_left a spec t.pools)) t.room kept.sound, said)
     ] refl
 
-read_kept : (a : Schedule) (text : List ℕ) (r : Result GraphSpec GraphFault) → graph_of text ≡ r → refused_text a text r ≡ None → IsSettledAndSound a → IsSound (load_result text r a) × AllSay (load_result text r a).graphs
+read_kept : (a : Schedule) (text : List ℕ) (r : Result GraphSpec GraphFault) → graph_of text ≡ r → refused_text a text r ≡ None → IsSoundAndSaid a → IsSound (load_result text r a) × AllSay (load_result text r a).graphs
 read_kept a text (Err fault) read e kept = absurd (let c : ◌≡◌ {A = Option Refusal} (Some (refusal.GraphFault fault)) None = e in cc)
 read_kept a text (Ok spec) read e kept =
     let t = taken a text spec read e in
@@ -114,7 +114,7 @@ read_kept a text (Ok spec) read e kept =
     subst (λ (b : Schedule). IsSound b × AllSay b.graphs) (sym is) (loaded_kept a text spec t kept)
 
 -- ---- each event
-pub change_kept : (e : Event) (a : Schedule) → IsInRange e → refused a e ≡ None → IsSettledAndSound a → IsSound (change_by e a) × AllSay (change_by e a).graphs
+pub change_kept : (e : Event) (a : Schedule) → IsInRange e → refused a e ≡ None → IsSoundAndSaid a → IsSound (change_by e a) × AllSay (change_by e a).graphs
 change_kept (Load text) a ranged accepted kept = read_kept a text (graph_of text) refl accepted kept
 change_kept (Tick t) a ranged accepted kept = (clock_sound t a ranged kept.sound, kept.said)
 change_kept (Trigger id) a ranged accepted kept = (kept.sound, kept.said)

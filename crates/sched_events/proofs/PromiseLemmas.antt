@@ -34,7 +34,7 @@ use Rattle.sched_laws.proofs.SerialLemmas.{advance_next, advance_serials, range_
 use Rattle.sched_laws.proofs.SettleLemmas.{settle_reached}
 use Rattle.sched_events.specs.Causes.{refused}
 use Rattle.sched_events.specs.Events.{named_by, set_back_by, set_back, change_by, load_result, IsInRange}
-use Rattle.sched_events.specs.SettledAndSound.{IsSettledAndSound}
+use Rattle.sched_events.specs.SettledAndSound.{IsSoundAndSaid, IsSettledAndSound}
 use Rattle.sched_events.specs.Promises.{serials_in, AreDistinct, IsReached, KeepsPromises}
 use Rattle.sched_events.specs.Steps.{step, steps, named_along, handed_along, answers_along, answer_to, AreAccepted}
 use Rattle.sched_events.specs.declared.answers.Answer.{Answer}
@@ -42,7 +42,7 @@ use Rattle.sched_events.specs.declared.events.Event.{Event}
 use Rattle.sched_events.specs.declared.events.Event.TheVariants.{Load, Tick, Trigger, Backfill, Clear, Pause, Unpause, Resize, Report, Restart}
 use Rattle.sched_events.proofs.AcceptLemmas.{still_new, hand_new}
 use Rattle.sched_events.proofs.RepairLemmas.{span_new}
-use Rattle.sched_events.proofs.StepLemmas.{step_kept, step_settled, step_handed, steps_kept}
+use Rattle.sched_events.proofs.StepLemmas.{without_settled, step_kept, step_settled, step_handed, steps_sound}
 
 -- ---- what an own change keeps
 -- what a text leaves
@@ -133,22 +133,22 @@ steps_names (e ∷ es) a =
     (steps_names es (step e a)))
 
 -- ---- tries
-step_goes : (e : Event) (a : Schedule) → IsInRange e → refused a e ≡ None → IsSettledAndSound a → AllGoOn a.runs (step e a).runs
+step_goes : (e : Event) (a : Schedule) → IsInRange e → refused a e ≡ None → IsSoundAndSaid a → AllGoOn a.runs (step e a).runs
 unfolding step
 step_goes e a ranged accepted kept =
     all_further a.runs (change_by e a).runs (step e a).runs (change_goes e a kept.sound) (advance_goes (named_by e a) (change_by e a) (names_new e a ranged accepted kept.sound))
 
-steps_go : (es : List Event) (a : Schedule) → AreAccepted es a → IsSettledAndSound a → AllGoOn a.runs (steps es a).runs
+steps_go : (es : List Event) (a : Schedule) → AreAccepted es a → IsSoundAndSaid a → AllGoOn a.runs (steps es a).runs
 steps_go [] a accepted kept = all_still a.runs
 steps_go (e ∷ es) a accepted kept =
     all_further a.runs (step e a).runs (steps es (step e a)).runs (step_goes e a accepted.0 accepted.1 kept)
-    (steps_go es (step e a) accepted.2 (step_kept e a accepted.0 accepted.1 kept))
+    (steps_go es (step e a) accepted.2 (without_settled (step e a) (step_kept e a accepted.0 accepted.1 kept)))
 
-pub step_try : (e : Event) (a : Schedule) (id : List ℕ) (date place n : ℕ) (t : Try) → IsInRange e → refused a e ≡ None → IsSettledAndSound a → try_at a id date place n ≡ Some t
+pub step_try : (e : Event) (a : Schedule) (id : List ℕ) (date place n : ℕ) (t : Try) → IsInRange e → refused a e ≡ None → IsSoundAndSaid a → try_at a id date place n ≡ Some t
     → (u : Try) × (try_at (step e a) id date place n ≡ Some u) × GoesOn t u
 step_try e a id date place n t ranged accepted kept there = try_goes a (step e a) (step_goes e a ranged accepted kept) id date place n t there
 
-pub steps_try : (es : List Event) (a : Schedule) (id : List ℕ) (date place n : ℕ) (t : Try) → AreAccepted es a → IsSettledAndSound a → try_at a id date place n ≡ Some t
+pub steps_try : (es : List Event) (a : Schedule) (id : List ℕ) (date place n : ℕ) (t : Try) → AreAccepted es a → IsSoundAndSaid a → try_at a id date place n ≡ Some t
     → (u : Try) × (try_at (steps es a) id date place n ≡ Some u) × GoesOn t u
 steps_try es a id date place n t accepted kept there = try_goes a (steps es a) (steps_go es a accepted kept) id date place n t there
 
@@ -161,13 +161,13 @@ pub steps_next : (es : List Event) (a : Schedule) → a.next ≤ (steps es a).ne
 steps_next [] a = omega arith
 steps_next (e ∷ es) a = let here = step_next e a in let later = steps_next es (step e a) in omega (arith, here, later)
 
-pub step_serials : (e : Event) (a : Schedule) → IsInRange e → refused a e ≡ None → IsSettledAndSound a → serials_in (handed a (step e a)) ≡ range_with_len a.next ((step e a).next - a.next)
+pub step_serials : (e : Event) (a : Schedule) → IsInRange e → refused a e ≡ None → IsSoundAndSaid a → serials_in (handed a (step e a)) ≡ range_with_len a.next ((step e a).next - a.next)
 unfolding step
 step_serials e a ranged accepted kept =
     let after : IsSettledAndSound (step e a) = step_kept e a ranged accepted kept in
     advance_serials (named_by e a) a (change_by e a) (change_next e a) after.sound
 
-pub steps_serials : (es : List Event) (a : Schedule) → AreAccepted es a → IsSettledAndSound a → serials_in (handed_along es a) ≡ range_with_len a.next ((steps es a).next - a.next)
+pub steps_serials : (es : List Event) (a : Schedule) → AreAccepted es a → IsSoundAndSaid a → serials_in (handed_along es a) ≡ range_with_len a.next ((steps es a).next - a.next)
 steps_serials [] a accepted kept = let none : a.next - a.next ≡ 0 = omega arith in ap (range_with_len a.next) (sym none)
 steps_serials (e ∷ es) a accepted kept =
     let b : Schedule = step e a in
@@ -179,7 +179,7 @@ steps_serials (e ∷ es) a accepted kept =
     let all : m + n ≡ (steps es b).next - a.next = omega (arith, here, later) in
     map_append (λ (j : Job). j.serial) (handed a b) (handed_along es b)
     ∙ (ap (λ (xs : List ℕ). xs ++ serials_in (handed_along es b)) (step_serials e a accepted.0 accepted.1 kept)
-    ∙ (ap (λ (xs : List ℕ). range_with_len a.next m ++ xs) (steps_serials es b accepted.2 (step_kept e a accepted.0 accepted.1 kept) ∙ ap (λ (low : ℕ). range_with_len low n) next)
+    ∙ (ap (λ (xs : List ℕ). range_with_len a.next m ++ xs) (steps_serials es b accepted.2 (without_settled b (step_kept e a accepted.0 accepted.1 kept)) ∙ ap (λ (low : ℕ). range_with_len low n) next)
     ∙ (range_on a.next m n ∙ ap (range_with_len a.next) all)))
 
 -- numbers in a row are distinct
@@ -189,7 +189,7 @@ row_distinct low n xs is i j x e f =
     let second = range_get low n j x (subst (λ (ys : List ℕ). slice_get ys j ≡ Some x) is f) in
     omega (arith, first, second)
 
-pub steps_once : (es : List Event) (a : Schedule) → AreAccepted es a → IsSettledAndSound a → AreDistinct (serials_in (handed_along es a))
+pub steps_once : (es : List Event) (a : Schedule) → AreAccepted es a → IsSoundAndSaid a → AreDistinct (serials_in (handed_along es a))
 steps_once es a accepted kept = row_distinct a.next ((steps es a).next - a.next) (serials_in (handed_along es a)) (steps_serials es a accepted kept)
 
 -- ---- all of it
@@ -199,7 +199,7 @@ step_reached e a =
     let b : Schedule = add_runs (named_by e a) (change_by e a) in
     record { settled = settle b; moves = settle_reached b; hands = hands_out (settle b) }
 
-pub step_promises : (e : Event) (a : Schedule) → IsInRange e → refused a e ≡ None → IsSettledAndSound a → KeepsPromises e a (step e a)
+pub step_promises : (e : Event) (a : Schedule) → IsInRange e → refused a e ≡ None → IsSoundAndSaid a → KeepsPromises e a (step e a)
 step_promises e a ranged accepted kept =
     let after : IsSettledAndSound (step e a) = step_kept e a ranged accepted kept in
     record {
@@ -249,4 +249,4 @@ first_promises limits es e room accepted =
     let empty : Schedule = empty_schedule limits in
     let parts = accepted_parts es (e ∷ []) empty accepted in
     let last = parts.1 in
-    step_promises e (steps es empty) last.0 last.1 (steps_kept es empty parts.0 (empty_kept limits room))
+    step_promises e (steps es empty) last.0 last.1 (steps_sound es empty parts.0 (without_settled empty (empty_kept limits room)))

@@ -16,7 +16,7 @@ use Rattle.sched_laws.proofs.ClearLemmas.{clear_sound}
 use Rattle.sched_laws.proofs.KeyLemmas.{clear_keys}
 use Rattle.sched_events.specs.Causes.{refused}
 use Rattle.sched_events.specs.Events.{set_back_by, set_back}
-use Rattle.sched_events.specs.SettledAndSound.{IsSettledAndSound}
+use Rattle.sched_events.specs.SettledAndSound.{IsSoundAndSaid}
 use Rattle.sched_events.specs.declared.events.Event.TheVariants.{Backfill, Clear}
 use Rattle.sched_events.specs.declared.refusals.Refusal.TheVariants as refusal
 use Rattle.sched_events.proofs.CauseLemmas.{no_when, no_map, some_there}
@@ -26,7 +26,7 @@ use Rattle.sched_events.proofs.CauseLemmas.{no_when, no_map, some_there}
 abbrev pub is_over : Option Selection → Schedule → Type 0
 is_over named a = option_and_then (least_in_flight a) named ≡ None
 
-pub set_back_kept : (named : Option Selection) (a : Schedule) → is_over named a → IsSettledAndSound a → IsSound (set_back named a) × AllSay (set_back named a).graphs
+pub set_back_kept : (named : Option Selection) (a : Schedule) → is_over named a → IsSoundAndSaid a → IsSound (set_back named a) × AllSay (set_back named a).graphs
 set_back_kept None a over kept = (kept.sound, kept.said)
 set_back_kept (Some named) a over kept = (clear_sound named a over kept.sound, kept.said)
 

@@ -36,7 +36,7 @@ use Rattle.sched_laws.proofs.ResizeLemmas.{resize_still, smaller_no_hand, new_no
 use Rattle.sched_events.specs.Events.{named_by, set_back_by, change_by, load_result, IsInRange}
 use Rattle.sched_events.specs.Causes.{refused}
 use Rattle.sched_events.specs.Steps.{step, steps, named_along, AreAccepted}
-use Rattle.sched_events.specs.SettledAndSound.{IsSettledAndSound}
+use Rattle.sched_events.specs.SettledAndSound.{IsSoundAndSaid, IsSettled, IsSettledAndSound}
 use Rattle.sched_events.specs.declared.events.Event.{Event}
 use Rattle.sched_events.specs.declared.events.Event.TheVariants.{Load, Tick, Trigger, Backfill, Clear, Pause, Unpause, Resize, Report, Restart}
 use Rattle.sched_events.proofs.AcceptLemmas.{change_kept, still_new, tick_room, hand_new, hand_room}
@@ -62,6 +62,13 @@ settle_graphs a = repeat_keeps (λ (c : Schedule). c.graphs) move move_graphs (m
 pub out_graphs : (a : Schedule) → (hand_out a).graphs ≡ a.graphs
 out_graphs a = repeat_keeps (λ (c : Schedule). c.graphs) hand_one hand_graphs (serials_left a) a
 
+-- ---- what is held
+pub without_settled : (a : Schedule) → IsSettledAndSound a → IsSoundAndSaid a
+without_settled a kept = record { sound = kept.sound; said = kept.said }
+
+pub with_settled : (a : Schedule) → IsSoundAndSaid a → IsSettled a → IsSettledAndSound a
+with_settled a kept still = record { sound = kept.sound; said = kept.said; settled = still.settled; handed = still.handed }
+
 -- ---- what follows an own change
 pub step_settled : (e : Event) (a : Schedule) → move (step e a) ≡ None
 unfolding step
@@ -81,7 +88,7 @@ finished_kept b sound said = record {
 }
 
 -- with the runs that it names the changed schedule is sound
-pub added_sound : (e : Event) (a : Schedule) → IsInRange e → refused a e ≡ None → IsSettledAndSound a → IsSound (change_by e a) → IsSound (add_runs (named_by e a) (change_by e a))
+pub added_sound : (e : Event) (a : Schedule) → IsInRange e → refused a e ≡ None → IsSoundAndSaid a → IsSound (change_by e a) → IsSound (add_runs (named_by e a) (change_by e a))
 added_sound (Load text) a ranged accepted kept s = s
 added_sound (Tick t) a ranged accepted kept s = add_sound (named_by (Tick t) a) (change_by (Tick t) a) (still_new a t (named_by (Tick t) a) ∙ named_new a t kept.sound ranged) (tick_room a t accepted) s
 added_sound (Trigger id) a ranged accepted kept s = add_sound (named_by (Trigger id) a) (change_by (Trigger id) a) (hand_new a id accepted kept.sound) (hand_room a id accepted) s
@@ -94,7 +101,7 @@ added_sound (Resize name size) a ranged accepted kept s = s
 added_sound (Report serial stage) a ranged accepted kept s = s
 added_sound (Restart lanes) a ranged accepted kept s = s
 
-pub step_kept : (e : Event) (a : Schedule) → IsInRange e → refused a e ≡ None → IsSettledAndSound a → IsSettledAndSound (step e a)
+pub step_kept : (e : Event) (a : Schedule) → IsInRange e → refused a e ≡ None → IsSoundAndSaid a → IsSettledAndSound (step e a)
 unfolding step
 step_kept e a ranged accepted kept =
     let c = change_kept e a ranged accepted kept in
@@ -127,7 +134,11 @@ step_dates e a id date = advance_keys (named_by e a) (change_by e a) id date ∙
 -- ---- lists of events
 pub steps_kept : (es : List Event) (a : Schedule) → AreAccepted es a → IsSettledAndSound a → IsSettledAndSound (steps es a)
 steps_kept [] a accepted kept = kept
-steps_kept (e ∷ es) a accepted kept = steps_kept es (step e a) accepted.2 (step_kept e a accepted.0 accepted.1 kept)
+steps_kept (e ∷ es) a accepted kept = steps_kept es (step e a) accepted.2 (step_kept e a accepted.0 accepted.1 (without_settled a kept))
+
+pub steps_sound : (es : List Event) (a : Schedule) → AreAccepted es a → IsSoundAndSaid a → IsSoundAndSaid (steps es a)
+steps_sound [] a accepted kept = kept
+steps_sound (e ∷ es) a accepted kept = steps_sound es (step e a) accepted.2 (without_settled (step e a) (step_kept e a accepted.0 accepted.1 kept))
 
 pub steps_parts : (es fs : List Event) (a : Schedule) → steps (es ++ fs) a ≡ steps fs (steps es a)
 steps_parts [] fs a = refl

@@ -5,7 +5,17 @@ use Rattle.sched_model.specs.Settle.{move}
 use Rattle.sched_model.specs.Handout.{hand_one}
 use Rattle.sched_model.specs.Sound.{IsSound, AllSay}
 
--- it is sound, its graphs are what their texts say, and neither a move nor a hand-out is possible
+-- it is sound, and its graphs are what their texts say: so much is asked of a record that is read
+pub record IsSoundAndSaid (a : Schedule) : Type 0 where
+  pub sound : IsSound a
+  pub said : AllSay a.graphs
+
+-- neither a move nor a hand-out is possible
+pub record IsSettled (a : Schedule) : Type 0 where
+  pub settled : move a ≡ None
+  pub handed : hand_one a ≡ None
+
+-- all of it: so each event leaves the schedule
 pub record IsSettledAndSound (a : Schedule) : Type 0 where
   pub sound : IsSound a
   pub said : AllSay a.graphs

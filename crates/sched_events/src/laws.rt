@@ -24,17 +24,17 @@ ghost use Rattle.sched_events.specs.Events.{named_by, IsInRange};
 ghost use Rattle.sched_events.specs.Causes.{refused};
 ghost use Rattle.sched_events.specs.Promises.{serials_in, AreDistinct, IsReached, KeepsPromises};
 ghost use Rattle.sched_events.specs.Steps.{step, steps, named_along, handed_along, AreAccepted};
-ghost use Rattle.sched_events.specs.SettledAndSound.{IsSettledAndSound};
+ghost use Rattle.sched_events.specs.SettledAndSound.{IsSoundAndSaid, IsSettledAndSound};
 ghost use Rattle.sched_events.specs.declared.events.Event.{Event};
 ghost use Rattle.sched_events.specs.declared.events.Event.TheVariants.{Load, Backfill, Clear, Pause, Unpause, Resize};
 
 /// After each step neither a move nor a hand-out is possible, and the step of an accepted event keeps a schedule: it stays sound, and
-/// each graph is what its text says.
+/// each graph is what its text says. Nothing more is asked of the schedule before it, so one that was read from a record may be unsettled.
 pub fn steps_keep_the_schedule()
     ensures settled { (e : Event) (a : Schedule) → move (step e a) ≡ None }
     ensures handed { (e : Event) (a : Schedule) → hand_one (step e a) ≡ None }
     ensures kept { (e : Event) (a : Schedule) → IsInRange e → refused a e ≡ None
-        → IsSettledAndSound a → IsSettledAndSound (step e a) }
+        → IsSoundAndSaid a → IsSettledAndSound (step e a) }
 {}
 
 /// The runs after a step are those before it and the named ones, each with its graph, its logical date, its interval, and how it came to be.
@@ -93,8 +93,10 @@ pub fn the_same_text_changes_nothing()
 
 /// A list of accepted events keeps the schedule.
 pub fn lists_of_steps_keep_the_schedule()
-    ensures { (es : List Event) (a : Schedule) → AreAccepted es a → IsSettledAndSound a
+    ensures kept { (es : List Event) (a : Schedule) → AreAccepted es a → IsSettledAndSound a
         → IsSettledAndSound (steps es a) }
+    ensures sound { (es : List Event) (a : Schedule) → AreAccepted es a → IsSoundAndSaid a
+        → IsSoundAndSaid (steps es a) }
 {}
 
 /// The runs after a list of events are those before it and those that the events name, each event at the schedule that it comes to.
@@ -110,10 +112,10 @@ pub fn lists_of_steps_add_their_runs()
 /// end once they are there.
 pub fn tries_go_on()
     ensures step { (e : Event) (a : Schedule) (id : List ℕ) (date place n : ℕ) (t : Try)
-        → IsInRange e → refused a e ≡ None → IsSettledAndSound a → try_at a id date place n ≡ Some t
+        → IsInRange e → refused a e ≡ None → IsSoundAndSaid a → try_at a id date place n ≡ Some t
         → (u : Try) × (try_at (step e a) id date place n ≡ Some u) × GoesOn t u }
     ensures steps { (es : List Event) (a : Schedule) (id : List ℕ) (date place n : ℕ) (t : Try)
-        → AreAccepted es a → IsSettledAndSound a → try_at a id date place n ≡ Some t
+        → AreAccepted es a → IsSoundAndSaid a → try_at a id date place n ≡ Some t
         → (u : Try) × (try_at (steps es a) id date place n ≡ Some u) × GoesOn t u }
 {}
 
@@ -123,11 +125,11 @@ pub fn each_serial_is_handed_out_once()
     ensures rises { (e : Event) (a : Schedule) → a.next ≤ (step e a).next }
     ensures rises_along { (es : List Event) (a : Schedule) → a.next ≤ (steps es a).next }
     ensures handed { (e : Event) (a : Schedule) → IsInRange e → refused a e ≡ None
-        → IsSettledAndSound a → serials_in (handed a (step e a))
+        → IsSoundAndSaid a → serials_in (handed a (step e a))
         ≡ range_with_len a.next ((step e a).next - a.next) }
-    ensures handed_along { (es : List Event) (a : Schedule) → AreAccepted es a → IsSettledAndSound a
+    ensures handed_along { (es : List Event) (a : Schedule) → AreAccepted es a → IsSoundAndSaid a
         → serials_in (handed_along es a) ≡ range_with_len a.next ((steps es a).next - a.next) }
-    ensures once { (es : List Event) (a : Schedule) → AreAccepted es a → IsSettledAndSound a
+    ensures once { (es : List Event) (a : Schedule) → AreAccepted es a → IsSoundAndSaid a
         → AreDistinct (serials_in (handed_along es a)) }
 {}
 
@@ -143,7 +145,7 @@ pub fn steps_end_in_hand_outs()
 /// of accepted events.
 pub fn accepted_events_keep_the_promises()
     ensures each { (e : Event) (a : Schedule) → IsInRange e → refused a e ≡ None
-        → IsSettledAndSound a → KeepsPromises e a (step e a) }
+        → IsSoundAndSaid a → KeepsPromises e a (step e a) }
     ensures from_the_first { (limits : Bounds) (es : List Event) (e : Event) → 1 ≤ limits.pools
         → AreAccepted (es ++ e ∷ []) (empty_schedule limits)
         → KeepsPromises e (steps es (empty_schedule limits))

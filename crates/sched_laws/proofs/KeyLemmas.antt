@@ -36,7 +36,7 @@ by_keys a b e id date =
     sym (any_map (is_at id date) (is_key id date) key (λ r. refl) b.runs) ∙ ap (list_any (is_key id date)) e ∙ any_map (is_at id date) (is_key id date) key (λ r. refl) a.runs
 
 -- ---- moves and hand-outs
-turns_keys : (n : ℕ) (a : Schedule) → map key (repeat n move a).runs ≡ map key a.runs
+pub turns_keys : (n : ℕ) (a : Schedule) → map key (repeat n move a).runs ≡ map key a.runs
 turns_keys zero a = refl
 turns_keys (suc n) a = elim (move a) as (λ o. move a ≡ o → map key (repeat (suc n) move a).runs ≡ map key a.runs) [
   | None ↦ λ e. ap (λ (x : Schedule). map key x.runs) (repeat_done (suc n) move a e)
@@ -46,7 +46,7 @@ turns_keys (suc n) a = elim (move a) as (λ o. move a ≡ o → map key (repeat 
       ap (λ (x : Schedule). map key x.runs) (repeat_more n move a b e) ∙ turns_keys n b ∙ ap (λ (x : Schedule). map key x.runs) (sym t.2) ∙ k.keys
 ] refl
 
-hands_keys : (n : ℕ) (a : Schedule) → map key (repeat n hand_one a).runs ≡ map key a.runs
+pub hands_keys : (n : ℕ) (a : Schedule) → map key (repeat n hand_one a).runs ≡ map key a.runs
 hands_keys zero a = refl
 hands_keys (suc n) a = elim (hand_one a) as (λ o. hand_one a ≡ o → map key (repeat (suc n) hand_one a).runs ≡ map key a.runs) [
   | None ↦ λ e. ap (λ (x : Schedule). map key x.runs) (repeat_done (suc n) hand_one a e)

@@ -23,6 +23,7 @@ pub mod DecisionLemmas
 pub mod TextLemmas
 pub mod AlikeLemmas
 pub mod LoadLemmas
+pub mod BesideLemmas
 pub mod PauseLemmas
 pub mod UpstreamLemmas
 pub mod SaidLemmas

@@ -26,23 +26,23 @@ use Rattle.sched_laws.proofs.AlikeLemmas.{AllDags, same_sights, deciding_alike, 
 use Rattle.graph_file.proofs.ListLemmas.{mapped_none}
 
 -- ---- runs whose graphs are found as before
-abbrev AllFound : List LoadedGraph → List LoadedGraph → List Run → Type 0
+abbrev pub AllFound : List LoadedGraph → List LoadedGraph → List Run → Type 0
 AllFound gs hs [] = Unit {0}
 AllFound gs hs (r ∷ rs) = (graph_among hs r.graph ≡ graph_among gs r.graph) × AllFound gs hs rs
 
 -- no run is of the graph that is loaded
-found_after : (text : List ℕ) (dag : Dag) (gs : List LoadedGraph) (rs : List Run) → list_any (λ (r : Run). same r.graph dag.spec.dag_id) rs ≡ false → AllFound gs (with_graph text dag gs) rs
+pub found_after : (text : List ℕ) (dag : Dag) (gs : List LoadedGraph) (rs : List Run) → list_any (λ (r : Run). same r.graph dag.spec.dag_id) rs ≡ false → AllFound gs (with_graph text dag gs) rs
 found_after text dag gs [] e = tt
 found_after text dag gs (r ∷ rs) e = (
   find_loaded text dag gs r.graph (flip_same r.graph dag.spec.dag_id (or_left _ _ e)),
   found_after text dag gs rs (or_right (same r.graph dag.spec.dag_id) _ e),
 )
 
-dag_found : (gs hs : List LoadedGraph) (id : List ℕ) → graph_among hs id ≡ graph_among gs id → dag_among hs id ≡ dag_among gs id
+pub dag_found : (gs hs : List LoadedGraph) (id : List ℕ) → graph_among hs id ≡ graph_among gs id → dag_among hs id ≡ dag_among gs id
 dag_found gs hs id e = ap (λ (o : Option LoadedGraph). unwrap_or (option_map (λ (g : LoadedGraph). g.dag) o) no_dag) e
 
 -- where the graphs are found as before, so are their tasks and edges
-dags_found : (gs hs : List LoadedGraph) (rs : List Run) → AllFound gs hs rs → AllDags gs hs rs
+pub dags_found : (gs hs : List LoadedGraph) (rs : List Run) → AllFound gs hs rs → AllDags gs hs rs
 dags_found gs hs [] f = tt
 dags_found gs hs (r ∷ rs) f = (dag_found gs hs r.graph f.0, dags_found gs hs rs f.1)
 
@@ -73,24 +73,21 @@ load_still text dag a none still =
     ∙ sym (move_seen a) ∙ ap is_some still)
 
 -- ---- hand-outs
-with_graphs : Schedule → List LoadedGraph → Schedule
+abbrev pub with_graphs : Schedule → List LoadedGraph → Schedule
 with_graphs a hs = record a { graphs = hs }
 
 offers_alike : (a : Schedule) (hs : List LoadedGraph) (n : ℕ) (rs : List Run) → AllFound a.graphs hs rs → flat_map (offers_in (with_graphs a hs)) (enumerate_from n rs) ≡ flat_map (offers_in a) (enumerate_from n rs)
-unfolding with_graphs
 offers_alike a hs n [] f = refl
 offers_alike a hs n (r ∷ rs) f =
     ap (λ (o : Option LoadedGraph). offers_by a.now n r o ++ flat_map (offers_in (with_graphs a hs)) (enumerate_from (n + 1) rs)) f.0
     ∙ ap (λ (os : List Offer). offers_by a.now n r (graph_among a.graphs r.graph) ++ os) (offers_alike a hs (n + 1) rs f.1)
 
-best_alike : (a : Schedule) (hs : List LoadedGraph) → AllFound a.graphs hs a.runs → best_offer (with_graphs a hs) ≡ best_offer a
-unfolding with_graphs
+pub best_alike : (a : Schedule) (hs : List LoadedGraph) → AllFound a.graphs hs a.runs → best_offer (with_graphs a hs) ≡ best_offer a
 best_alike a hs f =
     ap (λ (ts : List (TaskSpec × Try)). best_with a ts (offers (with_graphs a hs))) (open_alike a.graphs hs a.runs (dags_found a.graphs hs a.runs f))
     ∙ ap (best_with a (open_tries a)) (offers_alike a hs 0 a.runs f)
 
 pub load_no_hand : (text : List ℕ) (dag : Dag) (a : Schedule) → has_runs a dag.spec.dag_id ≡ false → hand_one a ≡ None → hand_one (load_graph text dag a) ≡ None
-unfolding with_graphs
 load_no_hand text dag a none still =
     ap (option_map (hand (load_graph text dag a)))
     (best_alike a (with_graph text dag a.graphs) (found_after text dag a.graphs a.runs none) ∙ mapped_none (hand a) (best_offer a) still)

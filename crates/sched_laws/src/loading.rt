@@ -8,8 +8,9 @@ ghost use Rattle.dag_check.specs.Graphs.{Dag, IsDag, IsGraphOf, ups};
 ghost use Rattle.sched_state.specs.Lists.{same};
 ghost use Rattle.sched_state.specs.declared.graphs.LoadedGraph.{LoadedGraph};
 ghost use Rattle.sched_model.specs.Schedule.{Schedule, has_runs, has_pool, graph_named, dag_named};
-ghost use Rattle.sched_model.specs.Settle.{move};
-ghost use Rattle.sched_model.specs.Handout.{hand_one};
+ghost use Rattle.sched_model.specs.Settle.{move, settle};
+ghost use Rattle.sched_model.specs.Handout.{hand_one, hand_out};
+ghost use Rattle.sched_model.specs.Jobs.{handed};
 ghost use Rattle.sched_model.specs.Changes.{new_graph, load_graph};
 ghost use Rattle.sched_model.specs.Sound.{IsSound, is_sound_graph, Says, AllSay};
 
@@ -23,6 +24,18 @@ pub fn loading_is_quiet()
     ensures again { (text : List ℕ) (dag : Dag) (a : Schedule) (g : LoadedGraph) → Says text dag
         → IsSound a → AllSay a.graphs → graph_named a dag.spec.dag_id ≡ Some g
         → IsTrue (same g.text text) → load_graph text dag a ≡ a }
+{}
+
+/// A text that takes in a graph without runs may be taken in after moves and hand-outs as well as before them: its graph has no run then
+/// either, and the same tries are handed out.
+pub fn loading_goes_beside()
+    ensures beside { (text : List ℕ) (dag : Dag) (a : Schedule)
+        → has_runs a dag.spec.dag_id ≡ false
+        → hand_out (settle (load_graph text dag a)) ≡ load_graph text dag (hand_out (settle a)) }
+    ensures runs { (a : Schedule) (id : List ℕ)
+        → has_runs (hand_out (settle a)) id ≡ has_runs a id }
+    ensures jobs { (text : List ℕ) (dag : Dag) (a b : Schedule) → has_runs b dag.spec.dag_id ≡ false
+        → handed a (load_graph text dag b) ≡ handed a b }
 {}
 
 /// The graph that a text says is sound where its tasks and their upstreams are no more than the limits, and the pool of each task is

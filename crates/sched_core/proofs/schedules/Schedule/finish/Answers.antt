@@ -1,4 +1,4 @@
-use Rattle.std.proofs.Common.{◌≡◌, ◌∙◌, ◌-◌, sym, ap, subst, flat_map, List, Option, ℕ}
+use Rattle.std.proofs.Common.{◌≡◌, ◌∙◌, ◌-◌, sym, ap, subst, flat_map, true}
 use Rattle.std.specs.List.{range_with_len}
 use Rattle.sched_model.specs.Schedule.{Schedule}
 use Rattle.sched_model.specs.Settle.{settle}
@@ -6,7 +6,9 @@ use Rattle.sched_model.specs.Handout.{hand_out}
 use Rattle.sched_model.specs.Jobs.{job_at, handed}
 use Rattle.sched_laws.proofs.SweepLemmas.{sound_ordered}
 use Rattle.sched_draft.specs.Books.{pools_in, IsBookOf}
-use Rattle.sched_draft.specs.Parts.{with_unpaused}
+use Rattle.sched_core.specs.Effects.{changed}
+use Rattle.sched_core.specs.Inside.{completed}
+use Rattle.sched_core.specs.declared.changes.GraphChange.{GraphChange}
 use Rattle.sched_core.specs.Books.{AgreesWithBook}
 use Rattle.sched_core.specs.Changes.{ScheduleValue, Planned}
 use Rattle.sched_core.proofs.FinishLemmas.{finished_is, finished_held}
@@ -18,34 +20,34 @@ settle-requires c = sound_ordered c.args.draft c.requires.sound
 pub invariant_of-result : goal.invariant_of-result
 invariant_of-result c =
     let a : Schedule = c.args.self.now.content in
-    let u : Option (List ℕ) = c.args.unpaused in
+    let g : GraphChange = c.args.graphs in
     let d : Schedule = c.hand_out.new.draft in
     let e : Schedule = hand_out (settle c.args.draft) in
     let end : d ≡ e = c.in_ok-pools.ensures.draft ∙ ap hand_out c.settle.ensures in
     let book : IsBookOf e c.in_ok-pools.pools.pools = subst (λ (s : Schedule). IsBookOf (hand_out s) c.in_ok-pools.pools.pools) c.settle.ensures c.in_ok-pools.ensures.book in
-    let is = finished_is u a c.args.draft d (pools_in c.in_ok-pools.pools.pools) c.clock.result c.lanes.result c.next_serial.result c.into_runs.result.items c.requires.over end book.pools
+    let is = finished_is g a c.args.draft d (pools_in c.in_ok-pools.pools.pools) c.clock.result c.lanes.result c.next_serial.result c.into_runs.result.items c.requires.over end book.pools
     c.clock.ensures c.lanes.ensures c.next_serial.ensures c.into_runs.ensures in
-    let held : AgreesWithBook e c.in_ok-pools.pools.pools = finished_held c.args.draft c.in_ok-pools.pools.pools c.requires.sound c.requires.counted c.requires.kept book in
-    λ es before. subst (λ (h : ScheduleValue). AgreesWithBook (record h.content { graphs = with_unpaused u h.content.graphs; pools = pools_in c.in_ok-pools.pools.pools; now = c.clock.result; lanes = c.lanes.result; next = c.next_serial.result; runs = c.into_runs.result.items }) c.in_ok-pools.pools.pools) (sym c.of.ensures)
-    (subst (λ (s : Schedule). AgreesWithBook s c.in_ok-pools.pools.pools) (sym is) held)
+    let held : AgreesWithBook true (completed g e) c.in_ok-pools.pools.pools = finished_held g c.args.draft c.in_ok-pools.pools.pools c.requires.sound c.requires.counted c.requires.last c.requires.kept book in
+    λ es was before. subst (λ (h : ScheduleValue). AgreesWithBook true (record h.content { graphs = changed g h.content.graphs; pools = pools_in c.in_ok-pools.pools.pools; now = c.clock.result; lanes = c.lanes.result; next = c.next_serial.result; runs = c.into_runs.result.items }) c.in_ok-pools.pools.pools) (sym c.of.ensures)
+    (subst (λ (s : Schedule). AgreesWithBook true s c.in_ok-pools.pools.pools) (sym is) held)
 
 pub returns : goal.returns
 returns c =
     let a : Schedule = c.args.self.now.content in
-    let u : Option (List ℕ) = c.args.unpaused in
+    let g : GraphChange = c.args.graphs in
     let d : Schedule = c.hand_out.new.draft in
     let e : Schedule = hand_out (settle c.args.draft) in
     let end : d ≡ e = c.in_ok-pools.ensures.draft ∙ ap hand_out c.settle.ensures in
     let book : IsBookOf e c.in_ok-pools.pools.pools = subst (λ (s : Schedule). IsBookOf (hand_out s) c.in_ok-pools.pools.pools) c.settle.ensures c.in_ok-pools.ensures.book in
-    let is = finished_is u a c.args.draft d (pools_in c.in_ok-pools.pools.pools) c.clock.result c.lanes.result c.next_serial.result c.into_runs.result.items c.requires.over end book.pools
+    let is = finished_is g a c.args.draft d (pools_in c.in_ok-pools.pools.pools) c.clock.result c.lanes.result c.next_serial.result c.into_runs.result.items c.requires.over end book.pools
     c.clock.ensures c.lanes.ensures c.next_serial.ensures c.into_runs.ensures in
     let jobs : c.in_ok-jobs.jobs ≡ handed a e =
     c.in_ok-jobs.ensures
     ∙ (ap (λ (h : ScheduleValue). flat_map (job_at d) (range_with_len h.content.next (d.next - h.content.next))) c.self.view_is ∙ ap (handed a) end) in
     ap (λ (h : ScheduleValue). let p : Planned = record {
       before = h.content;
-      after = record h.content { graphs = with_unpaused u h.content.graphs; pools = pools_in c.in_ok-pools.pools.pools; now = c.clock.result; lanes = c.lanes.result; next = c.next_serial.result; runs = c.into_runs.result.items };
+      after = record h.content { graphs = changed g h.content.graphs; pools = pools_in c.in_ok-pools.pools.pools; now = c.clock.result; lanes = c.lanes.result; next = c.next_serial.result; runs = c.into_runs.result.items };
       answer = record c.args.answer { jobs = c.in_ok-jobs.jobs };
     } in p) c.of.ensures
     ∙ (ap (λ (s : Schedule). let p : Planned = record { before = a; after = s; answer = record c.args.answer { jobs = c.in_ok-jobs.jobs } } in p) is
-    ∙ ap (λ js. let p : Planned = record { before = a; after = e; answer = record c.args.answer { jobs = js } } in p) jobs)
+    ∙ ap (λ js. let p : Planned = record { before = a; after = completed g e; answer = record c.args.answer { jobs = js } } in p) jobs)

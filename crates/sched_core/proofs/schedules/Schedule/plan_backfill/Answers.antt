@@ -6,7 +6,7 @@ use Rattle.sched_model.specs.Schedule.{Schedule}
 use Rattle.sched_creation.specs.ByHand.{IsBackfillOf}
 use Rattle.sched_creation.specs.declared.backfills.Backfill.{Backfill as Found}
 use Rattle.sched_events.specs.Events.{set_back_by}
-use Rattle.sched_events.specs.SettledAndSound.{IsSettledAndSound}
+use Rattle.sched_events.specs.SettledAndSound.{IsSoundAndSaid}
 use Rattle.sched_events.specs.Outcomes.{IsRefusal}
 use Rattle.sched_events.specs.declared.answers.Answer.{Answer}
 use Rattle.sched_events.specs.declared.events.Event.TheVariants.{Backfill}
@@ -30,7 +30,7 @@ returns-in_err-cleared-clause-refused c =
     let h : IsBackfillOf a id c.args.from c.args.to most (Some b) =
     found_is a d id c.args.from c.args.to most b c.in_ok-draft.ensures (subst (IsBackfillOf d id c.args.from c.args.to most) c.in-Some.is c.in_ok-named.ensures) in
     let good : nat_lt c.args.to c.args.from ≡ false = grind (arith, nat_tests, c.lt.ensures, c.if-lt.false) in
-    let kept : IsSettledAndSound a = subst (λ (s : ScheduleValue). IsSettledAndSound s.content) c.self.view_is c.self.invariant.kept in
+    let kept : IsSoundAndSaid a = subst (λ (s : ScheduleValue). IsSoundAndSaid s.content) c.self.view_is c.self.invariant.kept in
     let r : Refusal = c.in_err-cleared.field-0.0 in
     let e : Schedule = c.reset_if.new.draft in
     let set = subst (λ (ds : List ℕ). IsSetBack (reset_of c.args.reset id ds) d e (Err r)) c.deref.ensures.value c.in_err-cleared.ensures in
@@ -48,7 +48,7 @@ finish-requires-clause-sound c =
     let h : IsBackfillOf a id c.args.from c.args.to most (Some b) =
     found_is a d id c.args.from c.args.to most b c.in_ok-draft.ensures (subst (IsBackfillOf d id c.args.from c.args.to most) c.in-Some.is c.in_ok-named.ensures) in
     let good : nat_lt c.args.to c.args.from ≡ false = grind (arith, nat_tests, c.lt.ensures, c.if-lt.false) in
-    let kept : IsSettledAndSound a = subst (λ (s : ScheduleValue). IsSettledAndSound s.content) c.self.view_is c.self.invariant.kept in
+    let kept : IsSoundAndSaid a = subst (λ (s : ScheduleValue). IsSoundAndSaid s.content) c.self.view_is c.self.invariant.kept in
     let limit : c.self.inside.limits.runs ≡ a.limits.runs = ap (λ (s : ScheduleValue). s.content.limits.runs) c.self.view_is in
     let long : length c.self.inside.runs.items ≡ length a.runs = ap (λ (s : ScheduleValue). length s.content.runs) c.self.view_is in
     let few : length a.runs ≤ a.limits.runs = grind (arith, nat_tests, kept.sound.few_runs) in
@@ -69,7 +69,7 @@ finish-requires-clause-kept c =
     let h : IsBackfillOf a id c.args.from c.args.to most (Some b) =
     found_is a d id c.args.from c.args.to most b c.in_ok-draft.ensures (subst (IsBackfillOf d id c.args.from c.args.to most) c.in-Some.is c.in_ok-named.ensures) in
     let good : nat_lt c.args.to c.args.from ≡ false = grind (arith, nat_tests, c.lt.ensures, c.if-lt.false) in
-    let kept : IsSettledAndSound a = subst (λ (s : ScheduleValue). IsSettledAndSound s.content) c.self.view_is c.self.invariant.kept in
+    let kept : IsSoundAndSaid a = subst (λ (s : ScheduleValue). IsSoundAndSaid s.content) c.self.view_is c.self.invariant.kept in
     let limit : c.self.inside.limits.runs ≡ a.limits.runs = ap (λ (s : ScheduleValue). s.content.limits.runs) c.self.view_is in
     let long : length c.self.inside.runs.items ≡ length a.runs = ap (λ (s : ScheduleValue). length s.content.runs) c.self.view_is in
     let few : length a.runs ≤ a.limits.runs = grind (arith, nat_tests, kept.sound.few_runs) in
@@ -90,7 +90,7 @@ finish-requires-clause-counted c =
     let h : IsBackfillOf a id c.args.from c.args.to most (Some b) =
     found_is a d id c.args.from c.args.to most b c.in_ok-draft.ensures (subst (IsBackfillOf d id c.args.from c.args.to most) c.in-Some.is c.in_ok-named.ensures) in
     let good : nat_lt c.args.to c.args.from ≡ false = grind (arith, nat_tests, c.lt.ensures, c.if-lt.false) in
-    let kept : IsSettledAndSound a = subst (λ (s : ScheduleValue). IsSettledAndSound s.content) c.self.view_is c.self.invariant.kept in
+    let kept : IsSoundAndSaid a = subst (λ (s : ScheduleValue). IsSoundAndSaid s.content) c.self.view_is c.self.invariant.kept in
     let limit : c.self.inside.limits.runs ≡ a.limits.runs = ap (λ (s : ScheduleValue). s.content.limits.runs) c.self.view_is in
     let long : length c.self.inside.runs.items ≡ length a.runs = ap (λ (s : ScheduleValue). length s.content.runs) c.self.view_is in
     let few : length a.runs ≤ a.limits.runs = grind (arith, nat_tests, kept.sound.few_runs) in
@@ -112,7 +112,7 @@ returns-clause-accepted c =
     let h : IsBackfillOf a id c.args.from c.args.to most (Some b) =
     found_is a d id c.args.from c.args.to most b c.in_ok-draft.ensures (subst (IsBackfillOf d id c.args.from c.args.to most) c.in-Some.is c.in_ok-named.ensures) in
     let good : nat_lt c.args.to c.args.from ≡ false = grind (arith, nat_tests, c.lt.ensures, c.if-lt.false) in
-    let kept : IsSettledAndSound a = subst (λ (s : ScheduleValue). IsSettledAndSound s.content) c.self.view_is c.self.invariant.kept in
+    let kept : IsSoundAndSaid a = subst (λ (s : ScheduleValue). IsSoundAndSaid s.content) c.self.view_is c.self.invariant.kept in
     let limit : c.self.inside.limits.runs ≡ a.limits.runs = ap (λ (s : ScheduleValue). s.content.limits.runs) c.self.view_is in
     let long : length c.self.inside.runs.items ≡ length a.runs = ap (λ (s : ScheduleValue). length s.content.runs) c.self.view_is in
     let few : length a.runs ≤ a.limits.runs = grind (arith, nat_tests, kept.sound.few_runs) in

@@ -5,7 +5,7 @@ use Rattle.sched_state.specs.declared.clearings.Clearing.{Clearing}
 use Rattle.sched_model.specs.Schedule.{Schedule}
 use Rattle.sched_clearing.specs.Selections.{SelectionParts, IsClear}
 use Rattle.sched_events.specs.Events.{set_back_by}
-use Rattle.sched_events.specs.SettledAndSound.{IsSettledAndSound}
+use Rattle.sched_events.specs.SettledAndSound.{IsSoundAndSaid}
 use Rattle.sched_events.specs.Outcomes.{IsRefusal}
 use Rattle.sched_events.specs.declared.answers.Answer.{Answer}
 use Rattle.sched_events.specs.declared.events.Event.TheVariants.{Clear}
@@ -35,7 +35,7 @@ finish-requires-clause-sound c =
     let h : IsClear a x (Ok n) = cleared_is a c.in_ok-draft.draft x n c.in_ok-draft.ensures (subst (IsClear c.in_ok-draft.draft x) c.in-Ok.is c.named_by_clear.ensures) in
     let good : nat_lt x.to x.from ≡ false = grind (arith, nat_tests, c.lt.ensures, c.if-lt.false) in
     let done : IsCleared a x c.set_back.new.draft c.in_ok-cleared.cleared = clear_done a c.in_ok-draft.draft c.set_back.new.draft x n c.in_ok-cleared.cleared c.in_ok-draft.ensures h good c.in_ok-cleared.ensures in
-    draft_sound (Clear x) a c.set_back.new.draft tt done.accepted (subst (λ (s : ScheduleValue). IsSettledAndSound s.content) c.self.view_is c.self.invariant.kept) done.is
+    draft_sound (Clear x) a c.set_back.new.draft tt done.accepted (subst (λ (s : ScheduleValue). IsSoundAndSaid s.content) c.self.view_is c.self.invariant.kept) done.is
 
 pub finish-requires-clause-kept : goal.finish-requires-clause-kept
 finish-requires-clause-kept c =
@@ -45,7 +45,7 @@ finish-requires-clause-kept c =
     let h : IsClear a x (Ok n) = cleared_is a c.in_ok-draft.draft x n c.in_ok-draft.ensures (subst (IsClear c.in_ok-draft.draft x) c.in-Ok.is c.named_by_clear.ensures) in
     let good : nat_lt x.to x.from ≡ false = grind (arith, nat_tests, c.lt.ensures, c.if-lt.false) in
     let done : IsCleared a x c.set_back.new.draft c.in_ok-cleared.cleared = clear_done a c.in_ok-draft.draft c.set_back.new.draft x n c.in_ok-cleared.cleared c.in_ok-draft.ensures h good c.in_ok-cleared.ensures in
-    draft_kept (Clear x) a c.set_back.new.draft tt done.accepted (subst (λ (s : ScheduleValue). IsSettledAndSound s.content) c.self.view_is c.self.invariant.kept) done.is
+    draft_kept (Clear x) a c.set_back.new.draft tt done.accepted (subst (λ (s : ScheduleValue). IsSoundAndSaid s.content) c.self.view_is c.self.invariant.kept) done.is
 
 pub finish-requires-clause-counted : goal.finish-requires-clause-counted
 finish-requires-clause-counted c =

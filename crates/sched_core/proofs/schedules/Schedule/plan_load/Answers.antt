@@ -1,4 +1,4 @@
-use Rattle.std.proofs.Common.{◌≡◌, ◌∙◌, true, false, List, length, nat_le, ap, sym, subst, arith, inr, None, Some}
+use Rattle.std.proofs.Common.{◌≡◌, ◌∙◌, refl, true, false, List, length, nat_le, ap, sym, subst, arith, inr, None, Some}
 use Rattle.std.specs.List.{list_any}
 use Rattle.std.proofs.lemmas.Bool.Decides.{nat_tests}
 use Rattle.graph_file.specs.declared.graph_specs.GraphSpec.{GraphSpec}
@@ -9,14 +9,16 @@ use Rattle.sched_state.specs.declared.graphs.LoadedGraph.{LoadedGraph}
 use Rattle.sched_state.specs.declared.runs.Run.{Run}
 use Rattle.sched_core.proofs.GraphLemmas.{unknown_no_runs}
 use Rattle.sched_draft.specs.Books.{pools_in}
-use Rattle.sched_core.specs.Changes.{ScheduleValue, Planned}
+use Rattle.sched_core.specs.Changes.{ScheduleValue}
 use Rattle.sched_events.specs.Causes.{refused}
 use Rattle.sched_core.specs.Inside.{StandsAt, IsTaken}
-use Rattle.sched_core.specs.Plans.{IsPlanned}
+use Rattle.sched_events.specs.Events.{named_by, change_by}
+use Rattle.sched_events.specs.SettledAndSound.{IsSoundAndSaid}
+use Rattle.sched_model.specs.NamedRuns.{add_runs}
 use Rattle.sched_core.specs.Plans.{no_runs}
 use Rattle.sched_events.specs.declared.events.Event.TheVariants.{Load}
 use Rattle.sched_events.specs.declared.refusals.Refusal.TheVariants as refusal
-use Rattle.sched_core.proofs.PlanLemmas.{known_is, refused_full, accepted_new, accepted_same, refused_differs, accepted_other, planned_same}
+use Rattle.sched_core.proofs.PlanLemmas.{known_is, refused_full, accepted_new, accepted_same, refused_differs, accepted_other, again_change, draft_planned}
 use Rattle.sched_core.proofs.schedules.Schedule.plan_load.Goals as goal
 
 pub returns-then-graphs-len-clause-refused : goal.returns-then-graphs-len-clause-refused
@@ -48,6 +50,9 @@ taken_in-requires-clause-accepted c =
     subst (λ (h : ScheduleValue). refused h.content (Load c.args.text.now) ≡ None) c.self.view_is
     (accepted_new a c.args.text.now dag taken unknown room)
 
+pub graph_change-requires-clause-sound : goal.graph_change-requires-clause-sound
+graph_change-requires-clause-sound c = subst (λ (h : ScheduleValue). IsSoundAndSaid h.content) c.self.view_is c.self.invariant.kept
+
 pub returns-then-is_same-clause-accepted : goal.returns-then-is_same-clause-accepted
 returns-then-is_same-clause-accepted c =
     let a : Schedule = record { limits = c.self.inside.limits; graphs = c.self.inside.graphs.items; pools = pools_in c.self.inside.pools.pools; now = c.self.inside.clock; lanes = c.self.inside.lanes; next = c.self.inside.next; runs = c.self.inside.runs.items } in
@@ -59,9 +64,11 @@ returns-then-is_same-clause-accepted c =
     let known = known_is a.graphs dag.spec.dag_id c.in-Some.place g stands c.index.ensures in
     let text_is : same g.text c.args.text.now ≡ true = sym c.if-is_same.ensures in
     let accepted = accepted_same a c.args.text.now dag c.in-Some.place g c.self.invariant.kept taken known.0 known.1 text_is in
-    let planned = planned_same a c.args.text.now dag c.in-Some.place g c.self.invariant.kept taken.says accepted known.0 known.1 text_is in
-    subst (λ (p : Planned). IsPlanned c.args.self.now.content (Load c.args.text.now) p) (sym c.quiet_change.ensures)
-    (subst (λ (h : ScheduleValue). IsPlanned h.content (Load c.args.text.now) (record { before = h.content; after = h.content; answer = no_runs })) c.self.view_is planned)
+    let is = again_change a c.args.text.now dag c.in-Some.place g c.self.invariant.kept taken.says known.0 known.1 text_is in
+    draft_planned (Load c.args.text.now) c.args.self.now.content c.args.self.now.content no_runs c.in_ok-graph_change-in-Some.field-0 tt
+    (subst (λ (h : ScheduleValue). refused h.content (Load c.args.text.now) ≡ None) c.self.view_is accepted)
+    (subst (λ (h : ScheduleValue). h.content ≡ add_runs (named_by (Load c.args.text.now) h.content) (change_by (Load c.args.text.now) h.content)) c.self.view_is is)
+    refl c.in_ok-graph_change-in-Some.ensures
 
 pub returns-then-has_runs-clause-refused : goal.returns-then-has_runs-clause-refused
 returns-then-has_runs-clause-refused c =

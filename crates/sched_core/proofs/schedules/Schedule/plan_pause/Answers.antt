@@ -1,35 +1,16 @@
-use Rattle.std.proofs.Common.{◌≡◌, ◌∙◌, List, ℕ, ap, sym, subst, is_none, inr, false, true}
-use Rattle.sched_model.specs.Schedule.{Schedule, graph_named}
+use Rattle.std.proofs.Common.{◌≡◌, ◌∙◌, refl, ap, subst, sym, is_none, inr, false, true, List, ℕ}
 use Rattle.sched_model.specs.Changes.{set_paused}
-use Rattle.sched_events.specs.SettledAndSound.{IsSettledAndSound}
+use Rattle.sched_model.specs.Schedule.{Schedule, graph_named}
+use Rattle.sched_events.specs.SettledAndSound.{IsSoundAndSaid, IsSettled}
 use Rattle.sched_events.specs.declared.events.Event.TheVariants.{Pause}
+use Rattle.sched_core.specs.Books.{IsCounted}
 use Rattle.sched_core.specs.Changes.{ScheduleValue, Planned}
-use Rattle.sched_core.specs.Effects.{KeepsAgreement}
-use Rattle.sched_core.specs.Plans.{IsPlanned, no_runs}
-use Rattle.sched_core.specs.declared.changes.Effect.TheVariants as effect
-use Rattle.sched_core.proofs.EffectLemmas.{pause_held}
-use Rattle.sched_core.proofs.PlanLemmas.{looked_up, pause_unknown, pause_kept, planned_pause}
+use Rattle.sched_core.specs.Plans.{no_runs}
+use Rattle.sched_core.specs.declared.changes.GraphChange.TheVariants as graphs
+use Rattle.sched_core.proofs.BookLemmas.{pause_counted}
+use Rattle.sched_core.proofs.EffectLemmas.{quiet_whole}
+use Rattle.sched_core.proofs.PlanLemmas.{looked_up, pause_unknown, pause_accepted, pause_draft, change_held, draft_sound, draft_kept, draft_planned}
 use Rattle.sched_core.proofs.schedules.Schedule.plan_pause.Goals as goal
-
-pub quiet_change-requires : goal.quiet_change-requires
-quiet_change-requires c =
-    let a : Schedule = c.args.self.now.content in
-    let kept = subst (λ (h : ScheduleValue). IsSettledAndSound h.content) c.self.view_is c.self.invariant.kept in
-    let there : is_none (graph_named a c.args.id.now) ≡ false =
-    looked_up a c.as_slice.result.now c.args.id.now c.graph_named.result c.is_none.result (c.as_slice.ensures.value ∙ ap (λ (h : ScheduleValue). h.content.graphs) c.self.view_is)
-    c.graph_named.ensures c.is_none.ensures ∙ c.if-is_none.false in
-    subst (λ (id : List ℕ). KeepsAgreement (effect.Pause id) a) (sym c.in_ok-id.ensures) (pause_held c.args.id.now a (pause_kept a c.args.id.now kept there))
-
-pub returns-clause-accepted : goal.returns-clause-accepted
-returns-clause-accepted c =
-    let a : Schedule = c.args.self.now.content in
-    let kept = subst (λ (h : ScheduleValue). IsSettledAndSound h.content) c.self.view_is c.self.invariant.kept in
-    let there : is_none (graph_named a c.args.id.now) ≡ false =
-    looked_up a c.as_slice.result.now c.args.id.now c.graph_named.result c.is_none.result (c.as_slice.ensures.value ∙ ap (λ (h : ScheduleValue). h.content.graphs) c.self.view_is)
-    c.graph_named.ensures c.is_none.ensures ∙ c.if-is_none.false in
-    let is : c.quiet_change.result ≡ record { before = a; after = set_paused c.args.id.now true a; answer = no_runs } =
-    c.quiet_change.ensures ∙ ap (λ (id : List ℕ). let p : Planned = record { before = a; after = set_paused id true a; answer = no_runs } in p) c.in_ok-id.ensures in
-    subst (λ (p : Planned). IsPlanned a (Pause c.args.id.now) p) (sym is) (planned_pause a c.args.id.now kept there)
 
 pub returns-then-is_none-clause-refused : goal.returns-then-is_none-clause-refused
 returns-then-is_none-clause-refused c =
@@ -38,3 +19,59 @@ returns-then-is_none-clause-refused c =
     looked_up a c.as_slice.result.now c.args.id.now c.graph_named.result c.is_none.result (c.as_slice.ensures.value ∙ ap (λ (h : ScheduleValue). h.content.graphs) c.self.view_is)
     c.graph_named.ensures c.is_none.ensures ∙ c.if-is_none.true in
     inr (record { first = pause_unknown a c.args.id.now unknown; shown = tt })
+
+pub quiet_change-requires-clause-sound : goal.quiet_change-requires-clause-sound
+quiet_change-requires-clause-sound c =
+    let a : Schedule = c.args.self.now.content in
+    let id : List ℕ = c.args.id.now in
+    let kept = subst (λ (h : ScheduleValue). IsSoundAndSaid h.content) c.self.view_is c.self.invariant.kept in
+    let there : is_none (graph_named a c.args.id.now) ≡ false =
+    looked_up a c.as_slice.result.now c.args.id.now c.graph_named.result c.is_none.result (c.as_slice.ensures.value ∙ ap (λ (h : ScheduleValue). h.content.graphs) c.self.view_is)
+    c.graph_named.ensures c.is_none.ensures ∙ c.if-is_none.false in
+    subst (λ (n : List ℕ). IsSoundAndSaid (set_paused n true a)) (sym c.in_ok-copy.ensures) (change_held (Pause id) a (set_paused id true a) tt (pause_accepted a id there) kept refl)
+
+pub returns-then-self-clause-accepted : goal.returns-then-self-clause-accepted
+returns-then-self-clause-accepted c =
+    let a : Schedule = c.args.self.now.content in
+    let id : List ℕ = c.args.id.now in
+    let still : IsSettled a = subst (λ (h : ScheduleValue). IsSettled h.content) c.self.view_is (c.self.invariant.settled c.if-self.true) in
+    let there : is_none (graph_named a c.args.id.now) ≡ false =
+    looked_up a c.as_slice.result.now c.args.id.now c.graph_named.result c.is_none.result (c.as_slice.ensures.value ∙ ap (λ (h : ScheduleValue). h.content.graphs) c.self.view_is)
+    c.graph_named.ensures c.is_none.ensures ∙ c.if-is_none.false in
+    let is : c.quiet_change.result ≡ record { before = a; after = set_paused id true a; answer = no_runs } =
+    c.quiet_change.ensures ∙ ap (λ (n : List ℕ). let p : Planned = record { before = a; after = set_paused n true a; answer = no_runs } in p) c.in_ok-copy.ensures in
+    draft_planned (Pause id) a (set_paused id true a) no_runs c.quiet_change.result tt (pause_accepted a id there) (pause_draft a (set_paused id true a) id refl) refl
+    (quiet_whole (graphs.Pause id true) a c.quiet_change.result refl still is)
+
+pub finish-requires-clause-sound : goal.finish-requires-clause-sound
+finish-requires-clause-sound c =
+    let a : Schedule = c.args.self.now.content in
+    let kept = subst (λ (h : ScheduleValue). IsSoundAndSaid h.content) c.self.view_is c.self.invariant.kept in
+    let there : is_none (graph_named a c.args.id.now) ≡ false =
+    looked_up a c.as_slice.result.now c.args.id.now c.graph_named.result c.is_none.result (c.as_slice.ensures.value ∙ ap (λ (h : ScheduleValue). h.content.graphs) c.self.view_is)
+    c.graph_named.ensures c.is_none.ensures ∙ c.if-is_none.false in
+    draft_sound (Pause c.args.id.now) a c.in_ok-draft.draft tt (pause_accepted a c.args.id.now there) kept (pause_draft a c.in_ok-draft.draft c.args.id.now c.in_ok-draft.ensures)
+
+pub finish-requires-clause-kept : goal.finish-requires-clause-kept
+finish-requires-clause-kept c =
+    let a : Schedule = c.args.self.now.content in
+    let kept = subst (λ (h : ScheduleValue). IsSoundAndSaid h.content) c.self.view_is c.self.invariant.kept in
+    let there : is_none (graph_named a c.args.id.now) ≡ false =
+    looked_up a c.as_slice.result.now c.args.id.now c.graph_named.result c.is_none.result (c.as_slice.ensures.value ∙ ap (λ (h : ScheduleValue). h.content.graphs) c.self.view_is)
+    c.graph_named.ensures c.is_none.ensures ∙ c.if-is_none.false in
+    draft_kept (Pause c.args.id.now) a c.in_ok-draft.draft tt (pause_accepted a c.args.id.now there) kept (pause_draft a c.in_ok-draft.draft c.args.id.now c.in_ok-draft.ensures)
+
+pub finish-requires-clause-counted : goal.finish-requires-clause-counted
+finish-requires-clause-counted c =
+    let a : Schedule = c.args.self.now.content in
+    let counted : IsCounted a = subst (λ (h : ScheduleValue). IsCounted h.content) c.self.view_is c.self.invariant.counted in
+    subst IsCounted (sym c.in_ok-draft.ensures) (pause_counted c.args.id.now true a counted)
+
+pub returns-clause-accepted : goal.returns-clause-accepted
+returns-clause-accepted c =
+    let a : Schedule = c.args.self.now.content in
+    let there : is_none (graph_named a c.args.id.now) ≡ false =
+    looked_up a c.as_slice.result.now c.args.id.now c.graph_named.result c.is_none.result (c.as_slice.ensures.value ∙ ap (λ (h : ScheduleValue). h.content.graphs) c.self.view_is)
+    c.graph_named.ensures c.is_none.ensures ∙ c.if-is_none.false in
+    draft_planned (Pause c.args.id.now) a c.in_ok-draft.draft c.quiet_answer.result c.in_ok-finish.field-0 tt (pause_accepted a c.args.id.now there)
+    (pause_draft a c.in_ok-draft.draft c.args.id.now c.in_ok-draft.ensures) c.quiet_answer.ensures c.in_ok-finish.ensures

@@ -2,7 +2,7 @@ use Rattle.std.proofs.Common.{◌≡◌, ◌∙◌, sym, ap, subst, inr, is_some
 use Rattle.instance_machine.specs.Reports.{report_try}
 use Rattle.sched_model.specs.Changes.{report}
 use Rattle.sched_model.specs.Schedule.{Schedule}
-use Rattle.sched_events.specs.SettledAndSound.{IsSettledAndSound}
+use Rattle.sched_events.specs.SettledAndSound.{IsSoundAndSaid}
 use Rattle.sched_events.specs.declared.events.Event.TheVariants.{Report}
 use Rattle.sched_core.specs.Books.{IsCounted}
 use Rattle.sched_core.specs.Changes.{ScheduleValue}
@@ -29,7 +29,7 @@ finish-requires-clause-sound c =
     let found = found_try a c.args.serial c.deref.result.now c.open_try.result (c.deref.ensures.value ∙ ap (λ (h : ScheduleValue). h.content.runs) c.self.view_is) c.open_try.ensures in
     let turn : is_some (report_try c.args.stage a.now c.in-Some.one) ≡ true = sym (c.if-not-takes.ensures a.now) in
     draft_sound (Report c.args.serial c.args.stage) a c.report.new.self tt (in_turn a c.args.serial c.args.stage c.in-Some.one (sym c.in-Some.is ∙ found) turn)
-    (subst (λ (h : ScheduleValue). IsSettledAndSound h.content) c.self.view_is c.self.invariant.kept) (report_draft a c.in_ok-draft.draft c.report.new.self c.args.serial c.args.stage c.in_ok-draft.ensures c.report.ensures)
+    (subst (λ (h : ScheduleValue). IsSoundAndSaid h.content) c.self.view_is c.self.invariant.kept) (report_draft a c.in_ok-draft.draft c.report.new.self c.args.serial c.args.stage c.in_ok-draft.ensures c.report.ensures)
 
 pub finish-requires-clause-kept : goal.finish-requires-clause-kept
 finish-requires-clause-kept c =
@@ -37,7 +37,7 @@ finish-requires-clause-kept c =
     let found = found_try a c.args.serial c.deref.result.now c.open_try.result (c.deref.ensures.value ∙ ap (λ (h : ScheduleValue). h.content.runs) c.self.view_is) c.open_try.ensures in
     let turn : is_some (report_try c.args.stage a.now c.in-Some.one) ≡ true = sym (c.if-not-takes.ensures a.now) in
     draft_kept (Report c.args.serial c.args.stage) a c.report.new.self tt (in_turn a c.args.serial c.args.stage c.in-Some.one (sym c.in-Some.is ∙ found) turn)
-    (subst (λ (h : ScheduleValue). IsSettledAndSound h.content) c.self.view_is c.self.invariant.kept) (report_draft a c.in_ok-draft.draft c.report.new.self c.args.serial c.args.stage c.in_ok-draft.ensures c.report.ensures)
+    (subst (λ (h : ScheduleValue). IsSoundAndSaid h.content) c.self.view_is c.self.invariant.kept) (report_draft a c.in_ok-draft.draft c.report.new.self c.args.serial c.args.stage c.in_ok-draft.ensures c.report.ensures)
 
 pub finish-requires-clause-counted : goal.finish-requires-clause-counted
 finish-requires-clause-counted c =

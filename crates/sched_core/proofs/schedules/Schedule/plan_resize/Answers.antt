@@ -9,7 +9,7 @@ use Rattle.sched_model.specs.Changes.{new_pool, resize}
 use Rattle.sched_model.specs.Schedule.{Schedule}
 use Rattle.sched_model.specs.Sound.{is_sound_pool}
 use Rattle.sched_events.specs.Causes.{refused}
-use Rattle.sched_events.specs.SettledAndSound.{IsSettledAndSound}
+use Rattle.sched_events.specs.SettledAndSound.{IsSoundAndSaid}
 use Rattle.sched_events.specs.declared.events.Event.TheVariants.{Resize}
 use Rattle.sched_draft.specs.Books.{pools_in}
 use Rattle.sched_core.specs.Changes.{ScheduleValue}
@@ -59,7 +59,7 @@ over-requires-clause-sound c =
       | else-is_none-via-else-is_none w ↦
           known_place a es c.args.name.now pools (known_by a es c.args.name.now c.size.result c.is_none.result pools c.size.ensures c.is_none.ensures ∙ ap not w.if-is_none.false)
     ] in
-    let kept : IsSettledAndSound a = subst (λ (h : ScheduleValue). IsSettledAndSound h.content) c.self.view_is c.self.invariant.kept in
+    let kept : IsSoundAndSaid a = subst (λ (h : ScheduleValue). IsSoundAndSaid h.content) c.self.view_is c.self.invariant.kept in
     let accepted : refused a (Resize c.args.name.now c.args.size) ≡ None = resize_accepted a es c.args.name.now c.args.size place in
     let is : over c.resize.new.self.pools a ≡ resize c.args.name.now c.args.size a =
     over_is a es c.in_ok-pools.pools.pools c.resize.new.self.pools c.args.name.now c.in_ok-name.name c.args.size pools kept.sound.pools_by_name c.in_ok-pools.ensures c.in_ok-name.ensures c.in_ok-resize.ensures.pools in
@@ -80,7 +80,7 @@ over-requires-clause-kept c =
       | else-is_none-via-else-is_none w ↦
           known_place a es c.args.name.now pools (known_by a es c.args.name.now c.size.result c.is_none.result pools c.size.ensures c.is_none.ensures ∙ ap not w.if-is_none.false)
     ] in
-    let kept : IsSettledAndSound a = subst (λ (h : ScheduleValue). IsSettledAndSound h.content) c.self.view_is c.self.invariant.kept in
+    let kept : IsSoundAndSaid a = subst (λ (h : ScheduleValue). IsSoundAndSaid h.content) c.self.view_is c.self.invariant.kept in
     let accepted : refused a (Resize c.args.name.now c.args.size) ≡ None = resize_accepted a es c.args.name.now c.args.size place in
     let is : over c.resize.new.self.pools a ≡ resize c.args.name.now c.args.size a =
     over_is a es c.in_ok-pools.pools.pools c.resize.new.self.pools c.args.name.now c.in_ok-name.name c.args.size pools kept.sound.pools_by_name c.in_ok-pools.ensures c.in_ok-name.ensures c.in_ok-resize.ensures.pools in
@@ -101,7 +101,7 @@ returns-clause-accepted c =
       | else-is_none-via-else-is_none w ↦
           known_place a es c.args.name.now pools (known_by a es c.args.name.now c.size.result c.is_none.result pools c.size.ensures c.is_none.ensures ∙ ap not w.if-is_none.false)
     ] in
-    let kept : IsSettledAndSound a = subst (λ (h : ScheduleValue). IsSettledAndSound h.content) c.self.view_is c.self.invariant.kept in
+    let kept : IsSoundAndSaid a = subst (λ (h : ScheduleValue). IsSoundAndSaid h.content) c.self.view_is c.self.invariant.kept in
     let accepted : refused a (Resize c.args.name.now c.args.size) ≡ None = resize_accepted a es c.args.name.now c.args.size place in
     let is : over c.resize.new.self.pools a ≡ resize c.args.name.now c.args.size a =
     over_is a es c.in_ok-pools.pools.pools c.resize.new.self.pools c.args.name.now c.in_ok-name.name c.args.size pools kept.sound.pools_by_name c.in_ok-pools.ensures c.in_ok-name.ensures c.in_ok-resize.ensures.pools in

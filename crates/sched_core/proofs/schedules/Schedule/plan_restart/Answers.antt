@@ -2,7 +2,7 @@ use Rattle.std.proofs.Common.{◌≡◌, ◌∙◌, ap, subst, sym, nat_lt, fals
 use Rattle.std.proofs.lemmas.Bool.Decides.{nat_tests}
 use Rattle.sched_model.specs.Changes.{restart}
 use Rattle.sched_model.specs.Schedule.{Schedule}
-use Rattle.sched_events.specs.SettledAndSound.{IsSettledAndSound}
+use Rattle.sched_events.specs.SettledAndSound.{IsSoundAndSaid}
 use Rattle.sched_events.specs.declared.events.Event.TheVariants.{Restart}
 use Rattle.sched_core.specs.Books.{IsCounted}
 use Rattle.sched_core.specs.Changes.{ScheduleValue}
@@ -15,7 +15,7 @@ finish-requires-clause-sound c =
     let a : Schedule = c.args.self.now.content in
     let lanes : c.lanes.result ≡ a.limits.lanes = c.lanes.ensures ∙ ap (λ (h : ScheduleValue). h.content.limits.lanes) c.self.view_is in
     let few : nat_lt a.limits.lanes c.args.lanes ≡ false = grind (arith, nat_tests, lanes, c.if-lanes.false) in
-    draft_sound (Restart c.args.lanes) a c.restart.new.self tt (restart_accepted a c.args.lanes few) (subst (λ (h : ScheduleValue). IsSettledAndSound h.content) c.self.view_is c.self.invariant.kept)
+    draft_sound (Restart c.args.lanes) a c.restart.new.self tt (restart_accepted a c.args.lanes few) (subst (λ (h : ScheduleValue). IsSoundAndSaid h.content) c.self.view_is c.self.invariant.kept)
     (restart_draft a c.in_ok-draft.draft c.restart.new.self c.args.lanes c.in_ok-draft.ensures c.restart.ensures)
 
 pub finish-requires-clause-kept : goal.finish-requires-clause-kept
@@ -23,7 +23,7 @@ finish-requires-clause-kept c =
     let a : Schedule = c.args.self.now.content in
     let lanes : c.lanes.result ≡ a.limits.lanes = c.lanes.ensures ∙ ap (λ (h : ScheduleValue). h.content.limits.lanes) c.self.view_is in
     let few : nat_lt a.limits.lanes c.args.lanes ≡ false = grind (arith, nat_tests, lanes, c.if-lanes.false) in
-    draft_kept (Restart c.args.lanes) a c.restart.new.self tt (restart_accepted a c.args.lanes few) (subst (λ (h : ScheduleValue). IsSettledAndSound h.content) c.self.view_is c.self.invariant.kept)
+    draft_kept (Restart c.args.lanes) a c.restart.new.self tt (restart_accepted a c.args.lanes few) (subst (λ (h : ScheduleValue). IsSoundAndSaid h.content) c.self.view_is c.self.invariant.kept)
     (restart_draft a c.in_ok-draft.draft c.restart.new.self c.args.lanes c.in_ok-draft.ensures c.restart.ensures)
 
 pub finish-requires-clause-counted : goal.finish-requires-clause-counted

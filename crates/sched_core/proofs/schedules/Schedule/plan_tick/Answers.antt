@@ -6,7 +6,7 @@ use Rattle.sched_model.specs.Causes.{is_full_with}
 use Rattle.sched_model.specs.Sound.{is_moment}
 use Rattle.sched_events.specs.Causes.{refused}
 use Rattle.sched_events.specs.Events.{named_by, change_by}
-use Rattle.sched_events.specs.SettledAndSound.{IsSettledAndSound}
+use Rattle.sched_events.specs.SettledAndSound.{IsSoundAndSaid}
 use Rattle.sched_events.specs.declared.answers.Answer.{Answer}
 use Rattle.sched_events.specs.declared.events.Event.TheVariants.{Tick}
 use Rattle.sched_core.specs.Books.{IsCounted}
@@ -30,7 +30,7 @@ finish-requires-clause-sound c =
     let dated : is_moment t ≡ true = grind (arith, nat_tests, c.secs.ensures.value, c.secs.ensures.bound) in
     let is : c.add.new.draft ≡ add_runs (named_by (Tick t) a) (change_by (Tick t) a) =
     tick_draft a c.in_ok-draft.draft c.set_clock.new.self c.add.new.draft t c.in_ok-named.named.runs.items c.in_ok-draft.ensures c.set_clock.ensures c.in_ok-named.ensures.runs c.in_ok-add.ensures in
-    draft_sound (Tick t) a c.add.new.draft dated accepted (subst (λ (h : ScheduleValue). IsSettledAndSound h.content) c.self.view_is c.self.invariant.kept) is
+    draft_sound (Tick t) a c.add.new.draft dated accepted (subst (λ (h : ScheduleValue). IsSoundAndSaid h.content) c.self.view_is c.self.invariant.kept) is
 
 pub finish-requires-clause-kept : goal.finish-requires-clause-kept
 finish-requires-clause-kept c =
@@ -46,7 +46,7 @@ finish-requires-clause-kept c =
     let dated : is_moment t ≡ true = grind (arith, nat_tests, c.secs.ensures.value, c.secs.ensures.bound) in
     let is : c.add.new.draft ≡ add_runs (named_by (Tick t) a) (change_by (Tick t) a) =
     tick_draft a c.in_ok-draft.draft c.set_clock.new.self c.add.new.draft t c.in_ok-named.named.runs.items c.in_ok-draft.ensures c.set_clock.ensures c.in_ok-named.ensures.runs c.in_ok-add.ensures in
-    draft_kept (Tick t) a c.add.new.draft dated accepted (subst (λ (h : ScheduleValue). IsSettledAndSound h.content) c.self.view_is c.self.invariant.kept) is
+    draft_kept (Tick t) a c.add.new.draft dated accepted (subst (λ (h : ScheduleValue). IsSoundAndSaid h.content) c.self.view_is c.self.invariant.kept) is
 
 pub finish-requires-clause-counted : goal.finish-requires-clause-counted
 finish-requires-clause-counted c =

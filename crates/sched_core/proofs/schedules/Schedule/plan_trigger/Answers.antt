@@ -6,7 +6,7 @@ use Rattle.sched_model.specs.NamedRuns.{named_by_hand, add_runs}
 use Rattle.sched_creation.proofs.ByHandLemmas.{run_named}
 use Rattle.sched_events.specs.Causes.{refused}
 use Rattle.sched_events.specs.Events.{named_by, change_by}
-use Rattle.sched_events.specs.SettledAndSound.{IsSettledAndSound}
+use Rattle.sched_events.specs.SettledAndSound.{IsSoundAndSaid}
 use Rattle.sched_events.specs.declared.answers.Answer.{Answer}
 use Rattle.sched_events.specs.declared.events.Event.TheVariants.{Trigger}
 use Rattle.sched_core.specs.Books.{IsCounted}
@@ -30,7 +30,7 @@ finish-requires-clause-sound c =
     let accepted : refused a (Trigger id) ≡ None = hand_full a d id run c.in_ok-draft.ensures h false full in
     let is : c.add.new.draft ≡ add_runs (named_by (Trigger id) a) (change_by (Trigger id) a) =
     trigger_draft a d c.add.new.draft id run c.in_ok-runs.runs.items c.in_ok-draft.ensures h.1.1 c.in_ok-runs.ensures c.in_ok-add.ensures in
-    draft_sound (Trigger id) a c.add.new.draft tt accepted (subst (λ (s : ScheduleValue). IsSettledAndSound s.content) c.self.view_is c.self.invariant.kept) is
+    draft_sound (Trigger id) a c.add.new.draft tt accepted (subst (λ (s : ScheduleValue). IsSoundAndSaid s.content) c.self.view_is c.self.invariant.kept) is
 
 pub finish-requires-clause-kept : goal.finish-requires-clause-kept
 finish-requires-clause-kept c =
@@ -45,7 +45,7 @@ finish-requires-clause-kept c =
     let accepted : refused a (Trigger id) ≡ None = hand_full a d id run c.in_ok-draft.ensures h false full in
     let is : c.add.new.draft ≡ add_runs (named_by (Trigger id) a) (change_by (Trigger id) a) =
     trigger_draft a d c.add.new.draft id run c.in_ok-runs.runs.items c.in_ok-draft.ensures h.1.1 c.in_ok-runs.ensures c.in_ok-add.ensures in
-    draft_kept (Trigger id) a c.add.new.draft tt accepted (subst (λ (s : ScheduleValue). IsSettledAndSound s.content) c.self.view_is c.self.invariant.kept) is
+    draft_kept (Trigger id) a c.add.new.draft tt accepted (subst (λ (s : ScheduleValue). IsSoundAndSaid s.content) c.self.view_is c.self.invariant.kept) is
 
 pub finish-requires-clause-counted : goal.finish-requires-clause-counted
 finish-requires-clause-counted c =

@@ -1,17 +1,17 @@
 use Rattle.std.proofs.Common.{◌≡◌, ◌∙◌, ap, subst, sym, is_none, inr, false, true}
 use Rattle.sched_model.specs.Schedule.{Schedule, graph_named}
-use Rattle.sched_events.specs.SettledAndSound.{IsSettledAndSound}
+use Rattle.sched_events.specs.SettledAndSound.{IsSoundAndSaid}
 use Rattle.sched_events.specs.declared.events.Event.TheVariants.{Unpause}
 use Rattle.sched_core.specs.Books.{IsCounted}
 use Rattle.sched_core.specs.Changes.{ScheduleValue}
-use Rattle.sched_core.proofs.BookLemmas.{unpause_counted}
+use Rattle.sched_core.proofs.BookLemmas.{pause_counted}
 use Rattle.sched_core.proofs.PlanLemmas.{looked_up, pause_unknown, pause_accepted, unpause_draft, draft_sound, draft_kept, draft_planned}
 use Rattle.sched_core.proofs.schedules.Schedule.plan_unpause.Goals as goal
 
 pub finish-requires-clause-sound : goal.finish-requires-clause-sound
 finish-requires-clause-sound c =
     let a : Schedule = c.args.self.now.content in
-    let kept = subst (λ (h : ScheduleValue). IsSettledAndSound h.content) c.self.view_is c.self.invariant.kept in
+    let kept = subst (λ (h : ScheduleValue). IsSoundAndSaid h.content) c.self.view_is c.self.invariant.kept in
     let there : is_none (graph_named a c.args.id.now) ≡ false =
     looked_up a c.as_slice.result.now c.args.id.now c.graph_named.result c.is_none.result (c.as_slice.ensures.value ∙ ap (λ (h : ScheduleValue). h.content.graphs) c.self.view_is)
     c.graph_named.ensures c.is_none.ensures ∙ c.if-is_none.false in
@@ -20,7 +20,7 @@ finish-requires-clause-sound c =
 pub finish-requires-clause-kept : goal.finish-requires-clause-kept
 finish-requires-clause-kept c =
     let a : Schedule = c.args.self.now.content in
-    let kept = subst (λ (h : ScheduleValue). IsSettledAndSound h.content) c.self.view_is c.self.invariant.kept in
+    let kept = subst (λ (h : ScheduleValue). IsSoundAndSaid h.content) c.self.view_is c.self.invariant.kept in
     let there : is_none (graph_named a c.args.id.now) ≡ false =
     looked_up a c.as_slice.result.now c.args.id.now c.graph_named.result c.is_none.result (c.as_slice.ensures.value ∙ ap (λ (h : ScheduleValue). h.content.graphs) c.self.view_is)
     c.graph_named.ensures c.is_none.ensures ∙ c.if-is_none.false in
@@ -30,7 +30,7 @@ pub finish-requires-clause-counted : goal.finish-requires-clause-counted
 finish-requires-clause-counted c =
     let a : Schedule = c.args.self.now.content in
     let counted : IsCounted a = subst (λ (h : ScheduleValue). IsCounted h.content) c.self.view_is c.self.invariant.counted in
-    subst IsCounted (sym c.in_ok-draft.ensures) (unpause_counted c.args.id.now a counted)
+    subst IsCounted (sym c.in_ok-draft.ensures) (pause_counted c.args.id.now false a counted)
 
 pub returns-clause-accepted : goal.returns-clause-accepted
 returns-clause-accepted c =

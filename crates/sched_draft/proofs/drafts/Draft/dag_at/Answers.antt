@@ -3,7 +3,7 @@ use Rattle.std.specs.Option.{option_copied}
 use Rattle.dag_check.specs.Graphs.{Dag}
 use Rattle.sched_state.specs.declared.graphs.LoadedGraph.{LoadedGraph}
 use Rattle.sched_model.specs.Schedule.{Schedule}
-use Rattle.sched_draft.specs.Parts.{with_unpaused}
+use Rattle.sched_draft.specs.Parts.{with_pause}
 use Rattle.sched_state.proofs.ElementLemmas.{element_at}
 use Rattle.sched_draft.proofs.GraphLemmas.{count_is, dag_is}
 use Rattle.sched_draft.proofs.drafts.Draft.dag_at.Goals as goal
@@ -11,14 +11,14 @@ use Rattle.sched_draft.proofs.drafts.Draft.dag_at.Goals as goal
 pub dag_in-requires : goal.dag_in-requires
 dag_in-requires c =
     let long = ap (λ (s : Schedule). length s.graphs) c.self.view_is in
-    omega (arith, c.requires, long, count_is (option_copied c.self.inside.unpaused) c.self.inside.graphs.now)
+    omega (arith, c.requires, long, count_is (option_copied c.self.inside.named) c.self.inside.paused c.self.inside.graphs.now)
 
 pub returns : goal.returns
 returns c =
     let gs : List LoadedGraph = c.self.inside.graphs.now in
-    let u : Option (List ℕ) = option_copied c.self.inside.unpaused in
+    let u : Option (List ℕ) = option_copied c.self.inside.named in
     let n : ℕ = c.args.position in
-    let view : with_unpaused u gs ≡ c.args.self.now.graphs = ap (λ (s : Schedule). s.graphs) c.self.view_is in
+    let view : with_pause u c.self.inside.paused gs ≡ c.args.self.now.graphs = ap (λ (s : Schedule). s.graphs) c.self.view_is in
     let long = ap length view in
-    let g = element_at gs n (omega (arith, c.requires, long, count_is u gs)) in
-    ap (λ (hs : List LoadedGraph). option_map (λ (k : LoadedGraph). k.dag) (slice_get hs n)) (sym view) ∙ (dag_is u gs n g.0 g.1 ∙ ap (λ (d : Dag). Some d) (sym (c.dag_in.ensures g.0 g.1)))
+    let g = element_at gs n (omega (arith, c.requires, long, count_is u c.self.inside.paused gs)) in
+    ap (λ (hs : List LoadedGraph). option_map (λ (k : LoadedGraph). k.dag) (slice_get hs n)) (sym view) ∙ (dag_is u c.self.inside.paused gs n g.0 g.1 ∙ ap (λ (d : Dag). Some d) (sym (c.dag_in.ensures g.0 g.1)))
