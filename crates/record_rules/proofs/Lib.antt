@@ -1,0 +1,9 @@
+pub mod NumberLemmas
+pub mod ListLemmas
+pub mod MemberLemmas
+pub mod FoundLemmas
+pub mod TryLemmas
+pub mod RuleLemmas
+pub mod RisingLemmas
+pub mod PutLemmas
+pub mod KeyedLemmas
