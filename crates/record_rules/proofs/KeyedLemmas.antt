@@ -50,7 +50,7 @@ by_order R total same_row h = record {
 run_cmp : IsTotalOrder (λ (x y : RunRow). ordering_then (name_cmp x.dag_id y.dag_id) (int_cmp x.logical y.logical))
 run_cmp = then_total (on_total (λ (x : RunRow). x.dag_id) nat_list_cmp_total) (on_total (λ (x : RunRow). x.logical) int_cmp_total)
 
-instance_cmp : IsTotalOrder (λ (x y : InstanceRow). ordering_then (name_cmp x.dag_id y.dag_id) (ordering_then (int_cmp x.logical y.logical) (name_cmp x.task_id y.task_id)))
+pub instance_cmp : IsTotalOrder (λ (x y : InstanceRow). ordering_then (name_cmp x.dag_id y.dag_id) (ordering_then (int_cmp x.logical y.logical) (name_cmp x.task_id y.task_id)))
 instance_cmp = then_total (on_total (λ (x : InstanceRow). x.dag_id) nat_list_cmp_total) (then_total (on_total (λ (x : InstanceRow). x.logical) int_cmp_total) (on_total (λ (x : InstanceRow). x.task_id) nat_list_cmp_total))
 
 pub instances_keyed : (same_row : InstanceRow → InstanceRow → Bool) → Tells same_row → IsKeyed instance_row_before same_row

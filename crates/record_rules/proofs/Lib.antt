@@ -7,3 +7,10 @@ pub mod RuleLemmas
 pub mod RisingLemmas
 pub mod PutLemmas
 pub mod KeyedLemmas
+pub mod HeldLemmas
+pub mod FreeLemmas
+pub mod RestoredLemmas
+pub mod ReaderLemmas
+pub mod SameLemmas
+pub mod AgainLemmas
+pub mod WholeLemmas

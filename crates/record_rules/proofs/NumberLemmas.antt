@@ -1,5 +1,5 @@
 -- The numbers of columns: their order, their ranges, and as natural numbers.
-use Rattle.std.proofs.Common.{◌≡◌, refl, sym, ap, ◌∙◌, ℕ, ℤ, pos, negsuc, ◌-◌, ◌<◌, ◌≤◌, Bool, true, false, cond, not, ◌==◌, int_lt, int_eq, int_cmp, nat_lt, nat_le, Option, Some, None, option_map, arith, true≢false, leb-true}
+use Rattle.std.proofs.Common.{◌≡◌, refl, sym, ap, ◌∙◌, ℕ, ℤ, pos, negsuc, ◌-◌, ◌<◌, ◌≤◌, Bool, true, false, cond, not, ◌&&◌, ◌==◌, int_lt, int_eq, int_cmp, nat_lt, nat_le, Option, Some, None, option_map, arith, true≢false, leb-true}
 use Rattle.std.specs.Prelude.{int_le}
 use Rattle.std.proofs.lemmas.Bool.{and_from, eq-eqb, le-leb, lt-ltb, ltb-true}
 use Rattle.std.proofs.lemmas.Int.{ints}
@@ -8,7 +8,7 @@ use Rattle.std.specs.declared.cmp.Ordering.TheVariants.{Less, Equal, Greater}
 use Rattle.std.proofs.lemmas.Bool.Decides.{nat_tests}
 use Rattle.moment_core.specs.Moments.{seconds_end}
 use Rattle.sched_state.proofs.OrderLemmas.{and_left, and_right}
-use Rattle.sched_model.specs.Sound.{is_moment, is_moment_if}
+use Rattle.sched_model.specs.Sound.{is_moment, is_moment_if, is_used}
 use Rattle.record_rules.specs.Numbers.{is_between, is_moment_column, passes_if, natural}
 
 -- ---- the order
@@ -98,3 +98,29 @@ natural_moments (Some z) e = natural_moment z e
 pub from_moments : (o : Option ℤ) → passes_if is_moment_column o ≡ true → option_map (λ (m : ℕ). pos m) (option_map natural o) ≡ o
 from_moments None e = refl
 from_moments (Some z) e = ap (λ (x : ℤ). let w : Option ℤ = Some x in w) (from_moment z e)
+
+pub natural_less : (x y : ℤ) → int_le (pos 1) x ≡ true → int_lt x y ≡ true → nat_lt (natural x) (natural y) ≡ true
+natural_less (pos m) (pos n) e f = f
+natural_less (pos m) (negsuc n) e f = absurd (true≢false (sym f))
+natural_less (negsuc m) y e f = absurd (true≢false (sym e))
+
+pub natural_least : (x y : ℤ) → is_moment_column x ≡ true → int_le x y ≡ true → nat_le (natural x) (natural y) ≡ true
+natural_least (pos m) (pos n) e f = f
+natural_least (pos m) (negsuc n) e f = absurd (true≢false (sym f))
+natural_least (negsuc m) y e f = absurd (true≢false (sym e))
+
+pub from_one : (z : ℤ) → int_le (pos 1) z ≡ true → pos (natural z) ≡ z
+from_one (pos n) e = refl
+from_one (negsuc n) e = absurd (true≢false (sym e))
+
+pub used_natural : (next z : ℤ) → (int_le (pos 1) z && int_lt z next) ≡ true → is_used (natural next) (natural z) ≡ true
+used_natural (pos m) (pos n) e = e
+used_natural (negsuc m) (pos n) e = absurd (true≢false (sym (and_right (nat_le 1 n) false e)))
+used_natural next (negsuc n) e = absurd (true≢false (sym e))
+
+pub equal_numbers : (x y : ℤ) → x ≡ y → int_eq x y ≡ true
+equal_numbers x y e = ap (int_eq x) (sym e) ∙ number_itself x
+
+-- a code that is read and written again
+pub coded : (f : ℕ → ℕ) (high : ℕ) → ((n : ℕ) → nat_le n high ≡ true → f n ≡ n) → (z : ℤ) → is_between 0 high z ≡ true → pos (f (natural z)) ≡ z
+coded f high h z e = ap pos (h (natural z) (natural_to 0 high z e)) ∙ from_natural 0 high z e

@@ -17,6 +17,14 @@ pub fn tables_have_no_fault()
     ensures back { (a : Schedule) → AllSay a.graphs → IsSound a → schedule_of a.limits (tables a) ≡ a }
 {}
 
+/// Rows that rise by key and have no fault are the tables of the schedule that they are read as, which is sound, and whose graphs are what
+/// their texts say.
+pub fn rows_without_a_fault_are_tables()
+    ensures same { (l : Bounds) (rows : Rows) → IsByKey rows → record_fault l rows ≡ None → tables (schedule_of l rows) ≡ rows }
+    ensures sound { (l : Bounds) (rows : Rows) → IsByKey rows → record_fault l rows ≡ None → IsSound (schedule_of l rows) }
+    ensures said { (l : Bounds) (rows : Rows) → record_fault l rows ≡ None → AllSay (schedule_of l rows).graphs }
+{}
+
 /// Where no key is taken away, the rows of a table that the other lacks, put by key over it, give that table.
 pub fn lacked_rows_are_put()
     ensures metas { (same_row : MetaRow → MetaRow → Bool) → Tells same_row → (xs ys : Rows) → IsByKey xs → IsByKey ys
