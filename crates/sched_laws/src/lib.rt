@@ -40,7 +40,9 @@ pub use hand_outs::{
     advancing_leaves_settled, hand_out_goes_by_hands, hand_out_is_one_pass, hand_out_keeps_bounds,
     hands_are_counted,
 };
-pub use loading::{loading_is_quiet, said_graphs_are_sound, upstreams_are_few};
+pub use loading::{
+    graphs_have_their_files_numbers, loading_is_quiet, said_graphs_are_sound, upstreams_are_few,
+};
 pub use naming::{named_runs_are_new, runs_of_repairs_are_new};
 pub use occupying::{
     hand_outs_fill_up_to_the_size, of_no_pool_nothing_is_occupied, open_tries_stay,
