@@ -1,5 +1,5 @@
 -- What the record's reader reads is sound within the limits, and is what its text says.
-use Rattle.std.proofs.Common.{◌≡◌, refl, sym, ap, subst, ◌∙◌, ℕ, zero, suc, List, [], ◌∷◌, ◌++◌, Bool, true, false, ◌||◌, flat_map, map, length, Option, Some, None, slice_get, arith}
+use Rattle.std.proofs.Common.{◌≡◌, refl, sym, ap, subst, ◌∙◌, ℕ, zero, suc, List, [], ◌∷◌, ◌++◌, Bool, true, false, ◌||◌, flat_map, map, length, Option, Some, None, slice_get, arith, ◌&&◌, nat_le}
 use Rattle.std.specs.Prelude.{sum_by, Ok, Err}
 use Rattle.std.specs.List.{list_all, list_any}
 use Rattle.std.proofs.lemmas.Bool.{and_from}
@@ -17,7 +17,7 @@ use Rattle.sched_state.proofs.OrderLemmas.{and_left, and_right}
 use Rattle.sched_model.specs.Schedule.{Schedule, Pool, empty_schedule}
 use Rattle.sched_model.specs.Changes.{new_graph}
 use Rattle.sched_model.specs.Sound.{is_sound_graph, is_sound_dag, Says, AllSay, IsSound}
-use Rattle.sched_laws.proofs.SaidLemmas.{said_sound}
+use Rattle.sched_laws.proofs.SaidLemmas.{said_sound, tasks_counted, edges_counted}
 use Rattle.record_rules.specs.Reading.{reads, checked, if_faultless, is_within, graph_if}
 use Rattle.record_rules.specs.Keys.{IsByKey}
 use Rattle.record_rules.specs.Faults.{is_dag_row_right, record_fault}
@@ -88,3 +88,9 @@ restored l rows k e = restored_sound (reads l) l rows (reads_good l) k e
 
 pub restored_said : (l : Bounds) (rows : Rows) → record_fault l rows ≡ None → AllSay (schedule_of l rows).graphs
 restored_said l rows e = let u : Rules (reads l) l rows = rules_of (reads l) l rows e in graphs_said l rows rows.dags u.dags
+
+-- ---- the limits
+pub counted_by_file : (l : Bounds) (body : List ℕ) (g : Dag) → Says body g → is_within l g ≡ (nat_le (length g.spec.tasks) l.tasks && nat_le (sum_by (λ (t : TaskSpec). length t.upstream) g.spec.tasks) l.edges)
+counted_by_file l body g says =
+    ap (λ n. nat_le n l.tasks && nat_le (sum_by length g.upstreams) l.edges) (tasks_counted g.spec g says.checked)
+    ∙ ap (λ n. nat_le (length g.spec.tasks) l.tasks && nat_le n l.edges) (edges_counted g.spec g says.checked)

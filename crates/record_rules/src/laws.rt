@@ -1,13 +1,15 @@
 //! The laws of the rows.
-ghost use Rattle.std.specs.Prelude.{◌≡◌, None, Bool, true};
+ghost use Rattle.std.specs.Prelude.{◌≡◌, ℕ, None, Bool, true, ◌&&◌, List, length, sum_by, nat_le};
+ghost use Rattle.graph_file.specs.declared.task_specs.TaskSpec.{TaskSpec};
+ghost use Rattle.dag_check.specs.Graphs.{Dag};
 ghost use Rattle.record_rows.specs.Rows.{Rows, MetaRow, PoolRow, DagRow, RunRow, InstanceRow, AttemptRow};
 ghost use Rattle.sched_state.specs.Limits.{Bounds};
 ghost use Rattle.sched_model.specs.Schedule.{Schedule};
-ghost use Rattle.sched_model.specs.Sound.{IsSound, AllSay};
+ghost use Rattle.sched_model.specs.Sound.{IsSound, Says, AllSay};
 ghost use Rattle.sched_model.specs.Tables.{tables};
 ghost use Rattle.record_rules.specs.Keys.{IsByKey, meta_row_before, pool_row_before, dag_row_before, run_row_before, instance_row_before, attempt_row_before};
 ghost use Rattle.record_rules.specs.Faults.{record_fault};
-ghost use Rattle.record_rules.specs.Reading.{schedule_of};
+ghost use Rattle.record_rules.specs.Reading.{is_within, schedule_of};
 ghost use Rattle.record_rules.specs.Between.{puts, lacked, keeps_keys, Tells};
 
 /// The tables of a sound schedule, whose graphs are what their texts say, rise by key and have no fault, and are read back as that schedule.
@@ -23,6 +25,13 @@ pub fn rows_without_a_fault_are_tables()
     ensures same { (l : Bounds) (rows : Rows) → IsByKey rows → record_fault l rows ≡ None → tables (schedule_of l rows) ≡ rows }
     ensures sound { (l : Bounds) (rows : Rows) → IsByKey rows → record_fault l rows ≡ None → IsSound (schedule_of l rows) }
     ensures said { (l : Bounds) (rows : Rows) → record_fault l rows ≡ None → AllSay (schedule_of l rows).graphs }
+{}
+
+/// The limits of tasks and edges count what the file has: its tasks and its upstream names.
+pub fn limits_count_the_file()
+    ensures { (l : Bounds) (body : List ℕ) (g : Dag) → Says body g
+        → is_within l g ≡ (nat_le (length g.spec.tasks) l.tasks
+        && nat_le (sum_by (λ (t : TaskSpec). length t.upstream) g.spec.tasks) l.edges) }
 {}
 
 /// Where no key is taken away, the rows of a table that the other lacks, put by key over it, give that table.

@@ -11,5 +11,8 @@
 mod laws;
 mod worked;
 
-pub use laws::{lacked_rows_are_put, rows_without_a_fault_are_tables, tables_have_no_fault};
+pub use laws::{
+    lacked_rows_are_put, limits_count_the_file, rows_without_a_fault_are_tables,
+    tables_have_no_fault,
+};
 pub use worked::{first_faults_of_wrong_rows, worked_rows_have_no_fault};
