@@ -78,13 +78,31 @@ over_without m x i (suc k) (v ∷ vs) e f =
     let a : cond ((x == i) || m i) 0 v ≡ cond (m i) 0 v = ap (λ b. cond (b || m i) 0 v) here in
     omega arith
 
-chosen_sum : (vs : List ℕ) (m : ℕ → Bool) (xs : List ℕ) → repeated xs ≡ false → ((x : ℕ) → is_in xs x ≡ true → m x ≡ false) → sum_by (λ x. get_or vs x 0) xs ≤ left_over m 0 vs
-chosen_sum vs m [] once free = omega arith
-chosen_sum vs m (x ∷ xs) once free =
+none_left : (m : ℕ → Bool) (i : ℕ) (vs : List ℕ) → ((y : ℕ) → i ≤ y → y < i + length vs → m y ≡ true) → left_over m i vs ≡ 0
+unfolding left_over
+none_left m i [] all = refl
+none_left m i (v ∷ vs) all =
+    let here : cond (m i) 0 v ≡ 0 = ap (λ b. cond b 0 v) (all i (omega arith) (let l : i < i + suc (length vs) = omega arith in l)) in
+    let rest : left_over m (i + 1) vs ≡ 0 = none_left m (i + 1) vs (λ y l k. all y (omega arith) (let n : y < i + suc (length vs) = omega arith in n)) in
+    omega arith
+
+-- all values that do not pass are taken
+chosen_sum : (vs : List ℕ) (m : ℕ → Bool) (xs : List ℕ) → repeated xs ≡ false → ((x : ℕ) → is_in xs x ≡ true → m x ≡ false) → ((y : ℕ) → y < length vs → m y ≡ false → is_in xs y ≡ true)
+    → sum_by (λ x. get_or vs x 0) xs ≡ left_over m 0 vs
+chosen_sum vs m [] once free all =
+    let none : left_over m 0 vs ≡ 0 = none_left m 0 vs (λ y l k. elim (m y) as (λ b. m y ≡ b → b ≡ true) [
+      | true ↦ λ e. refl
+      | false ↦ λ e. absurd (false≢true (all y (omega arith) e))
+    ] refl) in
+    omega arith
+chosen_sum vs m (x ∷ xs) once free all =
     let parts = or_parts (is_in xs x) (repeated xs) once in
-    let rest : sum_by (λ y. get_or vs y 0) xs ≤ left_over (λ y. (x == y) || m y) 0 vs =
+    let rest : sum_by (λ y. get_or vs y 0) xs ≡ left_over (λ y. (x == y) || m y) 0 vs =
     chosen_sum vs (λ y. (x == y) || m y) xs parts.1
-    (λ y there. or_from (x == y) (m y) (ne_eqb x y (λ e. false≢true (sym parts.0 ∙ subst (λ (z : ℕ). is_in xs z ≡ true) (sym e) there))) (free y (or_right (x == y) (is_in xs y) there))) in
+    (λ y there. or_from (x == y) (m y) (ne_eqb x y (λ e. false≢true (sym parts.0 ∙ subst (λ (z : ℕ). is_in xs z ≡ true) (sym e) there))) (free y (or_right (x == y) (is_in xs y) there)))
+    (λ y l e.
+    let other = or_parts (x == y) (m y) e in
+    sym (ap (λ b. b || is_in xs y) other.0) ∙ all y l other.1) in
     let out : left_over (λ y. (x == y) || m y) 0 vs + get_or vs x 0 ≡ left_over m 0 vs =
     over_without m x 0 x vs (omega arith) (free x (or_left (x == x) (is_in xs x) (eq-eqb x x refl))) in
     let c : sum_by (λ y. get_or vs y 0) (x ∷ xs) ≡ get_or vs x 0 + sum_by (λ y. get_or vs y 0) xs = sum_by-cons (λ y. get_or vs y 0) x xs in
@@ -125,16 +143,21 @@ named_sum ids (t ∷ ts) =
     let rest = named_sum ids ts in
     omega arith
 
--- by place there are no more edges than in the file
-edges_few : (tasks : List TaskSpec) (order : List ℕ) → repeated order ≡ false → sum_by length (placed_rows (up_of tasks) order) ≤ sum_by (λ (t : TaskSpec). length t.upstream) tasks
-edges_few tasks order once =
+rows_long : (ids : List Name) (ts : List TaskSpec) → length (map (λ (us : List ℕ). length us) (map (map (position_of ids)) (named_by ts))) ≡ length ts
+rows_long ids [] = refl
+rows_long ids (t ∷ ts) = ap suc (rows_long ids ts)
+
+-- by place there are as many edges as the file has upstream names
+edges_same : (tasks : List TaskSpec) (order : List ℕ) → repeated order ≡ false → ((y : ℕ) → y < length tasks → is_in order y ≡ true) → sum_by length (placed_rows (up_of tasks) order) ≡ sum_by (λ (t : TaskSpec). length t.upstream) tasks
+edges_same tasks order once whole =
     let rows : List (List ℕ) = rows_of tasks in
-    let a : sum_by length (placed_rows (up_of tasks) order) ≡ sum_by (λ x. get_or (map (λ (us : List ℕ). length us) rows) x 0) order = placed_sum rows (place_in order) order in
-    let b : sum_by (λ x. get_or (map (λ (us : List ℕ). length us) rows) x 0) order ≤ left_over (λ y. false) 0 (map (λ (us : List ℕ). length us) rows) =
-    chosen_sum (map (λ (us : List ℕ). length us) rows) (λ y. false) order once (λ x there. refl) in
-    let c : left_over (λ y. false) 0 (map (λ (us : List ℕ). length us) rows) ≡ sum_by length rows = over_none (λ (us : List ℕ). length us) 0 rows in
+    let vs : List ℕ = map (λ (us : List ℕ). length us) rows in
+    let long : length vs ≡ length tasks = rows_long (ids_of tasks) tasks in
+    let a : sum_by length (placed_rows (up_of tasks) order) ≡ sum_by (λ x. get_or vs x 0) order = placed_sum rows (place_in order) order in
+    let b : sum_by (λ x. get_or vs x 0) order ≡ left_over (λ y. false) 0 vs = chosen_sum vs (λ y. false) order once (λ x there. refl) (λ y l e. whole y (omega (arith, long, l))) in
+    let c : left_over (λ y. false) 0 vs ≡ sum_by length rows = over_none (λ (us : List ℕ). length us) 0 rows in
     let d : sum_by length rows ≡ sum_by (λ (t : TaskSpec). length t.upstream) tasks = named_sum (ids_of tasks) tasks in
-    omega arith
+    a ∙ b ∙ c ∙ d
 
 -- ---- each task once
 has_taken : (ids : List Name) (q : Name) (i j : ℕ) → i < j → i < length ids → same q (get_or ids i []) ≡ true → has (take j ids) q ≡ true
@@ -264,17 +287,20 @@ dag_sound tasks edges spec g h few =
     let e : k ≡ 0 + k = omega arith in
     subst (λ (m : ℕ). is_sound_row m (get_or (placed_rows up order) k []) ≡ true) e (row_sound spec.tasks order h.plain.known h.plain.edges placed k (omega arith))))))
 
--- it has the tasks of its file, and no more edges
+-- it has as many tasks and edges as its file has tasks and upstream names
+pub tasks_counted : (spec : GraphSpec) (g : Dag) → IsGraphOf spec g → length g.tasks ≡ length spec.tasks
+tasks_counted spec g h = ap (λ (d : Dag). length d.tasks) h.is ∙ length-map' (task_at spec.tasks) (places spec) ∙ h.placed.long
+
+pub edges_counted : (spec : GraphSpec) (g : Dag) → IsGraphOf spec g → sum_by length g.upstreams ≡ sum_by (λ (t : TaskSpec). length t.upstream) spec.tasks
+edges_counted spec g h =
+    ap (λ (d : Dag). sum_by length d.upstreams) h.is
+    ∙ edges_same spec.tasks (places spec) (order_once (up_of spec.tasks) (length spec.tasks) (places spec) h.placed) (λ y l. h.placed.whole y l)
+
 placed_few : (tasks edges : ℕ) (spec : GraphSpec) (g : Dag) → IsGraphOf spec g → length spec.tasks ≤ tasks → sum_by (λ (t : TaskSpec). length t.upstream) spec.tasks ≤ edges → has_few tasks edges g ≡ true
 placed_few tasks edges spec g h few_tasks few_edges =
-    let order : List ℕ = places spec in
-    let up : ℕ → List ℕ = up_of spec.tasks in
-    let placed : IsPlacement up (length spec.tasks) order = h.placed in
-    let long : length order ≡ length spec.tasks = placed.long in
-    let tasks_long : length (map (task_at spec.tasks) order) ≡ length order = length-map' (task_at spec.tasks) order in
-    let few : sum_by length (placed_rows up order) ≤ sum_by (λ (t : TaskSpec). length t.upstream) spec.tasks = edges_few spec.tasks order (order_once up (length spec.tasks) order placed) in
-    ap (has_few tasks edges) h.is
-    ∙ and_from (nat_le (length (map (task_at spec.tasks) order)) tasks) _ (le-leb _ _ (omega arith)) (le-leb _ _ (omega arith))
+    let a = tasks_counted spec g h in
+    let b = edges_counted spec g h in
+    and_from (nat_le (length g.tasks) tasks) _ (le-leb _ _ (omega (arith, a, few_tasks))) (le-leb _ _ (omega (arith, b, few_edges)))
 
 pub said_sound : (a : Schedule) (text : List ℕ) (dag : Dag) → Says text dag → length dag.spec.tasks ≤ a.limits.tasks → sum_by (λ (t : TaskSpec). length t.upstream) dag.spec.tasks ≤ a.limits.edges
     → list_all (λ (t : TaskSpec). has_pool a t.pool) dag.spec.tasks ≡ true → is_sound_graph a (new_graph text dag) ≡ true

@@ -41,7 +41,8 @@ pub use hand_outs::{
     hands_are_counted,
 };
 pub use loading::{
-    loading_goes_beside, loading_is_quiet, said_graphs_are_sound, upstreams_are_few,
+    graphs_have_their_files_numbers, loading_goes_beside, loading_is_quiet, said_graphs_are_sound,
+    upstreams_are_few,
 };
 pub use naming::{named_runs_are_new, runs_of_repairs_are_new};
 pub use occupying::{

@@ -48,6 +48,14 @@ pub fn said_graphs_are_sound()
         → IsTrue (is_sound_graph a (new_graph text dag)) }
 {}
 
+/// The graph of a file has as many tasks and edges by place as the file has tasks and upstream names, so that a limit may count either.
+pub fn graphs_have_their_files_numbers()
+    ensures tasks { (spec : GraphSpec) (g : Dag) → IsGraphOf spec g
+        → length g.tasks ≡ length spec.tasks }
+    ensures edges { (spec : GraphSpec) (g : Dag) → IsGraphOf spec g
+        → sum_by length g.upstreams ≡ sum_by (λ (t : TaskSpec). length t.upstream) spec.tasks }
+{}
+
 /// A place has no more upstreams than there are places before it: in the graph of a file, in each graph of a sound schedule, and
 /// in every graph in which it has none twice.
 pub fn upstreams_are_few()

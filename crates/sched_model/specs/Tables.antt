@@ -1,5 +1,5 @@
--- The rows of the record's tables, each table by its key: this project's own profile.
-use Rattle.std.specs.Prelude.{ℕ, Bool, true, false, List, [], ◌∷◌, map, flat_map, Option, Some, None, option_map, nat_lt}
+-- The rows of the record's tables that a schedule has, each table by its key: this project's own profile.
+use Rattle.std.specs.Prelude.{ℕ, pos, Bool, true, false, List, [], ◌∷◌, map, flat_map, Option, Some, None, option_map, int_lt}
 use Rattle.std.specs.List.{enumerate_from}
 use Rattle.graph_file.specs.declared.task_specs.TaskSpec.{TaskSpec}
 use Rattle.trigger_rules.specs.declared.verdicts.Verdict.{Verdict}
@@ -15,6 +15,7 @@ use Rattle.sched_state.specs.declared.runs.RunKind.{RunKind}
 use Rattle.sched_state.specs.declared.runs.RunKind.TheVariants as kind
 use Rattle.sched_state.specs.declared.runs.RunPhase.{RunPhase}
 use Rattle.sched_state.specs.declared.runs.RunPhase.TheVariants as phase
+use Rattle.record_rows.specs.Rows.{Rows, MetaRow, PoolRow, DagRow, RunRow, InstanceRow, AttemptRow}
 use Rattle.sched_model.specs.Schedule.{Schedule, Pool}
 use Rattle.sched_state.specs.declared.runs.Run.{Run}
 use Rattle.sched_model.specs.Clearing.{pairs_of}
@@ -48,91 +49,40 @@ abbrev pub flag_code : Bool → ℕ
 flag_code false = 0
 flag_code true = 1
 
--- ---- rows, with fields named as the columns
-pub record MetaRow : Type 0 where
-  pub one : ℕ
-  pub version : ℕ
-  pub now : ℕ
-  pub next_serial : ℕ
-  pub lanes : ℕ
-
-pub record PoolRow : Type 0 where
-  pub name : List ℕ
-  pub size : ℕ
-
-pub record DagRow : Type 0 where
-  pub dag_id : List ℕ
-  pub body : List ℕ
-  pub paused : ℕ
-
-pub record RunRow : Type 0 where
-  pub dag_id : List ℕ
-  pub logical : ℕ
-  pub data_start : ℕ
-  pub data_end : ℕ
-  pub kind : ℕ
-  pub phase : ℕ
-
-pub record InstanceRow : Type 0 where
-  pub dag_id : List ℕ
-  pub logical : ℕ
-  pub task_id : List ℕ
-  pub verdict : ℕ
-  pub since : ℕ
-
-pub record AttemptRow : Type 0 where
-  pub serial : ℕ
-  pub dag_id : List ℕ
-  pub logical : ℕ
-  pub task_id : List ℕ
-  pub try_number : ℕ
-  pub slots : ℕ
-  pub started : Option ℕ
-  pub ended : Option ℕ
-  pub outcome : Option ℕ
-
-pub record Tables : Type 0 where
-  pub metas : List MetaRow
-  pub pools : List PoolRow
-  pub dags : List DagRow
-  pub runs : List RunRow
-  pub instances : List InstanceRow
-  pub attempts : List AttemptRow
-
 -- ---- the row of each thing
 abbrev pub meta_row : Schedule → MetaRow
-meta_row a = record { one = 1; version = 1; now = a.now; next_serial = a.next; lanes = a.lanes }
+meta_row a = record { one = pos 1; version = pos 1; now = pos a.now; next_serial = pos a.next; lanes = pos a.lanes }
 
 abbrev pub pool_row : Pool → PoolRow
-pool_row q = record { name = q.name; size = q.size }
+pool_row q = record { name = q.name; size = pos q.size }
 
 abbrev pub dag_row : LoadedGraph → DagRow
-dag_row g = record { dag_id = g.dag.spec.dag_id; body = g.text; paused = flag_code g.paused }
+dag_row g = record { dag_id = g.dag.spec.dag_id; body = g.text; paused = pos (flag_code g.paused) }
 
 abbrev pub run_row : Run → RunRow
 run_row r = record {
   dag_id = r.graph;
-  logical = r.logical;
-  data_start = r.interval.start;
-  data_end = r.interval.end;
-  kind = kind_code r.kind;
-  phase = phase_code r.phase;
+  logical = pos r.logical;
+  data_start = pos r.interval.start;
+  data_end = pos r.interval.end;
+  kind = pos (kind_code r.kind);
+  phase = pos (phase_code r.phase);
 }
 
 abbrev pub instance_row : Run → TaskSpec × InstanceValue → InstanceRow
-instance_row r e = record { dag_id = r.graph; logical = r.logical; task_id = e.0.task_id; verdict = verdict_code e.1.verdict; since = e.1.since }
+instance_row r e = record { dag_id = r.graph; logical = pos r.logical; task_id = e.0.task_id; verdict = pos (verdict_code e.1.verdict); since = pos e.1.since }
 
 abbrev pub attempt_row : Run → TaskSpec → ℕ × Try → AttemptRow
 attempt_row r t e = record {
-  serial = e.1.serial;
+  serial = pos e.1.serial;
   dag_id = r.graph;
-  logical = r.logical;
+  logical = pos r.logical;
   task_id = t.task_id;
-  try_number = e.0;
-  slots = e.1.slots;
-  started = e.1.started;
-  ended = option_map (λ (x : End). x.moment) e.1.ended;
-  outcome = option_map (λ (x : End). outcome_code x.outcome) e.1.ended;
+  try_number = pos e.0;
+  slots = pos e.1.slots;
+  started = option_map (λ (m : ℕ). pos m) e.1.started;
+  ended = option_map (λ (x : End). pos x.moment) e.1.ended;
+  outcome = option_map (λ (x : End). pos (outcome_code x.outcome)) e.1.ended;
 }
 
 -- ---- the tables, by key
@@ -151,9 +101,9 @@ abbrev pub attempt_rows : Run → TaskSpec × InstanceValue → List AttemptRow
 attempt_rows r e = map (attempt_row r e.0) (enumerate_from 1 e.1.tries)
 
 abbrev pub serial_before : AttemptRow → AttemptRow → Bool
-serial_before x y = nat_lt x.serial y.serial
+serial_before x y = int_lt x.serial y.serial
 
-abbrev pub tables : Schedule → Tables
+abbrev pub tables : Schedule → Rows
 tables a = record {
   metas = meta_row a ∷ [];
   pools = map pool_row a.pools;

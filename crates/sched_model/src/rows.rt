@@ -1,5 +1,5 @@
 //! Worked schedules, computed by the check.
-ghost use Rattle.std.specs.Prelude.{◌≡◌, [], ◌∷◌, codes, map, true, false, Some, None};
+ghost use Rattle.std.specs.Prelude.{◌≡◌, pos, [], ◌∷◌, codes, map, true, false, Some, None};
 ghost use Rattle.trigger_rules.specs.declared.states.State.TheVariants as state;
 ghost use Rattle.instance_machine.specs.declared.tries.Stage.TheVariants.{Started, Ended};
 ghost use Rattle.instance_machine.specs.declared.tries.Outcome.TheVariants as outcome;
@@ -138,78 +138,74 @@ pub fn a_clear_names_what_comes_after()
 /// The rows of a small record: a backfill of one day, then of the days beside it, and a report that the first try has begun.
 pub fn rows_of_the_tables()
     ensures metas { (tables backfilled).metas
-        ≡ record { one = 1; version = 1; now = 1704844800; next_serial = 4; lanes = 4 } ∷ [] }
+        ≡ record { one = pos 1; version = pos 1; now = pos 1704844800; next_serial = pos 4; lanes = pos 4 } ∷ [] }
     ensures runs { (tables backfilled).runs ≡ record {
       dag_id = codes "one";
-      logical = 1704067200;
-      data_start = 1704067200;
-      data_end =
-          1704153600;
-      kind = 2;
-      phase = 1;
+      logical = pos 1704067200;
+      data_start = pos 1704067200;
+      data_end = pos 1704153600;
+      kind = pos 2;
+      phase = pos 1;
     } ∷ record {
       dag_id = codes "one";
-      logical = 1704153600;
-      data_start = 1704153600;
-      data_end =
-          1704240000;
-      kind = 2;
-      phase = 1;
+      logical = pos 1704153600;
+      data_start = pos 1704153600;
+      data_end = pos 1704240000;
+      kind = pos 2;
+      phase = pos 1;
     } ∷ record {
       dag_id = codes "one";
-      logical = 1704240000;
-      data_start = 1704240000;
-      data_end =
-          1704326400;
-      kind = 2;
-      phase = 1;
+      logical = pos 1704240000;
+      data_start = pos 1704240000;
+      data_end = pos 1704326400;
+      kind = pos 2;
+      phase = pos 1;
     } ∷ [] }
     ensures instances { (tables backfilled).instances
         ≡ record {
           dag_id = codes "one";
-          logical = 1704067200;
+          logical = pos 1704067200;
           task_id = codes "t";
-          verdict = 1;
-          since = 0;
+          verdict = pos 1;
+          since = pos 0;
         } ∷ record {
           dag_id = codes "one";
-          logical = 1704153600;
+          logical = pos 1704153600;
           task_id = codes "t";
-          verdict = 1;
-          since = 0;
+          verdict = pos 1;
+          since = pos 0;
         } ∷ record
-        { dag_id = codes "one"; logical = 1704240000; task_id = codes "t"; verdict = 1; since = 0 }
+        { dag_id = codes "one"; logical = pos 1704240000; task_id = codes "t"; verdict = pos 1; since = pos 0 }
         ∷ [] }
     ensures attempts { (tables backfilled).attempts
         ≡ record {
-          serial = 1;
+          serial = pos 1;
           dag_id = codes "one";
-          logical = 1704153600;
+          logical = pos 1704153600;
           task_id = codes "t";
-          try_number = 1;
-          slots = 1;
-          started = Some 1704844800;
+          try_number = pos 1;
+          slots = pos 1;
+          started = Some (pos 1704844800);
           ended = None;
           outcome = None;
         }
         ∷ record {
-          serial = 2;
+          serial = pos 2;
           dag_id = codes "one";
-          logical = 1704067200;
+          logical = pos 1704067200;
           task_id = codes "t";
-          try_number = 1;
-          slots = 1;
+          try_number = pos 1;
+          slots = pos 1;
           started = None;
           ended = None;
           outcome = None;
         } ∷ record {
-          serial = 3;
+          serial = pos 3;
           dag_id = codes "one";
-          logical = 1704240000;
+          logical = pos 1704240000;
           task_id = codes "t";
-          try_number =
-              1;
-          slots = 1;
+          try_number = pos 1;
+          slots = pos 1;
           started = None;
           ended = None;
           outcome = None;

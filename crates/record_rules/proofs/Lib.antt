@@ -1,0 +1,16 @@
+pub mod NumberLemmas
+pub mod ListLemmas
+pub mod MemberLemmas
+pub mod FoundLemmas
+pub mod TryLemmas
+pub mod RuleLemmas
+pub mod RisingLemmas
+pub mod PutLemmas
+pub mod KeyedLemmas
+pub mod HeldLemmas
+pub mod FreeLemmas
+pub mod RestoredLemmas
+pub mod ReaderLemmas
+pub mod SameLemmas
+pub mod AgainLemmas
+pub mod WholeLemmas
