@@ -22,12 +22,16 @@ pub fn first_faults_of_wrong_rows()
     ensures id { fault_of backfilled (another_id backfilled) ≡ Some (table.Dag, 0) }
     ensures interval { fault_of backfilled (late_start backfilled) ≡ Some (table.Run, 1) }
     ensures kind { fault_of backfilled (no_kind backfilled) ≡ Some (table.Run, 2) }
-    ensures missing { fault_of backfilled (one_instance_less backfilled) ≡ Some (table.Instance, 2) }
+    ensures missing { fault_of backfilled (one_instance_less backfilled)
+        ≡ Some (table.Instance, 2) }
     ensures task { fault_of backfilled (unknown_task backfilled) ≡ Some (table.Instance, 1) }
     ensures since { fault_of cleared_once (since_past cleared_once) ≡ Some (table.Instance, 0) }
-    ensures numbers { fault_of failed_twice (numbers_exchanged failed_twice) ≡ Some (table.Attempt, 0) }
-    ensures open { fault_of failed_twice (open_before_a_later failed_twice) ≡ Some (table.Attempt, 0) }
-    ensures success { fault_of failed_twice (success_before_a_later failed_twice) ≡ Some (table.Attempt, 0) }
+    ensures numbers { fault_of failed_twice (numbers_exchanged failed_twice)
+        ≡ Some (table.Attempt, 0) }
+    ensures open { fault_of failed_twice (open_before_a_later failed_twice)
+        ≡ Some (table.Attempt, 0) }
+    ensures success { fault_of failed_twice (success_before_a_later failed_twice)
+        ≡ Some (table.Attempt, 0) }
     ensures slots { fault_of failed_twice (other_slots failed_twice) ≡ Some (table.Attempt, 1) }
     ensures ended { fault_of backfilled (ended_too_early backfilled) ≡ Some (table.Run, 2) }
 {}
