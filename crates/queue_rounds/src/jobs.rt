@@ -1,0 +1,43 @@
+//! Jobs that are alike but for their serials.
+ghost use Rattle.std.specs.Prelude.{◌≡◌, ◌+◌, ◌<◌, ℕ, IfOk, vec_len, slice_index_or};
+
+use graph_file::{Action, Bounded, Name, Operator, Sequence};
+use moment_core::Moment;
+use sched_state::Job;
+use std::alloc::{AllocError, Global};
+
+/// A first try of a task that does nothing, with this serial.
+pub fn numbered_job(alloc: Global, serial: u64) -> Result<Job, AllocError>
+    ensures { IfOk result (λ job. job.serial ≡ serial) }
+{
+    Ok(Job {
+        serial,
+        graph: name(alloc, "rounds")?,
+        logical: Moment::at(0),
+        task: name(alloc, "pass")?,
+        try_number: 1,
+        action: Action::new(Operator::Noop, Sequence::new(Vec::new(alloc))),
+        pool: name(alloc, "default_pool")?,
+        slots: Bounded::new(1),
+    })
+}
+
+/// So many jobs, with the serials from 1.
+pub fn numbered_jobs(alloc: Global, count: u64) -> Result<Vec<Job>, AllocError>
+    ensures count { IfOk result (λ v. vec_len v ≡ count) }
+    ensures serials { IfOk result (λ v. (k : ℕ) (d : _) → k < count → (slice_index_or v.items k d).serial ≡ k + 1) }
+{
+    let mut jobs = Vec::new(alloc);
+    for before in 0..count {
+        jobs.push(numbered_job(alloc, before + 1)?)?;
+    }
+    Ok(jobs)
+}
+
+// The name of a text that is one.
+fn name(alloc: Global, text: &str) -> Result<Name, AllocError> {
+    match Name::read(alloc, text) {
+        Ok(name) => Ok(name),
+        Err(_) => Err(AllocError),
+    }
+}

@@ -1,0 +1,2 @@
+mod Sums
+mod JobSteps

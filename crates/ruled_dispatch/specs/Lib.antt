@@ -1,0 +1,2 @@
+pub mod JobsRule
+pub mod Lanes
