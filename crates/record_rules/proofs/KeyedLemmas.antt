@@ -28,7 +28,7 @@ less_is Less e = refl
 less_is Equal e = absurd (true≢false (sym e))
 less_is Greater e = absurd (true≢false (sym e))
 
-itself : (k : Ordering) → k ≡ ordering_reverse k → is_less k ≡ false
+pub itself : (k : Ordering) → k ≡ ordering_reverse k → is_less k ≡ false
 itself Less e = ap is_less e
 itself Equal e = refl
 itself Greater e = refl
@@ -47,7 +47,7 @@ by_order R total same_row h = record {
   same_is = h;
 }
 
-run_cmp : IsTotalOrder (λ (x y : RunRow). ordering_then (name_cmp x.dag_id y.dag_id) (int_cmp x.logical y.logical))
+pub run_cmp : IsTotalOrder (λ (x y : RunRow). ordering_then (name_cmp x.dag_id y.dag_id) (int_cmp x.logical y.logical))
 run_cmp = then_total (on_total (λ (x : RunRow). x.dag_id) nat_list_cmp_total) (on_total (λ (x : RunRow). x.logical) int_cmp_total)
 
 pub instance_cmp : IsTotalOrder (λ (x y : InstanceRow). ordering_then (name_cmp x.dag_id y.dag_id) (ordering_then (int_cmp x.logical y.logical) (name_cmp x.task_id y.task_id)))

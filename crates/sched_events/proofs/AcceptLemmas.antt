@@ -88,17 +88,22 @@ same_there : (a : Schedule) (text id : List ℕ) (o : Option LoadedGraph) → gr
 same_there a text id None e some same_text = absurd (true≢false (sym some))
 same_there a text id (Some g) e some same_text = (g, e, doubly (same g.text text) same_text)
 
+-- the text of a graph that has runs is the one that it has
+pub text_again : (a : Schedule) (text : List ℕ) (spec : GraphSpec) → IsTaken a text spec → IsSoundAndSaid a → has_runs a spec.dag_id ≡ true → load_graph text (dag_of spec) a ≡ a
+text_again a text spec t kept runs =
+    let dag : Dag = dag_of spec in
+    let says : Says text dag = record { read = t.read; checked = graph-of-faultless spec t.faultless } in
+    let there = run_named a spec.dag_id a.runs kept.sound.runs runs in
+    let named = same_there a text spec.dag_id (graph_named a spec.dag_id) refl there (ap (λ b. holds_at (λ (g : LoadedGraph). not (same g.text text)) (graph_named a spec.dag_id) && b) (sym runs) ∙ t.same_text) in
+    load_again text dag a named.0 says kept.sound kept.said named.1 named.2
+
 loaded_kept : (a : Schedule) (text : List ℕ) (spec : GraphSpec) → IsTaken a text spec → IsSoundAndSaid a → IsSound (load_graph text (dag_of spec) a) × AllSay (load_graph text (dag_of spec) a).graphs
 loaded_kept a text spec t kept =
     let dag : Dag = dag_of spec in
     let says : Says text dag = record { read = t.read; checked = graph-of-faultless spec t.faultless } in
     let said = load_says text dag a says kept.said in
     elim (has_runs a spec.dag_id) as (λ b. has_runs a spec.dag_id ≡ b → IsSound (load_graph text dag a) × AllSay (load_graph text dag a).graphs) [
-      | true ↦ λ runs.
-          let there = run_named a spec.dag_id a.runs kept.sound.runs runs in
-          let named = same_there a text spec.dag_id (graph_named a spec.dag_id) refl there (ap (λ b. holds_at (λ (g : LoadedGraph). not (same g.text text)) (graph_named a spec.dag_id) && b) (sym runs) ∙ t.same_text) in
-          let again : load_graph text dag a ≡ a = load_again text dag a named.0 says kept.sound kept.said named.1 named.2 in
-          (subst IsSound (sym again) kept.sound, said)
+      | true ↦ λ runs. (subst IsSound (sym (text_again a text spec t kept runs)) kept.sound, said)
       | false ↦ λ none.
           let tasks : length spec.tasks ≤ a.limits.tasks = ltb-false _ _ (or_left (nat_lt a.limits.tasks (length spec.tasks)) _ t.fits) in
           let edges : edge_count spec.tasks ≤ a.limits.edges = ltb-false _ _ (or_right (nat_lt a.limits.tasks (length spec.tasks)) _ t.fits) in

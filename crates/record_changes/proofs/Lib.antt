@@ -1,0 +1,3 @@
+pub mod TellLemmas
+pub mod KeyLemmas
+pub mod KeptLemmas
