@@ -105,7 +105,7 @@ no_tie r q (t ∷ ts) (i ∷ is) e =
     let b : list_any (λ (y : InstanceRow). is_eq (name_cmp q y.task_id)) (map (instance_row r) (zip ts is)) ≡ false = no_tie r q ts is (or_right (same q t.task_id) _ e) in
     rw (a, b) refl
 
-run_sorted : (r : Run) (ts : List TaskSpec) (is : List InstanceValue) → repeats (ids_of ts) ≡ false → rises task_before (sort_by task_before (map (instance_row r) (zip ts is))) ≡ true
+pub run_sorted : (r : Run) (ts : List TaskSpec) (is : List InstanceValue) → repeats (ids_of ts) ≡ false → rises task_before (sort_by task_before (map (instance_row r) (zip ts is))) ≡ true
 run_sorted r [] is d = refl
 run_sorted r (t ∷ ts) [] d = refl
 run_sorted r (t ∷ ts) (i ∷ is) d =

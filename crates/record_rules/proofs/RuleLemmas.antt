@@ -196,7 +196,7 @@ flat_each p f (x ∷ xs) e = and_from _ _ (all_front p (f x) (flat_map f xs) e) 
 mapped_get : {X : Type 0} (p : ℕ → Bool) (f : X → ℕ) (xs : List X) (n : ℕ) (x : X) → list_all p (map f xs) ≡ true → slice_get xs n ≡ Some x → p (f x) ≡ true
 mapped_get p f xs n x a e = all_get (λ z. p (f z)) xs n x (sym (all_map (λ z. p (f z)) p f (λ z. refl) xs) ∙ a) e
 
-serial_used : (a : Schedule) (r : Run) (t : TaskSpec) (i : InstanceValue) (n : ℕ) (y : Try) → IsSound a → Stands a r t i → slice_get i.tries n ≡ Some y → is_used a.next y.serial ≡ true
+pub serial_used : (a : Schedule) (r : Run) (t : TaskSpec) (i : InstanceValue) (n : ℕ) (y : Try) → IsSound a → Stands a r t i → slice_get i.tries n ≡ Some y → is_used a.next y.serial ≡ true
 serial_used a r t i n y s h e =
     let used : list_all (is_used a.next) (flat_map run_serials a.runs) ≡ true = ap (list_all (is_used a.next)) (sym (serials_listed a)) ∙ s.serials_used in
     let of_run : list_all (is_used a.next) (run_serials r) ≡ true = all_get (λ q. list_all (is_used a.next) (run_serials q)) a.runs h.run r (flat_each (is_used a.next) run_serials a.runs used) h.run_is in

@@ -12,3 +12,5 @@ pub mod EffectLemmas
 pub mod ResizeLemmas
 pub mod TriggerLemmas
 pub mod RepairLemmas
+pub mod DagRowLemmas
+pub mod ChangedRowLemmas

@@ -1,10 +1,13 @@
 -- What the effect of a change makes of a schedule and of the book of its pools.
-use Rattle.std.specs.Prelude.{◌≡◌, Bool, true, false, List, Option, Some, None, map}
+use Rattle.std.specs.Prelude.{◌≡◌, ℕ, Bool, true, false, List, Option, Some, None, map, slice_get}
 use Rattle.pool_book.specs.Pools.{Entries}
 use Rattle.sched_state.specs.declared.graphs.LoadedGraph.{LoadedGraph}
-use Rattle.sched_model.specs.Schedule.{Schedule, has_runs}
+use Rattle.sched_state.specs.declared.runs.Run.{Run}
+use Rattle.sched_model.specs.Schedule.{Schedule, dag_among, has_runs}
 use Rattle.sched_model.specs.Changes.{with_graph, pause_graph}
 use Rattle.sched_draft.specs.Books.{pools_in}
+use Rattle.record_rows.specs.Rows.{Rows}
+use Rattle.record_changes.specs.Changes.{rows_between}
 use Rattle.sched_core.specs.Books.{AgreesWithBook}
 use Rattle.sched_core.specs.declared.changes.Effect.{Effect}
 use Rattle.sched_core.specs.declared.changes.GraphChange.{GraphChange}
@@ -16,6 +19,10 @@ abbrev pub changed : GraphChange → List LoadedGraph → List LoadedGraph
 changed graphs.Same gs = gs
 changed (graphs.Load text dag) gs = with_graph text dag gs
 changed (graphs.Pause id paused) gs = map (pause_graph id paused) gs
+
+-- the tasks and edges of each run's graph are the same among both
+abbrev pub HaveSameDags : List LoadedGraph → List LoadedGraph → List Run → Type 0
+HaveSameDags gs hs rs = (n : ℕ) (r : Run) → slice_get rs n ≡ Some r → dag_among hs r.graph ≡ dag_among gs r.graph
 
 -- and of a schedule
 abbrev pub with_change : GraphChange → Schedule → Schedule
@@ -37,6 +44,11 @@ book_after (Some n) es = n.pools.pools
 -- whatever book the schedule is held beside, settled or not, after the effect it is settled, and held beside the book of then
 abbrev pub KeepsAgreement : Effect → Schedule → Type 0
 KeepsAgreement e a = (es : Entries) (is_settled : Bool) → AgreesWithBook is_settled a es → AgreesWithBook true (applied e a) (book_after e.rest es)
+
+-- so it keeps the agreement, and these are the rows that the schedule lacks after it
+pub record IsEffect (e : Effect) (rows : Rows) (a : Schedule) : Type 0 where
+  pub keeps : KeepsAgreement e a
+  pub rows_are : rows ≡ rows_between a (applied e a)
 
 -- the change enables nothing in a schedule: a text takes in a graph without runs, or a graph is paused
 abbrev pub IsQuiet : GraphChange → Schedule → Type 0

@@ -1,10 +1,13 @@
 //! A planned change.
+ghost use Rattle.std.specs.Prelude.{◌≡◌};
+ghost use Rattle.record_changes.specs.Changes.{rows_between};
 
 use crate::schedules::Schedule;
 use dag_check::Graph;
 use graph_file::Name;
 use moment_core::Moment;
 use pool_book::Pools;
+use record_rows::Rows;
 use sched_events::Answer;
 use sched_state::{GraphText, Run};
 use std::marker::Model;
@@ -48,15 +51,28 @@ pub struct Change {
     pub(crate) before: Snapshot<Schedule>,
     pub(crate) effect: Effect,
     pub(crate) answer: Answer,
+    // Those that the schedule lacks after it.
+    pub(crate) rows: Rows,
 }
 
 impl Model for Change {
     ghost use Rattle.sched_core.specs.Changes.{Planned};
-    ghost use Rattle.sched_core.specs.Effects.{applied, KeepsAgreement};
+    ghost use Rattle.sched_core.specs.Effects.{applied, IsEffect};
 
     ghost Value = { Planned };
 
     ghost view = { λ c. record { before = c.before.value.content; after = applied c.effect c.before.value.content; answer = c.answer } };
 
-    ghost invariant = { λ c. KeepsAgreement c.effect c.before.value.content };
+    ghost invariant = { λ c. IsEffect c.effect c.rows c.before.value.content };
+}
+
+impl Change {
+    /// The rows of the record that the schedule after the event has and the one before it lacks, each table by its key (docs/RECORD.md).
+    /// No row is ever taken away: put by key over the tables of the schedule before, parents first, they give the tables of the one
+    /// after.
+    pub fn rows(&self) -> &Rows
+        ensures { result.now ≡ rows_between self.now.before self.now.after }
+    {
+        &self.rows
+    }
 }

@@ -7,6 +7,7 @@
 #![tactic(auto)]
 
 mod backfilling;
+mod changed_rows;
 mod changes;
 mod clearing;
 mod default_pools;

@@ -60,22 +60,25 @@ impl Schedule {
     }
 
     // A change of the graphs after which nothing else follows, for a schedule that is settled.
-    fn quiet_change(&self, alloc: Global, graphs: GraphChange) -> Change
+    fn quiet_change(&self, alloc: Global, graphs: GraphChange) -> Result<Change, AllocError>
         requires sound { IsSoundAndSaid (with_change graphs self.now.content) }
         requires quiet { IsQuiet graphs self.now.content }
         requires settled { IsSettled self.now.content }
-        ensures { result ≡ record {
+        ensures { IfOk result (λ change. change ≡ record {
           before = self.now.content;
           after = with_change graphs
               self.now.content;
           answer = no_runs;
-        } }
+        }) }
     {
-        Change {
+        let effect = Effect { graphs, rest: None };
+        let rows = self.rows_changed(alloc, &effect)?;
+        Ok(Change {
             before: Snapshot::of(self),
-            effect: Effect { graphs, rest: None },
+            effect,
             answer: quiet_answer(alloc),
-        }
+            rows,
+        })
     }
 
     // The change that makes this of the graphs, and what follows of it: nothing where the schedule is settled.
@@ -97,7 +100,7 @@ impl Schedule {
         }) }
     {
         if self.is_settled {
-            return Ok(self.quiet_change(alloc, graphs));
+            return self.quiet_change(alloc, graphs);
         }
         let draft = self.draft(alloc, None, false)?;
         self.finish(alloc, draft, graphs, quiet_answer(alloc))
@@ -172,13 +175,16 @@ impl Schedule {
             serial: draft.next_serial(),
             runs: draft.into_runs(),
         };
+        let effect = Effect {
+            graphs,
+            rest: Some(rest),
+        };
+        let rows = self.rows_changed(alloc, &effect)?;
         Ok(Change {
             before: Snapshot::of(self),
-            effect: Effect {
-                graphs,
-                rest: Some(rest),
-            },
+            effect,
             answer: Answer { jobs, ..answer },
+            rows,
         })
     }
 
@@ -214,7 +220,7 @@ impl Schedule {
         }
         let change = GraphChange::Pause(id.copy(alloc)?, true);
         if self.is_settled {
-            return Ok(self.quiet_change(alloc, change));
+            return Ok(self.quiet_change(alloc, change)?);
         }
         let draft = self.draft(alloc, Some(id), true)?;
         Ok(self.finish(alloc, draft, change, quiet_answer(alloc))?)

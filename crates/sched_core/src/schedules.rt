@@ -135,6 +135,7 @@ impl Schedule {
             before: _,
             effect: Effect { graphs, rest },
             answer,
+            rows: _,
         } = change;
         change_graphs(&mut self.graphs, graphs);
         if let Some(rest) = rest {

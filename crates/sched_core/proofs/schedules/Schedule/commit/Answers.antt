@@ -21,13 +21,13 @@ invariant_of-self c =
           let n = w.in-Some.rest in
           let f : Effect = record { graphs = e.graphs; rest = Some n } in
           let is : e ≡ f = ap (λ (o : Option Rest). let k : Effect = record { graphs = e.graphs; rest = o } in k) w.in-Some.is in
-          let done = done_held e f c.change.inside.before.value.content a c.self.inside.pools.pools c.self.inside.is_settled c.change.invariant is before c.self.invariant in
+          let done = done_held e f c.change.inside.before.value.content a c.self.inside.pools.pools c.self.inside.is_settled c.change.invariant.keeps is before c.self.invariant in
           subst (λ (i : Inside). AgreesWithBook true (content_inside i) i.pools.pools) (sym w.self-inside-is)
           (subst (λ (gs : List LoadedGraph). AgreesWithBook true (record (applied f a) { graphs = gs }) n.pools.pools) (sym c.change_graphs.ensures) done)
       | in_default w ↦
           let f : Effect = record { graphs = e.graphs; rest = None } in
           let is : e ≡ f = ap (λ (o : Option Rest). let k : Effect = record { graphs = e.graphs; rest = o } in k) w.in_default.is in
-          let done = done_held e f c.change.inside.before.value.content a c.self.inside.pools.pools c.self.inside.is_settled c.change.invariant is before c.self.invariant in
+          let done = done_held e f c.change.inside.before.value.content a c.self.inside.pools.pools c.self.inside.is_settled c.change.invariant.keeps is before c.self.invariant in
           subst (λ (i : Inside). AgreesWithBook true (content_inside i) i.pools.pools) (sym w.self-inside-is)
           (subst (λ (gs : List LoadedGraph). AgreesWithBook true (record a { graphs = gs }) c.self.inside.pools.pools) (sym c.change_graphs.ensures) done)
     ]

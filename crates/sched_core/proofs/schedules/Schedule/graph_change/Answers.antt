@@ -1,4 +1,4 @@
-use Rattle.std.proofs.Common.{◌≡◌, ap, sym, subst}
+use Rattle.std.proofs.Common.{◌≡◌, sym, subst}
 use Rattle.std.proofs.lemmas.Result.{IfOk-weaker}
 use Rattle.sched_model.specs.Handout.{hand_out}
 use Rattle.sched_model.specs.Schedule.{Schedule}
@@ -15,8 +15,15 @@ use Rattle.sched_core.proofs.schedules.Schedule.graph_change.Goals as goal
 
 pub returns-then-self : goal.returns-then-self
 returns-then-self c =
-    let still : IsSettled c.args.self.now.content = subst (λ (h : ScheduleValue). IsSettled h.content) c.self.view_is (c.self.invariant.settled c.if-self.true) in
-    quiet_whole c.args.graphs c.args.self.now.content c.quiet_change.result c.requires.quiet still c.quiet_change.ensures
+    let a : Schedule = c.args.self.now.content in
+    let g = c.args.graphs in
+    let b : Schedule = with_change g a in
+    let still : IsSettled a = subst (λ (h : ScheduleValue). IsSettled h.content) c.self.view_is (c.self.invariant.settled c.if-self.true) in
+    IfOk-weaker c.quiet_change.result
+    (λ (change : Planned). change ≡ record { before = a; after = b; answer = no_runs })
+    (λ (change : Planned). change ≡ record { before = a; after = hand_out (settle b); answer = record no_runs { jobs = handed a (hand_out (settle b)) } })
+    (λ change. quiet_whole g a change c.requires.quiet still)
+    c.quiet_change.ensures
 
 pub finish-requires-clause-kept : goal.finish-requires-clause-kept
 finish-requires-clause-kept c =

@@ -38,10 +38,10 @@ returns-then-self-clause-accepted c =
     let there : is_none (graph_named a c.args.id.now) ≡ false =
     looked_up a c.as_slice.result.now c.args.id.now c.graph_named.result c.is_none.result (c.as_slice.ensures.value ∙ ap (λ (h : ScheduleValue). h.content.graphs) c.self.view_is)
     c.graph_named.ensures c.is_none.ensures ∙ c.if-is_none.false in
-    let is : c.quiet_change.result ≡ record { before = a; after = set_paused id true a; answer = no_runs } =
-    c.quiet_change.ensures ∙ ap (λ (n : List ℕ). let p : Planned = record { before = a; after = set_paused n true a; answer = no_runs } in p) c.in_ok-copy.ensures in
-    draft_planned (Pause id) a (set_paused id true a) no_runs c.quiet_change.result tt (pause_accepted a id there) (pause_draft a (set_paused id true a) id refl) refl
-    (quiet_whole (graphs.Pause id true) a c.quiet_change.result refl still is)
+    let is : c.in_ok-quiet_change.field-0 ≡ record { before = a; after = set_paused id true a; answer = no_runs } =
+    c.in_ok-quiet_change.ensures ∙ ap (λ (n : List ℕ). let p : Planned = record { before = a; after = set_paused n true a; answer = no_runs } in p) c.in_ok-copy.ensures in
+    draft_planned (Pause id) a (set_paused id true a) no_runs c.in_ok-quiet_change.field-0 tt (pause_accepted a id there) (pause_draft a (set_paused id true a) id refl) refl
+    (quiet_whole (graphs.Pause id true) a c.in_ok-quiet_change.field-0 refl still is)
 
 pub finish-requires-clause-sound : goal.finish-requires-clause-sound
 finish-requires-clause-sound c =

@@ -1,10 +1,14 @@
 use Rattle.std.proofs.Common.{sym, subst, None}
 use Rattle.sched_core.specs.Changes.{ScheduleValue}
-use Rattle.sched_core.specs.Effects.{KeepsAgreement}
-use Rattle.sched_core.proofs.EffectLemmas.{quiet_keeps}
+use Rattle.sched_core.specs.Effects.{IsEffect}
+use Rattle.sched_core.proofs.ChangedRowLemmas.{alike_dags}
+use Rattle.sched_core.proofs.EffectLemmas.{quiet_keeps, quiet_last}
 use Rattle.sched_core.proofs.schedules.Schedule.quiet_change.Goals as goal
+
+pub rows_changed-requires-clause-alike : goal.rows_changed-requires-clause-alike
+rows_changed-requires-clause-alike c = alike_dags c.args.graphs c.args.self.now.content.graphs c.args.self.now.content (quiet_last c.args.graphs c.args.self.now.content c.requires.quiet)
 
 pub invariant_of-result : goal.invariant_of-result
 invariant_of-result c =
-    subst (λ (h : ScheduleValue). KeepsAgreement (record { graphs = c.args.graphs; rest = None }) h.content) (sym c.of.ensures)
-    (quiet_keeps c.args.graphs c.args.self.now.content c.requires.sound c.requires.quiet c.requires.settled)
+    subst (λ (h : ScheduleValue). IsEffect (record { graphs = c.args.graphs; rest = None }) c.in_ok-rows.rows h.content) (sym c.of.ensures)
+    (record { keeps = quiet_keeps c.args.graphs c.args.self.now.content c.requires.sound c.requires.quiet c.requires.settled; rows_are = c.in_ok-rows.ensures })

@@ -1,0 +1,9 @@
+pub mod LackedLemmas
+pub mod SearchLemmas
+pub mod SortLemmas
+pub mod AmongLemmas
+pub mod InsertLemmas
+pub mod CollectLemmas
+pub mod FitLemmas
+pub mod PoolLemmas
+pub mod WholeLemmas

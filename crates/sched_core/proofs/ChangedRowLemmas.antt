@@ -1,0 +1,124 @@
+-- The rows that a schedule lacks after an effect.
+use Rattle.std.proofs.Common.{◌≡◌, refl, sym, ap, subst, ◌∙◌, zero, suc, ℤ, List, [], ◌∷◌, ◌++◌, true, map, flat_map, Option, Some, None}
+use Rattle.std.specs.List.{zip}
+use Rattle.std.proofs.lemmas.Bool.{and_from}
+use Rattle.dag_check.specs.Graphs.{Dag}
+use Rattle.record_rows.specs.Rows.{Rows, MetaRow, PoolRow, DagRow, RunRow, InstanceRow, AttemptRow}
+use Rattle.sched_state.specs.declared.graphs.LoadedGraph.{LoadedGraph}
+use Rattle.sched_state.specs.declared.runs.Run.{Run}
+use Rattle.sched_state.proofs.NameLemmas.{same_itself}
+use Rattle.sched_model.specs.Lists.{rises}
+use Rattle.sched_model.specs.Schedule.{Schedule, dag_among}
+use Rattle.sched_model.specs.Tables.{tables, dag_row, instance_row, instance_rows, attempt_rows, sort_by, task_before, serial_before}
+use Rattle.sched_model.specs.Changes.{with_graph}
+use Rattle.sched_model.specs.Handout.{hand_out}
+use Rattle.sched_model.specs.Settle.{settle}
+use Rattle.sched_laws.proofs.AlikeLemmas.{AllDags}
+use Rattle.sched_laws.proofs.BesideLemmas.{no_runs_after}
+use Rattle.sched_laws.proofs.LoadLemmas.{found_after, dags_found}
+use Rattle.sched_laws.proofs.PauseLemmas.{same_dag_paused}
+use Rattle.record_rules.specs.Between.{lacked}
+use Rattle.record_rules.proofs.NumberLemmas.{number_itself}
+use Rattle.record_changes.specs.Changes.{rows_between, same_meta_row, same_pool_row, same_dag_row, same_run_row, same_instance_row, same_attempt_row, same_if}
+use Rattle.record_writing.specs.Ranges.{FitsTables}
+use Rattle.record_writing.proofs.LackedLemmas.{lacked_itself}
+use Rattle.sched_core.specs.Effects.{changed, HaveSameDags}
+use Rattle.sched_core.specs.Inside.{IsLast}
+use Rattle.sched_core.specs.declared.changes.GraphChange.{GraphChange}
+use Rattle.sched_core.specs.declared.changes.GraphChange.TheVariants as graphs
+
+-- ---- rows of one run, over graphs that say the same of it
+instances_over : (a : Schedule) (hs : List LoadedGraph) (rs : List Run) → HaveSameDags a.graphs hs rs → flat_map (instance_rows (record a { graphs = hs })) rs ≡ flat_map (instance_rows a) rs
+instances_over a hs [] h = refl
+instances_over a hs (r ∷ rs) h =
+    ap (λ (d : Dag). sort_by task_before (map (instance_row r) (zip d.tasks r.instances)) ++ flat_map (instance_rows (record a { graphs = hs })) rs) (h zero r refl)
+    ∙ ap (λ (xs : List InstanceRow). instance_rows a r ++ xs) (instances_over a hs rs (λ n q e. h (suc n) q e))
+
+abbrev tries_over : List LoadedGraph → Run → List AttemptRow
+tries_over gs r = flat_map (attempt_rows r) (zip (dag_among gs r.graph).tasks r.instances)
+
+attempts_over : (gs hs : List LoadedGraph) (rs : List Run) → HaveSameDags gs hs rs → flat_map (tries_over hs) rs ≡ flat_map (tries_over gs) rs
+attempts_over gs hs [] h = refl
+attempts_over gs hs (r ∷ rs) h =
+    ap (λ (d : Dag). flat_map (attempt_rows r) (zip d.tasks r.instances) ++ flat_map (tries_over hs) rs) (h zero r refl)
+    ∙ ap (λ (xs : List AttemptRow). tries_over gs r ++ xs) (attempts_over gs hs rs (λ n q e. h (suc n) q e))
+
+-- ---- the tables of a schedule over such graphs
+pub same_instances : (a : Schedule) (hs : List LoadedGraph) → HaveSameDags a.graphs hs a.runs → (tables (record a { graphs = hs })).instances ≡ (tables a).instances
+same_instances a hs h = instances_over a hs a.runs h
+
+pub same_attempts : (a : Schedule) (hs : List LoadedGraph) → HaveSameDags a.graphs hs a.runs → (tables (record a { graphs = hs })).attempts ≡ (tables a).attempts
+same_attempts a hs h = ap (sort_by serial_before) (attempts_over a.graphs hs a.runs h)
+
+-- a schedule fits the columns over the graphs of before where it does over the others
+pub fits_over : (a : Schedule) (hs : List LoadedGraph) → HaveSameDags a.graphs hs a.runs → FitsTables (record a { graphs = hs }) → FitsTables a
+fits_over a hs h f = record { next = f.next; runs = f.runs; attempts = ap (rises serial_before) (sym (same_attempts a hs h)) ∙ f.attempts }
+
+-- ---- rows that are equal to themselves
+meta_itself : (x : MetaRow) → same_meta_row x x ≡ true
+meta_itself x = and_from _ _ (number_itself x.one) (and_from _ _ (number_itself x.version) (and_from _ _ (number_itself x.now) (and_from _ _ (number_itself x.next_serial) (number_itself x.lanes))))
+
+pool_itself : (x : PoolRow) → same_pool_row x x ≡ true
+pool_itself x = and_from _ _ (same_itself x.name) (number_itself x.size)
+
+run_itself : (x : RunRow) → same_run_row x x ≡ true
+run_itself x = and_from _ _ (same_itself x.dag_id) (and_from _ _ (number_itself x.logical) (and_from _ _ (number_itself x.data_start) (and_from _ _ (number_itself x.data_end) (and_from _ _ (number_itself x.kind) (number_itself x.phase)))))
+
+instance_itself : (x : InstanceRow) → same_instance_row x x ≡ true
+instance_itself x = and_from _ _ (same_itself x.dag_id) (and_from _ _ (number_itself x.logical) (and_from _ _ (same_itself x.task_id) (and_from _ _ (number_itself x.verdict) (number_itself x.since))))
+
+if_itself : (o : Option ℤ) → same_if o o ≡ true
+if_itself None = refl
+if_itself (Some x) = number_itself x
+
+attempt_itself : (x : AttemptRow) → same_attempt_row x x ≡ true
+attempt_itself x = and_from _ _ (number_itself x.serial) (and_from _ _ (same_itself x.dag_id) (and_from _ _ (number_itself x.logical) (and_from _ _ (same_itself x.task_id) (and_from _ _ (number_itself x.try_number)
+    (and_from _ _ (number_itself x.slots) (and_from _ _ (if_itself x.started) (and_from _ _ (if_itself x.ended) (if_itself x.outcome))))))))
+
+-- ---- all rows
+abbrev with_graph_rows : Rows → List DagRow → List InstanceRow → List AttemptRow → Rows
+with_graph_rows rows ds is ts = record rows { dags = ds; instances = is; attempts = ts }
+
+-- where the rest stays, the rows of graphs alone differ
+pub quiet_rows : (a : Schedule) (hs : List LoadedGraph) (ds : List DagRow) → HaveSameDags a.graphs hs a.runs → ds ≡ lacked same_dag_row (map dag_row a.graphs) (map dag_row hs)
+    → record { metas = []; pools = []; dags = ds; runs = []; instances = []; attempts = [] } ≡ rows_between a (record a { graphs = hs })
+quiet_rows a hs ds h e =
+    let ms = lacked_itself same_meta_row meta_itself (tables a).metas in
+    let ps = lacked_itself same_pool_row pool_itself (tables a).pools in
+    let rs = lacked_itself same_run_row run_itself (tables a).runs in
+    let is : lacked same_instance_row (tables a).instances (tables (record a { graphs = hs })).instances ≡ [] =
+        ap (lacked same_instance_row (tables a).instances) (same_instances a hs h) ∙ lacked_itself same_instance_row instance_itself (tables a).instances in
+    let ts : lacked same_attempt_row (tables a).attempts (tables (record a { graphs = hs })).attempts ≡ [] =
+        ap (lacked same_attempt_row (tables a).attempts) (same_attempts a hs h) ∙ lacked_itself same_attempt_row attempt_itself (tables a).attempts in
+    λ i. record { metas = sym ms i; pools = sym ps i; dags = e i; runs = sym rs i; instances = sym is i; attempts = sym ts i }
+
+-- else those that differ over the graphs of before, and the rows of graphs
+pub rest_rows : (a b : Schedule) (hs : List LoadedGraph) (ds : List DagRow) → HaveSameDags b.graphs hs b.runs → ds ≡ lacked same_dag_row (map dag_row a.graphs) (map dag_row hs)
+    → record (rows_between a b) { dags = ds } ≡ rows_between a (record b { graphs = hs })
+rest_rows a b hs ds h e =
+    let is = ap (lacked same_instance_row (tables a).instances) (same_instances b hs h) in
+    let ts = ap (lacked same_attempt_row (tables a).attempts) (same_attempts b hs h) in
+    λ i. record {
+      metas = (rows_between a b).metas;
+      pools = (rows_between a b).pools;
+      dags = e i;
+      runs = (rows_between a b).runs;
+      instances = sym is i;
+      attempts = sym ts i;
+    }
+
+-- ---- changes of graphs that leave those of the runs
+each_dag : (gs hs : List LoadedGraph) (rs : List Run) → AllDags gs hs rs → HaveSameDags gs hs rs
+each_dag gs hs [] all n r e = absurd (let c : ◌≡◌ {A = Option Run} None (Some r) = e in cc)
+each_dag gs hs (q ∷ rs) all zero r e = let c : ◌≡◌ {A = Option Run} (Some q) (Some r) = e in let k : q ≡ r = cc in subst (λ (p : Run). dag_among hs p.graph ≡ dag_among gs p.graph) k all.0
+each_dag gs hs (q ∷ rs) all (suc n) r e = each_dag gs hs rs all.1 n r e
+
+pub alike_dags : (g : GraphChange) (gs : List LoadedGraph) (b : Schedule) → IsLast g b → HaveSameDags gs (changed g gs) b.runs
+alike_dags graphs.Same gs b last = λ n r e. refl
+alike_dags (graphs.Load text dag) gs b last = each_dag gs (with_graph text dag gs) b.runs (dags_found gs (with_graph text dag gs) b.runs (found_after text dag gs b.runs last))
+alike_dags (graphs.Pause id paused) gs b last = λ n r e. same_dag_paused id paused gs r.graph
+
+pub last_after : (g : GraphChange) (b : Schedule) → IsLast g b → IsLast g (hand_out (settle b))
+last_after graphs.Same b last = tt
+last_after (graphs.Load text dag) b last = no_runs_after b dag.spec.dag_id ∙ last
+last_after (graphs.Pause id paused) b last = tt

@@ -1,0 +1,117 @@
+//! The rows of the record that a change makes differ.
+ghost use Rattle.std.specs.Prelude.{◌≡◌, [], true, false, map, option_map, unwrap_or, IfOk, Some};
+ghost use Rattle.sched_model.specs.Lists.{rises};
+ghost use Rattle.sched_model.specs.Schedule.{graph_before, graph_among};
+ghost use Rattle.sched_state.specs.declared.graphs.LoadedGraph.{LoadedGraph as Graph};
+ghost use Rattle.sched_model.specs.Sound.{IsSound};
+ghost use Rattle.sched_model.specs.Tables.{dag_row};
+ghost use Rattle.record_rules.specs.Between.{lacked};
+ghost use Rattle.record_changes.specs.Changes.{rows_between, same_dag_row};
+ghost use Rattle.sched_core.specs.Effects.{changed, with_rest, applied, HaveSameDags};
+
+use crate::changes::{Effect, GraphChange, Rest};
+use crate::lookups::graph_named;
+use crate::schedules::Schedule;
+use graph_file::Name;
+use record_rows::{DagRow, Rows};
+use record_writing::{Parts, dag_lacked, rows_between};
+use sched_state::LoadedGraph;
+use std::alloc::{AllocError, Global};
+
+impl Schedule {
+    // The schedule by its parts.
+    fn parts(&self) -> Parts<'_>
+        ensures { result ≡ self.now.content }
+    {
+        Parts {
+            limits: self.limits,
+            graphs: self.graphs.as_slice(),
+            pools: &self.pools,
+            clock: self.clock,
+            lanes: self.lanes,
+            next: self.next,
+            runs: self.runs.as_slice(),
+        }
+    }
+
+    // The same with what an event leaves in the place of its own, but for the graphs.
+    fn parts_with<'a>(&'a self, rest: &'a Rest) -> Parts<'a>
+        ensures { result ≡ with_rest (Some rest.now) self.now.content }
+    {
+        Parts {
+            limits: self.limits,
+            graphs: self.graphs.as_slice(),
+            pools: &rest.pools,
+            clock: rest.clock,
+            lanes: rest.lanes,
+            next: rest.serial,
+            runs: rest.runs.as_slice(),
+        }
+    }
+
+    // The rows that the schedule lacks after an effect.
+    pub(crate) fn rows_changed(&self, alloc: Global, effect: &Effect) -> Result<Rows, AllocError>
+        requires sound { IsSound (applied effect.now self.now.content) }
+        requires alike { HaveSameDags self.now.content.graphs
+            (changed effect.now.graphs self.now.content.graphs)
+            (applied effect.now self.now.content).runs }
+        ensures { IfOk result (λ rows. rows ≡ rows_between self.now.content
+            (applied effect.now self.now.content)) }
+    {
+        let dags = dags_changed(alloc, self.graphs.as_slice(), &effect.graphs)?;
+        match &effect.rest {
+            Some(rest) => rows_between(alloc, &self.parts(), &self.parts_with(rest), dags),
+            None => Ok(only(alloc, dags)),
+        }
+    }
+}
+
+// The rows of graphs that these lack after a change.
+fn dags_changed(
+    alloc: Global,
+    graphs: &[LoadedGraph],
+    change: &GraphChange,
+) -> Result<Vec<DagRow>, AllocError>
+    requires { rises graph_before graphs.now ≡ true }
+    ensures { IfOk result (λ rows. rows.items ≡ lacked same_dag_row (map dag_row graphs.now)
+        (map dag_row (changed change.now graphs.now))) }
+{
+    match change {
+        GraphChange::Same => Ok(Vec::new(alloc)),
+        GraphChange::Load(text, dag) => {
+            let id = &dag.spec().dag_id;
+            dag_lacked(alloc, graphs, id, text, is_paused(graphs, id))
+        }
+        GraphChange::Pause(id, paused) => match graph_named(graphs, id) {
+            Some(graph) => dag_lacked(alloc, graphs, id, &graph.text, *paused),
+            None => Ok(Vec::new(alloc)),
+        },
+    }
+}
+
+// Whether the graph with this id is there and paused.
+fn is_paused(graphs: &[LoadedGraph], id: &Name) -> bool
+    ensures { result ≡ unwrap_or (option_map (λ (g : Graph). g.paused)
+        (graph_among graphs.now id.now)) false }
+{
+    match graph_named(graphs, id) {
+        Some(graph) => graph.paused,
+        None => false,
+    }
+}
+
+// The rows of graphs alone.
+fn only(alloc: Global, dags: Vec<DagRow>) -> Rows
+    ensures { result ≡ record {
+      metas = []; pools = []; dags = dags.items; runs = []; instances = []; attempts = [];
+    } }
+{
+    Rows {
+        metas: Vec::new(alloc),
+        pools: Vec::new(alloc),
+        dags,
+        runs: Vec::new(alloc),
+        instances: Vec::new(alloc),
+        attempts: Vec::new(alloc),
+    }
+}
