@@ -1,5 +1,5 @@
 -- What a transaction on a record leaves, and what a new record is.
-use Rattle.std.specs.Prelude.{◌≡◌, Bool, ◌||◌, List, ℕ, [], ◌∷◌, pos, codes}
+use Rattle.std.specs.Prelude.{◌≡◌, ◌⊎◌, Bool, false, ◌||◌, List, ℕ, [], ◌∷◌, pos, codes}
 use Rattle.std.specs.List.{list_any}
 use Rattle.sqlite.specs.Effect.{Database}
 use Rattle.sqlite.specs.Schema.{Schema}
@@ -10,6 +10,8 @@ use Rattle.record_rows.specs.Rows.{Rows}
 use Rattle.record_tables.specs.Empties.{no_rows}
 use Rattle.record_tables.specs.Holds.{Stores}
 use Rattle.record_tables.specs.Schema.{no_schema}
+use Rattle.record_load.specs.Loads.{AreTexts, is_version_1}
+use Rattle.record_load.specs.Ours.{is_ours}
 
 -- what a transaction that changes the database by this relation may commit
 abbrev pub CommitsBy : (Database → Database → Type 0) → Database → Trees → Type 0
@@ -35,3 +37,7 @@ is_record_name name =
 -- a table has the name of one of the record
 abbrev pub has_record_table : Schema → Bool
 has_record_table schema = list_any (λ (t : Table). is_record_name t.name) schema.tables
+
+-- the database is no record of version 1: a table or a column is missing, or what it stores has a text that is no UTF-8 or another `meta`
+abbrev pub IsNoRecord : Database → Type 0
+IsNoRecord db = (is_ours db.schema ≡ false) ⊎ ((rows : Rows) → Stores db rows → AreTexts rows → is_version_1 rows.metas ≡ false)

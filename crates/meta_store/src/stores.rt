@@ -4,14 +4,19 @@ ghost use Rattle.sqlite.specs.Held.{state};
 ghost use Rattle.sqlite.specs.State.{HasCleanDisk, Survives};
 ghost use Rattle.sqlite.specs.Tree.{Trees};
 ghost use Rattle.record_changes.specs.Changes as changes;
+ghost use Rattle.record_tables.specs.Holds.{Stores};
 ghost use Rattle.record_tables.specs.Puts.{PutsIn};
-ghost use Rattle.meta_store.specs.Stores.{Begins, CommitsBy, first_rows, has_record_table};
+ghost use Rattle.record_load.specs.Loads.{AreTexts, is_version_1};
+ghost use Rattle.record_load.specs.Ours.{is_ours};
+ghost use Rattle.record_load.specs.declared.faults.LoadFault.TheVariants as unread;
+ghost use Rattle.meta_store.specs.Stores.{Begins, CommitsBy, IsNoRecord, first_rows, has_record_table};
 ghost use Rattle.meta_store.specs.declared.faults.StoreFault.TheVariants as fault;
 ghost use Rattle.meta_store.specs.Faults.{IsOfSqlite};
 
-use crate::faults::{StoreFault, fault_of};
+use crate::faults::{StoreFault, fault_of, fault_of_load};
 use crate::first_rows::first_rows;
 use crate::names::has_record_table;
+use record_load::{LoadFault, is_ours, is_version_1, load_rows};
 use record_rows::Rows;
 use record_tables::{make_tables, put_rows};
 use sqlite::{Alter, Connection, Error};
@@ -156,5 +161,51 @@ impl<S: Alter> Store<S> {
         let mut tx = self.conn.transaction();
         put_rows(&mut tx, rows)?;
         tx.commit()
+    }
+
+    /// The rows of all tables, each table by its key. They are read in a transaction that writes nothing.
+    pub fn load_rows(&mut self, alloc: Global) -> Result<Rows, StoreFault>
+        ensures list { HasCleanDisk (state S.Store self.new) → IfOk result (λ loaded. (rows : _)
+            → Stores (state S.Store self.old).now rows → loaded ≡ rows) }
+        ensures version { IfOk result (λ loaded. is_version_1 loaded.metas ≡ true) }
+        ensures kept { HasCleanDisk (state S.Store self.new)
+            → IsTrue (state S.Store self.new).is_open
+            → ((state S.Store self.new).now ≡ (state S.Store self.old).now)
+            × ((state S.Store self.new).committed ≡ (state S.Store self.old).committed) }
+        ensures crash { Survives (state S.Store self.old) (state S.Store self.new) (λ _. ⊥) }
+        ensures missing { is_ours (state S.Store self.old).now.schema ≡ false
+            → IsErrAnd result (λ e. e ≡ fault.NotOurs) }
+        ensures fault { HasCleanDisk (state S.Store self.new) → IfErr result (λ e. IsOfSqlite e
+            ⊎ ((e ≡ fault.NotOurs) × IsNoRecord (state S.Store self.old).now)) }
+    {
+        if !is_ours(self.conn.schema()) {
+            return Err(StoreFault::NotOurs);
+        }
+        let rows = match self.read_rows(alloc) {
+            Ok(rows) => rows,
+            Err(fault) => return Err(fault_of_load(fault)),
+        };
+        if !is_version_1(&rows.metas) {
+            return Err(StoreFault::NotOurs);
+        }
+        Ok(rows)
+    }
+
+    /// The rows of all tables, whatever `meta` says, in a transaction that is dropped.
+    fn read_rows(&mut self, alloc: Global) -> Result<Rows, LoadFault>
+        ensures list { HasCleanDisk (state S.Store self.new) → IfOk result (λ loaded. (rows : _)
+            → Stores (state S.Store self.old).now rows → loaded ≡ rows) }
+        ensures fault { HasCleanDisk (state S.Store self.new) → IfErr result (λ e.
+            e ≡ unread.NotOurs → (rows : _) → Stores (state S.Store self.old).now rows
+            → ¬ AreTexts rows) }
+        ensures kept { HasCleanDisk (state S.Store self.new)
+            → IsTrue (state S.Store self.new).is_open
+            → ((state S.Store self.new).now ≡ (state S.Store self.old).now)
+            × ((state S.Store self.new).committed ≡ (state S.Store self.old).committed) }
+        ensures crash { Survives (state S.Store self.old) (state S.Store self.new) (λ _. ⊥) }
+    {
+        let _settled = self.conn.is_autocommit();
+        let mut tx = self.conn.transaction();
+        load_rows(alloc, &mut tx)
     }
 }
