@@ -87,9 +87,9 @@ quiet_rows a hs ds h e =
     let ps = lacked_itself same_pool_row pool_itself (tables a).pools in
     let rs = lacked_itself same_run_row run_itself (tables a).runs in
     let is : lacked same_instance_row (tables a).instances (tables (record a { graphs = hs })).instances ≡ [] =
-        ap (lacked same_instance_row (tables a).instances) (same_instances a hs h) ∙ lacked_itself same_instance_row instance_itself (tables a).instances in
+    ap (lacked same_instance_row (tables a).instances) (same_instances a hs h) ∙ lacked_itself same_instance_row instance_itself (tables a).instances in
     let ts : lacked same_attempt_row (tables a).attempts (tables (record a { graphs = hs })).attempts ≡ [] =
-        ap (lacked same_attempt_row (tables a).attempts) (same_attempts a hs h) ∙ lacked_itself same_attempt_row attempt_itself (tables a).attempts in
+    ap (lacked same_attempt_row (tables a).attempts) (same_attempts a hs h) ∙ lacked_itself same_attempt_row attempt_itself (tables a).attempts in
     λ i. record { metas = sym ms i; pools = sym ps i; dags = e i; runs = sym rs i; instances = sym is i; attempts = sym ts i }
 
 -- else those that differ over the graphs of before, and the rows of graphs

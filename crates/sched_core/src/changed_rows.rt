@@ -103,7 +103,12 @@ fn is_paused(graphs: &[LoadedGraph], id: &Name) -> bool
 // The rows of graphs alone.
 fn only(alloc: Global, dags: Vec<DagRow>) -> Rows
     ensures { result ≡ record {
-      metas = []; pools = []; dags = dags.items; runs = []; instances = []; attempts = [];
+      metas = [];
+      pools = [];
+      dags = dags.items;
+      runs = [];
+      instances = [];
+      attempts = [];
     } }
 {
     Rows {

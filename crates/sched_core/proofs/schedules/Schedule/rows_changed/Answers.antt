@@ -36,7 +36,7 @@ returns-in-Some c =
     let ds : List DagRow = c.in_ok-dags.dags.items in
     let graphs : c.as_slice.result.now ≡ a.graphs = c.as_slice.ensures.value ∙ ap (λ (h : ScheduleValue). h.content.graphs) c.self.view_is in
     let rows_are : ds ≡ lacked same_dag_row (map dag_row a.graphs) (map dag_row (changed e.graphs a.graphs)) =
-        c.in_ok-dags.ensures ∙ ap (λ (gs : List LoadedGraph). lacked same_dag_row (map dag_row gs) (map dag_row (changed e.graphs gs))) graphs in
+    c.in_ok-dags.ensures ∙ ap (λ (gs : List LoadedGraph). lacked same_dag_row (map dag_row gs) (map dag_row (changed e.graphs gs))) graphs in
     IfOk-weaker c.rows_between.result
     (λ (rows : Rows). rows ≡ record (rows_between c.parts.result c.parts_with.result) { dags = ds })
     (λ (rows : Rows). rows ≡ rows_between a (applied e a))
@@ -57,5 +57,5 @@ returns-in-None c =
     let ds : List DagRow = c.in_ok-dags.dags.items in
     let graphs : c.as_slice.result.now ≡ a.graphs = c.as_slice.ensures.value ∙ ap (λ (h : ScheduleValue). h.content.graphs) c.self.view_is in
     let rows_are : ds ≡ lacked same_dag_row (map dag_row a.graphs) (map dag_row (changed e.graphs a.graphs)) =
-        c.in_ok-dags.ensures ∙ ap (λ (gs : List LoadedGraph). lacked same_dag_row (map dag_row gs) (map dag_row (changed e.graphs gs))) graphs in
+    c.in_ok-dags.ensures ∙ ap (λ (gs : List LoadedGraph). lacked same_dag_row (map dag_row gs) (map dag_row (changed e.graphs gs))) graphs in
     c.only.ensures ∙ quiet_rows a (changed e.graphs a.graphs) ds alike rows_are ∙ ap (λ (h : Effect). rows_between a (applied h a)) (sym is)

@@ -1,0 +1,3 @@
+mod BeginLemmas
+mod CommitLemmas
+mod FaultLemmas

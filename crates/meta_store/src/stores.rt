@@ -1,0 +1,211 @@
+//! The record and its transactions.
+ghost use Rattle.std.specs.Prelude.{◌≡◌, ◌⊎◌, true, false, IsTrue, OnOk, OnErr, IfOk, IfErr, IsErrAnd};
+ghost use Rattle.sqlite.specs.Held.{state};
+ghost use Rattle.sqlite.specs.State.{HasCleanDisk, Survives};
+ghost use Rattle.sqlite.specs.Tree.{Trees};
+ghost use Rattle.record_changes.specs.Changes as changes;
+ghost use Rattle.record_tables.specs.Holds.{Stores};
+ghost use Rattle.record_tables.specs.Puts.{PutsIn};
+ghost use Rattle.record_load.specs.Loads.{AreTexts, is_version_1};
+ghost use Rattle.record_load.specs.Ours.{is_ours};
+ghost use Rattle.record_load.specs.declared.faults.LoadFault.TheVariants as unread;
+ghost use Rattle.meta_store.specs.Stores.{Begins, CommitsBy, IsNoRecord, first_rows, has_record_table};
+ghost use Rattle.meta_store.specs.declared.faults.StoreFault.TheVariants as fault;
+ghost use Rattle.meta_store.specs.Faults.{IsOfSqlite};
+
+use crate::faults::{StoreFault, fault_of, fault_of_load};
+use crate::first_rows::first_rows;
+use crate::names::has_record_table;
+use record_load::{LoadFault, is_ours, is_version_1, load_rows};
+use record_rows::Rows;
+use record_tables::{make_tables, put_rows};
+use sqlite::{Alter, Connection, Error};
+use std::alloc::Global;
+use std::marker::Model;
+
+/// The record of a schedule, over a connection on which no transaction is open. Contracts see it as the connection.
+#[derive(Drop)]
+pub struct Store<S: Alter> {
+    conn: Connection<S>,
+}
+
+impl<S: Alter> Model for Store<S> {
+    ghost use Rattle.std.specs.Prelude.{◌≡◌, false};
+    ghost use Rattle.sqlite.specs.Held.{Held, held_code};
+
+    ghost Value = { Held S };
+
+    ghost coded = { held_code S.code };
+
+    ghost view = { λ s. s.conn };
+
+    ghost invariant = { λ s. s.conn.in_transaction ≡ false };
+}
+
+impl<S: Alter> Store<S> {
+    /// Takes the record that a connection has.
+    pub fn adopt(conn: Connection<S>) -> Store<S>
+        requires { conn.in_transaction ≡ false }
+        ensures { result ≡ conn }
+    {
+        Store { conn }
+    }
+
+    /// Makes the tables of a new record, with its first rows, in one transaction.
+    pub fn create(
+        alloc: Global,
+        conn: Connection<S>,
+    ) -> Result<Store<S>, (Connection<S>, StoreFault)>
+        requires { conn.in_transaction ≡ false }
+        ensures stored { IfOk result (λ s. HasCleanDisk (state S.Store s)
+            → Begins (state S.Store conn).now (state S.Store s).now) }
+        ensures only { IfOk result (λ s. HasCleanDisk (state S.Store s) → (trees : Trees)
+            → (state S.Store s).may_leave trees → trees ≡ (state S.Store s).now.trees) }
+        ensures crash { IfOk result (λ s. Survives (state S.Store conn) (state S.Store s)
+            (CommitsBy Begins (state S.Store conn).now)) }
+        ensures kept { IfErr result (λ e. HasCleanDisk (state S.Store e.0)
+            → IsTrue (state S.Store e.0).is_open
+            → ((state S.Store e.0).now ≡ (state S.Store conn).now)
+            × ((state S.Store e.0).committed ≡ (state S.Store conn).committed)) }
+        ensures err_crash { IfErr result (λ e. Survives (state S.Store conn) (state S.Store e.0)
+            (CommitsBy Begins (state S.Store conn).now)) }
+        ensures settled { IfErr result (λ e. e.0.in_transaction ≡ false) }
+        ensures names { has_record_table (state S.Store conn).now.schema ≡ true
+            → IsErrAnd result (λ e. e.1 ≡ fault.NotOurs) }
+        ensures fault { IfErr result (λ e. IsOfSqlite e.1
+            ⊎ (has_record_table (state S.Store conn).now.schema ≡ true)) }
+    {
+        let _settled = conn.is_autocommit();
+        if has_record_table(conn.schema()) {
+            return Err((conn, StoreFault::NotOurs));
+        }
+        let Ok(rows) = first_rows(alloc) else {
+            return Err((conn, StoreFault::Memory));
+        };
+        let mut store = Store { conn };
+        match store.make(&rows) {
+            Ok(()) => Ok(store),
+            Err(error) => Err((store.release(), fault_of(error))),
+        }
+    }
+
+    /// Makes the tables and puts the first rows.
+    fn make(&mut self, first: &Rows) -> Result<(), Error>
+        requires { first.now ≡ first_rows }
+        ensures stored { HasCleanDisk (state S.Store self.new) → OnOk result
+            (Begins (state S.Store self.old).now (state S.Store self.new).now) }
+        ensures only { HasCleanDisk (state S.Store self.new) → OnOk result ((trees : Trees)
+            → (state S.Store self.new).may_leave trees
+            → trees ≡ (state S.Store self.new).now.trees) }
+        ensures kept { HasCleanDisk (state S.Store self.new)
+            → IsTrue (state S.Store self.new).is_open → OnErr result
+            (((state S.Store self.new).now ≡ (state S.Store self.old).now)
+            × ((state S.Store self.new).committed ≡ (state S.Store self.old).committed)) }
+        ensures crash { Survives (state S.Store self.old) (state S.Store self.new)
+            (CommitsBy Begins (state S.Store self.old).now) }
+    {
+        let _settled = self.conn.is_autocommit();
+        let mut tx = self.conn.transaction();
+        make_tables(&mut tx)?;
+        put_rows(&mut tx, first)?;
+        tx.commit()
+    }
+
+    /// Gives the connection back.
+    pub fn release(self) -> Connection<S>
+        ensures same { result ≡ self }
+        ensures settled { result.in_transaction ≡ false }
+    {
+        let Store { conn } = self;
+        conn
+    }
+
+    /// Puts the rows of all tables by key, in one transaction, which is committed as a whole or not at all.
+    pub fn write_rows(&mut self, rows: &Rows) -> Result<(), StoreFault>
+        ensures stored { HasCleanDisk (state S.Store self.new) → OnOk result
+            (PutsIn (changes.put_rows rows.now) (state S.Store self.old).now
+            (state S.Store self.new).now) }
+        ensures only { HasCleanDisk (state S.Store self.new) → OnOk result ((trees : Trees)
+            → (state S.Store self.new).may_leave trees
+            → trees ≡ (state S.Store self.new).now.trees) }
+        ensures kept { HasCleanDisk (state S.Store self.new)
+            → IsTrue (state S.Store self.new).is_open → OnErr result
+            (((state S.Store self.new).now ≡ (state S.Store self.old).now)
+            × ((state S.Store self.new).committed ≡ (state S.Store self.old).committed)) }
+        ensures crash_stored { Survives (state S.Store self.old) (state S.Store self.new)
+            (CommitsBy (PutsIn (changes.put_rows rows.now)) (state S.Store self.old).now) }
+        ensures fault { IfErr result IsOfSqlite }
+    {
+        match self.commit_rows(rows) {
+            Ok(()) => Ok(()),
+            Err(error) => Err(fault_of(error)),
+        }
+    }
+
+    /// Puts the rows by key in one transaction, with the error that SQLite gave.
+    fn commit_rows(&mut self, rows: &Rows) -> Result<(), Error>
+        ensures stored { HasCleanDisk (state S.Store self.new) → OnOk result
+            (PutsIn (changes.put_rows rows.now) (state S.Store self.old).now
+            (state S.Store self.new).now) }
+        ensures only { HasCleanDisk (state S.Store self.new) → OnOk result ((trees : Trees)
+            → (state S.Store self.new).may_leave trees
+            → trees ≡ (state S.Store self.new).now.trees) }
+        ensures kept { HasCleanDisk (state S.Store self.new)
+            → IsTrue (state S.Store self.new).is_open → OnErr result
+            (((state S.Store self.new).now ≡ (state S.Store self.old).now)
+            × ((state S.Store self.new).committed ≡ (state S.Store self.old).committed)) }
+        ensures crash_stored { Survives (state S.Store self.old) (state S.Store self.new)
+            (CommitsBy (PutsIn (changes.put_rows rows.now)) (state S.Store self.old).now) }
+    {
+        let _settled = self.conn.is_autocommit();
+        let mut tx = self.conn.transaction();
+        put_rows(&mut tx, rows)?;
+        tx.commit()
+    }
+
+    /// The rows of all tables, each table by its key. They are read in a transaction that writes nothing.
+    pub fn load_rows(&mut self, alloc: Global) -> Result<Rows, StoreFault>
+        ensures list { HasCleanDisk (state S.Store self.new) → IfOk result (λ loaded. (rows : _)
+            → Stores (state S.Store self.old).now rows → loaded ≡ rows) }
+        ensures version { IfOk result (λ loaded. is_version_1 loaded.metas ≡ true) }
+        ensures kept { HasCleanDisk (state S.Store self.new)
+            → IsTrue (state S.Store self.new).is_open
+            → ((state S.Store self.new).now ≡ (state S.Store self.old).now)
+            × ((state S.Store self.new).committed ≡ (state S.Store self.old).committed) }
+        ensures crash { Survives (state S.Store self.old) (state S.Store self.new) (λ _. ⊥) }
+        ensures missing { is_ours (state S.Store self.old).now.schema ≡ false
+            → IsErrAnd result (λ e. e ≡ fault.NotOurs) }
+        ensures fault { HasCleanDisk (state S.Store self.new) → IfErr result (λ e. IsOfSqlite e
+            ⊎ ((e ≡ fault.NotOurs) × IsNoRecord (state S.Store self.old).now)) }
+    {
+        if !is_ours(self.conn.schema()) {
+            return Err(StoreFault::NotOurs);
+        }
+        let rows = match self.read_rows(alloc) {
+            Ok(rows) => rows,
+            Err(fault) => return Err(fault_of_load(fault)),
+        };
+        if !is_version_1(&rows.metas) {
+            return Err(StoreFault::NotOurs);
+        }
+        Ok(rows)
+    }
+
+    /// The rows of all tables, whatever `meta` says, in a transaction that is dropped.
+    fn read_rows(&mut self, alloc: Global) -> Result<Rows, LoadFault>
+        ensures list { HasCleanDisk (state S.Store self.new) → IfOk result (λ loaded. (rows : _)
+            → Stores (state S.Store self.old).now rows → loaded ≡ rows) }
+        ensures fault { HasCleanDisk (state S.Store self.new) → IfErr result (λ e.
+            e ≡ unread.NotOurs → (rows : _) → Stores (state S.Store self.old).now rows
+            → ¬ AreTexts rows) }
+        ensures kept { HasCleanDisk (state S.Store self.new)
+            → IsTrue (state S.Store self.new).is_open
+            → ((state S.Store self.new).now ≡ (state S.Store self.old).now)
+            × ((state S.Store self.new).committed ≡ (state S.Store self.old).committed) }
+        ensures crash { Survives (state S.Store self.old) (state S.Store self.new) (λ _. ⊥) }
+    {
+        let _settled = self.conn.is_autocommit();
+        let mut tx = self.conn.transaction();
+        load_rows(alloc, &mut tx)
+    }
+}

@@ -1,0 +1,9 @@
+mod QueryLemmas
+mod ValueLemmas
+mod SelectLemmas
+mod ShownLemmas
+mod TableLemmas
+mod RiseLemmas
+mod RowsLemmas
+mod OursLemmas
+mod VersionLemmas

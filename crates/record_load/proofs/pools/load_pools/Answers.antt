@@ -1,0 +1,38 @@
+use Rattle.std.proofs.Common.{◌≡◌, ◌∙◌, ap, subst, map}
+use Rattle.std.specs.List.{AllByRecursion}
+use Rattle.sqlite.specs.Held.{state}
+use Rattle.sqlite_rules.specs.Lists.{Has}
+use Rattle.record_rows.specs.Rows.{Rows}
+use Rattle.record_tables.specs.Holds.{Stores}
+use Rattle.record_tables.proofs.OrderLemmas.{pool_order}
+use Rattle.record_load.specs.Loads.{IsPoolText}
+use Rattle.record_load.specs.Shown.{first_2}
+use Rattle.record_load.specs.declared.faults.LoadFault.TheVariants.{NotOurs}
+use Rattle.record_load.proofs.QueryLemmas.{goes_stay}
+use Rattle.record_load.proofs.RiseLemmas.{sorted_is}
+use Rattle.record_load.proofs.TableLemmas.{pools_are, pools_stay, pools_read}
+use Rattle.record_load.proofs.ValueLemmas.{told_on}
+use Rattle.record_load.proofs.pools.load_pools.Goals as goal
+
+pub returns-in_err-pools-clause-fault : goal.returns-in_err-pools-clause-fault
+returns-in_err-pools-clause-fault g c clean =
+    let old = state g.S.Store c.args.tx.now.conn.now in
+    let new = state g.S.Store c.query_all.new.tx.conn.now in
+    let got = c.in_ok-shown.shown.items in
+    told_on c.from_residual-in_err-pools.result c.in_err-pools.field-0.0 (λ e. e ≡ NotOurs → (rows : Rows) → Stores old.now rows → ¬ AllByRecursion IsPoolText rows.pools) c.from_residual-in_err-pools.ensures.1
+    (λ is rows stored all. let it = c.in_err-pools.ensures.kind is in it.2 (pools_read old new got rows stored (c.in_ok-shown.ensures.shown clean) all it.0 (subst (λ l. Has l it.0) c.deref.ensures.value it.1)))
+
+pub returns-clause-list : goal.returns-clause-list
+returns-clause-list g c clean rows stored =
+    let old = state g.S.Store c.args.tx.now.conn.now in
+    let new = state g.S.Store c.query_all.new.tx.conn.now in
+    let read = c.in_ok-pools.pools.items in
+    sorted_is pool_order read c.sort_pools.new.pools.items rows.pools
+    (pools_are old new c.in_ok-shown.shown.items rows stored (c.in_ok-shown.ensures.shown clean) read (c.in_ok-pools.ensures.ok ∙ ap (map first_2) c.deref.ensures.value))
+    c.sort_pools.ensures.permutation c.sort_pools.ensures.sorted stored.keys.pools
+
+pub returns-clause-ok : goal.returns-clause-ok
+returns-clause-ok g c =
+    let old = state g.S.Store c.args.tx.now.conn.now in
+    let new = state g.S.Store c.query_all.new.tx.conn.now in
+    goes_stay old new c.in_ok-shown.ensures.ok (λ clean. pools_stay old new c.in_ok-shown.shown.items (c.in_ok-shown.ensures.shown clean))

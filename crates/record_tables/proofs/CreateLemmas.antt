@@ -1,0 +1,107 @@
+-- What the statements that make the record do to a database whose schema is known.
+use Rattle.std.proofs.Common.{◌≡◌, ℕ, zero, suc, ◌+◌, ◌<◌, List, [], ◌∷◌, ◌++◌, false, None, Ok, Err, Result, OnOk, refl, sym, ap, subst, ◌∙◌, arith}
+use Rattle.std.specs.List.{AllByRecursion}
+use Rattle.std.proofs.lemmas.List.Sorted.{IsPermutation-refl}
+use Rattle.sqlite_trees.specs.Tree.{Trees}
+use Rattle.sqlite_schema.specs.declared.schema.Schema.{Schema}
+use Rattle.sqlite_schema.specs.declared.schema.Table.{Table}
+use Rattle.sqlite_schema.specs.declared.command.Command.TheVariants.{CreateTable, CreateIndex}
+use Rattle.sqlite_catalog.specs.Calls.{CreatesIndex}
+use Rattle.sqlite_catalog.specs.Change.{indexed}
+use Rattle.sqlite_rules.proofs.ListLemmas.{all_has, all_from}
+use Rattle.sqlite.specs.Change.{created, next_tree, KeepsRows}
+use Rattle.sqlite.specs.declared.error.Error.{Error}
+use Rattle.sqlite.specs.Effect.{Database}
+use Rattle.sqlite.specs.Does.{Tally, Does, Defines, MakesIndex, lacks_sequence}
+use Rattle.sqlite.specs.State.{State, mode_of, Writes, ExecutesInside}
+use Rattle.sqlite.proofs.Callers.{runs_as}
+use Rattle.record_tables.specs.Schema.{meta_table, pool_table, dag_table, run_table, instance_table, attempt_table, by_instance, create_meta, create_pool, create_dag, create_run, create_instance, create_attempt, create_index, no_schema, schema_1, schema_2, schema_3, schema_4, schema_5, schema_6, record_schema, text_at, schema_at}
+use Rattle.record_tables.specs.Holds.{Shows, Stores}
+use Rattle.record_tables.specs.Empties.{IsEmpty, Extends, no_rows}
+use Rattle.record_tables.proofs.TextLemmas.{Makes, make_meta, make_pool, make_dag, make_run, make_instance, make_attempt, make_index}
+use Rattle.record_tables.proofs.ReplaceLemmas.{went, same_value}
+
+pub creates : (schema after : Schema) (sql : List ℕ) (table : Table) → Makes schema sql table after → lacks_sequence after ≡ false → (old new : State) (r : Result ℕ Error) → old.now.schema ≡ schema
+    → ExecutesInside 0 sql [] old new r → OnOk r ((new.now.schema ≡ after) × (new.now.trees (next_tree schema) ≡ []) × KeepsRows schema.tables old.now.trees new.now.trees)
+creates schema after sql table m unsequenced old new (Err e) has h = tt
+creates schema after sql table m unsequenced old new (Ok count) has h =
+    let w = subst (λ t. Writes old new None CreateTable t [] count) m.1 (runs_as sql [] old new schema has CreateTable m.0 m.2 count h.0) in
+    let all = went w.changed in
+    let first = went all.1 in
+    let made = first.1 in
+    let same : made.table ≡ table = same_value (sym made.defined ∙ m.3) in
+    let is : first.0.schema ≡ after = made.is ∙ ap (λ s. created s made.table) has ∙ ap (created schema) same ∙ m.4 in
+    let plain : lacks_sequence first.0.schema ≡ false = ap lacks_sequence is ∙ unsequenced in
+    let now : new.now ≡ first.0 = ap (λ (p : Tally × Database). p.1) (same_value all.2) ∙ same_value (rw plain at first.2) in (
+      ap (λ (d : Database). d.schema) now ∙ is,
+      ap (λ (d : Database). d.trees (next_tree schema)) now ∙ subst (λ s. first.0.trees (next_tree s) ≡ []) has made.empty,
+      subst (λ (d : Database). KeepsRows schema.tables old.now.trees d.trees) (sym now) (subst (λ s. KeepsRows s.tables old.now.trees first.0.trees) has made.others),
+    )
+
+-- the index leaves the rows of each table
+pub indexes : (old new : State) (count : ℕ) → old.now.schema ≡ schema_6 → ExecutesInside 0 create_index [] old new (Ok count) → (new.now.schema ≡ record_schema) × KeepsRows schema_6.tables old.now.trees new.now.trees
+indexes old new count has h =
+    let w = subst (λ t. Writes old new None (CreateIndex 5) t [] count) make_index.1 (runs_as create_index [] old new schema_6 has (CreateIndex 5) make_index.0 make_index.2 count h.0) in
+    let done = subst (λ s. Does old.step_limit (mode_of old) [] (record old.now { schema = s }) create_index None (CreateIndex 5) (Ok (w.tally, new.now))) has w.changed in
+    let on : Defines (mode_of old) (MakesIndex create_index (record old.now { schema = schema_6 }) (attempt_table 9)) (Ok (w.tally, new.now)) = done in
+    let all = went on in
+    let made : CreatesIndex schema_6 (attempt_table 9) create_index old.now.trees all.0.schema all.0.trees = all.1 in
+    let same : made.index ≡ by_instance 9 0 = same_value (sym made.defined ∙ make_index.3) in
+    let now : new.now ≡ all.0 = ap (λ (p : Tally × Database). p.1) (same_value all.2) in (
+      ap (λ (d : Database). d.schema) now ∙ made.is ∙ ap (indexed schema_6 (attempt_table 9)) same ∙ make_index.4,
+      subst (λ (d : Database). KeepsRows schema_6.tables old.now.trees d.trees) (sym now) made.rows,
+    )
+
+abbrev AreEmpty : List Table → Trees → Type 0
+AreEmpty tables db = AllByRecursion (λ t. db t.tree ≡ []) tables
+
+still_empty : (tables : List Table) (old new : Trees) → KeepsRows tables old new → AreEmpty tables old → AreEmpty tables new
+still_empty tables old new same empty = all_from _ tables (λ t h. all_has _ tables t same h ∙ all_has _ tables t empty h)
+
+one_more : (tables : List Table) (table : Table) (db : Trees) → AreEmpty tables db → db table.tree ≡ [] → AreEmpty (tables ++ table ∷ []) db
+one_more [] table db empty none = (none, tt)
+one_more (t ∷ tables) table db empty none = (empty.0, one_more tables table db empty.1 none)
+
+extends : (schema after : Schema) (sql : List ℕ) (table : Table) → Makes schema sql table after → lacks_sequence after ≡ false → (old new : State) (r : Result ℕ Error) → ExecutesInside 0 sql [] old new r
+    → OnOk r (Extends schema after old.now new.now)
+extends schema after sql table m unsequenced old new (Err e) h = tt
+extends schema after sql table m unsequenced old new (Ok count) h = λ was.
+    let it = creates schema after sql table m unsequenced old new (Ok count) was.is h in
+    let left = still_empty schema.tables old.now.trees new.now.trees it.2 was.empty in
+    let all = one_more schema.tables (record table { tree = next_tree schema }) new.now.trees left it.1 in
+    record { is = it.0; empty = subst (λ (s : Schema). AreEmpty s.tables new.now.trees) m.4 all }
+
+-- each statement takes the empty tables before it to those after it
+pub made : (at : ℕ) → at < 7 → (old new : State) (r : Result ℕ Error) → ExecutesInside 0 (text_at at) [] old new r → OnOk r (Extends (schema_at at) (schema_at (at + 1)) old.now new.now)
+made zero low = extends no_schema schema_1 create_meta (meta_table 0) make_meta refl
+made (suc zero) low = extends schema_1 schema_2 create_pool (pool_table 0) make_pool refl
+made (suc (suc zero)) low = extends schema_2 schema_3 create_dag (dag_table 0) make_dag refl
+made (suc (suc (suc zero))) low = extends schema_3 schema_4 create_run (run_table 0) make_run refl
+made (suc (suc (suc (suc zero)))) low = extends schema_4 schema_5 create_instance (instance_table 0) make_instance refl
+made (suc (suc (suc (suc (suc zero))))) low = extends schema_5 schema_6 create_attempt (attempt_table 0) make_attempt refl
+made (suc (suc (suc (suc (suc (suc zero)))))) low = indexed_empty
+  where
+    indexed_empty : (old new : State) (r : Result ℕ Error) → ExecutesInside 0 create_index [] old new r → OnOk r (Extends schema_6 record_schema old.now new.now)
+    indexed_empty old new (Err e) h = tt
+    indexed_empty old new (Ok count) h = λ was.
+        let it = indexes old new count was.is h in
+        record { is = it.0; empty = still_empty schema_6.tables old.now.trees new.now.trees it.1 was.empty }
+made (suc (suc (suc (suc (suc (suc (suc n))))))) low = absurd (omega (arith, low))
+
+shows_none : (table : Table) (db : Trees) → db table.tree ≡ [] → Shows table db []
+shows_none table db none = record { rising = rw none (tt, tt); is = rw none (IsPermutation-refl []) }
+
+-- the empty tables of the record store no rows
+pub stores_none : (db : Database) → IsEmpty record_schema db → Stores db no_rows
+stores_none db e = record {
+  holds = record {
+    schema = e.is;
+    metas = shows_none (meta_table 0) db.trees e.empty.0;
+    pools = shows_none (pool_table 1) db.trees e.empty.1.0;
+    dags = shows_none (dag_table 3) db.trees e.empty.1.1.0;
+    runs = shows_none (run_table 5) db.trees e.empty.1.1.1.0;
+    instances = shows_none (instance_table 7) db.trees e.empty.1.1.1.1.0;
+    attempts = shows_none (attempt_table 9) db.trees e.empty.1.1.1.1.1.0;
+  };
+  keys = record { metas = refl; pools = refl; dags = refl; runs = refl; instances = refl; attempts = refl };
+}
