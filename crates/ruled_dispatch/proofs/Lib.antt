@@ -1,2 +1,4 @@
 mod Sums
 mod JobSteps
+mod ReportSteps
+mod Each

@@ -1,18 +1,21 @@
-//! The lanes: the queue of jobs that the director and the workers share.
-ghost use Rattle.std.specs.Prelude.{◌≡◌, ◌+◌, ◌<◌, ◌≤◌, []};
+//! The lanes: the queue of jobs and the queue of reports, which the director and the workers share.
+ghost use Rattle.std.specs.Prelude.{◌≡◌, ◌+◌, ◌*◌, ◌<◌, ◌≤◌, max, []};
 ghost use Rattle.crossbeam_queue.specs.Passes.{ruled_capacity};
 
-use crate::items::JobOrStop;
+use crate::items::{JobOrStop, Report, WorkerReport};
 use crate::jobs_rule::{Counts, JoinPass, Sends, Takes};
-use crate::passes::{DirectorPass, JobQueue, WorkerPass, worker_pass};
+use crate::passes::{DirectorPass, JobQueue, ReportQueue, WorkerPass, worker_pass};
+use crate::reports_rule::{Compares, Hears, JoinTeller, Tells};
 use std::alloc::{AllocError, Global};
 use std::sync::Wait;
 
-/// What the director and the workers share: the queue of jobs.
+/// What the director and the workers share: the queue of jobs and the queue of reports.
 #[derive(Drop)]
 pub struct Lanes {
     jobs: JobQueue,
-    ghost bounded: { ruled_capacity jobs ≤ 80 },
+    reports: ReportQueue,
+    ghost jobs_bounded: { ruled_capacity jobs ≤ 80 },
+    ghost reports_bounded: { ruled_capacity reports ≤ 128 },
 }
 
 /// How many items were left when the last thread had ended.
@@ -20,16 +23,18 @@ pub struct Lanes {
 pub struct Tally {
     /// Jobs and stops that no worker took.
     pub jobs: u32,
-    /// Reports that the director did not hear: 0, as long as there is no queue of reports.
+    /// Reports that the director did not hear.
     pub reports: u32,
 }
 
 impl Lanes {
-    ghost use Rattle.std.specs.Prelude.{IfOk, IfErr, MatchResult, MatchOption, ◌∷◌, ◌++◌, All, vec_len, length, List, ℕ};
-    ghost use Rattle.ruled_dispatch.specs.declared.items.JobOrStop.{JobOrStop};
-    ghost use Rattle.ruled_dispatch.specs.Lanes.{sent_of, taken_of, capacity_of, IsDirectorOf, IsWorkerOf, HasWorkers, AreAllOf, IsSettled, WasFull};
+    ghost use Rattle.std.specs.Prelude.{IfOk, IfErr, IfSome, IfNone, ◌∷◌, ◌++◌, All, vec_len, ℕ};
+    ghost use Rattle.ruled_dispatch.specs.Lanes.{sent_of, heard_of, taken_of, told_of, job_capacity_of, report_capacity_of};
+    ghost use Rattle.ruled_dispatch.specs.Lanes.{IsDirectorOf, IsWorkerOf, AreNumbered, HasWorkers, AreAllOf};
+    ghost use Rattle.ruled_dispatch.specs.Lanes.{JobsWereFull, IsSettledBut, IsHeardBut};
 
-    /// A queue with room for a job on each lane and a stop for each worker, the pass that sends, and a pass for each worker.
+    /// A queue with room for a job on each lane and a stop for each worker, one with room for two reports of each lane, the pass that
+    /// sends and hears, and a pass for each worker.
     ///
     /// There are up to 64 lanes and from 1 to 16 workers. All memory is taken here.
     pub fn open(
@@ -39,18 +44,28 @@ impl Lanes {
     ) -> Result<(Lanes, DirectorPass, Vec<WorkerPass>), AllocError>
         requires lanes { lanes ≤ 64 }
         requires workers { (0 < workers) × (workers ≤ 16) }
-        ensures room { IfOk result (λ r. capacity_of r.0 ≡ lanes + workers) }
+        ensures room { IfOk result (λ r. job_capacity_of r.0 ≡ lanes + workers) }
+        ensures report_room { IfOk result (λ r. report_capacity_of r.0 ≡ max 1 (2 * lanes)) }
         ensures workers { IfOk result (λ r. vec_len r.2 ≡ workers) }
         ensures all { IfOk result (λ r. AreAllOf r.0 r.1 r.2.items) }
+        ensures numbers { IfOk result (λ r. AreNumbered r.2.items) }
         ensures sent { IfOk result (λ r. sent_of r.1 ≡ []) }
+        ensures heard { IfOk result (λ r. heard_of r.1 ≡ []) }
         ensures taken { IfOk result (λ r. All (λ w. taken_of w ≡ []) r.2.items) }
+        ensures told { IfOk result (λ r. All (λ w. told_of w ≡ []) r.2.items) }
     {
-        let (jobs, mut director) = JobQueue::ruled(alloc, lanes + workers)?;
+        let (jobs, mut sender) = JobQueue::ruled(alloc, lanes + workers)?;
+        let (reports, mut hearer) = ReportQueue::ruled(alloc, (2 * lanes).max(1))?;
         let mut passes = Vec::new(alloc);
-        for _made in 0..workers {
-            passes.push(worker_pass(&jobs, &mut director))?;
+        for made in 0..workers {
+            let pass = worker_pass(&jobs, &mut sender, &reports, &mut hearer, made as u32);
+            passes.push(pass)?;
         }
-        Ok((Lanes { jobs }, DirectorPass { jobs: director }, passes))
+        let director = DirectorPass {
+            jobs: sender,
+            reports: hearer,
+        };
+        Ok((Lanes { jobs, reports }, director, passes))
     }
 
     /// Puts an item behind those that were sent before, or hands it back where the queue was full at one moment of the call.
@@ -61,8 +76,10 @@ impl Lanes {
         item: JobOrStop,
     ) -> Result<(), JobOrStop>
         requires { IsDirectorOf self.now pass.old }
-        ensures sent { MatchResult result (λ _. sent_of pass.new ≡ sent_of pass.old ++ item ∷ []) (λ back. (back ≡ item) × (sent_of pass.new ≡ sent_of pass.old)) }
-        ensures full { IfErr result (λ _. WasFull self.now pass.old) }
+        ensures sent { IfOk result (λ _. sent_of pass.new ≡ sent_of pass.old ++ item ∷ []) }
+        ensures back { IfErr result (λ it. (it ≡ item) × (sent_of pass.new ≡ sent_of pass.old)) }
+        ensures full { IfErr result (λ _. JobsWereFull self.now pass.old) }
+        ensures heard { heard_of pass.new ≡ heard_of pass.old }
         ensures pass { IsDirectorOf self.now pass.new }
         ensures workers { (n : ℕ) → HasWorkers pass.old n → HasWorkers pass.new n }
     {
@@ -73,28 +90,77 @@ impl Lanes {
     /// call.
     pub fn take<R: Wait>(&self, rt: &R, pass: &mut WorkerPass) -> Option<JobOrStop>
         requires { IsWorkerOf self.now pass.old }
-        ensures taken { MatchOption result (taken_of pass.new ≡ taken_of pass.old) (λ item. taken_of pass.new ≡ taken_of pass.old ++ item ∷ []) }
+        ensures taken { IfSome result (λ item. taken_of pass.new ≡ taken_of pass.old ++ item ∷ []) }
+        ensures none { IfNone result (taken_of pass.new ≡ taken_of pass.old) }
+        ensures told { told_of pass.new ≡ told_of pass.old }
         ensures pass { IsWorkerOf self.now pass.new }
+        ensures number { pass.new.number ≡ pass.old.number }
     {
         self.jobs.pop_as::<Takes, R>(rt, &mut pass.jobs)
     }
 
-    /// How many items are left, once all passes are back: each item was sent as often as it was taken or is left.
+    /// Puts a report behind those that were told before, or hands it back where the queue was full at one moment of the call.
+    pub fn tell<R: Wait>(&self, rt: &R, pass: &mut WorkerPass, report: Report) -> Result<(), Report>
+        requires { IsWorkerOf self.now pass.old }
+        ensures told { IfOk result (λ _. told_of pass.new ≡ told_of pass.old ++ report ∷ []) }
+        ensures back { IfErr result (λ it. (it ≡ report) × (told_of pass.new ≡ told_of pass.old)) }
+        ensures taken { taken_of pass.new ≡ taken_of pass.old }
+        ensures pass { IsWorkerOf self.now pass.new }
+        ensures number { pass.new.number ≡ pass.old.number }
+    {
+        let told = WorkerReport {
+            worker: pass.number,
+            report,
+        };
+        match self
+            .reports
+            .push_as::<Tells, R>(rt, &mut pass.reports, told)
+        {
+            Ok(()) => Ok(()),
+            Err(back) => Err(back.report),
+        }
+    }
+
+    /// Takes the report that was told first of those in the queue, or gives `None` where the queue was empty at one moment of the
+    /// call.
+    pub fn hear<R: Wait>(&self, rt: &R, pass: &mut DirectorPass) -> Option<WorkerReport>
+        requires { IsDirectorOf self.now pass.old }
+        ensures heard { IfSome result (λ told. heard_of pass.new ≡ heard_of pass.old ++ told ∷ []) }
+        ensures none { IfNone result (heard_of pass.new ≡ heard_of pass.old) }
+        ensures worker { IfSome result (λ told. (n : ℕ) → HasWorkers pass.old n → told.worker < n) }
+        ensures sent { sent_of pass.new ≡ sent_of pass.old }
+        ensures pass { IsDirectorOf self.now pass.new }
+        ensures workers { (n : ℕ) → HasWorkers pass.old n → HasWorkers pass.new n }
+    {
+        self.reports.pop_as::<Hears, R>(rt, &mut pass.reports)
+    }
+
+    /// How many items and reports are left, once all passes are back: each item was sent as often as it was taken or is left, what a
+    /// worker told is what was heard of it and then what is left of it, and of no other number anything was heard.
     pub fn tally<R: Wait>(self, rt: &R, director: DirectorPass, workers: Vec<WorkerPass>) -> Tally
         requires { AreAllOf self director workers.items }
-        ensures jobs { (left : List JobOrStop) × (length left ≡ result.jobs) × IsSettled director workers.items left }
-        ensures reports { result.reports ≡ 0 }
+        ensures jobs { IsSettledBut director workers.items result.jobs }
+        ensures reports { IsHeardBut director workers.items result.reports }
     {
-        let Lanes { jobs } = self;
-        let DirectorPass { jobs: mut pass } = director;
+        let Lanes { jobs, reports } = self;
+        let DirectorPass {
+            jobs: mut sender,
+            reports: mut hearer,
+        } = director;
         for worker in workers {
-            let WorkerPass { jobs: other } = worker;
-            jobs.absorb::<JoinPass>(&mut pass, other);
+            let WorkerPass {
+                jobs: taker,
+                reports: teller,
+                number: _,
+            } = worker;
+            jobs.absorb::<JoinPass>(&mut sender, taker);
+            reports.absorb::<JoinTeller>(&mut hearer, teller);
         }
-        let left = jobs.len_as::<Counts, R>(rt, &mut pass);
+        let jobs_left = jobs.len_as::<Counts, R>(rt, &mut sender);
+        let reports_left = reports.len_as::<Compares, R>(rt, &mut hearer);
         Tally {
-            jobs: left as u32,
-            reports: 0,
+            jobs: jobs_left as u32,
+            reports: reports_left as u32,
         }
     }
 }

@@ -1,10 +1,13 @@
-//! Worked queues: what the queue of jobs answers to questions that are lines of standard input.
+//! Worked queues: what the queues of jobs and reports answer to questions that are lines of standard input.
 //!
 //! A question is printed with its answer behind ` => `; a line that begins with `#` and an empty line are printed as they are.
-//! `turns LANES WORKERS WORD..` is one thread that does one word after another, and `round LANES WORKERS JOBS` sends jobs from one
-//! thread to several. What is printed is the same whatever the schedule of the threads is.
+//! `turns LANES WORKERS WORD..` is one thread that does one word after another, `round LANES WORKERS JOBS` sends jobs from one thread to
+//! several, and `reports LANES WORKERS COUNT` has each of several threads tell so many reports, which one hears. What is printed is the
+//! same whatever the schedule of the threads is.
 #![tactic(auto)]
 
+mod report_rounds;
+mod reports;
 mod rounds;
 mod seats;
 mod turns;
@@ -54,6 +57,7 @@ fn write_answer<R: Threads + Wait + Print + Sync>(
     match subject {
         "turns" => turns::write_answer(rt, alloc, lanes, workers, rest),
         "round" => rounds::write_answer(rt, alloc, lanes, workers, rest),
+        "reports" => report_rounds::write_answer(rt, alloc, lanes, workers, rest),
         _ => rt.print(" no such subject"),
     }
 }

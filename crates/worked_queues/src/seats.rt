@@ -2,7 +2,7 @@
 ghost use Rattle.std.specs.Prelude.{◌≡◌, ◌<◌, ◌≤◌, IfOk, vec_len};
 ghost use Rattle.ruled_dispatch.specs.Lanes.{AreAllOf};
 
-use ruled_dispatch::{DirectorPass, JobOrStop, Lanes, Tally, WorkerPass};
+use ruled_dispatch::{DirectorPass, JobOrStop, Lanes, Report, Tally, WorkerPass, WorkerReport};
 use std::alloc::{AllocError, Global};
 use std::sync::Wait;
 
@@ -40,6 +40,19 @@ impl Seats {
             return None;
         }
         self.lanes.take(rt, &mut self.workers[worker])
+    }
+
+    /// The worker with this number tells; where there is none the report comes back.
+    pub fn tell<R: Wait>(&mut self, rt: &R, worker: usize, report: Report) -> Result<(), Report> {
+        if worker >= self.workers.len() {
+            return Err(report);
+        }
+        self.lanes.tell(rt, &mut self.workers[worker], report)
+    }
+
+    /// The director hears.
+    pub fn hear<R: Wait>(&mut self, rt: &R) -> Option<WorkerReport> {
+        self.lanes.hear(rt, &mut self.director)
     }
 
     /// What is left.

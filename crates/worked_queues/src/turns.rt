@@ -1,7 +1,8 @@
 //! One thread does one word after another: `NUMBER` sends the job with that serial, `stop` sends a stop, and `take` or `take:WORKER`
-//! has a worker take, the first one where none is named.
+//! has a worker take, the first one where none is named; `tell:WORKER:SERIAL:STAGE` has a worker tell, and `hear` hears.
 ghost use Rattle.std.specs.Prelude.{◌<◌, ◌≤◌};
 
+use crate::reports::{read_report, write_heard, write_report};
 use crate::seats::Seats;
 use queue_rounds::numbered_job;
 use ruled_dispatch::JobOrStop;
@@ -39,8 +40,12 @@ fn write_turn<R: Wait + Print>(
     if let Some(worker) = word.strip_prefix("take:") {
         return write_taken(rt, seats, worker.parse().unwrap_or(usize::MAX));
     }
+    if let Some(told) = word.strip_prefix("tell:") {
+        return write_told(rt, seats, told);
+    }
     match word {
         "take" => write_taken(rt, seats, 0),
+        "hear" => write_hearing(rt, seats),
         "stop" => write_sent(rt, seats, JobOrStop::Stop),
         _ => match word.parse() {
             Ok(serial) => {
@@ -69,6 +74,31 @@ fn write_taken<R: Wait + Print>(rt: &R, seats: &mut Seats, worker: usize) -> io:
         Some(item) => {
             rt.print(" took:")?;
             write_item(rt, &item)
+        }
+        None => rt.print(" none"),
+    }
+}
+
+// Has a worker tell, and writes whether the report was accepted, or which one came back.
+fn write_told<R: Wait + Print>(rt: &R, seats: &mut Seats, word: &str) -> io::Result<()> {
+    let Some((worker, report)) = read_report(word) else {
+        return rt.print(" no such report");
+    };
+    match seats.tell(rt, worker, report) {
+        Ok(()) => rt.print(" told"),
+        Err(back) => {
+            rt.print(" back:")?;
+            write_report(rt, &back)
+        }
+    }
+}
+
+// Hears, and writes what was heard.
+fn write_hearing<R: Wait + Print>(rt: &R, seats: &mut Seats) -> io::Result<()> {
+    match seats.hear(rt) {
+        Some(heard) => {
+            rt.print(" heard:")?;
+            write_heard(rt, &heard)
         }
         None => rt.print(" none"),
     }
