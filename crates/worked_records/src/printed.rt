@@ -1,0 +1,67 @@
+//! Rows, printed.
+use record_rows::Rows;
+use std::io;
+
+/// Prints the rows of all tables, a row a line, with their columns as sqlite3 prints them.
+pub fn print_rows<R: Print>(rt: &R, rows: &Rows) -> io::Result<()> {
+    print_whole(rt, rows)?;
+    print_graphs(rt, rows)?;
+    print_instances(rt, rows)?;
+    print_attempts(rt, rows)
+}
+
+fn print_whole<R: Print>(rt: &R, rows: &Rows) -> io::Result<()> {
+    for m in &rows.metas {
+        println!(rt;
+            "meta {}|{}|{}|{}|{}",
+            m.one, m.version, m.now, m.next_serial, m.lanes
+        )?;
+    }
+    for p in &rows.pools {
+        println!(rt; "pool {}|{}", p.name, p.size)?;
+    }
+    Ok(())
+}
+
+fn print_graphs<R: Print>(rt: &R, rows: &Rows) -> io::Result<()> {
+    for d in &rows.dags {
+        println!(rt; "dag {}|{}|{}", d.dag_id, d.body, d.paused)?;
+    }
+    for r in &rows.runs {
+        print!(rt; "run {}|{}|{}|", r.dag_id, r.logical, r.data_start)?;
+        println!(rt; "{}|{}|{}", r.data_end, r.kind, r.phase)?;
+    }
+    Ok(())
+}
+
+fn print_instances<R: Print>(rt: &R, rows: &Rows) -> io::Result<()> {
+    for i in &rows.instances {
+        print!(rt; "instance {}|{}|{}|", i.dag_id, i.logical, i.task_id)?;
+        println!(rt; "{}|{}", i.verdict, i.since)?;
+    }
+    Ok(())
+}
+
+fn print_attempts<R: Print>(rt: &R, rows: &Rows) -> io::Result<()> {
+    for a in &rows.attempts {
+        print!(rt;
+            "attempt {}|{}|{}|{}|",
+            a.serial, a.dag_id, a.logical, a.task_id
+        )?;
+        print!(rt; "{}|{}|", a.try_number, a.slots)?;
+        print_if(rt, a.started)?;
+        rt.print("|")?;
+        print_if(rt, a.ended)?;
+        rt.print("|")?;
+        print_if(rt, a.outcome)?;
+        rt.println("")?;
+    }
+    Ok(())
+}
+
+fn print_if<R: Print>(rt: &R, value: Option<i64>) -> io::Result<()> {
+    match value {
+        Some(n) => print!(rt; "{n}"),
+        None => Ok(()),
+    }
+}
