@@ -7,8 +7,11 @@ use Rattle.sqlite.specs.Table.{Table}
 use Rattle.sqlite.specs.Tree.{Trees}
 use Rattle.sqlite_schema.specs.Names.{same_name}
 use Rattle.record_rows.specs.Rows.{Rows}
+use Rattle.record_changes.specs.Changes.{put_rows, rows_between}
+use Rattle.sched_core.specs.Changes.{Planned}
 use Rattle.record_tables.specs.Empties.{no_rows}
 use Rattle.record_tables.specs.Holds.{Stores}
+use Rattle.record_tables.specs.Puts.{PutsIn}
 use Rattle.record_tables.specs.Schema.{no_schema}
 use Rattle.record_load.specs.Loads.{AreTexts, is_version_1}
 use Rattle.record_load.specs.Ours.{is_ours}
@@ -16,6 +19,10 @@ use Rattle.record_load.specs.Ours.{is_ours}
 -- what a transaction that changes the database by this relation may commit
 abbrev pub CommitsBy : (Database → Database → Type 0) → Database → Trees → Type 0
 CommitsBy R old trees = (new : Database) × R old new × (trees ≡ new.trees)
+
+-- what the write of a planned change does to a database: the rows that differ are put by key
+abbrev pub Writes : Planned → Database → Database → Type 0
+Writes c = PutsIn (put_rows (rows_between c.before c.after))
 
 -- the rows of a new record: version 1, the clock at 0, the next serial 1, no lanes, and the default pool
 abbrev pub first_rows : Rows

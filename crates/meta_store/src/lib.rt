@@ -19,5 +19,5 @@ mod names;
 mod stores;
 
 pub use faults::{Cause, StoreFault};
-pub use laws::a_new_record_is_the_empty_schedule;
+pub use laws::{a_new_record_is_the_empty_schedule, a_planned_event_is_written};
 pub use stores::Store;

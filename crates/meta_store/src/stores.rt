@@ -9,7 +9,7 @@ ghost use Rattle.record_tables.specs.Puts.{PutsIn};
 ghost use Rattle.record_load.specs.Loads.{AreTexts, is_version_1};
 ghost use Rattle.record_load.specs.Ours.{is_ours};
 ghost use Rattle.record_load.specs.declared.faults.LoadFault.TheVariants as unread;
-ghost use Rattle.meta_store.specs.Stores.{Begins, CommitsBy, IsNoRecord, first_rows, has_record_table};
+ghost use Rattle.meta_store.specs.Stores.{Begins, CommitsBy, IsNoRecord, first_rows, has_record_table, Writes};
 ghost use Rattle.meta_store.specs.declared.faults.StoreFault.TheVariants as fault;
 ghost use Rattle.meta_store.specs.Faults.{IsOfSqlite};
 
@@ -19,6 +19,7 @@ use crate::names::has_record_table;
 use record_load::{LoadFault, is_ours, is_version_1, load_rows};
 use record_rows::Rows;
 use record_tables::{make_tables, put_rows};
+use sched_core::Change;
 use sqlite::{Alter, Connection, Error};
 use std::alloc::Global;
 use std::marker::Model;
@@ -118,6 +119,25 @@ impl<S: Alter> Store<S> {
     {
         let Store { conn } = self;
         conn
+    }
+
+    /// Writes what a planned change makes differ, in one transaction, which is committed as a whole or not at all. Where the record
+    /// holds the schedule before the change, it holds the one after it then (`a_planned_event_is_written`).
+    pub fn write(&mut self, change: &Change) -> Result<(), StoreFault>
+        ensures stored { HasCleanDisk (state S.Store self.new) → OnOk result
+            (Writes change.now (state S.Store self.old).now (state S.Store self.new).now) }
+        ensures only { HasCleanDisk (state S.Store self.new) → OnOk result ((trees : Trees)
+            → (state S.Store self.new).may_leave trees
+            → trees ≡ (state S.Store self.new).now.trees) }
+        ensures kept { HasCleanDisk (state S.Store self.new)
+            → IsTrue (state S.Store self.new).is_open → OnErr result
+            (((state S.Store self.new).now ≡ (state S.Store self.old).now)
+            × ((state S.Store self.new).committed ≡ (state S.Store self.old).committed)) }
+        ensures crash_stored { Survives (state S.Store self.old) (state S.Store self.new)
+            (CommitsBy (Writes change.now) (state S.Store self.old).now) }
+        ensures fault { IfErr result IsOfSqlite }
+    {
+        self.write_rows(change.rows())
     }
 
     /// Puts the rows of all tables by key, in one transaction, which is committed as a whole or not at all.
