@@ -1,0 +1,11 @@
+pub mod OrderLemmas
+pub mod FaultLemmas
+pub mod SearchLemmas
+pub mod BodyLemmas
+pub mod DealLemmas
+pub mod TryLemmas
+pub mod RuleLemmas
+pub mod ReplayLemmas
+pub mod MakingLemmas
+pub mod HeldLemmas
+pub mod RunLemmas
