@@ -9,3 +9,9 @@ pub mod ReplayLemmas
 pub mod MakingLemmas
 pub mod HeldLemmas
 pub mod RunLemmas
+pub mod PoolLemmas
+pub mod TakingLemmas
+pub mod SlotLemmas
+pub mod CountLemmas
+pub mod BookLemmas
+pub mod PartLemmas

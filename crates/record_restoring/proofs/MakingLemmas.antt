@@ -50,7 +50,7 @@ all_but p (x ∷ []) a = refl
 all_but p (x ∷ y ∷ ys) a = and_from _ _ (and_left _ _ a) (all_but p (y ∷ ys) (and_right (p x) _ a))
 
 -- ---- ends
-failed_end : (t : Try) → has_failed t ≡ true → has_end t ≡ true
+pub failed_end : (t : Try) → has_failed t ≡ true → has_end t ≡ true
 failed_end t e = ended_of t.ended e
   where
     ended_of : (o : Option End) → is_failure_if o ≡ true → is_some o ≡ true

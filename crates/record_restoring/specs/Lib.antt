@@ -5,3 +5,5 @@ pub mod Dealing
 pub mod Rules
 pub mod Making
 pub mod Tasks
+pub mod Pools
+pub mod Parts

@@ -76,3 +76,19 @@ pub fn count_of(column: i64) -> usize
 {
     column as usize
 }
+
+// The lanes of a column, which are no more than a limit.
+pub fn lanes_of(limit: u32, column: i64) -> u32
+    requires { is_between 0 limit column ≡ true }
+    ensures { result ≡ natural column }
+{
+    column as u32
+}
+
+// The serial of a column.
+pub fn serial_of(column: i64) -> u64
+    requires { int_le (pos 1) column ≡ true }
+    ensures { result ≡ natural column }
+{
+    column as u64
+}
