@@ -2,6 +2,7 @@
 //!
 //! In comes an event: `let answer = schedule.step(alloc, &Event::Tick(moment))?;`. Out comes its answer, with the runs made and the tries
 //! handed out, or a refusal, which changes nothing. What the schedule holds is shown by `runs`, `instances`, `pools` and the other views.
+//! A schedule is made by `Schedule::new`, or of the rows of a record by `Schedule::restore`.
 //!
 //! What events, answers and rows are made of is offered here too, so that a crate above names this one alone.
 #![tactic(auto)]
@@ -18,6 +19,7 @@ mod ordering;
 mod pausing;
 mod planning;
 mod pool_rows;
+mod restoring;
 mod rows;
 mod schedules;
 mod triggering;
@@ -29,6 +31,7 @@ pub use instance_machine::{Instance, Outcome, Stage, Try};
 pub use moment_core::Moment;
 pub use pool_book::Slots;
 pub use pool_rows::PoolRows;
+pub use record_restoring::{KeyedRows, RestoreFault};
 pub use rows::Instances;
 pub use sched_events::{Answer, Event, InstanceRow, PoolRow, Refusal, RunId, State};
 pub use sched_state::{Clearing, GraphText, Job, Limits, LoadedGraph, Run, RunKind, RunPhase};

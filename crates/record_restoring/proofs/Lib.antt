@@ -1,0 +1,17 @@
+pub mod OrderLemmas
+pub mod FaultLemmas
+pub mod SearchLemmas
+pub mod BodyLemmas
+pub mod DealLemmas
+pub mod TryLemmas
+pub mod RuleLemmas
+pub mod ReplayLemmas
+pub mod MakingLemmas
+pub mod HeldLemmas
+pub mod RunLemmas
+pub mod PoolLemmas
+pub mod TakingLemmas
+pub mod SlotLemmas
+pub mod CountLemmas
+pub mod BookLemmas
+pub mod PartLemmas

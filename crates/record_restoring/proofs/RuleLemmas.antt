@@ -1,0 +1,118 @@
+-- The rules in their order.
+use Rattle.std.proofs.Common.{◌≡◌, refl, sym, ap, ◌∙◌, ℕ, ◌+◌, List, [], ◌∷◌, Bool, true, false, cond, if◌then◌else◌, nat_le, ◌&&◌, Option, Some, None}
+use Rattle.std.specs.List.{list_all}
+use Rattle.graph_file.specs.Lists.{first_some}
+use Rattle.record_rows.specs.Rows.{Rows, DagRow}
+use Rattle.record_rows.specs.declared.tables.Table.{Table}
+use Rattle.record_rows.specs.declared.tables.Table.TheVariants as table
+use Rattle.sched_state.specs.Lists.{name_cmp, is_less}
+use Rattle.sched_state.specs.Limits.{Bounds}
+use Rattle.sched_state.specs.declared.graphs.LoadedGraph.{LoadedGraph}
+use Rattle.sched_model.specs.Lists.{rises}
+use Rattle.sched_model.specs.Schedule.{graph_before}
+use Rattle.sched_laws.proofs.RunLemmas.{rises_map}
+use Rattle.record_rules.specs.Keys.{IsByKey}
+use Rattle.record_rules.specs.Reading.{reads, graphs_of, meta_of}
+use Rattle.record_rules.specs.Faults.{first_from, first_bad, earlier_row, past_limit, in_table, meta_fault, pool_fault, dag_fault, run_fault, instance_fault, attempt_fault, end_fault, record_fault, is_dag_row_right}
+use Rattle.record_rules.proofs.FreeLemmas.{graph_ids_are}
+use Rattle.record_restoring.specs.Rules.{Passes}
+
+skip : (t : Table) (o : Option ℕ) (os : List (Option (Table × ℕ))) → o ≡ None → first_some (in_table t o ∷ os) ≡ first_some os
+skip t o os e = ap (λ p. first_some (in_table t p ∷ os)) e
+
+here : (t : Table) (o : Option ℕ) (os : List (Option (Table × ℕ))) (n : ℕ) → o ≡ Some n → first_some (in_table t o ∷ os) ≡ Some (t, n)
+here t o os n e = ap (λ p. first_some (in_table t p ∷ os)) e
+
+-- what comes from each rule on
+abbrev from_ends : Bounds → Rows → List (Option (Table × ℕ))
+from_ends l rows = in_table table.Run (end_fault (graphs_of (reads l) rows) rows) ∷ []
+
+abbrev from_attempts : Bounds → Rows → List (Option (Table × ℕ))
+from_attempts l rows = in_table table.Attempt (attempt_fault (graphs_of (reads l) rows) (meta_of rows).next_serial rows) ∷ from_ends l rows
+
+abbrev from_instances : Bounds → Rows → List (Option (Table × ℕ))
+from_instances l rows = in_table table.Instance (instance_fault (graphs_of (reads l) rows) rows) ∷ from_attempts l rows
+
+abbrev from_runs : Bounds → Rows → List (Option (Table × ℕ))
+from_runs l rows = in_table table.Run (run_fault (graphs_of (reads l) rows) l rows) ∷ from_instances l rows
+
+abbrev from_dags : Bounds → Rows → List (Option (Table × ℕ))
+from_dags l rows = in_table table.Dag (dag_fault (reads l) l rows) ∷ from_runs l rows
+
+abbrev from_pools : Bounds → Rows → List (Option (Table × ℕ))
+from_pools l rows = in_table table.Pool (pool_fault l rows) ∷ from_dags l rows
+
+pub meta_first : (l : Bounds) (rows : Rows) (n : ℕ) → meta_fault l rows ≡ Some n → record_fault l rows ≡ Some (table.Meta, n)
+meta_first l rows n e = here table.Meta (meta_fault l rows) (from_pools l rows) n e
+
+pub pools_first : (l : Bounds) (rows : Rows) (n : ℕ) → meta_fault l rows ≡ None → pool_fault l rows ≡ Some n → record_fault l rows ≡ Some (table.Pool, n)
+pools_first l rows n m e = skip table.Meta (meta_fault l rows) (from_pools l rows) m ∙ here table.Pool (pool_fault l rows) (from_dags l rows) n e
+
+to_dags : (l : Bounds) (rows : Rows) → meta_fault l rows ≡ None → pool_fault l rows ≡ None → record_fault l rows ≡ first_some (from_dags l rows)
+to_dags l rows m p = skip table.Meta (meta_fault l rows) (from_pools l rows) m ∙ skip table.Pool (pool_fault l rows) (from_dags l rows) p
+
+pub dags_first : (l : Bounds) (rows : Rows) (t : Table) (n : ℕ) → meta_fault l rows ≡ None → pool_fault l rows ≡ None → in_table table.Dag (dag_fault (reads l) l rows) ≡ Some (t, n) → record_fault l rows ≡ Some (t, n)
+dags_first l rows t n m p e = to_dags l rows m p ∙ ap (λ o. first_some (o ∷ from_runs l rows)) e
+
+to_runs : (l : Bounds) (rows : Rows) → meta_fault l rows ≡ None → pool_fault l rows ≡ None → dag_fault (reads l) l rows ≡ None → record_fault l rows ≡ first_some (from_runs l rows)
+to_runs l rows m p d = to_dags l rows m p ∙ skip table.Dag (dag_fault (reads l) l rows) (from_runs l rows) d
+
+pub runs_first : (l : Bounds) (rows : Rows) (n : ℕ) → meta_fault l rows ≡ None → pool_fault l rows ≡ None → dag_fault (reads l) l rows ≡ None → run_fault (graphs_of (reads l) rows) l rows ≡ Some n → record_fault l rows ≡ Some (table.Run, n)
+runs_first l rows n m p d e = to_runs l rows m p d ∙ here table.Run (run_fault (graphs_of (reads l) rows) l rows) (from_instances l rows) n e
+
+to_instances : (l : Bounds) (rows : Rows) → meta_fault l rows ≡ None → pool_fault l rows ≡ None → dag_fault (reads l) l rows ≡ None → run_fault (graphs_of (reads l) rows) l rows ≡ None → record_fault l rows ≡ first_some (from_instances l rows)
+to_instances l rows m p d r = to_runs l rows m p d ∙ skip table.Run (run_fault (graphs_of (reads l) rows) l rows) (from_instances l rows) r
+
+pub instances_first : (l : Bounds) (rows : Rows) (n : ℕ) → meta_fault l rows ≡ None → pool_fault l rows ≡ None → dag_fault (reads l) l rows ≡ None → run_fault (graphs_of (reads l) rows) l rows ≡ None
+    → instance_fault (graphs_of (reads l) rows) rows ≡ Some n → record_fault l rows ≡ Some (table.Instance, n)
+instances_first l rows n m p d r e = to_instances l rows m p d r ∙ here table.Instance (instance_fault (graphs_of (reads l) rows) rows) (from_attempts l rows) n e
+
+pub attempts_first : (l : Bounds) (rows : Rows) (n : ℕ) → meta_fault l rows ≡ None → pool_fault l rows ≡ None → dag_fault (reads l) l rows ≡ None → run_fault (graphs_of (reads l) rows) l rows ≡ None
+    → instance_fault (graphs_of (reads l) rows) rows ≡ None → attempt_fault (graphs_of (reads l) rows) (meta_of rows).next_serial rows ≡ Some n → record_fault l rows ≡ Some (table.Attempt, n)
+attempts_first l rows n m p d r i e =
+    to_instances l rows m p d r
+    ∙ skip table.Instance (instance_fault (graphs_of (reads l) rows) rows) (from_attempts l rows) i
+    ∙ here table.Attempt (attempt_fault (graphs_of (reads l) rows) (meta_of rows).next_serial rows) (from_ends l rows) n e
+
+-- the last rule decides where the others pass
+pub ends_last : (l : Bounds) (rows : Rows) → Passes l rows → record_fault l rows ≡ in_table table.Run (end_fault (graphs_of (reads l) rows) rows)
+ends_last l rows s =
+    to_instances l rows s.meta s.pools s.dags s.runs
+    ∙ skip table.Instance (instance_fault (graphs_of (reads l) rows) rows) (from_attempts l rows) s.instances
+    ∙ skip table.Attempt (attempt_fault (graphs_of (reads l) rows) (meta_of rows).next_serial rows) (from_ends l rows) s.attempts
+    ∙ alone (end_fault (graphs_of (reads l) rows) rows)
+  where
+    alone : (o : Option ℕ) → first_some (in_table table.Run o ∷ []) ≡ in_table table.Run o
+    alone None = refl
+    alone (Some n) = refl
+
+-- ---- what no fault says
+all_from : {X : Type 0} (ok : X → Bool) (i : ℕ) (xs : List X) → first_from ok i xs ≡ None → list_all ok xs ≡ true
+all_from ok i [] e = refl
+all_from {X} ok i (x ∷ xs) e = elim (ok x) as (λ b. (let o : Option ℕ = cond b (first_from ok (i + 1) xs) (Some i) in o) ≡ None → (b && list_all ok xs) ≡ true) [
+  | true ↦ λ f. all_from ok (i + 1) xs f
+  | false ↦ λ f. absurd (let c : ◌≡◌ {A = Option ℕ} (Some i) None = f in cc)
+] e
+
+first_none : (o p : Option ℕ) → earlier_row o p ≡ None → o ≡ None
+first_none None p e = refl
+first_none (Some i) None e = absurd (let c : ◌≡◌ {A = Option ℕ} (Some i) None = e in cc)
+first_none (Some i) (Some j) e = absurd (let c : ◌≡◌ {A = Option ℕ} (Some (if nat_le i j then i else j)) None = e in cc)
+
+pub all_right : {X : Type 0} (ok : X → Bool) (xs : List X) (o : Option ℕ) → earlier_row (first_bad ok xs) o ≡ None → list_all ok xs ≡ true
+all_right ok xs o e = all_from ok 0 xs (first_none (first_bad ok xs) o e)
+
+pub all_first : {X : Type 0} (ok : X → Bool) (xs : List X) → first_bad ok xs ≡ None → list_all ok xs ≡ true
+all_first ok xs e = all_from ok 0 xs e
+
+abbrev id_before : List ℕ → List ℕ → Bool
+id_before m n = is_less (name_cmp m n)
+
+-- the graphs of right rows stand by id
+pub graphs_rise : (l : Bounds) (rows : Rows) → IsByKey rows → dag_fault (reads l) l rows ≡ None → rises graph_before (graphs_of (reads l) rows) ≡ true
+graphs_rise l rows k e =
+    let right = all_right (is_dag_row_right (reads l) rows) rows.dags (past_limit l.graphs rows.dags) e in
+    sym (rises_map id_before (λ (g : LoadedGraph). g.dag.spec.dag_id) (graphs_of (reads l) rows))
+    ∙ ap (rises id_before) (graph_ids_are (reads l) rows rows.dags right)
+    ∙ rises_map id_before (λ (d : DagRow). d.dag_id) rows.dags
+    ∙ k.dags

@@ -1,0 +1,7 @@
+use Rattle.std.proofs.Common.{◌≡◌, true, take}
+use Rattle.std.specs.List.{list_all}
+use Rattle.record_rules.specs.Faults.{is_instance_row_right}
+use Rattle.record_restoring.proofs.instance_rules.first_bad.Given as goal
+
+abbrev pub invariant-loop-position : goal.invariant-loop-position
+invariant-loop-position l = list_all (is_instance_row_right l.graphs l.rows) (take l.position l.instances) ≡ true

@@ -1,0 +1,14 @@
+use Rattle.std.proofs.Common.{sym, ◌∙◌}
+use Rattle.record_rules.specs.Keys.{run_row_before}
+use Rattle.record_restoring.proofs.OrderLemmas.{rises_step, falls_at, runs_pass}
+use Rattle.record_restoring.proofs.orders.runs_rise.Goals as goal
+
+pub returns-then-not-is_run_before : goal.returns-then-not-is_run_before
+returns-then-not-is_run_before c =
+    sym (falls_at run_row_before c.args.rows.now c.loop-position.position c.index-rows-position.result c.index-rows-position-in-loop-position.result c.loop-position.auto.position c.loop-position-test.true c.index-rows-position.is
+    c.index-rows-position-in-loop-position.is (sym c.is_run_before.ensures ∙ c.if-not-is_run_before.true))
+
+pub loop-position-preserved : goal.loop-position-preserved
+loop-position-preserved c =
+    rises_step run_row_before runs_pass c.args.rows.now c.loop-position.position c.index-rows-position.result c.index-rows-position-in-loop-position.result c.loop-position.auto.position c.loop-position-test.true c.index-rows-position.is
+    c.index-rows-position-in-loop-position.is c.loop-position.invariant (sym c.is_run_before.ensures ∙ c.if-not-is_run_before.false)

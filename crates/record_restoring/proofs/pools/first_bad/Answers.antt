@@ -1,0 +1,14 @@
+use Rattle.std.proofs.Common.{sym, ◌∙◌}
+use Rattle.record_rules.specs.Faults.{is_pool_row_right}
+use Rattle.record_restoring.proofs.FaultLemmas.{bad_at, all_step, bad_none}
+use Rattle.record_restoring.proofs.pools.first_bad.Goals as goal
+
+pub returns-then-not-is_right : goal.returns-then-not-is_right
+returns-then-not-is_right c =
+    sym (bad_at is_pool_row_right c.args.rows.now c.loop-position.position c.index-rows-position.result c.loop-position-test.true c.index-rows-position.is c.loop-position.invariant (sym c.is_right.ensures ∙ c.if-not-is_right.true))
+
+pub loop-position-preserved : goal.loop-position-preserved
+loop-position-preserved c = all_step is_pool_row_right c.args.rows.now c.loop-position.position c.index-rows-position.result c.loop-position-test.true c.index-rows-position.is c.loop-position.invariant (sym c.is_right.ensures ∙ c.if-not-is_right.false)
+
+pub returns : goal.returns
+returns c = sym (bad_none is_pool_row_right c.args.rows.now c.loop-position.position c.loop-position-test.false c.loop-position.invariant)

@@ -1,0 +1,9 @@
+pub mod Keyed
+pub mod Results
+pub mod Places
+pub mod Dealing
+pub mod Rules
+pub mod Making
+pub mod Tasks
+pub mod Pools
+pub mod Parts

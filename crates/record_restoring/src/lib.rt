@@ -1,0 +1,46 @@
+//! The way from the rows of the record back to a schedule: which rows are those of one, and the first fault where they are not.
+//!
+//! In come the rows of the six tables. [`KeyedRows`] holds rows of which it is known that they rise by key. Inside, each rule of the record has a
+//! function of its own that goes through the rows of its table once and answers the first at fault; the graphs are read on the way
+//! (`dags.rt`), and the tries are dealt to their instances (`buckets.rt`). Runs are made of rows that pass (`run_making.rt`); a task instance is
+//! handed its tries one after another, as it got them (`replaying.rt`). The book of pools is made of the rows of `pool` (`pool_making.rt`), and
+//! the tries without an end take their slots of it (`occupying.rt`). What is found by key is found by a binary search.
+//! Easy to get wrong: a row's number is its place by key from 0; a missing row has the number of rows that are there.
+//!
+//! ```text
+//! let rows = KeyedRows::new(rows)?;                  // handed back where a table does not rise by its key
+//! let parts = restore_parts(alloc, limits, &rows)?;  // `parts.graphs`, `parts.runs`, `parts.pools`, ..
+//! ```
+#![tactic(auto)]
+
+mod attempt_rules;
+mod buckets;
+mod checking;
+mod codes;
+mod columns;
+mod dags;
+mod earlier;
+mod end_rules;
+mod faults;
+mod finding;
+mod instance_rules;
+mod keyed;
+mod laws;
+mod making;
+mod metas;
+mod occupying;
+mod orders;
+mod parts;
+mod pool_making;
+mod pools;
+mod replaying;
+mod restoring;
+mod run_making;
+mod run_rules;
+mod try_rules;
+
+pub use faults::RestoreFault;
+pub use keyed::KeyedRows;
+pub use laws::taken_slots_are_counted;
+pub use parts::ScheduleParts;
+pub use restoring::restore_parts;

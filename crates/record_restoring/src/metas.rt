@@ -1,0 +1,34 @@
+//! The rule of `meta`.
+ghost use Rattle.std.specs.Prelude.{◌≡◌, ◌+◌, ◌&&◌};
+ghost use Rattle.sched_model.specs.Handout.{last_serial};
+ghost use Rattle.record_rules.specs.Numbers.{is_moment_column, is_between};
+ghost use Rattle.record_rules.specs.Faults as spec;
+
+use crate::columns;
+use crate::columns::is_moment;
+use record_rows::MetaRow;
+use sched_state::Limits;
+
+// The greatest serial of a try.
+const LAST_SERIAL: i64 = 1 << 62;
+
+// The first row of `meta` at fault.
+pub fn meta_fault(limits: Limits, rows: &[MetaRow]) -> Option<usize>
+    ensures { result ≡ spec.first_bad (spec.is_meta_row_right limits) rows.now }
+{
+    for (position, row) in rows.iter().enumerate() {
+        if !is_right(limits, row.now, row.next_serial, row.lanes) {
+            return Some(position);
+        }
+    }
+    None
+}
+
+fn is_right(limits: Limits, now: i64, next_serial: i64, lanes: i64) -> bool
+    ensures { result ≡ (is_moment_column now && (is_between 1 (last_serial + 1) next_serial
+        && is_between 0 limits.lanes lanes)) }
+{
+    is_moment(now)
+        && columns::is_between(1, LAST_SERIAL + 1, next_serial)
+        && columns::is_between(0, i64::from(limits.lanes()), lanes)
+}

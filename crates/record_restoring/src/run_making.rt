@@ -1,0 +1,145 @@
+//! Runs made of their rows, with the task instances of each.
+ghost use Rattle.std.specs.Prelude.{◌≡◌, true, map, IfOk};
+ghost use Rattle.std.specs.List.{list_all};
+ghost use Rattle.sched_model.specs.Schedule.{dag_among};
+ghost use Rattle.record_rules.specs.Keys.{IsByKey};
+ghost use Rattle.record_rules.specs.Reading.{reads, graphs_of, instance_in, run_of};
+ghost use Rattle.record_rules.specs.Numbers.{natural, is_moment_column};
+ghost use Rattle.record_rules.specs.Faults.{is_run_row_right};
+ghost use Rattle.record_restoring.specs.Dealing.{tries_among};
+ghost use Rattle.record_restoring.specs.Rules.{Passes};
+ghost use Rattle.record_restoring.specs.Tasks.{IsTaskOf};
+
+use crate::buckets::Bucket;
+use crate::codes::{kind_of, moment_of, phase_of};
+use crate::finding::{graph_named, instance_at};
+use crate::making::read_instance;
+use cron_timetable::Interval;
+use dag_check::Graph;
+use graph_file::{Sequence, TaskSpec};
+use instance_machine::Instance;
+use record_rows::{Rows, RunRow};
+use sched_state::{Limits, LoadedGraph, Run};
+use std::alloc::{AllocError, Global};
+
+// The runs of rows, which are right.
+pub fn read_runs(
+    alloc: Global,
+    limits: Limits,
+    rows: &Rows,
+    buckets: &[Bucket<'_>],
+    graphs: &[LoadedGraph],
+    runs: &[RunRow],
+) -> Result<Vec<Run>, AllocError>
+    requires keyed { IsByKey rows.now }
+    requires rules { Passes limits rows.now }
+    requires dealt { buckets.now ≡ map (tries_among rows.now.attempts) rows.now.instances }
+    requires graphs { graphs.now ≡ graphs_of (reads limits) rows.now }
+    requires right { list_all (is_run_row_right graphs.now) runs.now ≡ true }
+    ensures { IfOk result (λ made. made.items ≡ map (run_of rows.now graphs.now) runs.now) }
+{
+    let mut made = Vec::new(alloc);
+    for row in runs {
+        made.push(read_run(alloc, limits, rows, buckets, graphs, row)?)?;
+    }
+    Ok(made)
+}
+
+fn read_run(
+    alloc: Global,
+    limits: Limits,
+    rows: &Rows,
+    buckets: &[Bucket<'_>],
+    graphs: &[LoadedGraph],
+    row: &RunRow,
+) -> Result<Run, AllocError>
+    requires keyed { IsByKey rows.now }
+    requires rules { Passes limits rows.now }
+    requires dealt { buckets.now ≡ map (tries_among rows.now.attempts) rows.now.instances }
+    requires graphs { graphs.now ≡ graphs_of (reads limits) rows.now }
+    requires right { is_run_row_right graphs.now row.now ≡ true }
+    ensures { IfOk result (λ run. run ≡ run_of rows.now graphs.now row.now) }
+{
+    let dag_id = row.dag_id.as_str();
+    let Some(graph) = graph_named(graphs, dag_id) else {
+        return Err(AllocError);
+    };
+    let instances = read_instances(
+        alloc,
+        limits,
+        rows,
+        buckets,
+        &graph.dag,
+        dag_id,
+        row.logical,
+    )?;
+    Ok(Run {
+        graph: graph.dag.spec().dag_id.copy(alloc)?,
+        logical: moment_of(row.logical),
+        interval: interval_of(row.data_start, row.data_end),
+        kind: kind_of(row.kind),
+        phase: phase_of(row.phase),
+        instances: Sequence::new(instances),
+    })
+}
+
+fn interval_of(start: i64, end: i64) -> Interval
+    requires start { is_moment_column start ≡ true }
+    requires end { is_moment_column end ≡ true }
+    ensures { result ≡ record { start = natural start; end = natural end } }
+{
+    Interval {
+        start: moment_of(start),
+        end: moment_of(end),
+    }
+}
+
+// The task instances of the run of this graph and date, by place.
+fn read_instances(
+    alloc: Global,
+    limits: Limits,
+    rows: &Rows,
+    buckets: &[Bucket<'_>],
+    graph: &Graph,
+    dag_id: &str,
+    logical: i64,
+) -> Result<Vec<Instance>, AllocError>
+    requires keyed { IsByKey rows.now }
+    requires rules { Passes limits rows.now }
+    requires dealt { buckets.now ≡ map (tries_among rows.now.attempts) rows.now.instances }
+    requires graph { dag_among (graphs_of (reads limits) rows.now) dag_id.now ≡ graph.now }
+    ensures { IfOk result (λ instances. instances.items
+        ≡ map (instance_in rows.now dag_id.now logical) graph.now.tasks) }
+{
+    let mut instances = Vec::new(alloc);
+    for place in 0..graph.len() {
+        let task = graph.task(place);
+        instances.push(read_one(alloc, limits, rows, buckets, task, dag_id, logical)?)?;
+    }
+    Ok(instances)
+}
+
+// The instance of a task in the run of this graph and date.
+fn read_one(
+    alloc: Global,
+    limits: Limits,
+    rows: &Rows,
+    buckets: &[Bucket<'_>],
+    task: &TaskSpec,
+    dag_id: &str,
+    logical: i64,
+) -> Result<Instance, AllocError>
+    requires keyed { IsByKey rows.now }
+    requires rules { Passes limits rows.now }
+    requires dealt { buckets.now ≡ map (tries_among rows.now.attempts) rows.now.instances }
+    requires task { IsTaskOf limits rows.now dag_id.now task.now }
+    ensures { IfOk result (λ instance. instance ≡ instance_in rows.now dag_id.now logical task.now) }
+{
+    match instance_at(&rows.instances, dag_id, logical, task.task_id.as_str()) {
+        Some(place) => {
+            let instance = read_instance(alloc, &rows.instances[place], &buckets[place], task)?;
+            Ok(instance)
+        }
+        None => Err(AllocError),
+    }
+}

@@ -1,0 +1,59 @@
+//! The rule of `run`.
+ghost use Rattle.std.specs.Prelude.{◌≡◌, ◌&&◌, true, int_le};
+ghost use Rattle.sched_model.specs.Lists.{rises};
+ghost use Rattle.sched_model.specs.Schedule.{graph_before};
+ghost use Rattle.record_rules.specs.Numbers.{is_moment_column, is_between as spec_between};
+ghost use Rattle.record_rules.specs.Faults as spec;
+
+use crate::columns::{is_between, is_moment};
+use crate::earlier::{earlier, past_limit};
+use crate::finding::graph_named;
+use record_rows::{Rows, RunRow};
+use sched_state::{Limits, LoadedGraph};
+
+// The first row of `run` at fault.
+pub fn run_fault(graphs: &[LoadedGraph], limits: Limits, rows: &Rows) -> Option<usize>
+    requires { rises graph_before graphs.now ≡ true }
+    ensures { result ≡ spec.run_fault graphs.now limits rows.now }
+{
+    let limit = past_limit(limits.runs(), rows.runs.len());
+    earlier(first_bad(graphs, &rows.runs), limit)
+}
+
+// The first row whose graph is not there, or whose columns are none.
+fn first_bad(graphs: &[LoadedGraph], rows: &[RunRow]) -> Option<usize>
+    requires { rises graph_before graphs.now ≡ true }
+    ensures { result ≡ spec.first_bad (spec.is_run_row_right graphs.now) rows.now }
+{
+    for (position, row) in rows.iter().enumerate() {
+        if !is_right(graphs, row) {
+            return Some(position);
+        }
+    }
+    None
+}
+
+fn is_right(graphs: &[LoadedGraph], row: &RunRow) -> bool
+    requires { rises graph_before graphs.now ≡ true }
+    ensures { result ≡ spec.is_run_row_right graphs.now row.now }
+{
+    graph_named(graphs, row.dag_id.as_str()).is_some()
+        && (are_times_right(row) && are_codes_right(row))
+}
+
+// Whether the times are moments, and the interval does not end before it starts.
+fn are_times_right(row: &RunRow) -> bool
+    ensures { result ≡ (is_moment_column row.now.logical && (is_moment_column row.now.data_start
+        && (is_moment_column row.now.data_end && int_le row.now.data_start row.now.data_end))) }
+{
+    is_moment(row.logical)
+        && is_moment(row.data_start)
+        && is_moment(row.data_end)
+        && row.data_start <= row.data_end
+}
+
+fn are_codes_right(row: &RunRow) -> bool
+    ensures { result ≡ (spec_between 0 2 row.now.kind && spec_between 0 3 row.now.phase) }
+{
+    is_between(0, 2, row.kind) && is_between(0, 3, row.phase)
+}

@@ -1,0 +1,47 @@
+//! The schedule that rows of the record say.
+ghost use Rattle.std.specs.Prelude.{◌≡◌, None, IfOk, IfErr};
+ghost use Rattle.sched_model.specs.Tables.{tables};
+ghost use Rattle.record_rules.specs.Reading.{schedule_of};
+ghost use Rattle.record_rules.specs.Faults.{record_fault};
+ghost use Rattle.record_restoring.specs.Results.{IsFault};
+
+use crate::schedules::Schedule;
+use record_restoring::{KeyedRows, RestoreFault, ScheduleParts, restore_parts};
+use sched_state::Limits;
+use std::alloc::Global;
+
+impl Schedule {
+    /// The schedule that the rows are read as, where they break no rule of the record (docs/RECORD.md), or the first fault. Its tables are
+    /// the rows. It need not be settled: the next event is planned from it as it is.
+    pub fn restore(
+        alloc: Global,
+        limits: Limits,
+        rows: &KeyedRows,
+    ) -> Result<Schedule, RestoreFault>
+        ensures free { IfOk result (λ _. record_fault limits rows.now ≡ None) }
+        ensures content { IfOk result (λ schedule. schedule.content
+            ≡ schedule_of limits rows.now) }
+        ensures back { IfOk result (λ schedule. tables schedule.content ≡ rows.now) }
+        ensures fault { IfErr result (IsFault (record_fault limits rows.now)) }
+    {
+        let ScheduleParts {
+            limits,
+            graphs,
+            pools,
+            clock,
+            lanes,
+            next,
+            runs,
+        } = restore_parts(alloc, limits, rows)?;
+        Ok(Schedule {
+            limits,
+            graphs,
+            pools,
+            clock,
+            lanes,
+            next,
+            runs,
+            is_settled: false,
+        })
+    }
+}
