@@ -1,3 +1,4 @@
 mod BeginLemmas
 mod CommitLemmas
 mod FaultLemmas
+mod LoadLemmas

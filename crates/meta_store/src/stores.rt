@@ -133,6 +133,8 @@ impl<S: Alter> Store<S> {
             → IsTrue (state S.Store self.new).is_open → OnErr result
             (((state S.Store self.new).now ≡ (state S.Store self.old).now)
             × ((state S.Store self.new).committed ≡ (state S.Store self.old).committed)) }
+        ensures was_open { HasCleanDisk (state S.Store self.new)
+            → IsTrue (state S.Store self.new).is_open → IsTrue (state S.Store self.old).is_open }
         ensures crash_stored { Survives (state S.Store self.old) (state S.Store self.new)
             (CommitsBy (Writes change.now) (state S.Store self.old).now) }
         ensures fault { IfErr result IsOfSqlite }
@@ -152,6 +154,8 @@ impl<S: Alter> Store<S> {
             → IsTrue (state S.Store self.new).is_open → OnErr result
             (((state S.Store self.new).now ≡ (state S.Store self.old).now)
             × ((state S.Store self.new).committed ≡ (state S.Store self.old).committed)) }
+        ensures was_open { HasCleanDisk (state S.Store self.new)
+            → IsTrue (state S.Store self.new).is_open → IsTrue (state S.Store self.old).is_open }
         ensures crash_stored { Survives (state S.Store self.old) (state S.Store self.new)
             (CommitsBy (PutsIn (changes.put_rows rows.now)) (state S.Store self.old).now) }
         ensures fault { IfErr result IsOfSqlite }
@@ -174,6 +178,8 @@ impl<S: Alter> Store<S> {
             → IsTrue (state S.Store self.new).is_open → OnErr result
             (((state S.Store self.new).now ≡ (state S.Store self.old).now)
             × ((state S.Store self.new).committed ≡ (state S.Store self.old).committed)) }
+        ensures was_open { HasCleanDisk (state S.Store self.new)
+            → IsTrue (state S.Store self.new).is_open → IsTrue (state S.Store self.old).is_open }
         ensures crash_stored { Survives (state S.Store self.old) (state S.Store self.new)
             (CommitsBy (PutsIn (changes.put_rows rows.now)) (state S.Store self.old).now) }
     {

@@ -84,6 +84,13 @@ impl Schedule {
         self.clock
     }
 
+    /// The limits that hold for it.
+    pub fn limits(&self) -> Limits
+        ensures { result ≡ self.now.content.limits }
+    {
+        self.limits
+    }
+
     /// The most tries that may be without an end at once.
     pub fn lanes(&self) -> u32
         ensures { result ≡ self.now.content.lanes }

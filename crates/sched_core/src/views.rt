@@ -21,6 +21,13 @@ impl Schedule {
         open_in_all(self.runs.as_slice())
     }
 
+    /// The run of a graph with this logical date, if there is one.
+    pub fn run_of(&self, graph: &Name, logical: Moment) -> Option<&Run>
+        ensures { option_copied result ≡ find (is_at graph.now logical) self.now.content.runs }
+    {
+        run_at(self.runs.as_slice(), graph, logical)
+    }
+
     /// The instance of a task in the run of a graph with this logical date: none where there is no such run, or no such task.
     pub fn instance_of(&self, graph: &Name, logical: Moment, task: &Name) -> Option<&Instance>
         ensures { option_copied result ≡ instance_of self.now.content graph.now logical task.now }

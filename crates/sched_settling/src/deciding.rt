@@ -18,8 +18,8 @@ use sched_draft::Draft;
 use sched_state::{Run, RunPhase};
 use trigger_rules::{Counts, Verdict, verdict_of};
 
-// How many upstreams of a place are in which state.
-fn upstream_counts(dag: &Graph, run: &Run, place: usize) -> Counts
+/// How many upstreams of a place are in which state.
+pub fn upstream_counts(dag: &Graph, run: &Run, place: usize) -> Counts
     requires { place < length dag.now.tasks }
     ensures { result ≡ counts_of (map (state_in dag.now run.now) (ups dag.now place)) }
 {
@@ -39,8 +39,8 @@ fn is_earlier(run: &Run, other: &Run) -> bool
     other.graph == run.graph && other.logical < run.logical
 }
 
-// The run before, in its graph.
-fn previous<'a>(runs: &'a [Run], run: &Run) -> Option<&'a Run>
+/// The run before, in its graph.
+pub fn previous<'a>(runs: &'a [Run], run: &Run) -> Option<&'a Run>
     ensures { IsPrevious run.now runs.now (option_copied result) }
 {
     let mut found = None;

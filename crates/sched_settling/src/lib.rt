@@ -12,4 +12,7 @@ mod settling;
 mod starting;
 mod states;
 
+pub use deciding::{previous, upstream_counts};
 pub use settling::settle;
+pub use starting::active_runs;
+pub use states::state_in;

@@ -16,8 +16,8 @@ fn is_active(run: &Run, id: &Name) -> bool
     run.graph == *id && matches!(run.phase, RunPhase::Running)
 }
 
-// How many runs of the graph are running.
-fn active_runs(runs: &[Run], id: &Name) -> usize
+/// How many runs of the graph are running.
+pub fn active_runs(runs: &[Run], id: &Name) -> usize
     ensures { result ≡ count_by (λ r. same r.graph id.now && is_running r.phase) runs.now }
 {
     runs.iter().filter(|run| is_active(run, id)).count()

@@ -16,7 +16,7 @@ pub fn dag_of<'a>(draft: &'a Draft<'_>, run: &Run) -> Option<&'a Graph>
     draft.dag(&run.graph)
 }
 
-// The state of the instance at a place: none where there is no such task or instance.
+/// The state of the instance at a place: none where there is no such task or instance.
 pub fn state_in(dag: &Graph, run: &Run, place: usize) -> State
     ensures { result ≡ state_in dag.now run.now place }
 {
