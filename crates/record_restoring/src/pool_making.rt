@@ -13,18 +13,15 @@ ghost use Rattle.record_restoring.specs.Pools.{vacant_pools};
 use graph_file::{Name, NameFault};
 use pool_book::{PoolFault, Pools, Slots};
 use record_rows::PoolRow;
-use sched_state::Limits;
 use std::alloc::{AllocError, Global};
 
 // The pools of rows, which are right, of which nothing is taken.
-pub fn read_pools(alloc: Global, limits: Limits, rows: &[PoolRow]) -> Result<Pools, AllocError>
+pub fn read_pools(alloc: Global, rows: &[PoolRow]) -> Result<Pools, AllocError>
     requires right { list_all is_pool_row_right rows.now ≡ true }
     requires order { rises pool_row_before rows.now ≡ true }
-    requires few { length rows.now ≤ limits.pools }
+    requires few { length rows.now ≤ pool_limit }
     ensures { IfOk result (λ pools. pools.pools ≡ vacant_pools rows.now) }
 {
-    // No more than there may be.
-    let _most_pools = limits.pools();
     let mut pools = Pools::new(alloc);
     for row in rows {
         add_pool(alloc, &mut pools, row)?;

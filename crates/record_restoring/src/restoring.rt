@@ -99,9 +99,10 @@ fn book_of(
     ensures counted { IfOk result (λ _. (name : List ℕ) → occupied (schedule_of limits rows.now)
         name ≤ most_taken) }
 {
-    // So few runs cannot take more slots than are counted.
+    // No more pools than a book may have, and so few runs that they cannot take more slots than it counts.
+    let _most_pools = limits.pools();
     let _most_runs = limits.runs();
-    let mut book = read_pools(alloc, limits, &rows.pools)?;
+    let mut book = read_pools(alloc, &rows.pools)?;
     occupy_by_runs(&mut book, graphs, runs);
     Ok(book)
 }

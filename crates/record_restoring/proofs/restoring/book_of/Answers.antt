@@ -1,5 +1,6 @@
-use Rattle.std.proofs.Common.{◌≡◌, ◌∙◌, ◌≤◌, sym, ap, subst, List, length, rules}
+use Rattle.std.proofs.Common.{arith, ◌≡◌, ◌∙◌, ◌≤◌, sym, ap, subst, List, length, rules}
 use Rattle.std.specs.List.{list_all}
+use Rattle.pool_book.specs.Limits.{pool_limit}
 use Rattle.record_rows.specs.Rows.{PoolRow}
 use Rattle.sched_state.specs.Limits.{ceilings}
 use Rattle.sched_model.specs.Lists.{rises}
@@ -21,7 +22,9 @@ read_pools-requires-clause-order c =
 pub read_pools-requires-clause-few : goal.read_pools-requires-clause-few
 read_pools-requires-clause-few c =
     let r : c.deref.result.now ≡ c.args.rows.now.pools = search (rules, c.deref.ensures.value, c.rows.view_is) in
-    subst (λ (ps : List PoolRow). length ps ≤ c.args.limits.pools) (sym r) (pools_few c.args.limits c.args.rows.now c.requires.free)
+    let few : length c.args.rows.now.pools ≤ c.args.limits.pools = pools_few c.args.limits c.args.rows.now c.requires.free in
+    let most : c.args.limits.pools ≤ pool_limit = subst (λ n. n ≤ pool_limit) c.pools-most_pools.ensures.value c.pools-most_pools.ensures.high in
+    subst (λ (ps : List PoolRow). length ps ≤ pool_limit) (sym r) (omega (arith, few, most))
 
 pub occupy_by_runs-requires : goal.occupy_by_runs-requires
 occupy_by_runs-requires c = graphs_by_id c.args.limits c.args.rows.now c.requires.free c.requires.keyed c.args.graphs.now c.requires.graphs
