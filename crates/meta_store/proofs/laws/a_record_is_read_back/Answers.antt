@@ -1,11 +1,8 @@
-use Rattle.std.proofs.Common.{◌≡◌, ◌∙◌, sym, subst, ℕ, Option, Some, None}
-use Rattle.sqlite.specs.Effect.{Database}
+use Rattle.std.proofs.Common.{◌∙◌, sym, subst}
 use Rattle.record_rows.specs.Rows.{Rows}
-use Rattle.record_rows.specs.declared.tables.Table.{Table}
-use Rattle.record_rules.specs.Faults.{record_fault}
 use Rattle.record_tables.specs.Holds.{Stores}
 use Rattle.sched_events.specs.Steps.{step}
-use Rattle.sched_model.specs.Schedule.{Schedule, empty_schedule}
+use Rattle.sched_model.specs.Schedule.{empty_schedule}
 use Rattle.sched_model.specs.Tables.{tables}
 use Rattle.meta_store.proofs.LoadLemmas.{none_stands}
 use Rattle.meta_store.proofs.laws.a_record_is_read_back.Goals as goal
