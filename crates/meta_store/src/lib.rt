@@ -20,6 +20,7 @@ mod laws;
 mod loading;
 mod names;
 mod stores;
+mod transactions;
 
 pub use faults::{Cause, StoreFault};
 pub use laws::{

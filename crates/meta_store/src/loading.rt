@@ -23,6 +23,8 @@ impl<S: Alter> Store<S> {
             → IsTrue (state S.Store self.new).is_open
             → ((state S.Store self.new).now ≡ (state S.Store self.old).now)
             × ((state S.Store self.new).committed ≡ (state S.Store self.old).committed) }
+        ensures was_open { HasCleanDisk (state S.Store self.new)
+            → IsTrue (state S.Store self.new).is_open → IsTrue (state S.Store self.old).is_open }
         ensures crash { Survives (state S.Store self.old) (state S.Store self.new) (λ _. ⊥) }
         ensures missing { is_ours (state S.Store self.old).now.schema ≡ false
             → IsErrAnd result (λ e. e ≡ fault.NotOurs) }

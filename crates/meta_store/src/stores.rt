@@ -18,16 +18,15 @@ use crate::first_rows::first_rows;
 use crate::names::has_record_table;
 use record_load::{LoadFault, is_ours, is_version_1, load_rows};
 use record_rows::Rows;
-use record_tables::{make_tables, put_rows};
 use sched_core::Change;
-use sqlite::{Alter, Connection, Error};
+use sqlite::{Alter, Connection};
 use std::alloc::Global;
 use std::marker::Model;
 
 /// The record of a schedule, over a connection on which no transaction is open. Contracts see it as the connection.
 #[derive(Drop)]
 pub struct Store<S: Alter> {
-    conn: Connection<S>,
+    pub(crate) conn: Connection<S>,
 }
 
 impl<S: Alter> Model for Store<S> {
@@ -62,14 +61,16 @@ impl<S: Alter> Store<S> {
             → Begins (state S.Store conn).now (state S.Store s).now) }
         ensures only { IfOk result (λ s. HasCleanDisk (state S.Store s) → (trees : Trees)
             → (state S.Store s).may_leave trees → trees ≡ (state S.Store s).now.trees) }
+        ensures open { IfOk result (λ s. HasCleanDisk (state S.Store s)
+            → IsTrue (state S.Store s).is_open) }
         ensures crash { IfOk result (λ s. Survives (state S.Store conn) (state S.Store s)
-            (CommitsBy Begins (state S.Store conn).now)) }
+            (CommitsBy Begins (state S.Store conn))) }
         ensures kept { IfErr result (λ e. HasCleanDisk (state S.Store e.0)
             → IsTrue (state S.Store e.0).is_open
             → ((state S.Store e.0).now ≡ (state S.Store conn).now)
             × ((state S.Store e.0).committed ≡ (state S.Store conn).committed)) }
         ensures err_crash { IfErr result (λ e. Survives (state S.Store conn) (state S.Store e.0)
-            (CommitsBy Begins (state S.Store conn).now)) }
+            (CommitsBy Begins (state S.Store conn))) }
         ensures settled { IfErr result (λ e. e.0.in_transaction ≡ false) }
         ensures names { has_record_table (state S.Store conn).now.schema ≡ true
             → IsErrAnd result (λ e. e.1 ≡ fault.NotOurs) }
@@ -84,32 +85,10 @@ impl<S: Alter> Store<S> {
             return Err((conn, StoreFault::Memory));
         };
         let mut store = Store { conn };
-        match store.make(&rows) {
+        match store.make_record(&rows) {
             Ok(()) => Ok(store),
             Err(error) => Err((store.release(), fault_of(error))),
         }
-    }
-
-    /// Makes the tables and puts the first rows.
-    fn make(&mut self, first: &Rows) -> Result<(), Error>
-        requires { first.now ≡ first_rows }
-        ensures stored { HasCleanDisk (state S.Store self.new) → OnOk result
-            (Begins (state S.Store self.old).now (state S.Store self.new).now) }
-        ensures only { HasCleanDisk (state S.Store self.new) → OnOk result ((trees : Trees)
-            → (state S.Store self.new).may_leave trees
-            → trees ≡ (state S.Store self.new).now.trees) }
-        ensures kept { HasCleanDisk (state S.Store self.new)
-            → IsTrue (state S.Store self.new).is_open → OnErr result
-            (((state S.Store self.new).now ≡ (state S.Store self.old).now)
-            × ((state S.Store self.new).committed ≡ (state S.Store self.old).committed)) }
-        ensures crash { Survives (state S.Store self.old) (state S.Store self.new)
-            (CommitsBy Begins (state S.Store self.old).now) }
-    {
-        let _settled = self.conn.is_autocommit();
-        let mut tx = self.conn.transaction();
-        make_tables(&mut tx)?;
-        put_rows(&mut tx, first)?;
-        tx.commit()
     }
 
     /// Gives the connection back.
@@ -135,8 +114,10 @@ impl<S: Alter> Store<S> {
             × ((state S.Store self.new).committed ≡ (state S.Store self.old).committed)) }
         ensures was_open { HasCleanDisk (state S.Store self.new)
             → IsTrue (state S.Store self.new).is_open → IsTrue (state S.Store self.old).is_open }
+        ensures open { HasCleanDisk (state S.Store self.new) → OnOk result
+            (IsTrue (state S.Store self.old).is_open × IsTrue (state S.Store self.new).is_open) }
         ensures crash_stored { Survives (state S.Store self.old) (state S.Store self.new)
-            (CommitsBy (Writes change.now) (state S.Store self.old).now) }
+            (CommitsBy (Writes change.now) (state S.Store self.old)) }
         ensures fault { IfErr result IsOfSqlite }
     {
         self.write_rows(change.rows())
@@ -156,37 +137,16 @@ impl<S: Alter> Store<S> {
             × ((state S.Store self.new).committed ≡ (state S.Store self.old).committed)) }
         ensures was_open { HasCleanDisk (state S.Store self.new)
             → IsTrue (state S.Store self.new).is_open → IsTrue (state S.Store self.old).is_open }
+        ensures open { HasCleanDisk (state S.Store self.new) → OnOk result
+            (IsTrue (state S.Store self.old).is_open × IsTrue (state S.Store self.new).is_open) }
         ensures crash_stored { Survives (state S.Store self.old) (state S.Store self.new)
-            (CommitsBy (PutsIn (changes.put_rows rows.now)) (state S.Store self.old).now) }
+            (CommitsBy (PutsIn (changes.put_rows rows.now)) (state S.Store self.old)) }
         ensures fault { IfErr result IsOfSqlite }
     {
         match self.commit_rows(rows) {
             Ok(()) => Ok(()),
             Err(error) => Err(fault_of(error)),
         }
-    }
-
-    /// Puts the rows by key in one transaction, with the error that SQLite gave.
-    fn commit_rows(&mut self, rows: &Rows) -> Result<(), Error>
-        ensures stored { HasCleanDisk (state S.Store self.new) → OnOk result
-            (PutsIn (changes.put_rows rows.now) (state S.Store self.old).now
-            (state S.Store self.new).now) }
-        ensures only { HasCleanDisk (state S.Store self.new) → OnOk result ((trees : Trees)
-            → (state S.Store self.new).may_leave trees
-            → trees ≡ (state S.Store self.new).now.trees) }
-        ensures kept { HasCleanDisk (state S.Store self.new)
-            → IsTrue (state S.Store self.new).is_open → OnErr result
-            (((state S.Store self.new).now ≡ (state S.Store self.old).now)
-            × ((state S.Store self.new).committed ≡ (state S.Store self.old).committed)) }
-        ensures was_open { HasCleanDisk (state S.Store self.new)
-            → IsTrue (state S.Store self.new).is_open → IsTrue (state S.Store self.old).is_open }
-        ensures crash_stored { Survives (state S.Store self.old) (state S.Store self.new)
-            (CommitsBy (PutsIn (changes.put_rows rows.now)) (state S.Store self.old).now) }
-    {
-        let _settled = self.conn.is_autocommit();
-        let mut tx = self.conn.transaction();
-        put_rows(&mut tx, rows)?;
-        tx.commit()
     }
 
     /// The rows of all tables, each table by its key. They are read in a transaction that writes nothing.
@@ -198,6 +158,8 @@ impl<S: Alter> Store<S> {
             → IsTrue (state S.Store self.new).is_open
             → ((state S.Store self.new).now ≡ (state S.Store self.old).now)
             × ((state S.Store self.new).committed ≡ (state S.Store self.old).committed) }
+        ensures was_open { HasCleanDisk (state S.Store self.new)
+            → IsTrue (state S.Store self.new).is_open → IsTrue (state S.Store self.old).is_open }
         ensures crash { Survives (state S.Store self.old) (state S.Store self.new) (λ _. ⊥) }
         ensures missing { is_ours (state S.Store self.old).now.schema ≡ false
             → IsErrAnd result (λ e. e ≡ fault.NotOurs) }
@@ -228,6 +190,8 @@ impl<S: Alter> Store<S> {
             → IsTrue (state S.Store self.new).is_open
             → ((state S.Store self.new).now ≡ (state S.Store self.old).now)
             × ((state S.Store self.new).committed ≡ (state S.Store self.old).committed) }
+        ensures was_open { HasCleanDisk (state S.Store self.new)
+            → IsTrue (state S.Store self.new).is_open → IsTrue (state S.Store self.old).is_open }
         ensures crash { Survives (state S.Store self.old) (state S.Store self.new) (λ _. ⊥) }
     {
         let _settled = self.conn.is_autocommit();

@@ -1,13 +1,14 @@
+use Rattle.sqlite.specs.Held.{state}
 use Rattle.record_changes.specs.Changes as changes
 use Rattle.record_tables.specs.Puts.{PutsIn}
-use Rattle.meta_store.proofs.CommitLemmas.{commits_rows, commits_survive}
+use Rattle.meta_store.proofs.CommitLemmas.{asked_stored, asked_survives}
 use Rattle.meta_store.proofs.stores.Store.commit_rows.Goals as goal
-
-pub returns-clause-stored : goal.returns-clause-stored
-returns-clause-stored g c clean =
-    commits_rows g.S.Store (PutsIn (changes.put_rows c.args.rows.now)) c.args.self.now c.transaction-tx.result.conn.now c.put_rows.new.tx.conn.now c.commit.new.self.0 (rw (← c.self.view_is) c.transaction-tx.ensures.begun) c.in_ok-put_rows.ensures.ok c.commit.ensures.survives
-    c.commit.result clean (λ h. h.1) c.commit.ensures.ok
 
 pub returns-clause-crash_stored : goal.returns-clause-crash_stored
 returns-clause-crash_stored g c =
-    commits_survive g.S.Store (PutsIn (changes.put_rows c.args.rows.now)) c.args.self.now c.transaction-tx.result.conn.now c.put_rows.new.tx.conn.now c.commit.new.self.0 (rw (← c.self.view_is) c.transaction-tx.ensures.begun) c.in_ok-put_rows.ensures.ok c.commit.ensures.survives
+    asked_survives (state g.S.Store c.args.self.now) (state g.S.Store c.ask.new.self) c.in_ok-ask.ensures.open (PutsIn (changes.put_rows c.args.rows.now)) (state g.S.Store c.begin_rows.new.self) c.ask.ensures.crash c.begin_rows.ensures.crash_stored
+
+pub returns-clause-stored : goal.returns-clause-stored
+returns-clause-stored g c clean =
+    asked_stored (state g.S.Store c.args.self.now) (state g.S.Store c.ask.new.self) c.in_ok-ask.ensures.open _ (PutsIn (changes.put_rows c.args.rows.now)) (state g.S.Store c.begin_rows.new.self) c.begin_rows.result c.begin_rows.ensures.crash_stored clean
+    (c.begin_rows.ensures.stored clean)
