@@ -1,5 +1,5 @@
 //! Steps a list of events with a record beside the schedule, and prints for each event the rows that it writes, or why it is refused, and at
-//! the end the rows that are read back. With an argument the record is made in the file of that name, else in memory.
+//! the end the rows that are read back. The record is made in the file that the argument names, else in `record.db`.
 //!
 //! A row is printed as sqlite3 prints it, behind the name of its table.
 #![tactic(auto)]
@@ -16,18 +16,7 @@ use std::{env, io};
 fn main(rt: HostRuntime) -> io::Result<()> {
     match env::args(&rt)?.nth(1) {
         Some(path) => in_file(&rt, &path),
-        None => in_memory(&rt),
-    }
-}
-
-fn in_memory(rt: &HostRuntime) -> io::Result<()> {
-    let alloc = rt.alloc();
-    match Connection::open_in_memory(alloc) {
-        Ok(conn) => {
-            let _conn = play(rt, alloc, conn)?;
-            Ok(())
-        }
-        Err(_) => rt.println("no memory"),
+        None => in_file(&rt, "record.db"),
     }
 }
 

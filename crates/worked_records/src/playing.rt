@@ -2,14 +2,15 @@
 ghost use Rattle.std.specs.Prelude.{◌≡◌, false};
 
 use crate::printed::print_rows;
+use director::{Director, Fault};
 use meta_store::{Store, StoreFault};
-use record_rounds::{keep, worked_events};
-use sched_core::{Event, Limits, Schedule};
+use record_rounds::worked_events;
+use sched_core::{Event, Limits};
 use sqlite::{Alter, Connection};
 use std::alloc::Global;
 use std::io;
 
-/// Makes a record, steps the events, and prints what the record holds then; gives the connection back.
+/// Makes a record, opens a director on it, steps the events, and prints what the record holds then; gives the connection back.
 pub fn play<S: Alter + Drop, R: Print>(
     rt: &R,
     alloc: Global,
@@ -17,38 +18,40 @@ pub fn play<S: Alter + Drop, R: Print>(
 ) -> io::Result<Connection<S>>
     requires { conn.in_transaction ≡ false }
 {
-    match Store::create(alloc, conn) {
-        Ok(store) => {
-            let mut store = store;
-            step_all(rt, alloc, &mut store)?;
-            Ok(store.release())
-        }
+    let mut store = match Store::create(alloc, conn) {
+        Ok(store) => store,
         Err((conn, fault)) => {
             tell(rt, &fault)?;
-            Ok(conn)
+            return Ok(conn);
         }
-    }
+    };
+    rt.println("> a new record")?;
+    read(rt, alloc, &mut store)?;
+    let mut store = step_all(rt, alloc, store)?;
+    rt.println("> read")?;
+    read(rt, alloc, &mut store)?;
+    Ok(store.release())
 }
 
 fn step_all<S: Alter + Drop, R: Print>(
     rt: &R,
     alloc: Global,
-    store: &mut Store<S>,
-) -> io::Result<()> {
-    rt.println("> a new record")?;
-    read(rt, alloc, store)?;
-    let (Ok(mut schedule), Ok(events)) = (
-        Schedule::new(alloc, Limits::full()),
-        worked_events(alloc),
-    ) else {
-        return rt.println("no memory");
-    };
-    for event in &events {
-        println!(rt; "> {}", name_of(event))?;
-        step(rt, alloc, &mut schedule, store, event)?;
+    store: Store<S>,
+) -> io::Result<Store<S>> {
+    let events = worked_events(alloc)?;
+    match Director::open(alloc, store, 0, Limits::full()) {
+        Ok(mut director) => {
+            for event in &events {
+                println!(rt; "> {}", name_of(event))?;
+                step(rt, alloc, &mut director, event)?;
+            }
+            Ok(director.close())
+        }
+        Err((store, _)) => {
+            rt.println("not opened")?;
+            Ok(store)
+        }
     }
-    rt.println("> read")?;
-    read(rt, alloc, store)
 }
 
 fn name_of(event: &Event) -> &'static str {
@@ -66,22 +69,20 @@ fn name_of(event: &Event) -> &'static str {
     }
 }
 
-// Steps an event and writes its rows, unless it is refused.
+// Prints the rows that an event writes, and steps it, unless it is refused.
 fn step<S: Alter + Drop, R: Print>(
     rt: &R,
     alloc: Global,
-    schedule: &mut Schedule,
-    store: &mut Store<S>,
+    director: &mut Director<S>,
     event: &Event,
 ) -> io::Result<()> {
-    let change = match schedule.plan(alloc, event) {
-        Ok(change) => change,
-        Err(refusal) => return println!(rt; "refused {refusal:?}"),
-    };
-    print_rows(rt, change.rows())?;
-    match keep(schedule, store, change) {
-        Ok(()) => Ok(()),
-        Err(fault) => tell(rt, &fault),
+    match director.schedule().plan(alloc, event) {
+        Ok(change) => print_rows(rt, change.rows())?,
+        Err(refusal) => println!(rt; "refused {refusal:?}")?,
+    }
+    match director.step(alloc, event) {
+        Ok(_) | Err(Fault::Refused(_)) => Ok(()),
+        Err(fault) => println!(rt; "{fault:?}"),
     }
 }
 

@@ -1,0 +1,21 @@
+use Rattle.std.proofs.Common.{◌∙◌, ap}
+use Rattle.sched_core.specs.Changes.{ScheduleValue}
+use Rattle.director.proofs.directors.Director.reopen.Goals as goal
+
+pub returns-clause-opened : goal.returns-clause-opened
+returns-clause-opened g c =
+    let limits = c.limits-limits.ensures ∙ ap (λ (h : ScheduleValue). h.content.limits) c.schedule.ensures in
+    rw (← limits) (rw (← c.close.ensures) c.open.ensures.opened)
+
+pub returns-clause-stored : goal.returns-clause-stored
+returns-clause-stored g c =
+    let limits = c.limits-limits.ensures ∙ ap (λ (h : ScheduleValue). h.content.limits) c.schedule.ensures in
+    rw (← limits) (rw (← c.close.ensures) c.open.ensures.stored)
+
+pub returns-clause-fault : goal.returns-clause-fault
+returns-clause-fault g c =
+    let limits = c.limits-limits.ensures ∙ ap (λ (h : ScheduleValue). h.content.limits) c.schedule.ensures in
+    rw (← limits) (rw (← c.close.ensures) c.open.ensures.fault)
+
+pub returns-clause-kept : goal.returns-clause-kept
+returns-clause-kept g c = rw (← c.close.ensures) c.open.ensures.kept

@@ -1,0 +1,52 @@
+-- Why a director does not step.
+use Rattle.std.specs.Prelude.{◌≡◌, ◌≢◌, ◌⊎◌, ℕ, false}
+use Rattle.sqlite.specs.declared.error.Error.{Error}
+use Rattle.sqlite.specs.Effect.{Database}
+use Rattle.record_load.specs.Errors.{is_memory}
+use Rattle.record_rows.specs.Rows.{Rows}
+use Rattle.record_rules.specs.Reading.{schedule_of}
+use Rattle.record_tables.specs.Holds.{Stores}
+use Rattle.meta_store.specs.Loads.{IsReadAs, IsLoadFault}
+use Rattle.meta_store.specs.declared.faults.StoreFault.{StoreFault}
+use Rattle.meta_store.specs.declared.faults.StoreFault.TheVariants as store
+use Rattle.sched_model.specs.Schedule.{Schedule}
+use Rattle.sched_state.specs.Limits.{Bounds}
+use Rattle.sched_events.specs.Outcomes.{IsCause}
+use Rattle.sched_events.specs.declared.events.Event.{Event}
+use Rattle.sched_events.specs.declared.events.Event.TheVariants.{Restart}
+use Rattle.sched_events.specs.declared.refusals.Refusal.{Refusal}
+use Rattle.sched_events.specs.declared.refusals.Refusal.TheVariants as refusal
+use Rattle.director.specs.declared.faults.Fault.{Fault}
+use Rattle.director.specs.declared.faults.Fault.TheVariants.{Refused, Store, Memory}
+
+-- the fault that a refusal is, and a fault of the store: want of memory is one fault for both
+abbrev pub IsOfRefusal : Refusal → Fault → Type 0
+IsOfRefusal r f = ((r ≡ refusal.Memory) × (f ≡ Memory)) ⊎ ((r ≢ refusal.Memory) × (f ≡ Refused r))
+
+abbrev pub IsOfStore : StoreFault → Fault → Type 0
+IsOfStore s f = ((s ≡ store.Memory) × (f ≡ Memory)) ⊎ ((s ≢ store.Memory) × (f ≡ Store s))
+
+-- an event is not stepped: for the first cause that stands against it, for an error of SQLite, or for want of memory
+abbrev pub IsFaultOf : Schedule → Event → Fault → Type 0
+IsFaultOf a e (Refused r) = IsCause a e r
+IsFaultOf a e (Store f) = (error : Error) × (is_memory error ≡ false) × (f ≡ store.Refused error)
+IsFaultOf a e Memory = Unit {0}
+
+-- what the store or want of memory says against a step that is planned
+abbrev pub IsFaultOfStore : Fault → Type 0
+IsFaultOfStore (Refused r) = ⊥
+IsFaultOfStore (Store f) = (error : Error) × (is_memory error ≡ false) × (f ≡ store.Refused error)
+IsFaultOfStore Memory = Unit {0}
+
+-- a director is not opened on a database: the restart is refused at the schedule that is read, or why it is not read or not written, or want of
+-- memory
+abbrev pub IsOpenFault : Bounds → ℕ → Database → Fault → Type 0
+IsOpenFault l lanes db (Refused r) = (rows : Rows) → Stores db rows → IsReadAs l rows (schedule_of l rows) × IsCause (schedule_of l rows) (Restart lanes) r
+IsOpenFault l lanes db (Store f) = (f ≢ store.Memory) × IsLoadFault l db f
+IsOpenFault l lanes db Memory = Unit {0}
+
+-- the event itself is refused, and nothing was asked of the record
+abbrev pub IsRefused : Fault → Type 0
+IsRefused (Refused r) = Unit {0}
+IsRefused (Store f) = ⊥
+IsRefused Memory = ⊥

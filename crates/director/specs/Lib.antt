@@ -1,0 +1,3 @@
+pub mod Directors
+pub mod Faults
+pub mod Lists

@@ -1,0 +1,177 @@
+//! A schedule, and the record that it stands in.
+ghost use Rattle.std.specs.Prelude.{◌≡◌, false, IfOk, IfErr, OnOk, OnErr, IsErrAnd, IsTrue};
+ghost use Rattle.sqlite.specs.Held.{state};
+ghost use Rattle.sqlite.specs.State.{HasCleanDisk, Survives};
+ghost use Rattle.sqlite.specs.Tree.{Trees};
+ghost use Rattle.record_load.specs.Ours.{is_ours};
+ghost use Rattle.meta_store.specs.Stores.{CommitsBy};
+ghost use Rattle.meta_store.specs.declared.faults.StoreFault.TheVariants as store_fault;
+ghost use Rattle.sched_events.specs.Promises.{KeepsPromises};
+ghost use Rattle.director.specs.Directors.{Follows, Opens, RestartsIn, StepsIn};
+ghost use Rattle.director.specs.Faults.{IsOpenFault, IsRefused};
+ghost use Rattle.director.specs.Lists.{IsOutcome};
+ghost use Rattle.director.specs.declared.faults.Fault.TheVariants as fault;
+
+use crate::faults::Fault;
+use crate::opening::restart;
+use crate::stepping::step;
+use meta_store::Store;
+use sched_core::{Limits, Schedule};
+use sched_events::{Answer, Event};
+use sqlite::Alter;
+use std::alloc::Global;
+use std::marker::Model;
+
+/// A schedule, and the record that it stands in. Contracts see the record's connection and the schedule.
+#[derive(Drop)]
+pub struct Director<S: Alter> {
+    store: Store<S>,
+    schedule: Schedule,
+    opened: Answer,
+}
+
+impl<S: Alter> Model for Director<S> {
+    ghost use Rattle.director.specs.Directors.{DirectorValue, director_code};
+
+    ghost Value = { DirectorValue S };
+
+    ghost coded = { director_code S.code };
+
+    ghost view = { λ d. record {
+      store = d.store;
+      schedule = d.schedule;
+      opened = d.opened;
+    } };
+}
+
+impl<S: Alter> Director<S> {
+    /// Opens the record that a store has: the schedule that it holds is loaded, within limits, and then restarted with so many lanes, so that
+    /// tries which had no end when the program was stopped are lost. Where it is not opened, the store comes back, and the record is as it was.
+    pub fn open(
+        alloc: Global,
+        store: Store<S>,
+        lanes: u32,
+        limits: Limits,
+    ) -> Result<Director<S>, (Store<S>, Fault)>
+        ensures opened { IfOk result (λ d. HasCleanDisk (state S.Store d.store) → Opens limits lanes
+            (state S.Store store).now d.schedule.content d.opened) }
+        ensures stored { IfOk result (λ d. HasCleanDisk (state S.Store d.store) → RestartsIn limits
+            lanes (state S.Store store).now (state S.Store d.store).now) }
+        ensures only { IfOk result (λ d. HasCleanDisk (state S.Store d.store) → (trees : Trees)
+            → (state S.Store d.store).may_leave trees
+            → trees ≡ (state S.Store d.store).now.trees) }
+        ensures open { IfOk result (λ d. HasCleanDisk (state S.Store d.store)
+            → IsTrue (state S.Store d.store).is_open) }
+        ensures crash { IfOk result (λ d. Survives (state S.Store store) (state S.Store d.store)
+            (CommitsBy (RestartsIn limits lanes) (state S.Store store))) }
+        ensures fault { IfErr result (λ e. HasCleanDisk (state S.Store e.0)
+            → IsOpenFault limits lanes (state S.Store store).now e.1) }
+        ensures missing { is_ours (state S.Store store).now.schema ≡ false
+            → IsErrAnd result (λ e. e.1 ≡ fault.Store store_fault.NotOurs) }
+        ensures kept { IfErr result (λ e. HasCleanDisk (state S.Store e.0)
+            → IsTrue (state S.Store e.0).is_open
+            → ((state S.Store e.0).now ≡ (state S.Store store).now)
+            × ((state S.Store e.0).committed ≡ (state S.Store store).committed)) }
+        ensures err_crash { IfErr result (λ e. Survives (state S.Store store) (state S.Store e.0)
+            (CommitsBy (RestartsIn limits lanes) (state S.Store store))) }
+    {
+        let mut store = store;
+        match restart(alloc, &mut store, lanes, limits) {
+            Ok((schedule, opened)) => Ok(Director {
+                store,
+                schedule,
+                opened,
+            }),
+            Err(fault) => Err((store, fault)),
+        }
+    }
+
+    /// Opens the record anew, within the same limits: what `open` does with it.
+    pub fn reopen(self, alloc: Global, lanes: u32) -> Result<Director<S>, (Store<S>, Fault)>
+        ensures opened { IfOk result (λ d. HasCleanDisk (state S.Store d.store)
+            → Opens self.schedule.content.limits lanes (state S.Store self.store).now
+            d.schedule.content d.opened) }
+        ensures stored { IfOk result (λ d. HasCleanDisk (state S.Store d.store)
+            → RestartsIn self.schedule.content.limits lanes (state S.Store self.store).now
+            (state S.Store d.store).now) }
+        ensures only { IfOk result (λ d. HasCleanDisk (state S.Store d.store) → (trees : Trees)
+            → (state S.Store d.store).may_leave trees
+            → trees ≡ (state S.Store d.store).now.trees) }
+        ensures open { IfOk result (λ d. HasCleanDisk (state S.Store d.store)
+            → IsTrue (state S.Store d.store).is_open) }
+        ensures crash { IfOk result (λ d. Survives (state S.Store self.store)
+            (state S.Store d.store) (CommitsBy (RestartsIn self.schedule.content.limits lanes)
+            (state S.Store self.store))) }
+        ensures fault { IfErr result (λ e. HasCleanDisk (state S.Store e.0)
+            → IsOpenFault self.schedule.content.limits lanes (state S.Store self.store).now e.1) }
+        ensures missing { is_ours (state S.Store self.store).now.schema ≡ false
+            → IsErrAnd result (λ e. e.1 ≡ fault.Store store_fault.NotOurs) }
+        ensures kept { IfErr result (λ e. HasCleanDisk (state S.Store e.0)
+            → IsTrue (state S.Store e.0).is_open
+            → ((state S.Store e.0).now ≡ (state S.Store self.store).now)
+            × ((state S.Store e.0).committed ≡ (state S.Store self.store).committed)) }
+        ensures err_crash { IfErr result (λ e. Survives (state S.Store self.store)
+            (state S.Store e.0) (CommitsBy (RestartsIn self.schedule.content.limits lanes)
+            (state S.Store self.store))) }
+    {
+        let limits = self.schedule().limits();
+        Director::open(alloc, self.close(), lanes, limits)
+    }
+
+    /// The answer to the restart that opened the director.
+    pub fn opened(&self) -> &Answer
+        ensures { result.now ≡ self.now.opened }
+    {
+        &self.opened
+    }
+
+    /// The schedule.
+    pub fn schedule(&self) -> &Schedule
+        ensures { result.now ≡ self.now.schedule }
+    {
+        &self.schedule
+    }
+
+    /// Gives the record back.
+    pub fn close(self) -> Store<S>
+        ensures { result ≡ self.store }
+    {
+        let Director {
+            store,
+            schedule: _,
+            opened: _,
+        } = self;
+        store
+    }
+
+    /// Steps an event: it is planned, written to the record in one transaction, and done in memory. Where it is not, schedule and record
+    /// are as they were.
+    pub fn step(&mut self, alloc: Global, event: &Event) -> Result<Answer, Fault>
+        ensures opened { self.new.opened ≡ self.old.opened }
+        ensures outcome { IsOutcome self.old.schedule.content event.now result
+            self.new.schedule.content }
+        ensures promises { OnOk result (KeepsPromises event.now self.old.schedule.content
+            self.new.schedule.content) }
+        ensures untouched { IfErr result (λ f. IsRefused f → self.new.store ≡ self.old.store) }
+        ensures followed { Follows self.old.schedule.content (state S.Store self.old.store)
+            self.new.schedule.content (state S.Store self.new.store) }
+        ensures stored { HasCleanDisk (state S.Store self.new.store) → OnOk result
+            (StepsIn event.now self.old.schedule.content (state S.Store self.old.store).now
+            (state S.Store self.new.store).now) }
+        ensures only { HasCleanDisk (state S.Store self.new.store) → OnOk result ((trees : Trees)
+            → (state S.Store self.new.store).may_leave trees
+            → trees ≡ (state S.Store self.new.store).now.trees) }
+        ensures open { HasCleanDisk (state S.Store self.new.store) → OnOk result
+            (IsTrue (state S.Store self.old.store).is_open
+            × IsTrue (state S.Store self.new.store).is_open) }
+        ensures kept { HasCleanDisk (state S.Store self.new.store)
+            → IsTrue (state S.Store self.new.store).is_open → OnErr result
+            (((state S.Store self.new.store).now ≡ (state S.Store self.old.store).now)
+            × ((state S.Store self.new.store).committed ≡ (state S.Store self.old.store).committed)) }
+        ensures crash { Survives (state S.Store self.old.store) (state S.Store self.new.store)
+            (CommitsBy (StepsIn event.now self.old.schedule.content)
+            (state S.Store self.old.store)) }
+    {
+        step(alloc, &mut self.store, &mut self.schedule, event)
+    }
+}

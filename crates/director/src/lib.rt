@@ -1,0 +1,17 @@
+//! A schedule and its record, stepped together.
+//!
+//! A [`Director`] holds a schedule in memory and the store of its record. Each event is planned, written in one transaction, and then done in
+//! memory, so that the record is never behind an answer that was given.
+#![tactic(auto)]
+
+mod directors;
+mod faults;
+mod keeping;
+mod laws;
+mod lists;
+mod opening;
+mod stepping;
+
+pub use directors::Director;
+pub use faults::Fault;
+pub use laws::{a_record_is_opened_as_it_was_left, answered_events_are_stepped};

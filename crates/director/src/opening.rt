@@ -1,0 +1,53 @@
+//! A record, read and restarted.
+ghost use Rattle.std.specs.Prelude.{◌≡◌, false, IfOk, IfErr, OnOk, OnErr, IsErrAnd, IsTrue};
+ghost use Rattle.sqlite.specs.Held.{state};
+ghost use Rattle.sqlite.specs.State.{HasCleanDisk, Survives};
+ghost use Rattle.sqlite.specs.Tree.{Trees};
+ghost use Rattle.record_load.specs.Ours.{is_ours};
+ghost use Rattle.meta_store.specs.Stores.{CommitsBy};
+ghost use Rattle.meta_store.specs.declared.faults.StoreFault.TheVariants as store_fault;
+ghost use Rattle.director.specs.Directors.{Opens, RestartsIn};
+ghost use Rattle.director.specs.Faults.{IsOpenFault};
+ghost use Rattle.director.specs.declared.faults.Fault.TheVariants as fault;
+
+use crate::faults::Fault;
+use crate::stepping::step;
+use meta_store::Store;
+use sched_core::{Limits, Schedule};
+use sched_events::{Answer, Event};
+use sqlite::Alter;
+use std::alloc::Global;
+
+// Loads the schedule that the record holds, and steps a restart of it in the record too.
+pub fn restart<S: Alter>(
+    alloc: Global,
+    store: &mut Store<S>,
+    lanes: u32,
+    limits: Limits,
+) -> Result<(Schedule, Answer), Fault>
+    ensures opened { HasCleanDisk (state S.Store store.new) → IfOk result (λ p. Opens limits lanes
+        (state S.Store store.old).now p.0.content p.1) }
+    ensures stored { HasCleanDisk (state S.Store store.new) → OnOk result
+        (RestartsIn limits lanes (state S.Store store.old).now (state S.Store store.new).now) }
+    ensures only { HasCleanDisk (state S.Store store.new) → OnOk result ((trees : Trees)
+        → (state S.Store store.new).may_leave trees
+        → trees ≡ (state S.Store store.new).now.trees) }
+    ensures fault { HasCleanDisk (state S.Store store.new)
+        → IfErr result (IsOpenFault limits lanes (state S.Store store.old).now) }
+    ensures missing { is_ours (state S.Store store.old).now.schema ≡ false
+        → IsErrAnd result (λ e. e ≡ fault.Store store_fault.NotOurs) }
+    ensures kept { HasCleanDisk (state S.Store store.new)
+        → IsTrue (state S.Store store.new).is_open → OnErr result
+        (((state S.Store store.new).now ≡ (state S.Store store.old).now)
+        × ((state S.Store store.new).committed ≡ (state S.Store store.old).committed)) }
+    ensures open { HasCleanDisk (state S.Store store.new) → OnOk result
+        (IsTrue (state S.Store store.new).is_open) }
+    ensures crash { Survives (state S.Store store.old) (state S.Store store.new)
+        (CommitsBy (RestartsIn limits lanes) (state S.Store store.old)) }
+{
+    let mut schedule = store.load(alloc, limits)?;
+    match step(alloc, store, &mut schedule, &Event::Restart(lanes)) {
+        Ok(answer) => Ok((schedule, answer)),
+        Err(fault) => Err(fault),
+    }
+}
