@@ -1,8 +1,8 @@
 //! The program that a command starts, and what the status means with which it ends.
-ghost use Rattle.std.specs.Prelude.{◌≡◌, ℕ, List, [], ◌∷◌, ◌++◌, map, drop, false, None, IfOk, OnOk, string_bytes, pos};
+ghost use Rattle.std.specs.Prelude.{◌≡◌, ℕ, List, [], ◌∷◌, ◌++◌, map, false, None, IfOk, OnOk};
 ghost use Rattle.std.specs.Process.{command_program, command_args, command_dir, command_var, clears_env};
 ghost use Rattle.std.specs.Process.{SameEnv, SameDir};
-ghost use Rattle.operators.specs.Commands.{with_folder, program_of, arguments_of, folder_path};
+ghost use Rattle.operators.specs.Commands.{with_folder, program_of, arguments_of};
 ghost use Rattle.operators.specs.Outcomes.{code_outcome, status_outcome};
 
 use graph_file::Argument;
@@ -13,11 +13,7 @@ use std::process::Command;
 /// The program that the first argument names, with the others as its arguments: for each that is `@scratch` it gets the folder's path.
 /// It gets the environment and the working folder of who starts it. Where there is no argument the program's name is empty, and
 /// nothing can be started.
-pub fn command_of(
-    alloc: Global,
-    argv: &[Argument],
-    folder: &str,
-) -> Result<Command, AllocError>
+pub fn command_of(alloc: Global, argv: &[Argument], folder: &str) -> Result<Command, AllocError>
     ensures program { IfOk result (λ c. command_program c ≡ program_of argv.now) }
     ensures arguments { IfOk result (λ c. command_args c ≡ arguments_of folder.now argv.now) }
     ensures environment { IfOk result (λ c. (clears_env c ≡ false)
@@ -64,13 +60,6 @@ fn push_argument(command: &mut Command, argument: &str, folder: &str) -> Result<
         command.arg(argument)?;
     }
     Ok(())
-}
-
-// The path of the folder of the try with this serial.
-pub(crate) fn folder_of(alloc: Global, base: &str, serial: u64) -> Result<String, AllocError>
-    ensures { IfOk result (λ path. string_bytes path ≡ folder_path base.now serial) }
-{
-    format!(in alloc; "{base}/try-{serial}")
 }
 
 /// What the code says with which a program ended, `None` where a signal ended it: 0 is success, 99 asks to be skipped, and all else is

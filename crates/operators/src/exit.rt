@@ -1,5 +1,5 @@
 //! The operator of tasks whose tries end with statuses that are written down.
-ghost use Rattle.std.specs.Prelude.{◌≡◌, ℕ, None, [], false};
+ghost use Rattle.std.specs.Prelude.{◌≡◌, None, [], false};
 ghost use Rattle.graph_file.specs.declared.operators.Operator.TheVariants as kinds;
 ghost use Rattle.graph_file.specs.Operators.{status_of};
 ghost use Rattle.operators.specs.Outcomes.{exit_outcome, text_of_try};

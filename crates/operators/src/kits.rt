@@ -31,9 +31,11 @@ impl<O: Operator> Kit<O> {
             return Err(operators);
         }
         let mut operators = operators;
-        let (Some(third), Some(second), Some(first)) =
-            (operators.pop(), operators.pop(), operators.pop())
-        else {
+        let (Some(third), Some(second), Some(first)) = (
+            operators.pop(),
+            operators.pop(),
+            operators.pop(),
+        ) else {
             unreachable!()
         };
         Ok(arrange(first, second, third))
@@ -58,9 +60,9 @@ impl<O: Operator> Kit<O> {
         ensures runs { (k : Kind) → O.runs_of (of_kind self.new k) ≡ O.runs_of (of_kind self.old k) }
         ensures taken { let kind = job.now.action.operator in MatchResult result
             (λ _. (O.taken (of_kind self.new kind) ≡ Some job.now.serial)
-                × (O.performed (of_kind self.new kind) ≡ false))
+            × (O.performed (of_kind self.new kind) ≡ false))
             (λ _. (O.taken (of_kind self.new kind) ≡ O.taken (of_kind self.old kind))
-                × (O.performed (of_kind self.new kind) ≡ O.performed (of_kind self.old kind))) }
+            × (O.performed (of_kind self.new kind) ≡ O.performed (of_kind self.old kind))) }
         ensures busy { (result ≡ Err BeginFault.Busy)
             ↔ IsSome (O.taken (of_kind self.old job.now.action.operator)) }
         ensures scratch { result ≡ Err BeginFault.Scratch → job.now.action.operator ≡ kinds.Command }

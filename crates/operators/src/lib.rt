@@ -12,7 +12,9 @@
 mod boxed;
 mod commands;
 mod exit;
+mod folders;
 mod kits;
+mod laws;
 mod noop;
 mod operators;
 mod programs;
@@ -23,6 +25,7 @@ pub use commands::{command_of, outcome_of_code};
 pub use exit::Exit;
 pub use graph_file::Operator as Kind;
 pub use kits::Kit;
+pub use laws::each_try_of_exit_has_a_status;
 pub use noop::Noop;
 pub use operators::{BeginFault, Operator};
 pub use programs::Program;

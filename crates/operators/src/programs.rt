@@ -1,18 +1,19 @@
 //! The operator of tasks that start a program (Airflow 2, `BashOperator`, without a shell).
-ghost use Rattle.std.specs.Prelude.{◌≡◌, None, [], false, IfOk, IfSome, IsSome, Some, ℕ, option_map, string_bytes};
+ghost use Rattle.std.specs.Prelude.{◌≡◌, None, [], false, option_map, string_bytes};
 ghost use Rattle.graph_file.specs.declared.operators.Operator.TheVariants as kinds;
 ghost use Rattle.operators.specs.Commands.{folder_path};
 ghost use Rattle.operators.specs.Outcomes.{is_lost};
 
-use crate::commands::{command_of, folder_of, outcome_of_code};
+use crate::commands::{command_of, outcome_of_code};
+use crate::folders::TryFolder;
 use crate::{BeginFault, Operator, Progress};
 use graph_file::{Argument, Operator as Kind};
 use instance_machine::Outcome;
 use sched_state::Job;
 use std::alloc::Global;
+use std::io;
 use std::process::{Processes, Stdio};
 use std::rt::Files;
-use std::{fs, io};
 
 /// Starts the program that a job's arguments name, and waits for it to end. No shell reads the arguments.
 ///
@@ -24,10 +25,9 @@ pub struct Program<R: Files + Processes + Drop> {
     rt: R,
     alloc: Global,
     base: String,
-    // the path of the folder of the try that is taken up
-    folder: Option<String>,
-    ghost has_folder: { (serial : ℕ) → progress.taken ≡ Some serial
-        → option_map string_bytes folder ≡ Some (folder_path (string_bytes base) serial) },
+    // that of the try that is taken up
+    folder: Option<TryFolder>,
+    ghost has_folder: { folder ≡ option_map (folder_path (string_bytes base)) progress.taken },
 }
 
 impl<R: Files + Processes + Drop> Program<R> {
@@ -69,23 +69,20 @@ impl<R: Files + Processes + Drop> Operator for Program<R> {
         if self.progress.is_busy() {
             return Err(BeginFault::Busy);
         }
-        let Ok(folder) = folder_of(self.alloc, self.base.as_str(), job.serial) else {
-            return Err(BeginFault::Memory);
-        };
         if self.progress.reserve().is_err() {
             return Err(BeginFault::Memory);
         }
-        if !make_folder(&self.rt, folder.as_str()) {
-            return Err(BeginFault::Scratch);
+        let folder = TryFolder::make(&self.rt, self.alloc, self.base.as_str(), job.serial)?;
+        if let Some(left) = self.folder.replace(folder) {
+            left.remove(&self.rt, self.alloc);
         }
-        self.folder = Some(folder);
         self.progress.take_up(job.serial);
         Ok(())
     }
 
     fn perform(&mut self, job: &Job) -> Outcome {
         let outcome = match &self.folder {
-            Some(folder) => run(&self.rt, self.alloc, job.action.argv(), folder.as_str()),
+            Some(folder) => run(&self.rt, self.alloc, job.action.argv(), folder.path()),
             None => unreachable!(),
         };
         self.progress.add_outcome(job.serial, outcome);
@@ -95,7 +92,7 @@ impl<R: Files + Processes + Drop> Operator for Program<R> {
     fn finish(&mut self) {
         self.progress.give_up();
         if let Some(folder) = self.folder.take() {
-            let _ = self.rt.remove_dir_all(self.alloc, folder.as_str());
+            folder.remove(&self.rt, self.alloc);
         }
     }
 }
@@ -110,22 +107,8 @@ impl<R: Files + Processes + Drop> Drop for Program<R> {
             folder,
         } = self;
         if let Some(folder) = folder {
-            let _ = rt.remove_dir_all(alloc, folder.as_str());
+            folder.remove(&rt, alloc);
         }
-    }
-}
-
-// Makes the folder, or takes one that is there. A link to a folder is none.
-fn make_folder<R: Files>(rt: &R, path: &str) -> bool {
-    match fs::create_dir(rt, path) {
-        Ok(()) => true,
-        Err(e) if e.kind() == io::ErrorKind::AlreadyExists => {
-            match fs::symlink_metadata(rt, path) {
-                Ok(found) => found.is_dir(),
-                Err(_) => false,
-            }
-        }
-        Err(_) => false,
     }
 }
 

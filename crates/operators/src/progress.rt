@@ -1,5 +1,5 @@
 //! What each operator keeps: the tries that it performed, and the job that it has taken up.
-ghost use Rattle.std.specs.Prelude.{◌≡◌, ◌↔◌, ◌<◌, ◌≤◌, None, Some, [], ◌∷◌, ◌++◌, true, false, IsSome, is_some, MatchResult, Err, OnOk, ⊥};
+ghost use Rattle.std.specs.Prelude.{◌≡◌, ◌↔◌, ◌<◌, ◌≤◌, None, Some, [], ◌∷◌, ◌++◌, true, false, IsSome, is_some, MatchResult, Err, OnOk};
 
 use crate::BeginFault;
 use instance_machine::Outcome;

@@ -1,10 +1,9 @@
 //! What arguments a program gets. It writes them to a file in its folder, each with a NUL behind it, and they are compared byte by byte.
-use crate::actions::read_action;
 use crate::folders::path_of;
 use crate::hands::Hand;
-use crate::jobs::job_of;
 use graph_file::{Action, Argument};
 use instance_machine::Outcome;
+use operator_rounds::{job_of, read_action};
 use operators::Program;
 use std::alloc::Global;
 use std::process::Processes;
@@ -14,7 +13,8 @@ use std::{fs, io};
 // The arguments before those that are looked at: a shell that writes those behind its folder.
 const BEFORE: usize = 4;
 
-const SHELL: &str = "[\"sh\", \"-c\", 'for text in \"$@\"; do printf \"%s\\0\" \"$text\"; done > \"$0/got\"', \"@scratch\", ";
+const SHELL: &str =
+    "[\"sh\", \"-c\", 'for text in \"$@\"; do printf \"%s\\0\" \"$text\"; done > \"$0/got\"', \"@scratch\", ";
 
 // How many bytes they have in all.
 const BEFORE_BYTES: usize = 71;

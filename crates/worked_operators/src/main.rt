@@ -7,11 +7,9 @@
 #![tactic(auto)]
 
 mod accounts;
-mod actions;
 mod arguments;
 mod folders;
 mod hands;
-mod jobs;
 mod kits;
 mod rounds;
 mod turns;
@@ -38,12 +36,9 @@ fn main(rt: HostRuntime) -> io::Result<()> {
 }
 
 // Writes a line of the page. What a question left is removed before the next one.
-fn write_line<R: Files + Processes + Threads + Wait + Print + Alloc + Sync + Copy + Drop + Send + 'static>(
-    rt: &R,
-    alloc: Global,
-    base: &str,
-    line: &str,
-) -> io::Result<()> {
+fn write_line<
+    R: Files + Processes + Threads + Wait + Print + Alloc + Sync + Copy + Drop + Send + 'static,
+>(rt: &R, alloc: Global, base: &str, line: &str) -> io::Result<()> {
     if line.is_empty() || line.starts_with('#') {
         return rt.println(line);
     }
@@ -55,12 +50,9 @@ fn write_line<R: Files + Processes + Threads + Wait + Print + Alloc + Sync + Cop
 }
 
 // Writes the answer to a question.
-fn write_answer<R: Files + Processes + Threads + Wait + Print + Alloc + Sync + Copy + Drop + Send + 'static>(
-    rt: &R,
-    alloc: Global,
-    base: &str,
-    line: &str,
-) -> io::Result<()> {
+fn write_answer<
+    R: Files + Processes + Threads + Wait + Print + Alloc + Sync + Copy + Drop + Send + 'static,
+>(rt: &R, alloc: Global, base: &str, line: &str) -> io::Result<()> {
     let (subject, rest) = line.split_once(' ').unwrap_or((line, ""));
     match subject {
         "kit" => kits::write_answer(rt, alloc, base, rest),

@@ -4,9 +4,8 @@ ghost use Rattle.ruled_dispatch.specs.Lanes.{IsDirectorOf, IsWorkerOf};
 ghost use Rattle.operators.specs.Kits.{IsKit};
 
 use crate::accounts::write_account;
-use crate::actions::read_action;
-use crate::jobs::job_of;
 use crate::workers::work;
+use operator_rounds::{job_of, read_action};
 use operators::{BoxedOperator, Exit, Kit, Noop, Operator, Program};
 use ruled_dispatch::{DirectorPass, JobOrStop, Lanes, WorkerPass, WorkerReport};
 use sched_state::Job;
@@ -20,12 +19,7 @@ use std::{fs, io, thread};
 /// Writes whether each of so many jobs was begun and ended once, by one worker, and as that worker's kit has it.
 pub fn write_answer<
     R: Files + Processes + Threads + Wait + Print + Sync + Copy + Drop + Send + 'static,
->(
-    rt: &R,
-    alloc: Global,
-    base: &str,
-    rest: &str,
-) -> io::Result<()> {
+>(rt: &R, alloc: Global, base: &str, rest: &str) -> io::Result<()> {
     let (lanes, count) = rest.split_once(' ').unwrap_or((rest, ""));
     let (Ok(lanes), Ok(count)) = (lanes.parse::<usize>(), count.parse::<u64>()) else {
         return rt.print(" no such round");
@@ -55,7 +49,11 @@ pub fn write_answer<
 // Jobs with the serials from 1: by turns one of each kind of operator, with statuses of all three meanings.
 fn jobs_of(alloc: Global, count: u64) -> Result<Vec<Job>, AllocError> {
     let noop = read_action(alloc, "noop", "[]")?;
-    let command = read_action(alloc, "command", "[\"sh\", \"-c\", \"exit $(( $$ % 2 * 99 ))\"]")?;
+    let command = read_action(
+        alloc,
+        "command",
+        "[\"sh\", \"-c\", \"exit $(( $$ % 2 * 99 ))\"]",
+    )?;
     let exit = read_action(alloc, "exit", "[\"0\", \"99\", \"7\"]")?;
     let (Some(noop), Some(command), Some(exit)) = (noop, command, exit) else {
         return Err(AllocError);
@@ -154,7 +152,13 @@ fn direct<R: Wait>(
     for job in jobs {
         send(rt, lanes, &mut director, &mut heard, JobOrStop::Job(job));
     }
-    hear_all(rt, lanes, &mut director, &mut heard, count.saturating_mul(2));
+    hear_all(
+        rt,
+        lanes,
+        &mut director,
+        &mut heard,
+        count.saturating_mul(2),
+    );
     send(rt, lanes, &mut director, &mut heard, JobOrStop::Stop);
     send(rt, lanes, &mut director, &mut heard, JobOrStop::Stop);
     heard
@@ -203,12 +207,7 @@ fn hear_all<R: Wait>(
 }
 
 // Hears a report where there is one and room for it.
-fn hear<R: Wait>(
-    rt: &R,
-    lanes: &Lanes,
-    director: &mut DirectorPass,
-    heard: &mut Vec<WorkerReport>,
-)
+fn hear<R: Wait>(rt: &R, lanes: &Lanes, director: &mut DirectorPass, heard: &mut Vec<WorkerReport>)
     requires { IsDirectorOf lanes.now director.old }
     ensures { IsDirectorOf lanes.now director.new }
 {

@@ -1,12 +1,11 @@
 //! One word after another with one operator: `begin:SERIAL` and `begin:SERIAL:TRY` begin a job of the line's task, `perform` performs it,
 //! `finish` gives it up, `runs` shows what was performed, and other words change what stands at the base folder. At the end the operator
 //! is dropped.
-use crate::actions::read_action;
 use crate::folders;
 use crate::hands::Hand;
-use crate::jobs::job_of;
 use graph_file::Action;
 use instance_machine::Outcome;
+use operator_rounds::{job_of, read_action};
 use operators::{BeginFault, Exit, Kind, Noop, Operator, Program};
 use std::alloc::Global;
 use std::process::Processes;

@@ -11,12 +11,7 @@ use std::sync::Wait;
 use std::thread;
 
 /// Takes jobs until a stop comes, performs each with the kit, and tells that it has begun and how it ended. The kit comes back.
-pub fn work<O: Operator, R: Wait>(
-    rt: &R,
-    lanes: &Lanes,
-    pass: WorkerPass,
-    kit: Kit<O>,
-) -> Kit<O>
+pub fn work<O: Operator, R: Wait>(rt: &R, lanes: &Lanes, pass: WorkerPass, kit: Kit<O>) -> Kit<O>
     requires pass { IsWorkerOf lanes.now pass }
     requires kit { IsKit O.kind_of kit }
 {

@@ -1,5 +1,5 @@
 //! Actions, as a graph file has them.
-use graph_file::{Action, read_graph};
+use graph_file::{Action, GraphFault, read_graph};
 use std::alloc::{AllocError, Global};
 
 /// The action of a task with this operator, and with these arguments as TOML writes an array. `None` where no graph file may have it.
@@ -16,8 +16,10 @@ pub fn read_action(
     text.push_str(operator)?;
     text.push_str("\"\nargv = ")?;
     text.push_str(argv)?;
-    let Ok(graph) = read_graph(alloc, text.as_str()) else {
-        return Ok(None);
+    let graph = match read_graph(alloc, text.as_str()) {
+        Ok(graph) => graph,
+        Err(GraphFault::Memory) => return Err(AllocError),
+        Err(_) => return Ok(None),
     };
     match graph.tasks.as_slice().first() {
         Some(task) => Ok(Some(task.action.copy(alloc)?)),

@@ -1,4 +1,4 @@
-//! Jobs of tasks that a page names.
+//! Jobs.
 ghost use Rattle.std.specs.Prelude.{◌≡◌, IfOk};
 
 use graph_file::{Action, Bounded, Name};
@@ -6,7 +6,7 @@ use moment_core::Moment;
 use sched_state::Job;
 use std::alloc::{AllocError, Global};
 
-/// A try of a task with this action.
+/// A job with this serial: the try with this number of a task with this action.
 pub fn job_of(
     alloc: Global,
     serial: u64,
@@ -14,6 +14,7 @@ pub fn job_of(
     action: &Action,
 ) -> Result<Job, AllocError>
     ensures serial { IfOk result (λ job. job.serial ≡ serial) }
+    ensures number { IfOk result (λ job. job.try_number ≡ try_number) }
     ensures action { IfOk result (λ job. job.action ≡ action.now) }
 {
     Ok(Job {
