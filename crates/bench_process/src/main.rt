@@ -1,22 +1,28 @@
-//! Has 1 and 4 threads perform tries that start the program `true`, and starts it as often without an operator; prints how many ended
-//! with success, and with the word `time`, where there are a hundred times as many, how many a second.
+//! Has 1 and 4 threads perform tries that start the program `true`, by operators of `command` and by ones that do no more than start it;
+//! prints how many ended with success, and with the word `time`, where there are a hundred times as many, how many a second.
 #![tactic(auto)]
 
-ghost use Rattle.std.specs.Prelude.{◌≡◌, ◌*◌, ◌/◌, ◌<◌, ◌≤◌, max};
+ghost use Rattle.std.specs.Prelude.{◌≡◌, ◌*◌, ◌/◌, max};
 ghost use Rattle.std.specs.Duration.{as_nanos};
 
-mod starts;
+mod plain;
+mod turns;
 
-use std::alloc::Global;
-use std::process::Processes;
-use std::rt::{Clock, Files};
+use crate::plain::Plain;
+use crate::turns::{Turn, jobs_of, perform_all};
+use graph_file::Action;
+use operator_rounds::read_action;
+use operators::{Operator, Program};
+use std::alloc::{AllocError, Global};
+use std::rt::Clock;
 use std::thread::Threads;
 use std::time::{Duration, Instant};
 use std::{env, fs, io, process};
 
-const COUNTED: u64 = 12;
+// How many tries each thread performs.
+const COUNTED: u64 = 3;
 
-const TIMED: u64 = 1_200;
+const TIMED: u64 = 300;
 
 fn main(rt: HostRuntime) -> io::Result<()> {
     let alloc = rt.alloc();
@@ -24,50 +30,75 @@ fn main(rt: HostRuntime) -> io::Result<()> {
     let above = env::temp_dir(&rt)?;
     let above = above.as_str();
     let base = format!(in alloc; "{above}/bench-process-{number}")?;
-    let base = base.as_str();
-    let count = if env::args(&rt)?.any(|word| word.as_str() == "time") {
+    let each = if env::args(&rt)?.any(|word| word.as_str() == "time") {
         TIMED
     } else {
         COUNTED
     };
-    fs::create_dir(&rt, base)?;
-    report(&rt, alloc, base, count, 1)?;
-    report(&rt, alloc, base, count, 4)?;
-    fs::remove_dir(&rt, base)
+    let Some(action) = read_action(alloc, "command", "[\"true\"]")? else {
+        return rt.println("no action");
+    };
+    fs::create_dir(&rt, base.as_str())?;
+    for threads in [1, 4] {
+        let tries = commands(&rt, alloc, base.as_str(), &action, each, threads)?;
+        report(&rt, "tries", threads, each, tries)?;
+        let starts = plains(&rt, alloc, &action, each, threads)?;
+        report(&rt, "plain starts", threads, each, starts)?;
+    }
+    fs::remove_dir(&rt, base.as_str())
 }
 
-// Prints how many of so many tries succeed, by so many threads, and how many plain starts.
-fn report<R: Files + Processes + Threads + Print + Clock + Sync + Copy + Drop>(
-    rt: &R,
+// Operators of `command`, each with so many jobs.
+fn commands(
+    rt: &HostRuntime,
     alloc: Global,
     base: &str,
-    count: u64,
+    action: &Action,
+    each: u64,
     threads: u64,
-) -> io::Result<()>
-    requires { (0 < threads) × (threads ≤ 16) }
-{
-    let start = Instant::now(rt)?;
-    let tried = starts::perform_all(rt, alloc, base, count / threads, threads)?;
-    let time = start.elapsed(rt)?;
-    write_line(rt, "tries", threads, tried, count, time)?;
-    let start = Instant::now(rt)?;
-    let started = starts::start_all(rt, alloc, count / threads, threads)?;
-    let time = start.elapsed(rt)?;
-    write_line(rt, "plain starts", threads, started, count, time)
+) -> Result<Vec<Turn<Program<HostRuntime>>>, AllocError> {
+    let mut turns = Vec::new(alloc);
+    for thread in 0..threads {
+        turns.push(Turn {
+            operator: Program::new(*rt, alloc, String::from_str(alloc, base)?),
+            jobs: jobs_of(alloc, action, thread, each)?,
+        })?;
+    }
+    Ok(turns)
 }
 
-// Prints how many succeeded, and where they were timed how many a second.
-fn write_line<R: Print>(
+// Operators that only start the program, each with so many jobs.
+fn plains(
+    rt: &HostRuntime,
+    alloc: Global,
+    action: &Action,
+    each: u64,
+    threads: u64,
+) -> Result<Vec<Turn<Plain<HostRuntime>>>, AllocError> {
+    let mut turns = Vec::new(alloc);
+    for thread in 0..threads {
+        turns.push(Turn {
+            operator: Plain::new(*rt, alloc),
+            jobs: jobs_of(alloc, action, thread, each)?,
+        })?;
+    }
+    Ok(turns)
+}
+
+// Has the threads perform their jobs, and prints how many succeeded, and where they are timed how many a second.
+fn report<O: Operator + Send, R: Threads + Print + Clock + Sync>(
     rt: &R,
     what: &str,
     threads: u64,
-    succeeded: u64,
-    count: u64,
-    time: Duration,
+    each: u64,
+    turns: Vec<Turn<O>>,
 ) -> io::Result<()> {
+    let start = Instant::now(rt)?;
+    let succeeded = perform_all(rt, turns)?;
+    let time = start.elapsed(rt)?;
     print!(rt; "threads {threads}: {succeeded} {what} with success")?;
-    if count == TIMED {
-        let rate = a_second(count, time);
+    if each == TIMED {
+        let rate = a_second(succeeded, time);
         print!(rt; ", {rate} a second")?;
     }
     rt.println("")

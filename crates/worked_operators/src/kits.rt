@@ -3,16 +3,9 @@ use graph_file::Operator as Kind;
 use operators::{BoxedOperator, Exit, Kit, Noop, Program};
 use std::alloc::Global;
 use std::io;
-use std::process::Processes;
-use std::rt::Files;
 
 /// Writes whether these operators make a kit, or how many are handed back.
-pub fn write_answer<R: Files + Processes + Print + Copy + Drop + Send + 'static>(
-    rt: &R,
-    alloc: Global,
-    base: &str,
-    words: &str,
-) -> io::Result<()> {
+pub fn write_answer(rt: &HostRuntime, alloc: Global, base: &str, words: &str) -> io::Result<()> {
     let mut boxes: Vec<BoxedOperator> = Vec::new(alloc);
     for word in words.split(' ') {
         match Kind::read(word) {

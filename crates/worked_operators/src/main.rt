@@ -30,35 +30,43 @@ fn main(rt: HostRuntime) -> io::Result<()> {
     let base = format!(in alloc; "{above}/worked-operators-{number}")?;
     let text = io::read_to_string(alloc, rt.reader())?;
     for line in text.as_str().lines() {
-        write_line(&rt, alloc, base.as_str(), line)?;
+        write_line(&rt, &rt, alloc, base.as_str(), line)?;
     }
     Ok(())
 }
 
 // Writes a line of the page. What a question left is removed before the next one.
-fn write_line<
-    R: Files + Processes + Threads + Wait + Print + Alloc + Sync + Copy + Drop + Send + 'static,
->(rt: &R, alloc: Global, base: &str, line: &str) -> io::Result<()> {
+fn write_line<R: Files + Processes + Threads + Wait + Print + Alloc + Sync + Copy + Drop>(
+    rt: &R,
+    host: &HostRuntime,
+    alloc: Global,
+    base: &str,
+    line: &str,
+) -> io::Result<()> {
     if line.is_empty() || line.starts_with('#') {
         return rt.println(line);
     }
     print!(rt; "{line} =>")?;
-    write_answer(rt, alloc, base, line)?;
+    write_answer(rt, host, alloc, base, line)?;
     let _ = fs::remove_file(rt, base);
     let _ = rt.remove_dir_all(alloc, base);
     rt.println("")
 }
 
 // Writes the answer to a question.
-fn write_answer<
-    R: Files + Processes + Threads + Wait + Print + Alloc + Sync + Copy + Drop + Send + 'static,
->(rt: &R, alloc: Global, base: &str, line: &str) -> io::Result<()> {
+fn write_answer<R: Files + Processes + Threads + Wait + Print + Alloc + Sync + Copy + Drop>(
+    rt: &R,
+    host: &HostRuntime,
+    alloc: Global,
+    base: &str,
+    line: &str,
+) -> io::Result<()> {
     let (subject, rest) = line.split_once(' ').unwrap_or((line, ""));
     match subject {
-        "kit" => kits::write_answer(rt, alloc, base, rest),
+        "kit" => kits::write_answer(host, alloc, base, rest),
         "arguments" => arguments::write_answer(rt, alloc, base, rest),
         "long" => arguments::write_long(rt, alloc, base, rest),
-        "round" => rounds::write_answer(rt, alloc, base, rest),
+        "round" => rounds::write_answer(rt, host, alloc, base, rest),
         _ => turns::write_answer(rt, alloc, base, subject, rest),
     }
 }

@@ -5,21 +5,25 @@ ghost use Rattle.operators.specs.Kits.{IsKit};
 
 use crate::accounts::write_account;
 use crate::workers::work;
+use graph_file::Action;
 use operator_rounds::{job_of, read_action};
 use operators::{BoxedOperator, Exit, Kit, Noop, Operator, Program};
 use ruled_dispatch::{DirectorPass, JobOrStop, Lanes, WorkerPass, WorkerReport};
 use sched_state::Job;
 use std::alloc::{AllocError, Global};
-use std::process::Processes;
 use std::rt::Files;
 use std::sync::Wait;
 use std::thread::Threads;
 use std::{fs, io, thread};
 
 /// Writes whether each of so many jobs was begun and ended once, by one worker, and as that worker's kit has it.
-pub fn write_answer<
-    R: Files + Processes + Threads + Wait + Print + Sync + Copy + Drop + Send + 'static,
->(rt: &R, alloc: Global, base: &str, rest: &str) -> io::Result<()> {
+pub fn write_answer<R: Files + Threads + Wait + Print + Sync>(
+    rt: &R,
+    host: &HostRuntime,
+    alloc: Global,
+    base: &str,
+    rest: &str,
+) -> io::Result<()> {
     let (lanes, count) = rest.split_once(' ').unwrap_or((rest, ""));
     let (Ok(lanes), Ok(count)) = (lanes.parse::<usize>(), count.parse::<u64>()) else {
         return rt.print(" no such round");
@@ -32,10 +36,10 @@ pub fn write_answer<
     let mut ones: Vec<BoxedOperator> = Vec::new(alloc);
     ones.push(Box::new(alloc, Noop::new(alloc))?)?;
     ones.push(Box::new(alloc, Exit::new(alloc))?)?;
-    let program = Program::new(*rt, alloc, String::from_str(alloc, base)?);
+    let program = Program::new(*host, alloc, String::from_str(alloc, base)?);
     ones.push(Box::new(alloc, program)?)?;
     let mut others: Vec<BoxedOperator> = Vec::new(alloc);
-    let program = Program::new(*rt, alloc, String::from_str(alloc, base)?);
+    let program = Program::new(*host, alloc, String::from_str(alloc, base)?);
     others.push(Box::new(alloc, program)?)?;
     others.push(Box::new(alloc, Noop::new(alloc))?)?;
     others.push(Box::new(alloc, Exit::new(alloc))?)?;
@@ -61,14 +65,24 @@ fn jobs_of(alloc: Global, count: u64) -> Result<Vec<Job>, AllocError> {
     let mut jobs = Vec::new(alloc);
     for before in 0..count {
         let serial = before + 1;
-        let action = match serial % 3 {
-            0 => &noop,
-            1 => &command,
-            _ => &exit,
-        };
+        let action = action_for(serial, &noop, &command, &exit);
         jobs.push(job_of(alloc, serial, (serial / 3 % 4) as usize + 1, action)?)?;
     }
     Ok(jobs)
+}
+
+// The action of the job with this serial.
+fn action_for<'a>(
+    serial: u64,
+    noop: &'a Action,
+    command: &'a Action,
+    exit: &'a Action,
+) -> &'a Action {
+    match serial % 3 {
+        0 => noop,
+        1 => command,
+        _ => exit,
+    }
 }
 
 // Has two threads perform the jobs, while this one sends them and hears. Both kits come back.
