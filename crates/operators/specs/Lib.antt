@@ -1,0 +1,4 @@
+pub mod Outcomes
+pub mod Commands
+pub mod Progress
+pub mod Kits

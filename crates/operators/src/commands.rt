@@ -1,0 +1,82 @@
+//! The program that a command starts, and what the status means with which it ends.
+ghost use Rattle.std.specs.Prelude.{◌≡◌, ℕ, List, [], ◌∷◌, ◌++◌, map, false, None, IfOk, OnOk};
+ghost use Rattle.std.specs.Process.{command_program, command_args, command_dir, command_var, clears_env};
+ghost use Rattle.std.specs.Process.{SameEnv, SameDir};
+ghost use Rattle.operators.specs.Commands.{with_folder, program_of, arguments_of};
+ghost use Rattle.operators.specs.Outcomes.{code_outcome, status_outcome};
+
+use graph_file::Argument;
+use instance_machine::Outcome;
+use std::alloc::{AllocError, Global};
+use std::process::Command;
+
+/// The program that the first argument names, with the others as its arguments: for each that is `@scratch` it gets the folder's path.
+/// It gets the environment and the working folder of who starts it. Where there is no argument the program's name is empty, and
+/// nothing can be started.
+pub fn command_of(alloc: Global, argv: &[Argument], folder: &str) -> Result<Command, AllocError>
+    ensures program { IfOk result (λ c. command_program c ≡ program_of argv.now) }
+    ensures arguments { IfOk result (λ c. command_args c ≡ arguments_of folder.now argv.now) }
+    ensures environment { IfOk result (λ c. (clears_env c ≡ false)
+        × ((name : List ℕ) → command_var c name ≡ None)) }
+    ensures folder { IfOk result (λ c. command_dir c ≡ None) }
+{
+    let [program, arguments @ ..] = argv else {
+        return Command::new(alloc, "");
+    };
+    let mut command = Command::new(alloc, program.as_str())?;
+    push_arguments(&mut command, arguments, folder)?;
+    Ok(command)
+}
+
+// Adds each argument, or the folder's path for `@scratch`.
+fn push_arguments(
+    command: &mut Command,
+    arguments: &[Argument],
+    folder: &str,
+) -> Result<(), AllocError>
+    ensures arguments { OnOk result (command_args command.new
+        ≡ command_args command.old ++ map (with_folder folder.now) arguments.now) }
+    ensures program { OnOk result (command_program command.new ≡ command_program command.old) }
+    ensures environment { OnOk result (SameEnv command.old command.new) }
+    ensures folder { OnOk result (SameDir command.old command.new) }
+{
+    for argument in arguments {
+        push_argument(command, argument.as_str(), folder)?;
+    }
+    Ok(())
+}
+
+// Adds an argument, or the folder's path for `@scratch`.
+fn push_argument(command: &mut Command, argument: &str, folder: &str) -> Result<(), AllocError>
+    ensures arguments { OnOk result (command_args command.new
+        ≡ command_args command.old ++ with_folder folder.now argument.now ∷ []) }
+    ensures program { OnOk result (command_program command.new ≡ command_program command.old) }
+    ensures environment { OnOk result (SameEnv command.old command.new) }
+    ensures folder { OnOk result (SameDir command.old command.new) }
+{
+    if argument == "@scratch" {
+        command.arg(folder)?;
+    } else {
+        command.arg(argument)?;
+    }
+    Ok(())
+}
+
+/// What the code says with which a program ended, `None` where a signal ended it: 0 is success, 99 asks to be skipped, and all else is
+/// a failure.
+pub fn outcome_of_code(code: Option<i32>) -> Outcome
+    ensures { result ≡ code_outcome code }
+{
+    match code {
+        Some(0) => Outcome::Success,
+        Some(99) => Outcome::Skipped,
+        _ => Outcome::Failed,
+    }
+}
+
+// What a status says.
+pub(crate) fn outcome_of_status(status: u8) -> Outcome
+    ensures { result ≡ status_outcome status }
+{
+    outcome_of_code(Some(i32::from(status)))
+}

@@ -1,0 +1,138 @@
+//! The operator of tasks that start a program (Airflow 2, `BashOperator`, without a shell).
+ghost use Rattle.std.specs.Prelude.{◌≡◌, None, [], false, option_map, string_bytes};
+ghost use Rattle.graph_file.specs.declared.operators.Operator.TheVariants as kinds;
+ghost use Rattle.operators.specs.Commands.{folder_path};
+ghost use Rattle.operators.specs.Outcomes.{is_lost};
+
+use crate::commands::{command_of, outcome_of_code};
+use crate::folders::TryFolder;
+use crate::{BeginFault, Operator, Progress};
+use graph_file::{Argument, Operator as Kind};
+use instance_machine::Outcome;
+use sched_state::Job;
+use std::alloc::Global;
+use std::io;
+use std::process::{Processes, Stdio};
+use std::rt::Files;
+
+/// Starts the program that a job's arguments name, and waits for it to end. No shell reads the arguments.
+///
+/// Each try has a folder `try-SERIAL` of its own under the base folder, from `begin` on; one that is there is taken. `finish` and a drop
+/// remove it with all that is in it, as far as the system lets them. The program's standard streams are empty, and what it writes is
+/// lost. Status 0 is success, 99 asks to be skipped; another one, a signal, and a program that cannot be started are failures.
+pub struct Program<R: Files + Processes + Drop> {
+    progress: Progress,
+    rt: R,
+    alloc: Global,
+    base: String,
+    // that of the try that is taken up
+    folder: Option<TryFolder>,
+    ghost has_folder: { folder ≡ option_map (folder_path (string_bytes base)) progress.taken },
+}
+
+impl<R: Files + Processes + Drop> Program<R> {
+    /// An operator that has performed nothing. This takes no memory, and touches no folder.
+    pub fn new(rt: R, alloc: Global, base: String) -> Program<R>
+        ensures runs { ⟦<Program<R> as Operator>⟧.runs_of result ≡ [] }
+        ensures taken { (⟦<Program<R> as Operator>⟧.taken result ≡ None)
+            × (⟦<Program<R> as Operator>⟧.performed result ≡ false) }
+        ensures kind { ⟦<Program<R> as Operator>⟧.kind_of result ≡ kinds.Command }
+    {
+        Program {
+            progress: Progress::new(alloc),
+            rt,
+            alloc,
+            base,
+            folder: None,
+        }
+    }
+}
+
+impl<R: Files + Processes + Drop> Operator for Program<R> {
+    ghost kind_of = { λ _. kinds.Command };
+
+    ghost runs_of = { λ o. o.progress.runs };
+
+    ghost taken = { λ o. o.progress.taken };
+
+    ghost performed = { λ o. o.progress.performed };
+
+    fn kind(&self) -> Kind {
+        Kind::Command
+    }
+
+    fn runs(&self) -> &[(u64, Outcome)] {
+        self.progress.runs()
+    }
+
+    fn begin(&mut self, job: &Job) -> Result<(), BeginFault> {
+        if self.progress.is_busy() {
+            return Err(BeginFault::Busy);
+        }
+        if self.progress.reserve().is_err() {
+            return Err(BeginFault::Memory);
+        }
+        let folder = TryFolder::make(&self.rt, self.alloc, self.base.as_str(), job.serial)?;
+        if let Some(left) = self.folder.replace(folder) {
+            left.remove(&self.rt, self.alloc);
+        }
+        self.progress.take_up(job.serial);
+        Ok(())
+    }
+
+    fn perform(&mut self, job: &Job) -> Outcome {
+        let outcome = match &self.folder {
+            Some(folder) => run(&self.rt, self.alloc, job.action.argv(), folder.path()),
+            None => unreachable!(),
+        };
+        self.progress.add_outcome(job.serial, outcome);
+        outcome
+    }
+
+    fn finish(&mut self) {
+        self.progress.give_up();
+        if let Some(folder) = self.folder.take() {
+            folder.remove(&self.rt, self.alloc);
+        }
+    }
+}
+
+impl<R: Files + Processes + Drop> Drop for Program<R> {
+    fn drop(self) {
+        let Program {
+            progress: _,
+            rt,
+            alloc,
+            base: _,
+            folder,
+        } = self;
+        if let Some(folder) = folder {
+            folder.remove(&rt, alloc);
+        }
+    }
+}
+
+// Starts the program and waits for it to end. One that cannot be started is a failure, for want of memory too.
+fn run<R: Processes>(rt: &R, alloc: Global, argv: &[Argument], folder: &str) -> Outcome
+    ensures { is_lost result ≡ false }
+{
+    match code_of(rt, alloc, argv, folder) {
+        Ok(code) => outcome_of_code(code),
+        Err(_) => Outcome::Failed,
+    }
+}
+
+// The code with which the program ended, `None` where a signal ended it.
+fn code_of<R: Processes>(
+    rt: &R,
+    alloc: Global,
+    argv: &[Argument],
+    folder: &str,
+) -> io::Result<Option<i32>> {
+    let mut command = command_of(alloc, argv, folder)?;
+    command.stdin(Stdio::null());
+    command.stdout(Stdio::null());
+    command.stderr(Stdio::null());
+    let status = command.status(rt)?;
+    Ok(status.code())
+}
