@@ -33,7 +33,8 @@ fn put_run<W: Write>(schedule: &Schedule, run: &Run, output: &mut W) -> io::Resu
     Ok(())
 }
 
-fn phase_name(phase: RunPhase) -> &'static str {
+/// The name of a phase.
+pub fn phase_name(phase: RunPhase) -> &'static str {
     match phase {
         RunPhase::Queued => "queued",
         RunPhase::Running => "running",

@@ -1,10 +1,10 @@
-//! What a line is: a title, a remark, limits, an event that no script has words for, or a line of a script.
+//! What a line is: a title, a remark, limits, an event that no script has words for, a question, or a line of a script.
 use sched_core::{Event, Limits, Outcome, Stage};
 use std::str;
 
 /// What a line is.
 #[derive(Drop)]
-pub enum Line {
+pub enum Line<'a> {
     /// `== TITLE`: a new schedule begins, within the greatest limits.
     Title,
     /// A comment, or a line without a byte.
@@ -13,13 +13,15 @@ pub enum Line {
     Limits(Option<Limits>),
     /// `restart LANES`, or `report SERIAL STAGE`, where the stage is `started` or how the try ended.
     Event(Event),
+    /// `explain GRAPH DATE TASK`: why the instance of the task in the run of the graph with this logical date is where it is.
+    Explain(&'a str),
     /// A line of a script.
     Script,
 }
 
-impl Line {
+impl<'a> Line<'a> {
     /// What this line is, which has no newline.
-    pub fn of(line: &[u8]) -> Line {
+    pub fn of(line: &'a [u8]) -> Line<'a> {
         match str::from_utf8(line) {
             Ok(text) => of_text(text),
             Err(_) => Line::Script,
@@ -27,7 +29,7 @@ impl Line {
     }
 }
 
-fn of_text(text: &str) -> Line {
+fn of_text(text: &str) -> Line<'_> {
     if text.is_empty() || text.starts_with("#") {
         return Line::Remark;
     }
@@ -36,7 +38,11 @@ fn of_text(text: &str) -> Line {
     }
     match text.split_once(' ') {
         Some(("limits", rest)) => Line::Limits(limits_of(rest)),
-        Some((name, rest)) => event_of(name, rest).map_or(Line::Script, Line::Event),
+        Some(("explain", rest)) => Line::Explain(rest),
+        Some((name, rest)) => match event_of(name, rest) {
+            Some(event) => Line::Event(event),
+            None => Line::Script,
+        },
         None => Line::Script,
     }
 }

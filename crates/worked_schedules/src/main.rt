@@ -1,8 +1,9 @@
 //! Worked schedules: lists of events, each told with its answer and with what it leaves.
 //!
 //! Standard input has titles, each of which begins a new schedule, and below a title the events that come to it: the lines of a script,
-//! and the words for what no script says (`lines`). Standard output has the same lines again, with `> ` before each, and after each what
-//! it answers, as a script prints it, and what it leaves (`leaving`). So the output reads as one page.
+//! and the words for what no script says (`lines`), among them questions why a task instance waits. Standard output has the same lines
+//! again, with `> ` before each, and after each what it answers, as a script prints it, and what it leaves (`leaving`), or the reasons
+//! (`explaining`). So the output reads as one page.
 //!
 //! ```text
 //! == a lane takes one try
@@ -13,6 +14,7 @@
 #![tactic(auto)]
 
 mod answering;
+mod explaining;
 mod leaving;
 mod lines;
 mod playing;

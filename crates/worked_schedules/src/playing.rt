@@ -1,5 +1,6 @@
 //! The lines of a text, one after another.
 use crate::answering::answer;
+use crate::explaining::explain_words;
 use crate::lines::Line;
 use crate::stepping::{new_schedule, step};
 use sched_core::{Limits, Schedule};
@@ -45,6 +46,10 @@ fn play_line<'a, W: Write>(
         Line::Event(event) => {
             echo(line, output)?;
             step(alloc, schedule, &event, output)?;
+        }
+        Line::Explain(words) => {
+            echo(line, output)?;
+            explain_words(alloc, schedule, words, output)?;
         }
         Line::Script => return play_script(alloc, schedule, lines, text, output),
     }
