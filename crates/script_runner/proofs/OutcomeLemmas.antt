@@ -3,11 +3,9 @@ use Rattle.std.proofs.Common.{◌≡◌, ℕ, List, Option, Result, Ok, Err, IfO
 use Rattle.std.specs.Result.{IsErrAnd}
 use Rattle.std.specs.Io.KnownBytes.{Appends}
 use Rattle.sched_model.specs.Schedule.{Schedule}
-use Rattle.sched_events.specs.Outcomes.{IsStepped, IsRefusal}
+use Rattle.sched_events.specs.Outcomes.{IsStepped}
 use Rattle.sched_events.specs.declared.answers.Answer.{Answer}
 use Rattle.sched_events.specs.declared.events.Event.{Event}
-use Rattle.sched_events.specs.declared.refusals.Refusal.{Refusal}
-use Rattle.sched_events.specs.declared.refusals.Refusal.TheVariants as refusal
 use Rattle.sched_core.specs.Views.{all_rows, pool_rows}
 use Rattle.script_commands.specs.Meanings.{wants_memory}
 use Rattle.script_commands.specs.Commands.{Request, IsGiven}
@@ -17,11 +15,13 @@ use Rattle.script_commands.specs.declared.commands.CommandFault.{CommandFault}
 use Rattle.answer_lines.specs.Answers.{answer_text}
 use Rattle.answer_lines.specs.Faults.{fault_text}
 use Rattle.answer_lines.specs.Pools.{pools_text}
-use Rattle.answer_lines.specs.Refusals.{refusal_text}
 use Rattle.answer_lines.specs.Runs.{runs_text}
 use Rattle.answer_lines.specs.Tasks.{tasks_text}
 use Rattle.sched_state.specs.declared.runs.Run.{Run}
-use Rattle.script_runner.specs.Outcomes.{Outcome, IsOutcome, accepted_with, refused_for, refusal_status, fault_status}
+use Rattle.director.specs.Faults.{IsFaultOf}
+use Rattle.director.specs.declared.faults.Fault.{Fault}
+use Rattle.director.specs.declared.faults.Fault.TheVariants as failed
+use Rattle.script_runner.specs.Outcomes.{Outcome, IsOutcome, accepted_with, failed_for, failure_status, failure_text, fault_status}
 use Rattle.script_runner.specs.Runs.{IsAnswered}
 
 -- nothing is said of an error's value
@@ -46,10 +46,10 @@ comes-accepted e a b given s = record {
   has_status = refl;
 }
 
-pub comes-refused : (e : Event) (a b : Schedule) (r : Refusal) → IsRefusal a e r → b ≡ a → Comes (Ok (Step e)) a b (refusal_text r) (refusal_status r)
-comes-refused e a b r why same = record {
-  outcome = refused_for r a;
-  is = inr (r, why, refl);
+pub comes-failed : (e : Event) (a b : Schedule) (f : Fault) → IsFaultOf a e f → b ≡ a → Comes (Ok (Step e)) a b (failure_text f) (failure_status f)
+comes-failed e a b f why same = record {
+  outcome = failed_for f a;
+  is = inr (f, why, refl);
   schedule = same;
   shows = refl;
   has_status = refl;
@@ -77,7 +77,7 @@ pub outcome-given : (wanted given : Request) (a : Schedule) (o : Outcome) → Is
 outcome-given wanted given a o (inl same) h = subst (λ (r : Request). IsOutcome r a o) same h
 outcome-given wanted given a o (inr (memory, (command, is, lacks))) h =
     let event = lacking command lacks in
-    subst (λ (r : Request). IsOutcome r a o) (sym (is ∙ ap (λ (c : Command). let r : Request = Ok c in r) event.1)) (inr (refusal.Memory, inl refl, subst (λ (r : Request). IsOutcome r a o) memory h))
+    subst (λ (r : Request). IsOutcome r a o) (sym (is ∙ ap (λ (c : Command). let r : Request = Ok c in r) event.1)) (inr (failed.Memory, tt, subst (λ (r : Request). IsOutcome r a o) memory h))
 
 pub comes-listed : (r : Request) (a : Schedule) (runs : List Run) → r ≡ Ok ListRuns → runs ≡ a.runs → Comes r a a (runs_text runs) 0
 comes-listed r a runs e same = record {

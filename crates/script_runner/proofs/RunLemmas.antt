@@ -2,7 +2,7 @@
 use Rattle.std.proofs.Common.{◌≡◌, ◌∙◌, ◌<◌, max, Option, Some, None, List, [], ◌∷◌, ◌++◌, Ok, Err, refl, sym, ap, subst, arith, inl, inr}
 use Rattle.sched_model.specs.Schedule.{Schedule}
 use Rattle.sched_events.specs.Causes.{refused}
-use Rattle.sched_events.specs.Outcomes.{IsRefusal, unnamed}
+use Rattle.sched_events.specs.Outcomes.{unnamed}
 use Rattle.sched_events.specs.Steps.{step, steps, AreAccepted, accepted_among}
 use Rattle.sched_events.specs.declared.events.Event.{Event}
 use Rattle.sched_events.specs.declared.refusals.Refusal.{Refusal}
@@ -10,7 +10,10 @@ use Rattle.sched_events.specs.declared.refusals.Refusal.TheVariants.{Memory}
 use Rattle.sched_events.proofs.StepLemmas.{steps_parts}
 use Rattle.script_commands.specs.Commands.{Request}
 use Rattle.script_commands.specs.declared.commands.Command.TheVariants.{Step, ListRuns, ListTasks, ListPools}
-use Rattle.script_runner.specs.Outcomes.{Outcome, IsOutcome, IsEventOutcome, refused_for, refusal_status}
+use Rattle.director.specs.Faults.{IsFaultOf}
+use Rattle.director.specs.declared.faults.Fault.{Fault}
+use Rattle.director.specs.declared.faults.Fault.TheVariants as failed
+use Rattle.script_runner.specs.Outcomes.{Outcome, IsOutcome, IsEventOutcome, failed_for, failure_status, refusal_status}
 use Rattle.script_runner.specs.Runs.{IsRun, IsPart, StepsEvents, event_of, events_of, then_outcome}
 use Rattle.script_runner.specs.Runs.IsPart.{none, kept, left}
 
@@ -30,32 +33,40 @@ pub record StepsOne (r : Request) (a : Schedule) (o : Outcome) : Type 0 where
   pub part : (rest more : List Event) → IsPart rest more → IsPart (events ++ rest) (event_of r ++ more)
   pub schedule : o.schedule ≡ steps events a
   pub accepted : AreAccepted events a
-  pub exact : o.status < 4 → (more : List Event) → accepted_among (event_of r ++ more) a ≡ events ++ accepted_among more (steps events a)
+  pub exact : o.status < 3 → (more : List Event) → accepted_among (event_of r ++ more) a ≡ events ++ accepted_among more (steps events a)
   pub all : o.status ≡ 0 → events ≡ event_of r
 
-some-status : (r : Refusal) → refusal_status r ≡ 0 → ⊥
-some-status Memory h = cc
-some-status _ h = cc
+some-refusal : (r : Refusal) → refusal_status r ≡ 0 → ⊥
+some-refusal Memory h = cc
+some-refusal _ h = cc
 
-not_zero : (r : Refusal) (a : Schedule) (o : Outcome) → o ≡ refused_for r a → o.status ≡ 0 → ⊥
-not_zero r a o h z = some-status r (sym (ap (λ (x : Outcome). x.status) h) ∙ z)
+some-status : (f : Fault) → failure_status f ≡ 0 → ⊥
+some-status (failed.Refused r) h = some-refusal r h
+some-status (failed.Store s) h = cc
+some-status failed.Memory h = cc
 
--- one that is refused is left out, unless memory was wanting
-left_out : (e : Event) (a : Schedule) (r : Refusal) (o : Outcome) (more : List Event) → IsRefusal a e r → o ≡ refused_for r a → o.status < 4
+not_zero : (f : Fault) (a : Schedule) (o : Outcome) → o ≡ failed_for f a → o.status ≡ 0 → ⊥
+not_zero f a o h z = some-status f (sym (ap (λ (x : Outcome). x.status) h) ∙ z)
+
+-- one that is refused is left out, unless the record was not written or memory was wanting
+left_out : (e : Event) (a : Schedule) (f : Fault) (o : Outcome) (more : List Event) → IsFaultOf a e f → o ≡ failed_for f a → o.status < 3
     → accepted_among (e ∷ more) a ≡ accepted_among more a
-left_out e a r o more (inl memory) h few =
-    let four : o.status ≡ 4 = ap (λ (x : Outcome). x.status) h ∙ ap refusal_status memory in
+left_out e a (failed.Refused r) o more cause h few = among-first e more a (Some (unnamed r)) cause.first
+left_out e a (failed.Store s) o more of h few =
+    let three : o.status ≡ 3 = ap (λ (x : Outcome). x.status) h in
+    absurd (omega (arith, three, few))
+left_out e a failed.Memory o more of h few =
+    let four : o.status ≡ 4 = ap (λ (x : Outcome). x.status) h in
     absurd (omega (arith, four, few))
-left_out e a r o more (inr cause) h few = among-first e more a (Some (unnamed r)) cause.first
 
-one-refused : (e : Event) (a : Schedule) (r : Refusal) (o : Outcome) → IsRefusal a e r → o ≡ refused_for r a → StepsOne (Ok (Step e)) a o
-one-refused e a r o why h = record {
+one-failed : (e : Event) (a : Schedule) (f : Fault) (o : Outcome) → IsFaultOf a e f → o ≡ failed_for f a → StepsOne (Ok (Step e)) a o
+one-failed e a f o why h = record {
   events = [];
   part = λ rest more p. left e rest more p;
   schedule = ap (λ (x : Outcome). x.schedule) h;
   accepted = tt;
-  exact = λ few more. left_out e a r o more why h few;
-  all = λ z. absurd (not_zero r a o h z);
+  exact = λ few more. left_out e a f o more why h few;
+  all = λ z. absurd (not_zero f a o h z);
 }
 
 one-step : (e : Event) (a : Schedule) (o : Outcome) → IsEventOutcome e a o → StepsOne (Ok (Step e)) a o
@@ -67,7 +78,7 @@ one-step e a o (inl (b, given, stepped, same)) = record {
   exact = λ few more. among-first e more a None stepped.accepted;
   all = λ z. refl;
 }
-one-step e a o (inr (r, why, same)) = one-refused e a r o why same
+one-step e a o (inr (f, why, same)) = one-failed e a f o why same
 
 -- what is no event steps none
 no-event : (r : Request) (a : Schedule) (o : Outcome) → event_of r ≡ [] → o.schedule ≡ a → StepsOne r a o
@@ -95,8 +106,8 @@ joined r rs a first rest o f s e = record {
   accepted = accepted_parts f.events s.events a f.accepted (subst (AreAccepted s.events) f.schedule s.accepted);
   exact = λ few.
       let greatest : o.status ≡ max first.status rest.status = ap (λ (x : Outcome). x.status) e in
-      let here : first.status < 4 = omega arith in
-      let later : rest.status < 4 = omega arith in
+      let here : first.status < 3 = omega arith in
+      let later : rest.status < 3 = omega arith in
       ap (λ (es : List Event). f.events ++ es) (s.exact later ∙ ap (accepted_among (events_of rs)) f.schedule) ∙ sym (f.exact here (events_of rs));
   all = λ z.
       let greatest : o.status ≡ max first.status rest.status = ap (λ (x : Outcome). x.status) e in

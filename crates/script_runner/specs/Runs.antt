@@ -37,13 +37,13 @@ pub data IsPart {X : Type 0} : List X → List X → Type 0 where
   left : (x : X) (xs ys : List X) → IsPart xs ys → IsPart xs (x ∷ ys)
 
 -- the schedule is that after some of the commands' events, in their order, each of them accepted: after exactly those that are accepted
--- where memory sufficed and each text could be had, which is a status below 4, and after all where the status is 0
+-- where the record was written, memory sufficed and each text could be had, which is a status below 3, and after all where the status is 0
 pub record StepsEvents (commands : List Request) (a : Schedule) (o : Outcome) : Type 0 where
   pub events : List Event
   pub part : IsPart events (events_of commands)
   pub schedule : o.schedule ≡ steps events a
   pub accepted : AreAccepted events a
-  pub exact : o.status < 4 → events ≡ accepted_among (events_of commands) a
+  pub exact : o.status < 3 → events ≡ accepted_among (events_of commands) a
   pub all : o.status ≡ 0 → events ≡ events_of commands
 
 -- a command was done, and answered where writing succeeded

@@ -1,38 +1,45 @@
 //! The answer to one command.
 ghost use Rattle.std.specs.Prelude.{◌≡◌, Ok};
+ghost use Rattle.sqlite.specs.Held.{state};
+ghost use Rattle.director.specs.Directors.{Follows};
 ghost use Rattle.script_commands.specs.declared.commands.Command.TheVariants.{Step};
 ghost use Rattle.script_runner.specs.Outcomes as spec;
 ghost use Rattle.script_runner.specs.Runs.{IsAnswered};
 
+use crate::failing::{failure_status, put_failure};
 use crate::listing::{put_pools, put_tasks};
-use answer_lines::{put_answer, put_fault, put_refusal, put_runs};
-use sched_core::{Event, Refusal, Schedule};
+use answer_lines::{put_answer, put_fault, put_runs};
+use director::Director;
+use sched_core::Event;
 use script_commands::{Command, CommandFault};
+use sqlite::Alter;
 use std::alloc::Global;
 use std::io::{self, Write};
 
 // Does what a script has in a command's place, writes its lines, and answers its status.
-pub(crate) fn answer<W: Write>(
+pub(crate) fn answer<S: Alter, W: Write>(
     alloc: Global,
-    schedule: &mut Schedule,
+    director: &mut Director<S>,
     request: Result<Command, CommandFault>,
     output: &mut W,
 ) -> io::Result<u8>
-    ensures { IsAnswered request schedule.old.content schedule.new.content (W.contents output.old)
-        (W.contents output.new) result }
+    ensures answered { IsAnswered request director.old.schedule.content director.new.schedule.content
+        (W.contents output.old) (W.contents output.new) result }
+    ensures followed { Follows director.old.schedule.content (state S.Store director.old.store)
+        director.new.schedule.content (state S.Store director.new.store) }
 {
     match request {
-        Ok(Command::Step(event)) => step(alloc, schedule, &event, output),
+        Ok(Command::Step(event)) => step(alloc, director, &event, output),
         Ok(Command::ListRuns) => {
-            put_runs(output, schedule.runs())?;
+            put_runs(output, director.schedule().runs())?;
             Ok(0)
         }
         Ok(Command::ListTasks) => {
-            put_tasks(output, schedule)?;
+            put_tasks(output, director.schedule())?;
             Ok(0)
         }
         Ok(Command::ListPools) => {
-            put_pools(output, schedule)?;
+            put_pools(output, director.schedule())?;
             Ok(0)
         }
         Err(fault) => {
@@ -44,34 +51,27 @@ pub(crate) fn answer<W: Write>(
 }
 
 // Steps an event, unless it is refused.
-fn step<W: Write>(
+fn step<S: Alter, W: Write>(
     alloc: Global,
-    schedule: &mut Schedule,
+    director: &mut Director<S>,
     event: &Event,
     output: &mut W,
 ) -> io::Result<u8>
-    ensures { IsAnswered (Ok (Step event.now)) schedule.old.content schedule.new.content
-        (W.contents output.old) (W.contents output.new) result }
+    ensures answered { IsAnswered (Ok (Step event.now)) director.old.schedule.content
+        director.new.schedule.content (W.contents output.old) (W.contents output.new) result }
+    ensures followed { Follows director.old.schedule.content (state S.Store director.old.store)
+        director.new.schedule.content (state S.Store director.new.store) }
 {
-    match schedule.step(alloc, event) {
+    match director.step(alloc, event) {
         Ok(answer) => {
             put_answer(output, event, &answer)?;
             Ok(0)
         }
-        Err(refusal) => {
-            let status = refusal_status(&refusal);
-            put_refusal(output, &refusal)?;
+        Err(fault) => {
+            let status = failure_status(&fault);
+            put_failure(output, &fault)?;
             Ok(status)
         }
-    }
-}
-
-fn refusal_status(refusal: &Refusal) -> u8
-    ensures { result ≡ spec.refusal_status refusal.now }
-{
-    match refusal {
-        Refusal::Memory => 4,
-        _ => 1,
     }
 }
 

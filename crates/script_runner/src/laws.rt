@@ -10,7 +10,7 @@ ghost use Rattle.script_runner.specs.Outcomes.{Outcome};
 ghost use Rattle.script_runner.specs.Runs.{IsRun, StepsEvents};
 
 /// A script steps its own events, in their order, with none invented, each of them accepted: exactly those that are accepted where its
-/// status is below 4, and all of them where it is 0.
+/// status is below 3, and all of them where it is 0.
 pub fn a_script_steps_its_events()
     ensures { (rs : List Request) (a : ScheduleRecord) (o : Outcome) → IsRun rs a o
         → StepsEvents rs a o }

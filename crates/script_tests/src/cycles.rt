@@ -1,5 +1,5 @@
 //! Graphs with more than one cycle: which of them is told is open.
-use script_runner::run_serial;
+use crate::records::run;
 use std::alloc::Global;
 use std::test::Fail;
 
@@ -20,8 +20,7 @@ task = [
 
 fn printed(alloc: Global, script: &str) -> Result<String, Fail> {
     let mut output = Vec::new(alloc);
-    let ended = run_serial(alloc, 0, script.as_bytes(), &mut output);
-    ended.map_err(|_| "refused")?;
+    run(alloc, 0, script.as_bytes(), &mut output)?;
     Ok(String::from_utf8(output).map_err(|_| "no text")?)
 }
 

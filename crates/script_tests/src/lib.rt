@@ -13,6 +13,8 @@ mod long_lines;
 #[cfg(test)]
 mod memory;
 #[cfg(test)]
+mod records;
+#[cfg(test)]
 mod sizes;
 #[cfg(test)]
 mod streams;

@@ -1,6 +1,6 @@
 //! Graphs and schedules of the greatest size.
+use crate::records::run;
 use sched_core::{Event, GraphText, Limits, Moment, Outcome, Schedule, Stage};
-use script_runner::run_serial;
 use std::alloc::{AllocError, Global};
 use std::test::Fail;
 
@@ -28,8 +28,7 @@ fn loaded(alloc: Global, tasks: u32) -> Result<String, Fail> {
     let text = file(alloc, tasks, true)?;
     let script = format!(in alloc; "load inline\n{text}.\n")?;
     let mut output = Vec::new(alloc);
-    let ended = run_serial(alloc, 0, script.as_bytes(), &mut output);
-    ended.map_err(|_| "refused")?;
+    run(alloc, 0, script.as_bytes(), &mut output)?;
     Ok(String::from_utf8(output).map_err(|_| "no text")?)
 }
 

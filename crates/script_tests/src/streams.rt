@@ -1,12 +1,12 @@
 //! Scripts whose input or output fails.
 use crate::failing::Failing;
+use crate::records::run;
 use answer_lines::put_refusal;
 use cron_timetable::CronFault;
 use graph_file::GraphFault;
 use sched_core::{Moment, Refusal};
 use script_commands::next_command;
 use script_lines::LineReader;
-use script_runner::run_serial;
 use std::alloc::Global;
 use std::io::{BufReader, ErrorKind};
 use std::test::Fail;
@@ -18,7 +18,7 @@ fn read_in(alloc: Global, calls: usize) -> Result<(u8, bool, bool), Fail> {
     let text = TICKS.as_slice();
     let input = BufReader::with_capacity(alloc, 1, Failing { text, calls })?;
     let mut output = Vec::new(alloc);
-    let (schedule, status) = run_serial(alloc, 0, input, &mut output).map_err(|_| "refused")?;
+    let (schedule, status) = run(alloc, 0, input, &mut output)?;
     Ok((status, schedule.now() > Moment::at(0), !output.is_empty()))
 }
 
@@ -35,8 +35,7 @@ fn a_failed_read_ends_the_script(rt: HostRuntime) -> Result<(), Fail> {
 // The status of the same script where writes fail after so many, the moment that it leaves, and how many writes are left.
 fn written_in(alloc: Global, calls: usize) -> Result<(u8, Moment, usize), Fail> {
     let mut writer = Failing { text: b"", calls };
-    let ended = run_serial(alloc, 0, TICKS.as_slice(), &mut writer);
-    let (schedule, status) = ended.map_err(|_| "refused")?;
+    let (schedule, status) = run(alloc, 0, TICKS.as_slice(), &mut writer)?;
     Ok((status, schedule.now(), writer.calls))
 }
 

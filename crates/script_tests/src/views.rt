@@ -1,4 +1,6 @@
 //! What is asked of a schedule that has it not.
+use crate::records::{new_record, run};
+use director::Fault;
 use sched_core::{Moment, Name, Refusal, Schedule};
 use script_runner::run_serial;
 use std::alloc::Global;
@@ -20,8 +22,7 @@ fn name(alloc: Global, text: &str) -> Result<Name, Fail> {
 // The schedule of the script, with one lane.
 fn schedule(alloc: Global) -> Result<Schedule, Fail> {
     let mut output = Vec::new(alloc);
-    let ended = run_serial(alloc, 1, SCRIPT.as_bytes(), &mut output);
-    let (schedule, _status) = ended.map_err(|_| "refused")?;
+    let (schedule, _status) = run(alloc, 1, SCRIPT.as_bytes(), &mut output)?;
     Ok(schedule)
 }
 
@@ -54,7 +55,11 @@ fn an_instance_is_found_by_its_key(rt: HostRuntime) -> Result<(), Fail> {
 #[test]
 fn a_script_has_64_lanes_at_most(rt: HostRuntime) -> Result<(), Fail> {
     let mut output = Vec::new(rt.alloc());
-    let ended = run_serial(rt.alloc(), 65, b"".as_slice(), &mut output);
-    assert!(rt; matches!(ended, Err(Refusal::LanesTooMany)));
+    let store = new_record(rt.alloc())?;
+    let ended = run_serial(rt.alloc(), store, 65, b"".as_slice(), &mut output);
+    let Err((_, fault)) = ended else {
+        return Err(Fail::from("opened"));
+    };
+    assert!(rt; matches!(fault, Fault::Refused(Refusal::LanesTooMany)));
     Ok(())
 }

@@ -1,4 +1,5 @@
 //! What comes of a command of a script.
+use crate::records::Played;
 use crate::stepping::step;
 use answer_lines::{put_fault, put_ok, put_pool, put_runs, put_task};
 use sched_core::Schedule;
@@ -9,27 +10,29 @@ use std::io::{self, Write};
 /// Does a command, or writes why there is none.
 pub fn answer<W: Write>(
     alloc: Global,
-    schedule: &mut Schedule,
+    played: &mut Played,
     request: Result<Command, CommandFault>,
     output: &mut W,
 ) -> io::Result<()> {
     match request {
-        Ok(Command::Step(event)) => step(alloc, schedule, &event, output),
-        Ok(Command::ListRuns) => put_runs(output, schedule.runs()),
-        Ok(Command::ListTasks) => put_tasks(schedule, output),
-        Ok(Command::ListPools) => put_pools(schedule, output),
+        Ok(Command::Step(event)) => step(alloc, played, &event, output),
+        Ok(Command::ListRuns) => put_runs(output, played.schedule().runs()),
+        Ok(Command::ListTasks) => put_tasks(played.schedule(), output),
+        Ok(Command::ListPools) => put_pools(played.schedule(), output),
         Err(fault) => put_fault(output, fault),
     }
 }
 
-fn put_tasks<W: Write>(schedule: &Schedule, output: &mut W) -> io::Result<()> {
+/// Writes a row for each task instance, and `ok`.
+pub fn put_tasks<W: Write>(schedule: &Schedule, output: &mut W) -> io::Result<()> {
     for row in schedule.instances() {
         put_task(output, &row)?;
     }
     put_ok(output)
 }
 
-fn put_pools<W: Write>(schedule: &Schedule, output: &mut W) -> io::Result<()> {
+/// Writes a row for each pool, and `ok`.
+pub fn put_pools<W: Write>(schedule: &Schedule, output: &mut W) -> io::Result<()> {
     for row in schedule.pools() {
         put_pool(output, &row)?;
     }

@@ -5,11 +5,11 @@ use std::str;
 /// What a line is.
 #[derive(Drop)]
 pub enum Line<'a> {
-    /// `== TITLE`: a new schedule begins, within the greatest limits.
+    /// `== TITLE`: a new record begins, within the greatest limits.
     Title,
     /// A comment, or a line without a byte.
     Remark,
-    /// `limits GRAPHS TASKS EDGES POOLS RUNS LANES`: a new schedule begins within these limits, where there are such.
+    /// `limits GRAPHS TASKS EDGES POOLS RUNS LANES`: a new record begins within these limits, where there are such.
     Limits(Option<Limits>),
     /// `restart LANES`, or `report SERIAL STAGE`, where the stage is `started` or how the try ended.
     Event(Event),

@@ -1,6 +1,9 @@
 //! Worked schedules: lists of events, each told with its answer and with what it leaves.
 //!
-//! Standard input has titles, each of which begins a new schedule, and below a title the events that come to it: the lines of a script,
+//! Each list is stepped by a director, with a record in memory. At its end this is read back and compared with the schedule, and so is what
+//! the same events lead to in one call.
+//!
+//! Standard input has titles, each of which begins a new record, and below a title the events that come to it: the lines of a script,
 //! and the words for what no script says (`lines`), among them questions why a task instance waits. Standard output has the same lines
 //! again, with `> ` before each, and after each what it answers, as a script prints it, and what it leaves (`leaving`), or the reasons
 //! (`explaining`). So the output reads as one page.
@@ -18,6 +21,7 @@ mod explaining;
 mod leaving;
 mod lines;
 mod playing;
+mod records;
 mod stepping;
 
 use playing::play;

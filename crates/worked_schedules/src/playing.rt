@@ -2,32 +2,38 @@
 use crate::answering::answer;
 use crate::explaining::explain_words;
 use crate::lines::Line;
-use crate::stepping::{new_schedule, step};
-use sched_core::{Limits, Schedule};
+use crate::records::{Played, Records};
+use crate::stepping::step;
+use sched_core::Limits;
 use script_commands::{Command, CommandFault, next_command};
 use script_lines::LineReader;
 use std::alloc::Global;
 use std::io::{self, Write};
 use std::str;
 
-/// Does what the lines say, and writes what comes of each.
+/// Does what the lines say, and writes what comes of each, and at the end how many records were kept.
 pub fn play<W: Write>(alloc: Global, text: &[u8], output: &mut W) -> io::Result<()> {
     let mut lines = LineReader::new(alloc)?;
-    let mut schedule = new_schedule(alloc, Limits::full())?;
+    let mut records = Records::new(alloc)?;
     let mut left = text;
     for _line in 0..text.len() {
         if left.is_empty() {
             break;
         }
-        left = play_line(alloc, &mut schedule, &mut lines, left, output)?;
+        left = play_line(alloc, &mut records, &mut lines, left, output)?;
     }
-    Ok(())
+    records.begin(alloc, Limits::full())?;
+    let Records { ended, kept, .. } = records;
+    writeln!(
+        output,
+        "{kept} of {ended} records are read back as their schedules, to which their events in one list lead too"
+    )
 }
 
 // Does what the first line says, and answers the text after it.
 fn play_line<'a, W: Write>(
     alloc: Global,
-    schedule: &mut Schedule,
+    records: &mut Records,
     lines: &mut LineReader,
     text: &'a [u8],
     output: &mut W,
@@ -36,22 +42,24 @@ fn play_line<'a, W: Write>(
     match Line::of(line) {
         Line::Remark => put_remark(line, output)?,
         Line::Title => {
-            *schedule = new_schedule(alloc, Limits::full())?;
+            records.begin(alloc, Limits::full())?;
             put_remark(line, output)?;
         }
         Line::Limits(limits) => {
             echo(line, output)?;
-            limit(alloc, schedule, limits, output)?;
+            limit(alloc, records, limits, output)?;
         }
         Line::Event(event) => {
             echo(line, output)?;
-            step(alloc, schedule, &event, output)?;
+            step(alloc, &mut records.played, &event, output)?;
         }
         Line::Explain(words) => {
             echo(line, output)?;
-            explain_words(alloc, schedule, words, output)?;
+            explain_words(alloc, records.played.schedule(), words, output)?;
         }
-        Line::Script => return play_script(alloc, schedule, lines, text, output),
+        Line::Script => {
+            return play_script(alloc, &mut records.played, lines, text, output);
+        }
     }
     Ok(rest)
 }
@@ -69,16 +77,16 @@ fn put_remark<W: Write>(line: &[u8], output: &mut W) -> io::Result<()> {
     output.write_all(b"\n")
 }
 
-// Begins a new schedule within the limits.
+// Begins a new record within the limits.
 fn limit<W: Write>(
     alloc: Global,
-    schedule: &mut Schedule,
+    records: &mut Records,
     limits: Option<Limits>,
     output: &mut W,
 ) -> io::Result<()> {
     match limits {
         Some(limits) => {
-            *schedule = new_schedule(alloc, limits)?;
+            records.begin(alloc, limits)?;
             output.write_all(b"ok\n")
         }
         None => output.write_all(b"no limits\n"),
@@ -88,7 +96,7 @@ fn limit<W: Write>(
 // Does the next command of a script, and answers the text after it. The command is read again where memory ran out.
 fn play_script<'a, W: Write>(
     alloc: Global,
-    schedule: &mut Schedule,
+    played: &mut Played,
     lines: &mut LineReader,
     text: &'a [u8],
     output: &mut W,
@@ -100,7 +108,7 @@ fn play_script<'a, W: Write>(
     let read = text.len().saturating_sub(left.len());
     echo(&text[..read], output)?;
     if let Some(request) = request {
-        answer(alloc, schedule, request, output)?;
+        answer(alloc, played, request, output)?;
     }
     Ok(left)
 }

@@ -1,4 +1,4 @@
-//! Worked scripts: each from an empty schedule, with what it prints and its status.
+//! Worked scripts: each from a new record in memory, with what it prints and its status.
 //!
 //! Standard input has headings, `== LANES TITLE`, and below each the lines of a script. Standard output has the same, with `> ` before each
 //! line of a script, and after them what the script prints and its status. So the output reads as one page.
@@ -17,8 +17,10 @@
 
 mod sections;
 
-use script_runner::run_serial;
+use meta_store::Store;
+use script_runner::{failure_status, put_failure, run_serial};
 use sections::{Section, next_section};
+use sqlite::Connection;
 use std::alloc::Global;
 use std::io::{self, BufWriter, ErrorKind, Read, Write};
 
@@ -47,9 +49,26 @@ fn run_all<W: Write + Drop>(alloc: Global, text: &[u8], output: &mut W) -> io::R
 fn run<W: Write + Drop>(alloc: Global, section: &Section<'_>, output: &mut W) -> io::Result<()> {
     put_line(section.heading, output)?;
     echo(section.script, output)?;
-    let ended = run_serial(alloc, section.lanes(), section.script, &mut *output);
-    let (_schedule, status) = ended.map_err(|_| ErrorKind::OutOfMemory)?;
+    let status = status(alloc, section, output)?;
     writeln!(output, "status {status}\n")
+}
+
+// Runs a script on a new record in memory, and answers its status.
+fn status<W: Write + Drop>(
+    alloc: Global,
+    section: &Section<'_>,
+    output: &mut W,
+) -> io::Result<u8> {
+    let Ok(store) = Store::create(alloc, Connection::open_in_memory(alloc)?) else {
+        return Err(io::Error::from(ErrorKind::OutOfMemory));
+    };
+    match run_serial(alloc, store, section.lanes(), section.script, &mut *output) {
+        Ok((_store, status)) => Ok(status),
+        Err((_store, fault)) => {
+            put_failure(output, &fault)?;
+            Ok(failure_status(&fault))
+        }
+    }
 }
 
 fn put_line<W: Write>(line: &[u8], output: &mut W) -> io::Result<()> {
