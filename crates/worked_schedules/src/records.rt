@@ -34,7 +34,9 @@ impl Played {
 
     /// Does an event, and keeps a copy of it.
     pub fn step(&mut self, alloc: Global, event: &Event) -> Result<Answer, Fault> {
-        self.events.push(event.copy(alloc)?).map_err(|_| Fault::Memory)?;
+        self.events
+            .push(event.copy(alloc)?)
+            .map_err(|_| Fault::Memory)?;
         let answered = self.director.step(alloc, event);
         if answered.is_err() {
             self.events.pop();

@@ -54,11 +54,7 @@ fn run<W: Write + Drop>(alloc: Global, section: &Section<'_>, output: &mut W) ->
 }
 
 // Runs a script on a new record in memory, and answers its status.
-fn status<W: Write + Drop>(
-    alloc: Global,
-    section: &Section<'_>,
-    output: &mut W,
-) -> io::Result<u8> {
+fn status<W: Write + Drop>(alloc: Global, section: &Section<'_>, output: &mut W) -> io::Result<u8> {
     let Ok(store) = Store::create(alloc, Connection::open_in_memory(alloc)?) else {
         return Err(io::Error::from(ErrorKind::OutOfMemory));
     };
