@@ -11,6 +11,8 @@ from contextlib import contextmanager
 
 TOP = os.path.dirname(os.path.dirname(os.path.realpath(__file__)))
 PARTS = ("src", "specs", "proofs")
+# rt, which sums up each crate's sources once
+RT = f"{TOP}/tools/quick-rt"
 GIGABYTE = 10**9
 
 
