@@ -2,6 +2,7 @@
 ghost use Rattle.std.specs.Prelude.{◌≡◌, ◌+◌, ◌*◌, ◌<◌, ◌≤◌, max, []};
 ghost use Rattle.crossbeam_queue.specs.Passes.{ruled_capacity};
 
+use crate::bells::Bell;
 use crate::items::{JobOrStop, Report, WorkerReport};
 use crate::jobs_rule::{Counts, JoinPass, Sends, Takes};
 use crate::passes::{DirectorPass, JobQueue, ReportQueue, WorkerPass, worker_pass};
@@ -14,6 +15,9 @@ use std::sync::Wait;
 pub struct Lanes {
     jobs: JobQueue,
     reports: ReportQueue,
+    // rung at each item that is sent, and at each report that is told
+    sent: Bell,
+    told: Bell,
     ghost jobs_bounded: { ruled_capacity jobs ≤ 80 },
     ghost reports_bounded: { ruled_capacity reports ≤ 128 },
 }
@@ -65,7 +69,13 @@ impl Lanes {
             jobs: sender,
             reports: hearer,
         };
-        Ok((Lanes { jobs, reports }, director, passes))
+        let lanes = Lanes {
+            jobs,
+            reports,
+            sent: Bell::new(),
+            told: Bell::new(),
+        };
+        Ok((lanes, director, passes))
     }
 
     /// Puts an item behind those that were sent before, or hands it back where the queue was full at one moment of the call.
@@ -83,7 +93,9 @@ impl Lanes {
         ensures pass { IsDirectorOf self.now pass.new }
         ensures workers { (n : ℕ) → HasWorkers pass.old n → HasWorkers pass.new n }
     {
-        self.jobs.push_as::<Sends, R>(rt, &mut pass.jobs, item)
+        let sent = self.jobs.push_as::<Sends, R>(rt, &mut pass.jobs, item);
+        self.sent.ring();
+        sent
     }
 
     /// Takes the item that was sent first of those in the queue, or gives `None` where the queue was empty at one moment of the
@@ -99,6 +111,24 @@ impl Lanes {
         self.jobs.pop_as::<Takes, R>(rt, &mut pass.jobs)
     }
 
+    /// Takes the item that was sent first of those in the queue; where there is none, it sleeps until one is sent.
+    pub fn wait_to_take<R: Wait>(&self, rt: &R, pass: &mut WorkerPass) -> JobOrStop
+        requires { IsWorkerOf self.now pass.old }
+        ensures taken { taken_of pass.new ≡ taken_of pass.old ++ result ∷ [] }
+        ensures told { told_of pass.new ≡ told_of pass.old }
+        ensures pass { IsWorkerOf self.now pass.new }
+        ensures number { pass.new.number ≡ pass.old.number }
+    {
+        for _ in rt.forever() {
+            let rings = self.sent.rings();
+            match self.take(rt, pass) {
+                Some(item) => return item,
+                None => self.sent.sleep(rt, rings),
+            }
+        }
+        unreachable!()
+    }
+
     /// Puts a report behind those that were told before, or hands it back where the queue was full at one moment of the call.
     pub fn tell<R: Wait>(&self, rt: &R, pass: &mut WorkerPass, report: Report) -> Result<(), Report>
         requires { IsWorkerOf self.now pass.old }
@@ -112,10 +142,11 @@ impl Lanes {
             worker: pass.number,
             report,
         };
-        match self
+        let told = self
             .reports
-            .push_as::<Tells, R>(rt, &mut pass.reports, told)
-        {
+            .push_as::<Tells, R>(rt, &mut pass.reports, told);
+        self.told.ring();
+        match told {
             Ok(()) => Ok(()),
             Err(back) => Err(back.report),
         }
@@ -135,6 +166,25 @@ impl Lanes {
         self.reports.pop_as::<Hears, R>(rt, &mut pass.reports)
     }
 
+    /// Takes the report that was told first of those in the queue; where there is none, it sleeps until one is told.
+    pub fn wait_to_hear<R: Wait>(&self, rt: &R, pass: &mut DirectorPass) -> WorkerReport
+        requires { IsDirectorOf self.now pass.old }
+        ensures heard { heard_of pass.new ≡ heard_of pass.old ++ result ∷ [] }
+        ensures worker { (n : ℕ) → HasWorkers pass.old n → result.worker < n }
+        ensures sent { sent_of pass.new ≡ sent_of pass.old }
+        ensures pass { IsDirectorOf self.now pass.new }
+        ensures workers { (n : ℕ) → HasWorkers pass.old n → HasWorkers pass.new n }
+    {
+        for _ in rt.forever() {
+            let rings = self.told.rings();
+            match self.hear(rt, pass) {
+                Some(told) => return told,
+                None => self.told.sleep(rt, rings),
+            }
+        }
+        unreachable!()
+    }
+
     /// How many items and reports are left, once all passes are back: each item was sent as often as it was taken or is left, what a
     /// worker told is what was heard of it and then what is left of it, and of no other number anything was heard.
     pub fn tally<R: Wait>(self, rt: &R, director: DirectorPass, workers: Vec<WorkerPass>) -> Tally
@@ -142,7 +192,7 @@ impl Lanes {
         ensures jobs { IsSettledBut director workers.items result.jobs }
         ensures reports { IsHeardBut director workers.items result.reports }
     {
-        let Lanes { jobs, reports } = self;
+        let Lanes { jobs, reports, .. } = self;
         let DirectorPass {
             jobs: mut sender,
             reports: mut hearer,

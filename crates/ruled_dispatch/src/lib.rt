@@ -11,6 +11,7 @@
 //! `None` of `take` or `hear` speak of one moment of the call, and no longer hold when it returns.
 #![tactic(auto)]
 
+mod bells;
 mod items;
 mod jobs_rule;
 mod lanes;

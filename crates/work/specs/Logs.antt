@@ -1,0 +1,36 @@
+-- What a worker's log says: which jobs it took, what it told of them, and what its operators performed.
+use Rattle.std.specs.Prelude.{ℕ, Bool, List, [], ◌∷◌, map, flat_map, ◌&&◌, if◌then◌else◌}
+use Rattle.graph_file.specs.declared.operators.Operator.{Operator as Kind}
+use Rattle.instance_machine.specs.declared.tries.Outcome.{Outcome}
+use Rattle.instance_machine.specs.declared.tries.Stage.TheVariants as stages
+use Rattle.sched_state.specs.declared.jobs.Job.{Job}
+use Rattle.ruled_dispatch.specs.declared.items.JobOrStop.{JobOrStop}
+use Rattle.ruled_dispatch.specs.declared.items.JobOrStop.TheVariants as items
+use Rattle.ruled_dispatch.specs.declared.items.Report.{Report}
+use Rattle.slot_desk.specs.declared.holds.Hold.{Hold}
+use Rattle.operators.specs.Kits.{same_kind}
+use Rattle.work.specs.declared.logs.Logged.{Logged}
+
+-- the jobs, as they were sent
+abbrev pub jobs_of : List Logged → List JobOrStop
+jobs_of log = map (λ e. items.Job e.job) log
+
+-- what is told of a job: that it began, and how it ended
+abbrev pub both_reports : Logged → List Report
+both_reports e = record { serial = e.job.serial; stage = stages.Started } ∷ record { serial = e.job.serial; stage = stages.Ended e.outcome } ∷ []
+
+-- what is told of all of them, in order
+abbrev pub reports_of : List Logged → List Report
+reports_of log = flat_map both_reports log
+
+-- what the operator of the kind adds to its runs for a job, where it was begun
+abbrev pub run_of : Kind → Job → Bool → Outcome → List (ℕ × Outcome)
+run_of kind job begun outcome = if begun && same_kind kind job.action.operator then (job.serial, outcome) ∷ [] else []
+
+-- what it adds for all of them, in order
+abbrev pub runs_of : Kind → List Logged → List (ℕ × Outcome)
+runs_of kind log = flat_map (λ e. run_of kind e.job e.begun e.outcome) log
+
+-- the slots that a job takes while it runs
+abbrev pub hold_of : Job → Hold
+hold_of job = record { serial = job.serial; pool = job.pool; slots = job.slots }

@@ -1,0 +1,58 @@
+//! The loop of a worker.
+ghost use Rattle.std.specs.Prelude.{◌≡◌, ◌++◌, ◌∷◌, []};
+ghost use Rattle.ruled_dispatch.specs.declared.items.JobOrStop.TheVariants as items;
+ghost use Rattle.ruled_dispatch.specs.Lanes.{taken_of, told_of, IsWorkerOf};
+ghost use Rattle.operators.specs.Kits.{IsKit};
+ghost use Rattle.work.specs.Logs.{jobs_of, reports_of};
+ghost use Rattle.work.specs.Accounts.{IsAccount};
+ghost use Rattle.work.specs.Passes.{StaysWith};
+
+use crate::asking::reserve;
+use crate::crews::{Crew, Gate, WorkerEnd};
+use crate::trying::{Seat, do_job};
+use operators::Operator;
+use ruled_dispatch::{JobOrStop, Lanes, WorkerPass};
+use slot_desk::{Share, SlotDesk};
+use std::alloc::Global;
+use std::sync::Wait;
+use std::sync::ledger::Ledger;
+
+/// Does the jobs that it takes, one after another, until it takes a stop.
+///
+/// While there is no job it sleeps. The log takes memory for each job, and is kept until the worker ends.
+pub fn work<L: Ledger, G: Gate, O: Operator, R: Wait>(
+    rt: &R,
+    alloc: Global,
+    lanes: &Lanes,
+    desk: &SlotDesk<L>,
+    pass: WorkerPass,
+    share: Share<L>,
+    crew: Crew<G, O>,
+) -> (WorkerEnd<G, O>, WorkerPass, Share<L>)
+    requires pass { IsWorkerOf lanes.now pass }
+    requires kit { IsKit O.kind_of crew.kit }
+    ensures taken { taken_of result.1 ≡ (taken_of pass ++ jobs_of result.0.log.items) ++ items.Stop ∷ [] }
+    ensures told { told_of result.1 ≡ told_of pass ++ reports_of result.0.log.items }
+    ensures account { IsAccount O.runs_of O.taken crew.kit result.0.kit result.0.log.items }
+    ensures kit { IsKit O.kind_of result.0.kit }
+    ensures pass { StaysWith pass result.1 }
+    ensures share { result.2 ≡ share }
+{
+    let mut crew = crew;
+    let mut seat = Seat { pass, share };
+    let mut log = Vec::new(alloc);
+    for _ in rt.forever() {
+        reserve(rt, &mut log);
+        match lanes.wait_to_take(rt, &mut seat.pass) {
+            JobOrStop::Job(job) => {
+                log.push_reserved(do_job(rt, alloc, lanes, desk, &mut seat, &mut crew, job));
+            }
+            JobOrStop::Stop => {
+                let Crew { kit, gate } = crew;
+                let Seat { pass, share } = seat;
+                return (WorkerEnd { kit, gate, log }, pass, share);
+            }
+        }
+    }
+    unreachable!()
+}
