@@ -1,0 +1,3 @@
+pub mod GrowthLemmas
+pub mod OwnerLemmas
+pub mod LogLemmas
