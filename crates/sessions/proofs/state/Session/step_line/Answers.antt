@@ -1,0 +1,23 @@
+use Rattle.sqlite.specs.Held.{state}
+use Rattle.minutes.proofs.GrowthLemmas.{begun_more}
+use Rattle.sessions.proofs.LineLemmas.{line_later, line_reports, line_told}
+use Rattle.sessions.proofs.RunLemmas.{accepted_goes, accepted_minutes, accepted_step}
+use Rattle.sessions.proofs.state.Session.step_line.Goals as goal
+
+pub returns-in-Ok-clause-goes_on : goal.returns-in-Ok-clause-goes_on
+returns-in-Ok-clause-goes_on g c lane_count =
+    accepted_goes (state g.S.Store) c.args.event c.args.self.now c.try_step-result.new.self c.accept.new.self c.try_step-result.result c.in-Ok.answer c.args.lanes.now c.try_step-result.ensures c.in-Ok.is c.accept.ensures lane_count
+    (line_reports c.args.event c.requires.line)
+    (begun_more lane_count c.args.self.now.minutes.items c.args.event c.requires.begun (line_later c.args.event c.requires.line))
+
+pub returns-in-Ok-clause-told : goal.returns-in-Ok-clause-told
+returns-in-Ok-clause-told g c a lane_count before was told =
+    let look = state g.S.Store in
+    let s = c.args.self.now in
+    let t = c.try_step-result.new.self in
+    let u = c.accept.new.self in
+    let step = accepted_step look c.args.event s t u c.try_step-result.result c.in-Ok.answer c.args.lanes.now c.try_step-result.ensures c.in-Ok.is c.accept.ensures in
+    line_told c.answered-told.result (g.L.Lines.failed c.answered-told.new.self) (g.L.Lines.failed c.args.lines.now) a before s u c.args.event c.try_step-result.result c.in-Ok.answer (g.L.Lines.told c.args.lines.now) (g.L.Lines.told c.answered-told.new.self)
+    c.requires.line was.stepped c.in-Ok.is step.answer
+    (accepted_minutes look c.args.event s t u c.try_step-result.result c.in-Ok.answer c.args.lanes.now c.try_step-result.ensures c.in-Ok.is c.accept.ensures)
+    told c.answered-told.ensures.told c.answered-told.ensures.failed

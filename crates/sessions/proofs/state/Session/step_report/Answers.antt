@@ -1,0 +1,30 @@
+use Rattle.std.proofs.Common.{◌∙◌, ◌∷◌, [], map, refl, ap}
+use Rattle.std.proofs.lemmas.List.{map-append}
+use Rattle.sqlite.specs.Held.{state}
+use Rattle.ruled_dispatch.specs.Lanes.{heard_of}
+use Rattle.ruled_dispatch.specs.declared.items.WorkerReport.{WorkerReport}
+use Rattle.sched_events.specs.declared.events.Event.TheVariants.{Report}
+use Rattle.minutes.specs.Minutes.{answered}
+use Rattle.minutes.proofs.GrowthLemmas.{begun_more}
+use Rattle.sessions.proofs.LineLemmas.{own_untold}
+use Rattle.sessions.proofs.RunLemmas.{accepted_heard, accepted_minutes, accepted_run}
+use Rattle.sessions.proofs.state.Session.step_report.Goals as goal
+
+pub returns-in-Ok-clause-run : goal.returns-in-Ok-clause-run
+returns-in-Ok-clause-run g c a n before last was =
+    let look = state g.S.Store in
+    let told = c.args.told in
+    let e = Report told.report.serial told.report.stage in
+    let s = c.args.self.now in
+    let t = c.try_thrice.new.self in
+    let u = c.accept.new.self in
+    accepted_run look e s t u c.try_thrice.result c.in-Ok.answer c.args.lanes.now c.try_thrice.ensures c.in-Ok.is c.accept.ensures before (heard_of u.pass) a n was
+    (ap (map (λ (r : WorkerReport). r.report)) (accepted_heard look e s t u c.try_thrice.result c.in-Ok.answer c.args.lanes.now c.try_thrice.ensures c.in-Ok.is c.accept.ensures ∙ last)
+    ∙ map-append (λ (r : WorkerReport). r.report) before (told ∷ []))
+    (begun_more n s.minutes.items e c.requires.begun refl was.begun)
+
+pub returns-in-Ok-clause-told : goal.returns-in-Ok-clause-told
+returns-in-Ok-clause-told g c a =
+    let e = Report c.args.told.report.serial c.args.told.report.stage in
+    ap (λ l. answered l a) (accepted_minutes (state g.S.Store) e c.args.self.now c.try_thrice.new.self c.accept.new.self c.try_thrice.result c.in-Ok.answer c.args.lanes.now c.try_thrice.ensures c.in-Ok.is c.accept.ensures)
+    ∙ own_untold c.args.self.now.minutes.items e a refl

@@ -1,0 +1,48 @@
+-- What a line opens, and what is told of its answer.
+use Rattle.std.specs.Prelude.{◌≡◌, ℕ, Bool, true, List, [], ◌∷◌, Option, Some, None, Result, Ok, Err}
+use Rattle.sched_events.specs.declared.answers.Answer.{Answer}
+use Rattle.sched_events.specs.declared.events.Event.{Event}
+use Rattle.sched_events.specs.declared.events.Event.TheVariants.{Tick}
+use Rattle.director.specs.declared.faults.Fault.{Fault}
+use Rattle.minutes.specs.Minutes.{is_of_line}
+use Rattle.sessions.specs.declared.line_reading.Line.{Line}
+use Rattle.sessions.specs.declared.line_reading.Line.TheVariants as Says
+
+-- what is open once the line is read
+abbrev pub opens : Line → Option Line
+opens (Says.Event e) = Some (Says.Event e)
+opens Says.TickNow = Some Says.TickNow
+opens Says.Drain = None
+
+-- what may be read: an event of a line is no report and no restart
+abbrev pub may_be_read : Line → Bool
+may_be_read (Says.Event e) = is_of_line e
+may_be_read Says.TickNow = true
+may_be_read Says.Drain = true
+
+-- the line takes the answer to an event: to its own, or, where it says to tick now, to a tick
+abbrev pub Takes : Line → Event → Type 0
+Takes (Says.Event x) e = x ≡ e
+Takes Says.TickNow e = (moment : ℕ) × (e ≡ Tick moment)
+Takes Says.Drain e = ⊥
+
+abbrev pub IsOpenTo : Option Line → Event → Type 0
+IsOpenTo None e = ⊥
+IsOpenTo (Some line) e = Takes line e
+
+-- the moment of a tick
+abbrev pub moment_of : Event → List ℕ
+moment_of (Tick moment) = moment ∷ []
+moment_of _ = []
+
+-- the moment of a tick that the open line says to make now
+abbrev pub ticked : Option Line → Event → List ℕ
+ticked None e = []
+ticked (Some (Says.Event x)) e = []
+ticked (Some Says.TickNow) e = moment_of e
+ticked (Some Says.Drain) e = []
+
+-- an event with its answer, where it was accepted
+abbrev pub told_part : Event → Result Answer Fault → List (Event × Answer)
+told_part e (Ok answer) = (e, answer) ∷ []
+told_part e (Err fault) = []

@@ -1,0 +1,178 @@
+//! A session that follows its lines until they are over.
+ghost use Rattle.std.specs.Prelude.{◌≡◌, ◌≤◌, ◌<◌, [], ℕ, List, length, true, None, Some, MatchResult, OnOk};
+ghost use Rattle.sqlite.specs.Held.{state};
+ghost use Rattle.ruled_dispatch.specs.Lanes.{IsDirectorOf};
+ghost use Rattle.sched_events.specs.declared.answers.Answer.{Answer};
+ghost use Rattle.sched_events.specs.declared.events.Event.{Event};
+ghost use Rattle.sched_model.specs.Schedule.{Schedule};
+ghost use Rattle.sched_model.specs.States.{in_flight};
+ghost use Rattle.sessions.specs.Faults.{EndsBy};
+ghost use Rattle.sessions.specs.Lines.{may_be_read, opens};
+ghost use Rattle.sessions.specs.Moments.{AreMoments};
+ghost use Rattle.sessions.specs.Runs.{GoesOn, IsRun, IsTold, IsToldUnless};
+ghost use Rattle.sessions.specs.declared.line_reading.Line.TheVariants as Says;
+
+use crate::clocks::Clock;
+use crate::faults::{ConductFault, ended_by_lines};
+use crate::line_reading::{Line, Lines};
+use crate::state::Session;
+use ruled_dispatch::Lanes;
+use sched_events::Event;
+use sqlite::Alter;
+use std::alloc::Global;
+use std::sync::Wait;
+
+impl<S: Alter> Session<S> {
+    /// Does the open line, which says to tick now: hears and steps the reports that are there, asks the clock, and steps a tick at its moment.
+    /// Where the clock gives none, the lines are told so.
+    pub fn tick_now<L: Lines, C: Clock, R: Wait>(
+        &mut self,
+        rt: &R,
+        alloc: Global,
+        lanes: &Lanes,
+        lines: &mut L,
+        clock: &mut C,
+    ) -> Result<(), ConductFault>
+        requires pass { IsDirectorOf lanes.now self.old.pass }
+        requires begun { 0 < length self.old.minutes.items }
+        requires waits { L.waits lines.old ≡ Some Says.TickNow }
+        requires sound { L.failed lines.old ≡ None }
+        ensures goes_on { (lane_count : ℕ)
+            → GoesOn (state S.Store) lanes.now lane_count self.old self.new }
+        ensures begun { 0 < length self.new.minutes.items }
+        ensures told { (a : Schedule) (lane_count : ℕ) (before : List (Event × Answer))
+            → IsRun a lane_count self.old → IsTold a before self.old (L.told lines.old)
+            → IsToldUnless (L.failed lines.new) a before self.new (L.told lines.new) }
+        ensures moments { AreMoments (L.failed lines.new) (L.ticks lines.old) (L.ticks lines.new)
+            (C.given clock.old) (C.given clock.new) }
+        ensures fault { MatchResult result (λ _. L.failed lines.new ≡ None)
+            (λ f. EndsBy f (L.failed lines.new)) }
+        ensures waits { OnOk result (L.waits lines.new ≡ None) }
+    {
+        if let Err(fault) = self.hear_all(rt, alloc, lanes) {
+            return Err(fault);
+        }
+        match clock.now() {
+            Ok(moment) => {
+                match self.step_line(rt, alloc, lanes, Event::Tick(moment), lines) {
+                    Ok(()) => Ok(()),
+                    Err(fault) => Err(ended_by_lines(fault)),
+                }
+            }
+            Err(fault) => match lines.no_clock(fault) {
+                Ok(()) => Ok(()),
+                Err(fault) => Err(ended_by_lines(fault)),
+            },
+        }
+    }
+
+    /// Does each line until they are over, and then hears and steps reports until no try is in flight.
+    pub fn follow<L: Lines, C: Clock, R: Wait>(
+        &mut self,
+        rt: &R,
+        alloc: Global,
+        lanes: &Lanes,
+        lines: &mut L,
+        clock: &mut C,
+    ) -> Result<(), ConductFault>
+        requires pass { IsDirectorOf lanes.now self.old.pass }
+        requires begun { 0 < length self.old.minutes.items }
+        requires waits { L.waits lines.old ≡ None }
+        requires sound { L.failed lines.old ≡ None }
+        ensures goes_on { (lane_count : ℕ)
+            → GoesOn (state S.Store) lanes.now lane_count self.old self.new }
+        ensures told { (a : Schedule) (lane_count : ℕ) (before : List (Event × Answer))
+            → IsRun a lane_count self.old → IsTold a before self.old (L.told lines.old)
+            → IsToldUnless (L.failed lines.new) a before self.new (L.told lines.new) }
+        ensures moments { AreMoments (L.failed lines.new) (L.ticks lines.old) (L.ticks lines.new)
+            (C.given clock.old) (C.given clock.new) }
+        ensures fault { MatchResult result (λ _. L.failed lines.new ≡ None)
+            (λ f. EndsBy f (L.failed lines.new)) }
+        ensures over { OnOk result ((L.over lines.new ≡ true) × (L.waits lines.new ≡ None)) }
+        ensures begun { OnOk result (0 < length self.new.minutes.items) }
+        ensures idle { OnOk result (in_flight self.new.director.schedule.content ≡ 0) }
+    {
+        for _ in rt.forever() {
+            match lines.next(self.director.schedule()) {
+                Ok(None) => return self.drain(rt, alloc, lanes),
+                Ok(Some(line)) => {
+                    if let Err(fault) = self.do_line(rt, alloc, lanes, line, lines, clock) {
+                        return Err(fault);
+                    }
+                }
+                Err(fault) => return Err(ended_by_lines(fault)),
+            }
+        }
+        unreachable!()
+    }
+
+    // Does a line that was just read.
+    fn do_line<L: Lines, C: Clock, R: Wait>(
+        &mut self,
+        rt: &R,
+        alloc: Global,
+        lanes: &Lanes,
+        line: Line,
+        lines: &mut L,
+        clock: &mut C,
+    ) -> Result<(), ConductFault>
+        requires pass { IsDirectorOf lanes.now self.old.pass }
+        requires begun { 0 < length self.old.minutes.items }
+        requires line { may_be_read line ≡ true }
+        requires waits { L.waits lines.old ≡ opens line }
+        requires sound { L.failed lines.old ≡ None }
+        ensures goes_on { (lane_count : ℕ)
+            → GoesOn (state S.Store) lanes.now lane_count self.old self.new }
+        ensures begun { 0 < length self.new.minutes.items }
+        ensures told { (a : Schedule) (lane_count : ℕ) (before : List (Event × Answer))
+            → IsRun a lane_count self.old → IsTold a before self.old (L.told lines.old)
+            → IsToldUnless (L.failed lines.new) a before self.new (L.told lines.new) }
+        ensures moments { AreMoments (L.failed lines.new) (L.ticks lines.old) (L.ticks lines.new)
+            (C.given clock.old) (C.given clock.new) }
+        ensures fault { MatchResult result (λ _. L.failed lines.new ≡ None)
+            (λ f. EndsBy f (L.failed lines.new)) }
+        ensures waits { OnOk result (L.waits lines.new ≡ None) }
+    {
+        match line {
+            Line::Event(event) => match self.step_line(rt, alloc, lanes, event, lines) {
+                Ok(()) => Ok(()),
+                Err(fault) => Err(ended_by_lines(fault)),
+            },
+            Line::TickNow => self.tick_now(rt, alloc, lanes, lines, clock),
+            Line::Drain => self.drain(rt, alloc, lanes),
+        }
+    }
+
+    /// A whole run: the restart, with so many lanes, each line until they are over, and reports until no try is in flight.
+    pub fn serve<L: Lines, C: Clock, R: Wait>(
+        &mut self,
+        rt: &R,
+        alloc: Global,
+        lanes: &Lanes,
+        lane_count: u32,
+        lines: &mut L,
+        clock: &mut C,
+    ) -> Result<(), ConductFault>
+        requires pass { IsDirectorOf lanes.now self.old.pass }
+        requires fresh { self.old.minutes.items ≡ [] }
+        requires lanes { lane_count ≤ self.old.director.schedule.content.limits.lanes }
+        requires waits { L.waits lines.old ≡ None }
+        requires sound { L.failed lines.old ≡ None }
+        ensures goes_on { GoesOn (state S.Store) lanes.now lane_count self.old self.new }
+        ensures told { (a : Schedule) (before : List (Event × Answer))
+            → IsRun a lane_count self.old → IsTold a before self.old (L.told lines.old)
+            → IsToldUnless (L.failed lines.new) a before self.new (L.told lines.new) }
+        ensures moments { AreMoments (L.failed lines.new) (L.ticks lines.old) (L.ticks lines.new)
+            (C.given clock.old) (C.given clock.new) }
+        ensures fault { MatchResult result (λ _. L.failed lines.new ≡ None)
+            (λ f. EndsBy f (L.failed lines.new)) }
+        ensures over { OnOk result ((L.over lines.new ≡ true) × (L.waits lines.new ≡ None)) }
+        ensures begun { OnOk result (0 < length self.new.minutes.items) }
+        ensures idle { OnOk result (in_flight self.new.director.schedule.content ≡ 0) }
+    {
+        match self.restart(rt, alloc, lanes, lane_count) {
+            Ok(()) => self.follow(rt, alloc, lanes, lines, clock),
+            Err(fault) => Err(fault),
+        }
+    }
+}
