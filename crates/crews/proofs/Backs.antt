@@ -1,0 +1,81 @@
+-- What is known of workers that began with new passes and with shares without a hold.
+use Rattle.std.proofs.Common.{◌≡◌, ℕ, suc, ◌+◌, ◌<◌, List, [], ◌∷◌, ◌++◌, length, get_or, map, All, Option, refl, ap, ◌∙◌, arith, replicate}
+use Rattle.std.specs.Prelude.{sum_by}
+use Rattle.std.proofs.lemmas.List.Sums.{sum_by-cons, sum_by-append}
+use Rattle.graph_file.specs.declared.operators.Operator.{Operator as Kind}
+use Rattle.instance_machine.specs.declared.tries.Outcome.{Outcome}
+use Rattle.ruled_dispatch.specs.declared.items.JobOrStop.{JobOrStop}
+use Rattle.ruled_dispatch.specs.declared.items.JobOrStop.TheVariants as items
+use Rattle.ruled_dispatch.specs.declared.lanes.Lanes.{Lanes}
+use Rattle.ruled_dispatch.specs.declared.passes.WorkerPass.{WorkerPass}
+use Rattle.ruled_dispatch.specs.Lanes.{taken_of, told_of, IsWorkerOf, AreNumbered}
+use Rattle.slot_desk.specs.declared.holds.Hold.{Hold}
+use Rattle.slot_desk.specs.Holds.{in_hand, slots_of}
+use Rattle.operators.specs.declared.kits.Kit.{Kit}
+use Rattle.operators.specs.Kits.{IsKit}
+use Rattle.work.specs.declared.crews.WorkerEnd.{WorkerEnd}
+use Rattle.work.specs.Logs.{jobs_of, reports_of}
+use Rattle.work.specs.Accounts.{IsAccount}
+use Rattle.crews.specs.Threads.{HaveWorked}
+use Rattle.crews.specs.Settled.{AreBack, AreAccounts}
+use Rattle.crews.proofs.Places.{at_image}
+
+-- what all passes took is what the logs say, and a stop each
+pub took_all : {G O : Type 0} (weight : JobOrStop → ℕ) (rs : List (WorkerEnd G O × WorkerPass × List Hold))
+    → ((i : ℕ) (r : WorkerEnd G O × WorkerPass × List Hold) → i < length rs → taken_of (get_or rs i r).1 ≡ jobs_of (get_or rs i r).0.log.items ++ items.Stop ∷ [])
+    → sum_by (λ w. sum_by weight (taken_of w)) (map (λ r. r.1) rs) ≡ sum_by (λ e. sum_by weight (jobs_of e.log.items)) (map (λ r. r.0) rs) + sum_by weight (replicate (length rs) items.Stop)
+took_all weight [] each = refl
+took_all weight (r ∷ rs) each =
+    let here : sum_by weight (taken_of r.1) ≡ sum_by weight (jobs_of r.0.log.items ++ items.Stop ∷ []) = ap (sum_by weight) (each 0 r (omega arith)) in
+    let parts = sum_by-append weight (jobs_of r.0.log.items) (items.Stop ∷ []) in
+    let rest = took_all weight rs (λ i s below. each (suc i) s (omega arith)) in
+    let left = sum_by-cons (λ w. sum_by weight (taken_of w)) r.1 (map (λ s. s.1) rs) in
+    let right = sum_by-cons (λ e. sum_by weight (jobs_of e.log.items)) r.0 (map (λ s. s.0) rs) in
+    let one = sum_by-cons weight items.Stop [] in
+    let stops = sum_by-cons weight items.Stop (replicate (length rs) items.Stop) in
+    omega arith
+
+nothing_held : {R : Type 0} (share : R → List Hold) (rs : List R) → ((i : ℕ) (r : R) → i < length rs → share (get_or rs i r) ≡ []) → in_hand (map share rs) ≡ 0
+nothing_held share [] each = refl
+nothing_held share (r ∷ rs) each =
+    let here : slots_of (share r) ≡ 0 = ap slots_of (each 0 r (omega arith)) in
+    let rest = nothing_held share rs (λ i s below. each (suc i) s (omega arith)) in
+    let all = sum_by-cons slots_of (share r) (map share rs) in
+    omega arith
+
+module _ {G O : Type 0} (kind_of : O → Kind) (runs : O → List (ℕ × Outcome)) (taken : O → Option ℕ)
+    (passes : List WorkerPass) (shares : List (List Hold)) (kits : List (Kit O)) (results : List (WorkerEnd G O × WorkerPass × List Hold))
+    (worked : HaveWorked {G = G} {O = O} kind_of runs taken passes shares kits results) where
+  -- workers that began with new passes are back
+  pub are_back : (lanes : Lanes) → All (IsWorkerOf lanes) passes → AreNumbered passes → All (λ w. taken_of w ≡ []) passes → All (λ w. told_of w ≡ []) passes → AreBack lanes results
+  are_back lanes of numbered fresh quiet i r below =
+      let b : i < length passes = (let n = worked.0 in omega arith) in
+      let w = worked.1 i r.1 [] r.0.kit r b in
+      record {
+        of = w.stays.0 lanes (of i r.1 b);
+        number = w.stays.1 ∙ numbered i r.1 b;
+        took = w.took ∙ ap (λ l. (l ++ jobs_of (get_or results i r).0.log.items) ++ items.Stop ∷ []) (fresh i r.1 b);
+        told = w.told ∙ ap (λ l. l ++ reports_of (get_or results i r).0.log.items) (quiet i r.1 b);
+      }
+
+  -- workers whose shares had no hold hold nothing
+  pub none_in_hand : length shares ≡ length passes → All (λ s. s ≡ []) shares → in_hand (map (λ r. r.2) results) ≡ 0
+  none_in_hand same none =
+      nothing_held (λ r. r.2) results
+      (λ i r below.
+      let n = worked.0 in
+      let b : i < length passes = omega arith in
+      let c : i < length shares = omega arith in
+      (worked.1 i r.1 [] r.0.kit r b).same ∙ none i [] c)
+
+  -- their logs are accounts of their kits
+  pub are_accounts : AreAccounts runs taken kits (map (λ r. r.0) results)
+  are_accounts k kit e below =
+      at_image (λ r. r.0) results (λ n x. IsAccount runs taken (get_or kits n kit) x.kit x.log.items)
+      (λ i r b. (let n = worked.0 in (worked.1 i r.1 [] kit r (omega arith)).account)) k e below
+
+  -- and their kits are whole
+  pub are_kits : All (λ e. IsKit kind_of e.kit) (map (λ r. r.0) results)
+  are_kits k e below =
+      at_image (λ r. r.0) results (λ n x. IsKit kind_of x.kit)
+      (λ i r b. (let n = worked.0 in (worked.1 i r.1 [] r.0.kit r (omega arith)).whole)) k e below
