@@ -4,7 +4,7 @@ ghost use Rattle.ruled_dispatch.specs.declared.items.JobOrStop.TheVariants as it
 ghost use Rattle.ruled_dispatch.specs.Lanes.{sent_of, IsWorkerOf};
 ghost use Rattle.operators.specs.Kits.{IsKit};
 ghost use Rattle.crews.specs.Threads.{HaveWorked};
-ghost use Rattle.crew_rounds.specs.Feeds.{IsFeedOf, KeepsWorkers};
+ghost use Rattle.crew_rounds.specs.Feeds.{IsFeedOf, IsPaced, KeepsWorkers};
 
 use crate::feeding::feed_all;
 use crate::feeds::Feed;
@@ -56,6 +56,7 @@ pub fn manage<
     jobs: Vec<Job>,
 ) -> Option<Managed<L, G, O>>
     requires feed { IsFeedOf lanes.now feed }
+    requires paced { IsPaced feed }
     requires most { 0 < most }
     requires passes { All (IsWorkerOf lanes.now) staff.passes.items }
     requires kits { All (λ c. IsKit O.kind_of c.kit) staff.crews.items }

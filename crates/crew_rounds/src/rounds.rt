@@ -6,7 +6,7 @@ ghost use Rattle.operators.specs.Kits.{IsKit};
 ghost use Rattle.crews.specs.Threads.{HaveWorked};
 ghost use Rattle.crews.specs.Settled.{AreHeard, AreAccounts, AreBack};
 ghost use Rattle.crew_rounds.specs.declared.rounds.CrewFault.TheVariants as faults;
-ghost use Rattle.crew_rounds.specs.Feeds.{IsFeedOf, KeepsWorkers};
+ghost use Rattle.crew_rounds.specs.Feeds.{IsFeedOf, IsPaced, KeepsWorkers};
 ghost use Rattle.crew_rounds.specs.Rounds.{have_distinct_serials, AreDone, OwnTheirReports};
 
 use crate::feeds::Feed;
@@ -137,6 +137,7 @@ fn run_scope<L: Ledger + Send + Sync, G: Gate + Send, O: Operator + Send, R: Thr
     jobs: Vec<Job>,
 ) -> Option<Managed<L, G, O>>
     requires feed { IsFeedOf lanes.now feed }
+    requires paced { IsPaced feed }
     requires most { 0 < most }
     requires passes { All (IsWorkerOf lanes.now) staff.passes.items }
     requires kits { All (λ c. IsKit O.kind_of c.kit) staff.crews.items }
@@ -154,6 +155,7 @@ fn run_scope<L: Ledger + Send + Sync, G: Gate + Send, O: Operator + Send, R: Thr
         rt,
         move |scope| -> Option<Managed<L, G, O>>
             requires feed { IsFeedOf lanes.now feed }
+            requires paced { IsPaced feed }
             requires most { 0 < most }
             requires passes { All (IsWorkerOf lanes.now) staff.passes.items }
             requires kits { All (λ c. IsKit O.kind_of c.kit) staff.crews.items }

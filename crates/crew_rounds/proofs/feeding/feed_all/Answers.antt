@@ -1,4 +1,5 @@
-use Rattle.std.proofs.Common.{◌++◌, ◌∷◌, [], map, ap, sym, ◌∙◌, append_assoc}
+use Rattle.std.proofs.Common.{◌++◌, ◌∷◌, [], length, map, ap, sym, ◌∙◌, append_assoc, arith}
+use Rattle.std.proofs.lemmas.List.{length-append}
 use Rattle.std.specs.Vec.Iter.{into_iter_items}
 use Rattle.sched_state.specs.declared.jobs.Job.{Job}
 use Rattle.ruled_dispatch.specs.declared.items.JobOrStop.TheVariants as items
@@ -16,6 +17,10 @@ loop-job-preserved g c =
     record {
       feed = (sent.pass, sent.heard ∙ heard.feed.1);
       workers = λ n h. sent.workers n (heard.workers n (was.workers n h));
+      paced =
+          (let p = heard.paced in
+          let n = ap length sent.sent ∙ length-append (sent_of c.hear_until_fewer.new.feed.pass) (items.Job job ∷ []) in
+          omega arith);
       sent =
           ap (λ l. l ++ map (λ (j : Job). items.Job j) rest) (sent.sent ∙ ap (λ l. l ++ items.Job job ∷ []) heard.sent)
           ∙ append_assoc before (items.Job job ∷ []) (map (λ (j : Job). items.Job j) rest)

@@ -7,5 +7,5 @@ scoped-requires g c = record {
   at =
       λ a.
       let asks = c.requires in
-      (asks.feed, (asks.most, (asks.passes, (asks.kits, (asks.pass_each, (asks.share_each, (asks.none, (asks.room, (search rules, search rules, search rules, search rules, search rules)))))))));
+      (asks.feed, (asks.paced, (asks.most, (asks.passes, (asks.kits, (asks.pass_each, (asks.share_each, (asks.none, (asks.room, (search rules, search rules, search rules, search rules, search rules))))))))));
 }
