@@ -1,0 +1,173 @@
+-- What a run promises, from what its session and its threads leave.
+use Rattle.std.proofs.Common.{◌≡◌, ℕ, ◌<◌, ◌≤◌, ◌==◌, true, false, true≢false, List, [], ◌∷◌, length, map, take, Option, None, Result, Ok, Err, MatchResult, OnOk, IfOk, IfErr, IsOk, refl, sym, ap, ◌∙◌, subst, arith, ne_eqb}
+use Rattle.std.proofs.lemmas.List.{length-map}
+use Rattle.std.proofs.Math.Seq.{take-length}
+use Rattle.sqlite.specs.Held.{Held}
+use Rattle.sqlite.specs.State.{State}
+use Rattle.instance_machine.specs.declared.tries.Outcome.{Outcome}
+use Rattle.operators.specs.declared.kits.Kit.{Kit}
+use Rattle.ruled_dispatch.specs.declared.lanes.Lanes.{Lanes}
+use Rattle.sched_events.specs.Steps.{steps, handed_along, AreAccepted}
+use Rattle.sched_events.specs.declared.events.Event.{Event}
+use Rattle.sched_model.specs.States.{in_flight}
+use Rattle.director.specs.Directors.{DirectorValue, Follows}
+use Rattle.minutes.specs.Minutes.{answered, BeginWithRestart}
+use Rattle.sessions.specs.Runs.{IsRun}
+use Rattle.sessions.specs.declared.faults.ConductFault.{ConductFault}
+use Rattle.sessions.specs.declared.faults.ConductFault.TheVariants as fault
+use Rattle.sessions.specs.declared.line_reading.LineFault.{LineFault}
+use Rattle.sessions.specs.declared.state.Session.{Session}
+use Rattle.work.specs.declared.crews.WorkerEnd.{WorkerEnd}
+use Rattle.crews.specs.Settled.{AreAccounts}
+use Rattle.conduct.specs.declared.conducting.Conducted.{Conducted}
+use Rattle.conduct.specs.Ends.{EachStandsInALog, EachToldItsOwn, WereTold}
+use Rattle.conduct.specs.Faults.{EndsInside, EndsRun, came_to_its_end, is_no_worker, is_unstarted}
+use Rattle.conduct.specs.Served.{LinesShown, IsServed}
+use Rattle.conduct.specs.Run.{IsConducted}
+use Rattle.conduct.proofs.Runs.{same_told, no_moments}
+
+-- ---- why it ended
+ends_run : (f : ConductFault) (o : Option LineFault) → EndsInside f o → EndsRun f o
+ends_run fault.NoWorker o e = absurd e
+ends_run fault.SpawnRefused o e = e
+ends_run (fault.StoreThrice error) o e = e
+ends_run fault.ReadFault o e = e
+ends_run fault.Memory o e = e
+ends_run fault.Unequal o e = absurd e
+
+has_workers : (f : ConductFault) (o : Option LineFault) → EndsInside f o → is_no_worker f ≡ false
+has_workers fault.NoWorker o e = absurd e
+has_workers fault.SpawnRefused o e = refl
+has_workers (fault.StoreThrice error) o e = refl
+has_workers fault.ReadFault o e = refl
+has_workers fault.Memory o e = refl
+has_workers fault.Unequal o e = absurd e
+
+broke_off : (A : Type 0) (f : ConductFault) (o : Option LineFault) → EndsInside f o → came_to_its_end {A = A} (Err f) ≡ false
+broke_off A fault.NoWorker o e = refl
+broke_off A fault.SpawnRefused o e = refl
+broke_off A (fault.StoreThrice error) o e = refl
+broke_off A fault.ReadFault o e = refl
+broke_off A fault.Memory o e = refl
+broke_off A fault.Unequal o e = absurd e
+
+-- a fault is passed on, and a run that came to its end may be found unequal
+abbrev pub PassesOn : {A B : Type 0} → Result A ConductFault → Result B ConductFault → Type 0
+PassesOn r q = IfErr r (λ f. MatchResult q (λ _. f ≡ fault.Unequal) (λ g. f ≡ g))
+
+of_ok : {B P : Type 0} (q : Result B ConductFault) → IsOk q → OnOk q P → P
+of_ok (Ok w) ok p = p
+of_ok (Err g) ok p = absurd (true≢false (sym ok))
+
+module _ {A B : Type 0} where
+  whole_by : (P : Type 0) (r : Result A ConductFault) (q : Result B ConductFault) (o : Option LineFault) → OnOk r (IsOk q) → PassesOn r q → MatchResult q (λ _. o ≡ None) (λ f. EndsInside f o) → OnOk q P → came_to_its_end r ≡ true → P
+  whole_by P (Ok v) q o ok pass why p is = of_ok q ok p
+  whole_by P (Err f) (Ok w) o ok pass why p is = p
+  whole_by P (Err f) (Err g) o ok pass why p is = absurd (true≢false (sym is ∙ ap (λ (h : ConductFault). came_to_its_end {A = A} (Err h)) pass ∙ broke_off A g o why))
+
+  why_by : (r : Result A ConductFault) (q : Result B ConductFault) (o : Option LineFault) → OnOk r (IsOk q) → PassesOn r q → MatchResult q (λ _. o ≡ None) (λ f. EndsInside f o) → MatchResult r (λ _. o ≡ None) (λ f. EndsRun f o)
+  why_by (Ok v) (Ok w) o ok pass why = why
+  why_by (Ok v) (Err g) o ok pass why = absurd (true≢false (sym ok))
+  why_by (Err f) (Ok w) o ok pass why = subst (λ h. EndsRun h o) (sym pass) why
+  why_by (Err f) (Err g) o ok pass why = subst (λ h. EndsRun h o) (sym pass) (ends_run g o why)
+
+  workers_by : (r : Result A ConductFault) (q : Result B ConductFault) (o : Option LineFault) (n : ℕ) → 0 < n → PassesOn r q → MatchResult q (λ _. o ≡ None) (λ f. EndsInside f o) → MatchResult r (λ _. 0 < n) (λ f. is_no_worker f ≡ (n == 0))
+  workers_by (Ok v) q o n some pass why = some
+  workers_by (Err f) (Ok w) o n some pass why = ap is_no_worker pass ∙ sym (ne_eqb n 0 (λ e. absurd (omega arith)))
+  workers_by (Err f) (Err g) o n some pass why = ap is_no_worker pass ∙ has_workers g o why ∙ sym (ne_eqb n 0 (λ e. absurd (omega arith)))
+
+  unstarted_by : (P Q : Type 0) (r : Result A ConductFault) (q : Result B ConductFault) → PassesOn r q → IfErr q (λ f. is_unstarted f ≡ true → P) → (P → Q) → IfErr r (λ f. is_unstarted f ≡ true → Q)
+  unstarted_by P Q (Ok v) q pass was to = tt
+  unstarted_by P Q (Err f) (Ok w) pass was to = λ u. absurd (true≢false (sym u ∙ ap is_unstarted pass))
+  unstarted_by P Q (Err f) (Err g) pass was to = λ u. to (was (ap is_unstarted (sym pass) ∙ u))
+
+  -- what holds where the first is Ok, from what holds of both
+  pub both_ok : {X : Type 0} {P Q : A → Type 0} (r : Result A ConductFault) (q : Result B ConductFault) → OnOk r (IsOk q) → OnOk q X → IfOk r P → ((v : A) → X → P v → Q v) → IfOk r Q
+  both_ok (Ok v) q ok x p f = f v (of_ok q ok x) p
+  both_ok (Err e) q ok x p f = tt
+
+pub if_ok : {A F : Type 0} {P Q : A → Type 0} (r : Result A F) → IfOk r P → ((v : A) → P v → Q v) → IfOk r Q
+if_ok (Ok v) p f = f v p
+if_ok (Err e) p f = tt
+
+pub onto_ok : {A F P Q : Type 0} (r : Result A F) → OnOk r P → (P → Q) → OnOk r Q
+onto_ok (Ok v) p f = f p
+onto_ok (Err e) p f = tt
+
+pub take_all : {A : Type 0} (n : ℕ) (xs : List A) → n ≡ length xs → take n xs ≡ xs
+take_all n xs same = ap (λ k. take k xs) same ∙ take-length xs
+
+empty_list : {A : Type 0} (xs : List A) → length xs ≤ 0 → xs ≡ []
+empty_list [] le = refl
+empty_list (x ∷ xs) le = absurd (omega arith)
+
+module _ {S G O : Type 0} where
+  -- nothing was stepped, and no thread was started
+  pub unstarted_run : (look : Held S → State) (runs : O → List (ℕ × Outcome)) (taken : O → Option ℕ) (lane_count : ℕ) (kits : List (Kit O)) (old : DirectorValue S) (run : Conducted S G O) (shown : LinesShown) (given : List ℕ) (f : ConductFault)
+      → run.director ≡ old → run.minutes.items ≡ [] → run.outcome ≡ Err f → shown.failed ≡ None
+      → came_to_its_end run.outcome ≡ false → EndsRun f shown.failed → is_no_worker f ≡ (length kits == 0)
+      → IsConducted look runs taken lane_count kits old run shown shown given given
+  unstarted_run look runs taken lane_count kits old run shown given f d e o sound short ends none =
+      let a = old.schedule.content in
+      record {
+        stepped = ap (λ (x : DirectorValue S). x.schedule.content) d ∙ ap (λ (l : List Event). steps l a) (sym e);
+        accepted = subst (λ (l : List Event). AreAccepted l a) (sym e) tt;
+        followed = subst (λ (x : DirectorValue S). Follows a (look old.store) x.schedule.content (look x.store)) (sym d) (record { clean = λ h. h; was_open = λ _ h. h; stored = λ _ _ h. h });
+        opened = ap (λ (x : DirectorValue S). x.opened) d;
+        begun = subst (λ (l : List Event). BeginWithRestart lane_count l) (sym e) tt;
+        told = subst (λ (l : List Event). WereTold shown.failed shown.told shown.told (answered l a)) (sym e) (same_told shown.failed shown.told sound);
+        moments = no_moments shown.failed shown.ticks given;
+        whole = λ is. absurd (true≢false (sym is ∙ short));
+        fault = subst (λ r. MatchResult r (λ _. shown.failed ≡ None) (λ g. EndsRun g shown.failed)) (sym o) ends;
+        workers = subst (λ r. MatchResult r (λ _. 0 < length kits) (λ g. is_no_worker g ≡ (length kits == 0))) (sym o) none;
+        unstarted = subst (λ r. IfErr r (λ g. is_unstarted g ≡ true → (run.minutes.items ≡ []) × (shown ≡ shown) × (given ≡ given))) (sym o) (λ _. (e, refl, refl));
+        ends = subst (λ r. IfOk r (λ s. length s.ends.items ≡ length kits)) (sym o) tt;
+        once = subst (λ r. IfOk r (λ s. EachStandsInALog (handed_along run.minutes.items a) s.ends.items)) (sym o) tt;
+        own = subst (λ r. IfOk r (λ s. EachToldItsOwn run.minutes.items s.ends.items)) (sym o) tt;
+        accounts = subst (λ r. IfOk r (λ s. AreAccounts runs taken kits s.ends.items)) (sym o) tt;
+        desk = subst (λ r. IfOk r (λ s. (s.desk.slots ≡ 0) × (s.desk.holds.items ≡ []))) (sym o) tt;
+      }
+
+  -- a session was served while the workers ran, and what the workers did was settled
+  pub conducted : {W R : Type 0} (look : Held S → State) (runs : O → List (ℕ × Outcome)) (taken : O → Option ℕ) (lanes : Lanes) (lane_count stops : ℕ) (kits : List (Kit O)) (old : DirectorValue S) (fresh now : Session S) (outcome : Result W ConductFault)
+      (results : List R) (end_of : R → WorkerEnd G O) (run : Conducted S G O) (before after : LinesShown) (gave given : List ℕ)
+      → 0 < length kits
+      → fresh.director ≡ old → IsRun old.schedule.content lane_count fresh
+      → IsServed look lanes lane_count stops fresh now outcome before after gave given
+      → run.director ≡ now.director → run.minutes.items ≡ now.minutes.items
+      → OnOk run.outcome (IsOk outcome) → PassesOn run.outcome outcome
+      → OnOk outcome (length results ≡ length kits)
+      → IfOk run.outcome (λ s. s.ends.items ≡ map end_of results)
+      → IfOk run.outcome (λ s. EachStandsInALog (handed_along now.minutes.items old.schedule.content) s.ends.items)
+      → IfOk run.outcome (λ s. EachToldItsOwn now.minutes.items s.ends.items)
+      → OnOk outcome (AreAccounts runs taken kits (map end_of results))
+      → IfOk run.outcome (λ s. (s.desk.slots ≡ 0) × (length s.desk.holds.items ≤ s.desk.slots))
+      → IsConducted look runs taken lane_count kits old run before after gave given
+  conducted {W} {R} look runs taken lanes lane_count stops kits old fresh now outcome results end_of run before after gave given some of_old is_run served dir min ok pass all ends once own accounts desk =
+      let a = old.schedule.content in
+      let stop = served.run a is_run in
+      record {
+        stepped = ap (λ (x : DirectorValue S). x.schedule.content) dir ∙ stop.stepped ∙ ap (λ (l : List Event). steps l a) (sym min);
+        accepted = subst (λ (l : List Event). AreAccepted l a) (sym min) stop.accepted;
+        followed =
+            subst (λ (x : DirectorValue S). Follows a (look old.store) x.schedule.content (look x.store)) (sym dir)
+            (subst (λ (x : DirectorValue S). Follows x.schedule.content (look x.store) now.director.schedule.content (look now.director.store)) of_old served.followed);
+        opened = ap (λ (x : DirectorValue S). x.opened) dir ∙ served.opened ∙ ap (λ (x : DirectorValue S). x.opened) of_old;
+        begun = subst (λ (l : List Event). BeginWithRestart lane_count l) (sym min) stop.begun;
+        told = subst (λ (l : List Event). WereTold after.failed before.told after.told (answered l a)) (sym min) (served.told a is_run);
+        moments = served.moments;
+        whole = λ is. (
+          (whole_by _ run.outcome outcome after.failed ok pass served.fault served.over is).0,
+          (whole_by _ run.outcome outcome after.failed ok pass served.fault served.over is).1,
+          subst (λ (l : List Event). 0 < length l) (sym min) (whole_by _ run.outcome outcome after.failed ok pass served.fault served.begun is),
+          ap (λ (x : DirectorValue S). in_flight x.schedule.content) dir ∙ whole_by _ run.outcome outcome after.failed ok pass served.fault served.idle is,
+        );
+        fault = why_by run.outcome outcome after.failed ok pass served.fault;
+        workers = workers_by run.outcome outcome after.failed (length kits) some pass served.fault;
+        unstarted = unstarted_by _ _ run.outcome outcome pass served.unstarted (λ p. (min ∙ p.0, p.1, p.2));
+        ends = both_ok run.outcome outcome ok all ends (λ s same is. ap length is ∙ length-map results end_of ∙ same);
+        once = if_ok run.outcome once (λ s each. subst (λ (l : List Event). EachStandsInALog (handed_along l a) s.ends.items) (sym min) each);
+        own = if_ok run.outcome own (λ s each. subst (λ (l : List Event). EachToldItsOwn l s.ends.items) (sym min) each);
+        accounts = both_ok run.outcome outcome ok accounts ends (λ s are is. subst (λ (l : List (WorkerEnd G O)). AreAccounts runs taken kits l) (sym is) are);
+        desk = if_ok run.outcome desk (λ s d. (d.0, empty_list s.desk.holds.items (subst (λ n. length s.desk.holds.items ≤ n) d.0 d.1)));
+      }

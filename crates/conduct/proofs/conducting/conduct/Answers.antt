@@ -1,0 +1,14 @@
+use Rattle.std.proofs.Common.{rules, ◌≡◌, ◌==◌, true, length, map, vec_items, refl, sym, ◌∙◌, eq-eqb}
+use Rattle.std.proofs.lemmas.List.{length-map}
+use Rattle.sqlite.specs.Held.{state}
+use Rattle.sessions.specs.declared.faults.ConductFault.TheVariants as fault
+use Rattle.conduct.proofs.Composition.{unstarted_run}
+use Rattle.conduct.proofs.conducting.conduct.Goals as goal
+
+pub returns-then-workers-eq0 : goal.returns-then-workers-eq0
+returns-then-workers-eq0 g c =
+    let crews = vec_items c.args.crews in
+    let kits = map (λ x. x.kit) crews in
+    let zero : length crews ≡ 0 = search rules in
+    let none : true ≡ (length kits == 0) = sym (eq-eqb (length kits) 0 (length-map crews (λ x. x.kit) ∙ zero)) in
+    unstarted_run (state g.S.Store) g.O.Operator.runs_of g.O.Operator.taken c.args.lane_count kits c.args.director _ _ _ fault.NoWorker refl c.new.ensures.items refl c.requires.sound refl c.requires.sound none

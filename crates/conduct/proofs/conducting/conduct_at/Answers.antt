@@ -1,0 +1,124 @@
+use Rattle.std.proofs.Common.{rules, ◌≡◌, ◌<◌, ◌≤◌, ◌==◌, inl, false, length, map, vec_items, vec_capacity, refl, sym, ap, ◌∙◌, subst, arith, ne_eqb}
+use Rattle.std.proofs.lemmas.List.{length-map}
+use Rattle.sqlite.specs.Held.{state}
+use Rattle.ruled_dispatch.specs.Lanes.{IsDirectorOf, HasWorkers}
+use Rattle.ruled_dispatch.specs.declared.passes.DirectorPass.{DirectorPass}
+use Rattle.director.specs.Directors.{DirectorValue}
+use Rattle.sched_core.specs.Changes.{ScheduleValue}
+use Rattle.sched_events.specs.SettledAndSound.{IsSoundAndSaid}
+use Rattle.sessions.specs.declared.faults.ConductFault.TheVariants as fault
+use Rattle.crews.specs.Threads.{HaveWorked}
+use Rattle.crews.proofs.Backs.{are_back, are_accounts, none_in_hand}
+use Rattle.conduct.proofs.Runs.{worked_from}
+use Rattle.conduct.proofs.Composition.{both_ok, conducted, if_ok, onto_ok, take_all, unstarted_run}
+use Rattle.conduct.proofs.conducting.conduct_at.Goals as goal
+
+pub returns-in_default : goal.returns-in_default
+returns-in_default g c =
+    let crews = vec_items c.args.crews in
+    let kits = map (λ x. x.kit) crews in
+    let some : 0 < length kits = subst (λ n. 0 < n) (sym (length-map crews (λ x. x.kit))) c.requires.crews.0 in
+    let none : false ≡ (length kits == 0) = sym (ne_eqb (length kits) 0 (λ e. absurd (omega arith))) in
+    unstarted_run (state g.S.Store) g.O.Operator.runs_of g.O.Operator.taken c.args.lane_count kits c.args.director _ _ _ fault.Memory refl c.new.ensures.items refl c.requires.sound refl (inl c.requires.sound) none
+
+pub manage-managed-requires-after_bounds : goal.manage-managed-requires-after_bounds
+manage-managed-requires-after_bounds g c κs within =
+    let q = c.in-Ok.equipment in
+    let e = c.in-Ok.ensures in
+    let n = c.new-session.ensures in
+    let len : c.len-workers.result ≡ length (vec_items c.args.crews) = search rules in
+    record {
+      pass = subst (λ (p : DirectorPass). IsDirectorOf q.lanes p) (sym n.pass) e.all.0;
+      fresh = n.minutes;
+      within = subst (λ (x : DirectorValue g.row.S.Denot). c.args.lane_count ≤ x.schedule.content.limits.lanes) (sym n.director) c.requires.lanes.1;
+      waits = c.requires.waits;
+      sound = c.requires.sound;
+      passes = e.all.1;
+      kits = c.requires.kits;
+      pass_each = e.workers.0 ∙ len;
+      share_each = e.workers.1 ∙ len;
+      none = e.room.0;
+      room = subst (λ k. k ≤ vec_capacity q.posts.handles) len e.room.1;
+    }
+
+pub close-requires-clause-workers : goal.close-requires-clause-workers
+close-requires-clause-workers g c =
+    let e = c.in-Ok.ensures in
+    let m = c.manage-managed.result in
+    let d = c.manage-managed.ensures.managed in
+    let passes = vec_items c.in-Ok.equipment.posts.passes in
+    let len : c.len-workers.result ≡ length (vec_items c.args.crews) = search rules in
+    let has = subst (λ (p : DirectorPass). HasWorkers p (length passes)) (sym c.new-session.ensures.pass) e.all.2 in
+    onto_ok m.outcome d.all (λ same. subst (λ k. HasWorkers m.session.pass k) (e.workers.0 ∙ len ∙ sym same) (d.served.workers (length passes) has))
+
+pub close-requires-clause-back : goal.close-requires-clause-back
+close-requires-clause-back g c =
+    let q = c.in-Ok.equipment in
+    let e = c.in-Ok.ensures in
+    let m = c.manage-managed.result in
+    let d = c.manage-managed.ensures.managed in
+    let op = g.O.Operator in
+    let crews = vec_items c.args.crews in
+    let kits = map (λ x. x.kit) crews in
+    let passes = vec_items q.posts.passes in
+    let shares = vec_items q.posts.shares in
+    let results = vec_items m.results in
+    let len : c.len-workers.result ≡ length crews = search rules in
+    onto_ok m.outcome d.all
+    (λ same.
+    let count : length results ≡ c.len-workers.result = same ∙ sym len in
+    let worked =
+    worked_from op.kind_of op.runs_of op.taken _ _ _ _ _ _ results (take_all (length results) passes (count ∙ sym e.workers.0)) (take_all (length results) shares (count ∙ sym e.workers.1))
+    (take_all (length results) kits (same ∙ sym (length-map crews (λ x. x.kit)))) d.worked
+    in
+    are_back op.kind_of op.runs_of op.taken passes shares kits results worked q.lanes e.all.1 e.numbers e.new.0 e.new.1)
+
+pub close-requires-clause-all : goal.close-requires-clause-all
+close-requires-clause-all g c =
+    let e = c.in-Ok.ensures in
+    let m = c.manage-managed.result in
+    let d = c.manage-managed.ensures.managed in
+    let results = vec_items m.results in
+    let len : c.len-workers.result ≡ length (vec_items c.args.crews) = search rules in
+    let room : c.in-Ok.equipment.room ≡ c.len-workers.result = e.room.2 in
+    onto_ok m.outcome d.all
+    (λ same.
+    let long : length results ≡ length (vec_items c.args.crews) = same in (
+      subst (λ k. 0 < k) (sym same) c.requires.crews.0,
+      same ∙ sym c.requires.parts.1 ∙ c.requires.parts.0,
+      omega arith,
+    ))
+
+pub returns : goal.returns
+returns g c =
+    let q = c.in-Ok.equipment in
+    let e = c.in-Ok.ensures in
+    let n = c.new-session.ensures in
+    let m = c.manage-managed.result in
+    let d = c.manage-managed.ensures.managed in
+    let z = c.close.ensures in
+    let op = g.O.Operator in
+    let crews = vec_items c.args.crews in
+    let kits = map (λ x. x.kit) crews in
+    let passes = vec_items q.posts.passes in
+    let shares = vec_items q.posts.shares in
+    let results = vec_items m.results in
+    let a = c.args.director.schedule.content in
+    let len : c.len-workers.result ≡ length crews = search rules in
+    let long = length-map crews (λ x. x.kit) in
+    let worked : length results ≡ length crews → HaveWorked op.kind_of op.runs_of op.taken passes shares kits results =
+    λ same.
+    worked_from op.kind_of op.runs_of op.taken _ _ _ _ _ _ results (take_all (length results) passes (same ∙ sym len ∙ sym e.workers.0)) (take_all (length results) shares (same ∙ sym len ∙ sym e.workers.1))
+    (take_all (length results) kits (same ∙ sym long)) d.worked
+    in
+    let run = n.run c.args.lane_count e.unused.0 e.unused.1 in
+    let stop = d.served.run a run in
+    let sound : IsSoundAndSaid a = subst (λ (s : ScheduleValue). IsSoundAndSaid s.content) c.schedule.ensures c.runs.ensures.kept in
+    conducted (state g.S.Store) op.runs_of op.taken q.lanes c.args.lane_count (length results) kits c.args.director c.new-session.result m.session m.outcome results (λ r. r.0) c.close.result _ _ _ _
+    (subst (λ k. 0 < k) (sym long) c.requires.crews.0) n.director run d.served z.director (ap vec_items z.minutes) z.ok z.fault
+    (onto_ok m.outcome d.all (λ same. same ∙ sym long)) z.ends
+    (if_ok c.close.result.outcome z.once (λ s each. each a c.args.lane_count stop))
+    (if_ok c.close.result.outcome z.own (λ s each. each a c.args.lane_count sound stop))
+    (onto_ok m.outcome d.all (λ same. are_accounts op.kind_of op.runs_of op.taken passes shares kits results (worked same)))
+    (both_ok c.close.result.outcome m.outcome z.ok (onto_ok m.outcome d.all (λ same. none_in_hand op.kind_of op.runs_of op.taken passes shares kits results (worked same) (e.workers.1 ∙ sym e.workers.0) e.none)) z.desk
+    (λ s none p. (p.0 ∙ none, p.1)))

@@ -1,0 +1,23 @@
+use Rattle.std.proofs.Common.{rules, ◌≡◌, length, map, take, vec_items, vec_len, ap, sym, ◌∙◌}
+use Rattle.std.proofs.lemmas.List.{length-map}
+use Rattle.conduct.proofs.Runs.{all_started, same_stops, worked_from}
+use Rattle.conduct.proofs.threads.run.Goals as goal
+
+pub returns-clause-managed : goal.returns-clause-managed
+returns-clause-managed g c =
+    let hs = vec_items c.start_all-are_all.new.handles in
+    let results = vec_items c.join_all-results.result in
+    let started = c.start_all-are_all.ensures in
+    let joined : length results ≡ length hs = c.join_all-results.ensures.0 ∙ length-map hs (λ h. h.promise.pass.value) in
+    let counted : c.len.result ≡ length hs = search rules in
+    let long : vec_len c.start_all-are_all.new.handles ≡ length results = search rules in
+    record {
+      served = same_stops c.len.result (length results) (counted ∙ sym joined) c.serve-outcome.ensures.served;
+      worked =
+          worked_from g.O.Operator.kind_of g.O.Operator.runs_of g.O.Operator.taken _ _ _ _ _ _ results
+          (started.passes ∙ ap (λ n. take n (vec_items c.args.posts.passes)) long)
+          (started.shares ∙ ap (λ n. take n (vec_items c.args.posts.shares)) long)
+          (started.kits ∙ ap (λ n. take n (map (λ x. x.kit) (vec_items c.args.crews))) long)
+          c.join_all-results.ensures;
+      all = all_started c.serve-outcome.result c.start_all-are_all.result _ _ (length results) c.serve-outcome.ensures.all started.all (sym long);
+    }

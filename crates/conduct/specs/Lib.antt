@@ -1,0 +1,4 @@
+pub mod Faults
+pub mod Ends
+pub mod Served
+pub mod Run

@@ -1,0 +1,138 @@
+//! A run, from a director to what came of it.
+ghost use Rattle.std.specs.Prelude.{◌≡◌, ◌<◌, ◌≤◌, All, None, length, map};
+ghost use Rattle.sqlite.specs.Held.{state};
+ghost use Rattle.operators.specs.Kits.{IsKit};
+ghost use Rattle.conduct.specs.Run.{IsConducted};
+
+use crate::closing::close;
+use crate::equipment::{Equipment, equip};
+use crate::threads::manage;
+use crews::Settled;
+use director::Director;
+use operators::Operator;
+use sched_events::Event;
+use sessions::{Clock, ConductFault, Lines, Session};
+use sqlite::Alter;
+use std::alloc::Global;
+use std::marker::Brand;
+use std::sync::Wait;
+use std::sync::ledger::{Blank, Ledger};
+use std::thread::Threads;
+use work::{Crew, Gate};
+
+/// What came of a run.
+#[derive(Drop)]
+pub struct Conducted<S: Alter, G: Gate, O: Operator> {
+    /// The director, as the minutes left it.
+    pub director: Director<S>,
+    /// The events that were accepted in the run, in their order: the restart, the events of the lines, and what workers reported.
+    pub minutes: Vec<Event>,
+    /// What became of the crews, in their order, or why the run ended before.
+    pub outcome: Result<Settled<G, O>, ConductFault>,
+}
+
+/// Runs the schedule: restarts it with so many lanes, follows the lines, hands each try to one of the workers, and steps what they report,
+/// until the lines are over and no try is in flight. Each crew works on a thread of its own.
+///
+/// It waits for the lines, for the tries and for the threads. A report, and the restart, are stepped up to three times where the record or
+/// want of memory stands against them; an event of a line once. At the end, and on a fault, each worker is stopped and joined.
+pub fn conduct<
+    S: Alter + Drop,
+    G: Gate + Send,
+    O: Operator + Send,
+    L: Lines,
+    C: Clock,
+    R: Threads + Wait + Sync,
+>(
+    rt: &R,
+    alloc: Global,
+    director: Director<S>,
+    lane_count: u32,
+    crews: Vec<Crew<G, O>>,
+    lines: &mut L,
+    clock: &mut C,
+) -> Conducted<S, G, O>
+    requires lanes { (lane_count ≤ 64) × (lane_count ≤ director.schedule.content.limits.lanes) }
+    requires crews { length crews.items ≤ 16 }
+    requires kits { All (λ c. IsKit O.kind_of c.kit) crews.items }
+    requires waits { L.waits lines.old ≡ None }
+    requires sound { L.failed lines.old ≡ None }
+    ensures { IsConducted (state S.Store) O.runs_of O.taken lane_count (map (λ c. c.kit) crews.items) director result
+        (record { told = L.told lines.old; ticks = L.ticks lines.old; waits = L.waits lines.old; failed = L.failed lines.old; over = L.over lines.old })
+        (record { told = L.told lines.new; ticks = L.ticks lines.new; waits = L.waits lines.new; failed = L.failed lines.new; over = L.over lines.new })
+        (C.given clock.old) (C.given clock.new) }
+{
+    let workers = crews.len();
+    if workers == 0 {
+        return Conducted {
+            director,
+            minutes: Vec::new(alloc),
+            outcome: Err(ConductFault::NoWorker),
+        };
+    }
+    conduct_at::<Brand, S, G, O, L, C, R>(
+        rt,
+        alloc,
+        Blank::new(workers as u64),
+        director,
+        lane_count,
+        crews,
+        lines,
+        clock,
+    )
+}
+
+// The same where there are crews, at a desk that the ledger names.
+fn conduct_at<
+    D: Ledger + Send + Sync,
+    S: Alter + Drop,
+    G: Gate + Send,
+    O: Operator + Send,
+    L: Lines,
+    C: Clock,
+    R: Threads + Wait + Sync,
+>(
+    rt: &R,
+    alloc: Global,
+    blank: Blank,
+    director: Director<S>,
+    lane_count: u32,
+    crews: Vec<Crew<G, O>>,
+    lines: &mut L,
+    clock: &mut C,
+) -> Conducted<S, G, O>
+    requires name { blank.name ≡ D.name }
+    requires parts { (blank.parts ≡ D.parts) × (blank.parts ≡ length crews.items) }
+    requires lanes { (lane_count ≤ 64) × (lane_count ≤ director.schedule.content.limits.lanes) }
+    requires crews { (0 < length crews.items) × (length crews.items ≤ 16) }
+    requires kits { All (λ c. IsKit O.kind_of c.kit) crews.items }
+    requires waits { L.waits lines.old ≡ None }
+    requires sound { L.failed lines.old ≡ None }
+    ensures { IsConducted (state S.Store) O.runs_of O.taken lane_count (map (λ c. c.kit) crews.items) director result
+        (record { told = L.told lines.old; ticks = L.ticks lines.old; waits = L.waits lines.old; failed = L.failed lines.old; over = L.over lines.old })
+        (record { told = L.told lines.new; ticks = L.ticks lines.new; waits = L.waits lines.new; failed = L.failed lines.new; over = L.over lines.new })
+        (C.given clock.old) (C.given clock.new) }
+{
+    let workers = crews.len();
+    let Ok(equipment) = equip::<D, G, O>(alloc, blank, lane_count, workers) else {
+        return Conducted {
+            director,
+            minutes: Vec::new(alloc),
+            outcome: Err(ConductFault::Memory),
+        };
+    };
+    let Equipment {
+        lanes,
+        desk,
+        pass,
+        posts,
+        room,
+    } = equipment;
+    // what is known of the schedule that is run
+    let _ = director.schedule().runs();
+    let session = Session::new(alloc, director, pass);
+    let managed = manage(
+        rt, alloc, &lanes, &desk, lane_count, session, posts, crews, lines, clock,
+    );
+    close(rt, lanes, desk, room, managed)
+}

@@ -1,0 +1,66 @@
+//! What a run is equipped with before it starts: all the memory that its threads and their ends take.
+ghost use Rattle.std.specs.Prelude.{◌≡◌, ◌<◌, ◌≤◌, [], All, IfOk, length, vec_capacity};
+ghost use Rattle.ruled_dispatch.specs.Lanes.{sent_of, heard_of, taken_of, told_of, AreAllOf, AreNumbered};
+
+use crews::{Handle, Room};
+use operators::Operator;
+use ruled_dispatch::{DirectorPass, Lanes, WorkerPass};
+use slot_desk::{Share, SlotDesk};
+use std::alloc::{AllocError, Global};
+use std::sync::ledger::{Blank, Ledger};
+use work::Gate;
+
+/// The lanes and the desk, with a pass and a share for each worker, and room for what comes back.
+#[derive(Drop)]
+pub struct Equipment<D: Ledger, G: Gate, O: Operator> {
+    pub lanes: Lanes,
+    pub desk: SlotDesk<D>,
+    pub pass: DirectorPass,
+    pub posts: Posts<D, G, O>,
+    pub room: Room<D, G, O>,
+}
+
+/// What the workers get, and room for their threads.
+#[derive(Drop)]
+pub struct Posts<D: Ledger, G: Gate, O: Operator> {
+    pub handles: Vec<Handle<D, G, O>>,
+    pub passes: Vec<WorkerPass>,
+    pub shares: Vec<Share<D>>,
+}
+
+/// Equips a run with so many lanes and so many workers.
+pub fn equip<D: Ledger, G: Gate, O: Operator>(
+    alloc: Global,
+    blank: Blank,
+    lane_count: u32,
+    workers: usize,
+) -> Result<Equipment<D, G, O>, AllocError>
+    requires lanes { lane_count ≤ 64 }
+    requires workers { (0 < workers) × (workers ≤ 16) }
+    requires name { blank.name ≡ D.name }
+    requires parts { (blank.parts ≡ D.parts) × (blank.parts ≡ workers) }
+    ensures all { IfOk result (λ q. AreAllOf q.lanes q.pass q.posts.passes.items) }
+    ensures numbers { IfOk result (λ q. AreNumbered q.posts.passes.items) }
+    ensures workers { IfOk result (λ q. (length q.posts.passes.items ≡ workers) × (length q.posts.shares.items ≡ workers)) }
+    ensures unused { IfOk result (λ q. (sent_of q.pass ≡ []) × (heard_of q.pass ≡ [])) }
+    ensures new { IfOk result (λ q. All (λ w. taken_of w ≡ []) q.posts.passes.items × All (λ w. told_of w ≡ []) q.posts.passes.items) }
+    ensures none { IfOk result (λ q. All (λ share. share ≡ []) q.posts.shares.items) }
+    ensures room { IfOk result (λ q. (q.posts.handles.items ≡ []) × (workers ≤ vec_capacity q.posts.handles) × (q.room ≡ workers)) }
+{
+    let handles = Vec::with_capacity(alloc, workers)?;
+    let room = Room::new(alloc, workers)?;
+    let (desk, shares) = SlotDesk::open(alloc, blank, workers)?;
+    let (lanes, pass, passes) = Lanes::open(alloc, lane_count as usize, workers)?;
+    let posts = Posts {
+        handles,
+        passes,
+        shares,
+    };
+    Ok(Equipment {
+        lanes,
+        desk,
+        pass,
+        posts,
+        room,
+    })
+}

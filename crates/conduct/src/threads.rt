@@ -1,0 +1,215 @@
+//! The threads of a run: the workers are started in a scope, the session is served on this thread, and the workers are joined.
+//!
+//! The lines and the clock are lent into the scope, and come out of it beside what came of it (`Lent`), so that what is said of them there can be said
+//! of the references that the caller has.
+ghost use Rattle.std.specs.Prelude.{◌≡◌};
+ghost use Rattle.sqlite.specs.Held.{state};
+ghost use Rattle.conduct.specs.Served.{IsReady, IsManaged};
+
+use crate::equipment::Posts;
+use crate::serving::{Started, serve};
+use crews::{Worked, join_all, start_all};
+use operators::Operator;
+use ruled_dispatch::Lanes;
+use sessions::{Clock, ConductFault, Lines, Session};
+use slot_desk::SlotDesk;
+use sqlite::Alter;
+use std::alloc::Global;
+use std::sync::Wait;
+use std::sync::ledger::Ledger;
+use std::thread;
+use std::thread::{Scope, Threads};
+use work::{Crew, Gate};
+
+/// What came of the threads: the session, how it ended, and what each worker that was started gave back.
+#[derive(Drop)]
+pub struct Managed<D: Ledger, S: Alter, G: Gate, O: Operator> {
+    pub session: Session<S>,
+    pub outcome: Result<(), ConductFault>,
+    pub results: Vec<Worked<D, G, O>>,
+}
+
+// The same, with the lines and the clock that were lent.
+#[derive(Drop)]
+struct Lent<'l, 'c, D: Ledger, S: Alter, G: Gate, O: Operator, L: Lines, C: Clock> {
+    session: Session<S>,
+    outcome: Result<(), ConductFault>,
+    results: Vec<Worked<D, G, O>>,
+    lines: &'l mut L,
+    clock: &'c mut C,
+}
+
+/// Starts the workers, serves the session, stops the workers and joins them.
+pub fn manage<
+    D: Ledger + Send + Sync,
+    S: Alter + Drop,
+    G: Gate + Send,
+    O: Operator + Send,
+    L: Lines,
+    C: Clock,
+    R: Threads + Wait + Sync,
+>(
+    rt: &R,
+    alloc: Global,
+    lanes: &Lanes,
+    desk: &SlotDesk<D>,
+    lane_count: u32,
+    session: Session<S>,
+    posts: Posts<D, G, O>,
+    crews: Vec<Crew<G, O>>,
+    lines: &mut L,
+    clock: &mut C,
+) -> Managed<D, S, G, O>
+    requires { IsReady O.kind_of lanes.now lane_count session posts crews.items
+        (record { told = L.told lines.old; ticks = L.ticks lines.old; waits = L.waits lines.old; failed = L.failed lines.old; over = L.over lines.old }) }
+    ensures managed { IsManaged (state S.Store) O.kind_of O.runs_of O.taken lanes.now lane_count session posts crews.items result.session result.outcome result.results.items
+        (record { told = L.told lines.old; ticks = L.ticks lines.old; waits = L.waits lines.old; failed = L.failed lines.old; over = L.over lines.old })
+        (record { told = L.told lines.new; ticks = L.ticks lines.new; waits = L.waits lines.new; failed = L.failed lines.new; over = L.over lines.new })
+        (C.given clock.old) (C.given clock.new) }
+{
+    let Lent {
+        session,
+        outcome,
+        results,
+        lines: lent_lines,
+        clock: lent_clock,
+    } = in_scope(
+        rt, alloc, lanes, desk, lane_count, session, posts, crews, lines, clock,
+    );
+    release(lent_lines, lent_clock);
+    Managed {
+        session,
+        outcome,
+        results,
+    }
+}
+
+// Lets two references go.
+fn release<L: Lines, C: Clock>(lines: &mut L, clock: &mut C)
+    ensures { (lines.new ≡ lines.old) × (clock.new ≡ clock.old) }
+{}
+
+// Opens the scope.
+fn in_scope<
+    'l,
+    'c,
+    D: Ledger + Send + Sync,
+    S: Alter + Drop,
+    G: Gate + Send,
+    O: Operator + Send,
+    L: Lines,
+    C: Clock,
+    R: Threads + Wait + Sync,
+>(
+    rt: &R,
+    alloc: Global,
+    lanes: &Lanes,
+    desk: &SlotDesk<D>,
+    lane_count: u32,
+    session: Session<S>,
+    posts: Posts<D, G, O>,
+    crews: Vec<Crew<G, O>>,
+    lines: &'l mut L,
+    clock: &'c mut C,
+) -> Lent<'l, 'c, D, S, G, O, L, C>
+    requires { IsReady O.kind_of lanes.now lane_count session posts crews.items
+        (record { told = L.told lines.old; ticks = L.ticks lines.old; waits = L.waits lines.old; failed = L.failed lines.old; over = L.over lines.old }) }
+    ensures lent { (result.lines.ghost_name ≡ lines.entry.ghost_name) × (result.clock.ghost_name ≡ clock.entry.ghost_name) }
+    ensures managed { IsManaged (state S.Store) O.kind_of O.runs_of O.taken lanes.now lane_count session posts crews.items result.session result.outcome result.results.items
+        (record { told = L.told lines.old; ticks = L.ticks lines.old; waits = L.waits lines.old; failed = L.failed lines.old; over = L.over lines.old })
+        (record { told = L.told result.lines.now; ticks = L.ticks result.lines.now; waits = L.waits result.lines.now; failed = L.failed result.lines.now; over = L.over result.lines.now })
+        (C.given clock.old) (C.given result.clock.now) }
+{
+    thread::scope(
+        thread::scope_env(),
+        rt,
+        move |scope| -> Lent<'_, '_, D, S, G, O, L, C>
+            requires { IsReady O.kind_of lanes.now lane_count session posts crews.items
+                (record { told = L.told lines.now; ticks = L.ticks lines.now; waits = L.waits lines.now; failed = L.failed lines.now; over = L.over lines.now }) }
+            ensures lent { (result.lines.ghost_name ≡ lines.entry.ghost_name) × (result.clock.ghost_name ≡ clock.entry.ghost_name) }
+            ensures managed { IsManaged (state S.Store) O.kind_of O.runs_of O.taken lanes.entry.now lane_count session posts crews.items result.session result.outcome result.results.items
+                (record { told = L.told lines.entry.now; ticks = L.ticks lines.entry.now; waits = L.waits lines.entry.now; failed = L.failed lines.entry.now; over = L.over lines.entry.now })
+                (record { told = L.told result.lines.now; ticks = L.ticks result.lines.now; waits = L.waits result.lines.now; failed = L.failed result.lines.now; over = L.over result.lines.now })
+                (C.given clock.entry.now) (C.given result.clock.now) }
+        {
+            run(
+                scope, rt, alloc, lanes, desk, lane_count, session, posts, crews, lines, clock,
+            )
+        },
+    )
+}
+
+// What is done in the scope.
+fn run<
+    'l,
+    'c,
+    's,
+    E,
+    D: Ledger + Send + Sync + 's,
+    S: Alter + Drop,
+    G: Gate + Send + 's,
+    O: Operator + Send + 's,
+    L: Lines,
+    C: Clock,
+    R: Threads + Wait + Sync,
+>(
+    scope: &Scope<'s, E>,
+    rt: &'s R,
+    alloc: Global,
+    lanes: &'s Lanes,
+    desk: &'s SlotDesk<D>,
+    lane_count: u32,
+    session: Session<S>,
+    posts: Posts<D, G, O>,
+    crews: Vec<Crew<G, O>>,
+    lines: &'l mut L,
+    clock: &'c mut C,
+) -> Lent<'l, 'c, D, S, G, O, L, C>
+    requires { IsReady O.kind_of lanes.now lane_count session posts crews.items
+        (record { told = L.told lines.old; ticks = L.ticks lines.old; waits = L.waits lines.old; failed = L.failed lines.old; over = L.over lines.old }) }
+    ensures lent { (result.lines.ghost_name ≡ lines.entry.ghost_name) × (result.clock.ghost_name ≡ clock.entry.ghost_name) }
+    ensures managed { IsManaged (state S.Store) O.kind_of O.runs_of O.taken lanes.now lane_count session posts crews.items result.session result.outcome result.results.items
+        (record { told = L.told lines.old; ticks = L.ticks lines.old; waits = L.waits lines.old; failed = L.failed lines.old; over = L.over lines.old })
+        (record { told = L.told result.lines.now; ticks = L.ticks result.lines.now; waits = L.waits result.lines.now; failed = L.failed result.lines.now; over = L.over result.lines.now })
+        (C.given clock.old) (C.given result.clock.now) }
+{
+    let mut session = session;
+    let Posts {
+        mut handles,
+        passes,
+        shares,
+    } = posts;
+    let are_all = start_all(
+        scope,
+        rt,
+        alloc,
+        lanes,
+        desk,
+        &mut handles,
+        passes,
+        shares,
+        crews,
+    );
+    let started = Started {
+        workers: handles.len(),
+        are_all,
+    };
+    let outcome = serve(
+        rt,
+        alloc,
+        lanes,
+        lane_count,
+        started,
+        &mut session,
+        lines,
+        clock,
+    );
+    let results = join_all(rt, handles);
+    Lent {
+        session,
+        outcome,
+        results,
+        lines,
+        clock,
+    }
+}
