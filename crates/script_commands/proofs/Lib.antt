@@ -6,3 +6,4 @@ pub mod SizeLemmas
 pub mod PartLemmas
 pub mod OptionLemmas
 pub mod RepairLemmas
+pub mod PathLemmas

@@ -48,7 +48,7 @@ left-this rest rest' commands command l (line, first, e) = record {
   same = inl refl;
 }
 
--- what memory can run out for is a command that holds a name
+-- what memory can run out for is a command that holds a name or a path
 lacking : (asked : LineMeaning) → needs_memory asked ≡ true → (command : Command) × (asked ≡ means.This command) × (wants_memory command ≡ true)
 lacking means.Nothing e = absurd (true≢false (sym e))
 lacking means.Text e = absurd (true≢false (sym e))

@@ -82,7 +82,7 @@ abbrev pub IsMeaning : {E : Type 0} → List ℕ → Option (Result LineMeaning 
 IsMeaning bytes next rest = MatchOption next ((bytes ≡ []) × (rest ≡ Some []))
     (λ asked. (line : List ℕ) × IsFirstLine bytes line rest × IsReadAs (meaning_of line) asked)
 
--- want of memory can come in the place of a command that holds a text or a name, and of nothing else
+-- want of memory can come in the place of a command that holds a text, a name or a path, and of nothing else
 abbrev pub IsGiven : Request → Request → Type 0
 IsGiven wanted given = (given ≡ wanted) ⊎ ((given ≡ Err Memory) × ((command : Command) × (wanted ≡ Ok command) × (wants_memory command ≡ true)))
 

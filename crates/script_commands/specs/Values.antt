@@ -15,6 +15,11 @@ abbrev pub values : List (List ℕ) → Option (List (List ℕ))
 values [] = Some []
 values (w ∷ ws) = if ends_options w then Some ws else (if is_option w then None else option_map (λ vs. w ∷ vs) (values ws))
 
+-- there is no value, and no option
+abbrev pub are_none : Option (List (List ℕ)) → Bool
+are_none (Some []) = true
+are_none _ = false
+
 -- the value, where there is one and no more
 abbrev pub only : Option (List (List ℕ)) → Option (List ℕ)
 only (Some (v ∷ [])) = Some v

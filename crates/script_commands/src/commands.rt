@@ -1,4 +1,5 @@
 //! What a script asks for, and why a line is no command.
+use crate::paths::FilePath;
 use moment_core::MomentFault;
 use sched_events::Event;
 
@@ -8,6 +9,12 @@ pub enum Command {
     /// An event for the schedule: `load inline` with its text, `tick MOMENT`, `trigger DAG`, `backfill DAG FROM TO`, `clear DAG FROM TO`,
     /// `pause DAG`, `unpause DAG` or `resize POOL SIZE`.
     Step(Event),
+    /// `load PATH`: the graph file at this path is loaded.
+    LoadFile(FilePath),
+    /// `tick now`: a tick at the moment that it is.
+    TickNow,
+    /// `drain`: waits until no try is in flight.
+    Drain,
     /// `list runs`: the runs are shown, by graph id and logical date.
     ListRuns,
     /// `list tasks`: the task instances are shown, by graph id, logical date and task id.
@@ -33,6 +40,14 @@ pub enum UsageFault {
 /// Why there is no text of a graph.
 #[derive(Clone, Copy, Debug, PartialEq, Eq)]
 pub enum SourceFault {
+    /// The file cannot be read: it is not there, may not be read, or is a folder.
+    Unreadable,
+    /// The file is not UTF-8.
+    NotText,
+    /// The file has more than 1,048,576 bytes.
+    TooLong,
+    /// There was no memory for the file.
+    Memory,
     /// The script ends before the `.` that ends the text.
     NoEnd,
 }
@@ -42,6 +57,6 @@ pub enum SourceFault {
 pub enum CommandFault {
     Usage(UsageFault),
     Source(SourceFault),
-    /// Memory ran out for a graph's text, or for a name.
+    /// Memory ran out for a graph's text, for a name or for a path.
     Memory,
 }

@@ -2,10 +2,12 @@
 //!
 //! A script is read line by line. [`LineMeaning::by`] says what one line asks for, and [`next_command`] reads the next command of an
 //! input: a line of its own, or a graph's text that stands between `load inline` and a line that is `.` alone. A line that is no command is
-//! answered by its fault, and reading goes on after it. Lines are read in bounded memory; only the text of a graph and a name want more.
+//! answered by its fault, and reading goes on after it. Lines are read in bounded memory; only the text of a graph, a name and a path want
+//! more.
 //!
 //! ```text
 //! # the nightly load
+//! load graphs/hourly.toml
 //! load inline
 //! dag_id = "nightly"
 //! ..
@@ -19,6 +21,8 @@
 //! list tasks
 //! resize bulk 4
 //! list pools
+//! tick now
+//! drain
 //! ```
 #![tactic(auto)]
 
@@ -28,6 +32,7 @@ mod laws;
 mod meanings;
 mod names;
 mod options;
+mod paths;
 mod pool_sizes;
 mod repairs;
 mod requests;
@@ -36,4 +41,5 @@ mod words;
 pub use commands::{Command, CommandFault, SourceFault, UsageFault};
 pub use laws::a_command_without_options_has_values_alone;
 pub use meanings::LineMeaning;
+pub use paths::FilePath;
 pub use requests::next_command;

@@ -26,8 +26,8 @@ pub(crate) const MOST_LINES: u64 = 1 << 40;
 /// Lines that begin with `#` and lines of blanks alone are passed over. After `load inline` the lines up to one that is `.` alone are
 /// the graph's text, each with a newline; no line of it is passed over, and where one is too long or not UTF-8 the answer is
 /// `BadLine`, at the end of the text. Where memory runs out for a text that is good, the answer is `Memory`, at its end, and for a name
-/// in the place of its command. `lines` holds
-/// the line that was read last. An error is the reader's; then a part of the script may be lost.
+/// or a path in the place of its command. `lines` holds the line that was read last. An error is the reader's; then a part of the
+/// script may be lost.
 pub fn next_command<R: Read>(
     alloc: Global,
     lines: &mut LineReader,

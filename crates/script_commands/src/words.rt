@@ -2,7 +2,7 @@
 ghost use Rattle.std.specs.Prelude.{◌≡◌, MatchOption, Some, None};
 ghost use Rattle.text_words.specs.Words.{words};
 ghost use Rattle.script_commands.specs.Values as spec;
-ghost use Rattle.script_commands.specs.Values.{values, only, two};
+ghost use Rattle.script_commands.specs.Values.{are_none, values, only, two};
 
 use text_words::next_word;
 
@@ -45,6 +45,16 @@ fn two_words(text: &[u8]) -> Option<(&[u8], &[u8])>
     let (first, rest) = next_word(text)?;
     let second = only_word(rest)?;
     Some((first, second))
+}
+
+// Whether the words of a text give no value, and none of them is an option.
+pub(crate) fn has_no_value(text: &[u8]) -> bool
+    ensures { result ≡ are_none (values (words text.now)) }
+{
+    match next_word(text) {
+        None => true,
+        Some((word, rest)) => word == b"--".as_slice() && next_word(rest).is_none(),
+    }
 }
 
 // The word of a text that has one word and no more.
