@@ -12,7 +12,7 @@ use Rattle.graph_file.specs.declared.faults.GraphFault.TheVariants as graph
 use Rattle.script_commands.specs.declared.commands.UsageFault.{UsageFault}
 use Rattle.script_commands.specs.declared.commands.UsageFault.TheVariants.{Words, BadName, BadMoment, BadLine}
 use Rattle.script_commands.specs.declared.commands.SourceFault.{SourceFault}
-use Rattle.script_commands.specs.declared.commands.SourceFault.TheVariants.{NoEnd}
+use Rattle.script_commands.specs.declared.commands.SourceFault.TheVariants as source
 use Rattle.script_commands.specs.declared.commands.CommandFault.{CommandFault}
 use Rattle.script_commands.specs.declared.commands.CommandFault.TheVariants.{Usage, Source, Memory}
 
@@ -56,9 +56,13 @@ usage_text BadName = codes "usage 2 BadName\n"
 usage_text (BadMoment fault) = codes "usage 3 BadMoment " ++ moment_fault_text fault ++ codes "\n"
 usage_text BadLine = codes "usage 5 BadLine\n"
 
--- the line of a text that could not be had
+-- the line of a text that could not be had; want of memory has the line that it has everywhere
 abbrev pub source_text : SourceFault → List ℕ
-source_text NoEnd = codes "source 5 NoEnd\n"
+source_text source.Unreadable = codes "source 1 Unreadable\n"
+source_text source.NotText = codes "source 2 NotText\n"
+source_text source.TooLong = codes "source 3 TooLong\n"
+source_text source.Memory = codes "memory\n"
+source_text source.NoEnd = codes "source 5 NoEnd\n"
 
 -- the line of what is no command
 abbrev pub fault_text : CommandFault → List ℕ

@@ -16,7 +16,7 @@ pub fn put_fault<W: Write>(output: &mut W, fault: CommandFault) -> io::Result<()
 {
     match fault {
         CommandFault::Usage(fault) => put_usage_fault(output, fault),
-        CommandFault::Source(SourceFault::NoEnd) => output.write_all(b"source 5 NoEnd\n"),
+        CommandFault::Source(fault) => put_source_fault(output, fault),
         CommandFault::Memory => output.write_all(b"memory\n"),
     }
 }
@@ -33,6 +33,19 @@ fn put_usage_fault<W: Write>(output: &mut W, fault: UsageFault) -> io::Result<()
             writeln!(output, "usage 3 BadMoment {name}")
         }
         UsageFault::BadLine => output.write_all(b"usage 5 BadLine\n"),
+    }
+}
+
+fn put_source_fault<W: Write>(output: &mut W, fault: SourceFault) -> io::Result<()>
+    ensures { OnOk result (Appends (W.contents output.old) (W.contents output.new)
+        (spec.source_text fault)) }
+{
+    match fault {
+        SourceFault::Unreadable => output.write_all(b"source 1 Unreadable\n"),
+        SourceFault::NotText => output.write_all(b"source 2 NotText\n"),
+        SourceFault::TooLong => output.write_all(b"source 3 TooLong\n"),
+        SourceFault::Memory => output.write_all(b"memory\n"),
+        SourceFault::NoEnd => output.write_all(b"source 5 NoEnd\n"),
     }
 }
 
