@@ -1,5 +1,5 @@
 -- What a run promises, from what its session and its threads leave.
-use Rattle.std.proofs.Common.{◌≡◌, ℕ, ◌<◌, ◌≤◌, ◌==◌, true, false, true≢false, List, [], ◌∷◌, length, map, take, Option, None, Result, Ok, Err, MatchResult, OnOk, IfOk, IfErr, IsOk, refl, sym, ap, ◌∙◌, subst, arith, ne_eqb}
+use Rattle.std.proofs.Common.{◌≡◌, ℕ, ◌<◌, ◌≤◌, ◌==◌, Bool, true, false, true≢false, List, [], ◌∷◌, length, map, take, Option, None, Result, Ok, Err, MatchResult, OnOk, IfOk, IfErr, IsOk, refl, sym, ap, ◌∙◌, subst, arith, ne_eqb}
 use Rattle.std.proofs.lemmas.List.{length-map}
 use Rattle.std.proofs.Math.Seq.{take-length}
 use Rattle.sqlite.specs.Held.{Held}
@@ -8,6 +8,7 @@ use Rattle.instance_machine.specs.declared.tries.Outcome.{Outcome}
 use Rattle.operators.specs.declared.kits.Kit.{Kit}
 use Rattle.ruled_dispatch.specs.declared.lanes.Lanes.{Lanes}
 use Rattle.sched_events.specs.Steps.{steps, handed_along, AreAccepted}
+use Rattle.sched_events.specs.declared.answers.Answer.{Answer}
 use Rattle.sched_events.specs.declared.events.Event.{Event}
 use Rattle.sched_model.specs.States.{in_flight}
 use Rattle.director.specs.Directors.{DirectorValue, Follows}
@@ -15,16 +16,16 @@ use Rattle.minutes.specs.Minutes.{answered, BeginWithRestart}
 use Rattle.sessions.specs.Runs.{IsRun}
 use Rattle.sessions.specs.declared.faults.ConductFault.{ConductFault}
 use Rattle.sessions.specs.declared.faults.ConductFault.TheVariants as fault
+use Rattle.sessions.specs.declared.line_reading.Line.{Line}
 use Rattle.sessions.specs.declared.line_reading.LineFault.{LineFault}
 use Rattle.sessions.specs.declared.state.Session.{Session}
 use Rattle.work.specs.declared.crews.WorkerEnd.{WorkerEnd}
 use Rattle.crews.specs.Settled.{AreAccounts}
 use Rattle.conduct.specs.declared.conducting.Conducted.{Conducted}
-use Rattle.conduct.specs.Ends.{EachStandsInALog, EachToldItsOwn, WereTold}
+use Rattle.conduct.specs.Ends.{EachStandsInALog, EachToldItsOwn}
 use Rattle.conduct.specs.Faults.{EndsInside, EndsRun, came_to_its_end, is_no_worker, is_unstarted}
-use Rattle.conduct.specs.Served.{LinesShown, IsServed}
+use Rattle.conduct.specs.Served.{IsServed}
 use Rattle.conduct.specs.Run.{IsConducted}
-use Rattle.conduct.proofs.Runs.{same_told, no_moments}
 
 -- ---- why it ended
 ends_run : (f : ConductFault) (o : Option LineFault) → EndsInside f o → EndsRun f o
@@ -103,11 +104,11 @@ empty_list (x ∷ xs) le = absurd (omega arith)
 
 module _ {S G O : Type 0} where
   -- nothing was stepped, and no thread was started
-  pub unstarted_run : (look : Held S → State) (runs : O → List (ℕ × Outcome)) (taken : O → Option ℕ) (lane_count : ℕ) (kits : List (Kit O)) (old : DirectorValue S) (run : Conducted S G O) (shown : LinesShown) (given : List ℕ) (f : ConductFault)
-      → run.director ≡ old → run.minutes.items ≡ [] → run.outcome ≡ Err f → shown.failed ≡ None
-      → came_to_its_end run.outcome ≡ false → EndsRun f shown.failed → is_no_worker f ≡ (length kits == 0)
-      → IsConducted look runs taken lane_count kits old run shown shown given given
-  unstarted_run look runs taken lane_count kits old run shown given f d e o sound short ends none =
+  pub unstarted_run : (look : Held S → State) (runs : O → List (ℕ × Outcome)) (taken : O → Option ℕ) (lane_count : ℕ) (kits : List (Kit O)) (old : DirectorValue S) (run : Conducted S G O) (are_told : List (Event × Answer) → Option Line → Type 0) (untouched : Type 0) (failed : Option LineFault) (is_over : Bool) (f : ConductFault)
+      → run.director ≡ old → run.minutes.items ≡ [] → run.outcome ≡ Err f → are_told [] None → untouched
+      → came_to_its_end run.outcome ≡ false → EndsRun f failed → is_no_worker f ≡ (length kits == 0)
+      → IsConducted look runs taken lane_count kits old run are_told untouched failed is_over
+  unstarted_run look runs taken lane_count kits old run are_told untouched failed is_over f d e o nothing same short ends none =
       let a = old.schedule.content in
       record {
         stepped = ap (λ (x : DirectorValue S). x.schedule.content) d ∙ ap (λ (l : List Event). steps l a) (sym e);
@@ -115,12 +116,12 @@ module _ {S G O : Type 0} where
         followed = subst (λ (x : DirectorValue S). Follows a (look old.store) x.schedule.content (look x.store)) (sym d) (record { clean = λ h. h; was_open = λ _ h. h; stored = λ _ _ h. h });
         opened = ap (λ (x : DirectorValue S). x.opened) d;
         begun = subst (λ (l : List Event). BeginWithRestart lane_count l) (sym e) tt;
-        told = subst (λ (l : List Event). WereTold shown.failed shown.told shown.told (answered l a)) (sym e) (same_told shown.failed shown.told sound);
-        moments = no_moments shown.failed shown.ticks given;
+        waits = None;
+        told = subst (λ (l : List Event). are_told (answered l a) None) (sym e) nothing;
         whole = λ is. absurd (true≢false (sym is ∙ short));
-        fault = subst (λ r. MatchResult r (λ _. shown.failed ≡ None) (λ g. EndsRun g shown.failed)) (sym o) ends;
+        fault = subst (λ r. MatchResult r (λ _. failed ≡ None) (λ g. EndsRun g failed)) (sym o) ends;
         workers = subst (λ r. MatchResult r (λ _. 0 < length kits) (λ g. is_no_worker g ≡ (length kits == 0))) (sym o) none;
-        unstarted = subst (λ r. IfErr r (λ g. is_unstarted g ≡ true → (run.minutes.items ≡ []) × (shown ≡ shown) × (given ≡ given))) (sym o) (λ _. (e, refl, refl));
+        unstarted = subst (λ r. IfErr r (λ g. is_unstarted g ≡ true → (run.minutes.items ≡ []) × untouched)) (sym o) (λ _. (e, same));
         ends = subst (λ r. IfOk r (λ s. length s.ends.items ≡ length kits)) (sym o) tt;
         once = subst (λ r. IfOk r (λ s. EachStandsInALog (handed_along run.minutes.items a) s.ends.items)) (sym o) tt;
         own = subst (λ r. IfOk r (λ s. EachToldItsOwn run.minutes.items s.ends.items)) (sym o) tt;
@@ -130,10 +131,10 @@ module _ {S G O : Type 0} where
 
   -- a session was served while the workers ran, and what the workers did was settled
   pub conducted : {W R : Type 0} (look : Held S → State) (runs : O → List (ℕ × Outcome)) (taken : O → Option ℕ) (lanes : Lanes) (lane_count stops : ℕ) (kits : List (Kit O)) (old : DirectorValue S) (fresh now : Session S) (outcome : Result W ConductFault)
-      (results : List R) (end_of : R → WorkerEnd G O) (run : Conducted S G O) (before after : LinesShown) (gave given : List ℕ)
+      (results : List R) (end_of : R → WorkerEnd G O) (run : Conducted S G O) (are_told : List (Event × Answer) → Option Line → Type 0) (untouched : Type 0) (failed : Option LineFault) (is_over : Bool)
       → 0 < length kits
       → fresh.director ≡ old → IsRun old.schedule.content lane_count fresh
-      → IsServed look lanes lane_count stops fresh now outcome before after gave given
+      → IsServed look lanes lane_count stops fresh now outcome are_told untouched failed is_over
       → run.director ≡ now.director → run.minutes.items ≡ now.minutes.items
       → OnOk run.outcome (IsOk outcome) → PassesOn run.outcome outcome
       → OnOk outcome (length results ≡ length kits)
@@ -142,10 +143,11 @@ module _ {S G O : Type 0} where
       → IfOk run.outcome (λ s. EachToldItsOwn now.minutes.items s.ends.items)
       → OnOk outcome (AreAccounts runs taken kits (map end_of results))
       → IfOk run.outcome (λ s. (s.desk.slots ≡ 0) × (length s.desk.holds.items ≤ s.desk.slots))
-      → IsConducted look runs taken lane_count kits old run before after gave given
-  conducted {W} {R} look runs taken lanes lane_count stops kits old fresh now outcome results end_of run before after gave given some of_old is_run served dir min ok pass all ends once own accounts desk =
+      → IsConducted look runs taken lane_count kits old run are_told untouched failed is_over
+  conducted {W} {R} look runs taken lanes lane_count stops kits old fresh now outcome results end_of run are_told untouched failed is_over some of_old is_run served dir min ok pass all ends once own accounts desk =
       let a = old.schedule.content in
       let stop = served.run a is_run in
+      let what = served.told a is_run in
       record {
         stepped = ap (λ (x : DirectorValue S). x.schedule.content) dir ∙ stop.stepped ∙ ap (λ (l : List Event). steps l a) (sym min);
         accepted = subst (λ (l : List Event). AreAccepted l a) (sym min) stop.accepted;
@@ -154,17 +156,17 @@ module _ {S G O : Type 0} where
             (subst (λ (x : DirectorValue S). Follows x.schedule.content (look x.store) now.director.schedule.content (look now.director.store)) of_old served.followed);
         opened = ap (λ (x : DirectorValue S). x.opened) dir ∙ served.opened ∙ ap (λ (x : DirectorValue S). x.opened) of_old;
         begun = subst (λ (l : List Event). BeginWithRestart lane_count l) (sym min) stop.begun;
-        told = subst (λ (l : List Event). WereTold after.failed before.told after.told (answered l a)) (sym min) (served.told a is_run);
-        moments = served.moments;
+        waits = what.0;
+        told = subst (λ (l : List Event). are_told (answered l a) what.0) (sym min) what.1;
         whole = λ is. (
-          (whole_by _ run.outcome outcome after.failed ok pass served.fault served.over is).0,
-          (whole_by _ run.outcome outcome after.failed ok pass served.fault served.over is).1,
-          subst (λ (l : List Event). 0 < length l) (sym min) (whole_by _ run.outcome outcome after.failed ok pass served.fault served.begun is),
-          ap (λ (x : DirectorValue S). in_flight x.schedule.content) dir ∙ whole_by _ run.outcome outcome after.failed ok pass served.fault served.idle is,
+          whole_by _ run.outcome outcome failed ok pass served.fault served.over is,
+          whole_by _ run.outcome outcome failed ok pass served.fault what.2 is,
+          subst (λ (l : List Event). 0 < length l) (sym min) (whole_by _ run.outcome outcome failed ok pass served.fault served.begun is),
+          ap (λ (x : DirectorValue S). in_flight x.schedule.content) dir ∙ whole_by _ run.outcome outcome failed ok pass served.fault served.idle is,
         );
-        fault = why_by run.outcome outcome after.failed ok pass served.fault;
-        workers = workers_by run.outcome outcome after.failed (length kits) some pass served.fault;
-        unstarted = unstarted_by _ _ run.outcome outcome pass served.unstarted (λ p. (min ∙ p.0, p.1, p.2));
+        fault = why_by run.outcome outcome failed ok pass served.fault;
+        workers = workers_by run.outcome outcome failed (length kits) some pass served.fault;
+        unstarted = unstarted_by _ _ run.outcome outcome pass served.unstarted (λ p. (min ∙ p.0, p.1));
         ends = both_ok run.outcome outcome ok all ends (λ s same is. ap length is ∙ length-map results end_of ∙ same);
         once = if_ok run.outcome once (λ s each. subst (λ (l : List Event). EachStandsInALog (handed_along l a) s.ends.items) (sym min) each);
         own = if_ok run.outcome own (λ s each. subst (λ (l : List Event). EachToldItsOwn l s.ends.items) (sym min) each);

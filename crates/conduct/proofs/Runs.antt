@@ -1,5 +1,5 @@
 -- A session that was served, and one that was not, with the stops sent after it.
-use Rattle.std.proofs.Common.{◌≡◌, inl, inr, ℕ, ◌<◌, Bool, true, false, true≢false, List, [], ◌++◌, length, map, replicate, Option, Some, None, Result, Ok, Err, MatchBool, MatchResult, OnOk, IfErr, refl, sym, ap, ◌∙◌, subst, append-nil}
+use Rattle.std.proofs.Common.{◌≡◌, ℕ, ◌<◌, Bool, true, false, true≢false, List, [], ◌++◌, length, map, replicate, Option, None, Result, Ok, Err, MatchBool, MatchResult, OnOk, IfErr, refl, sym, ap, ◌∙◌, subst}
 use Rattle.sqlite.specs.Held.{Held}
 use Rattle.sqlite.specs.State.{State}
 use Rattle.ruled_dispatch.specs.Lanes.{sent_of, heard_of, IsDirectorOf, HasWorkers}
@@ -13,10 +13,11 @@ use Rattle.sched_model.specs.Schedule.{Schedule}
 use Rattle.sched_model.specs.States.{in_flight}
 use Rattle.minutes.specs.Minutes.{answered}
 use Rattle.sessions.specs.Faults.{EndsBy}
-use Rattle.sessions.specs.Moments.{AreMoments}
-use Rattle.sessions.specs.Runs.{GoesOn, IsRun, IsTold, IsToldUnless}
+use Rattle.sessions.specs.Runs.{GoesOn, IsRun}
+use Rattle.sessions.specs.Told.{AreToldBy}
 use Rattle.sessions.specs.declared.faults.ConductFault.{ConductFault}
 use Rattle.sessions.specs.declared.faults.ConductFault.TheVariants as fault
+use Rattle.sessions.specs.declared.line_reading.Line.{Line}
 use Rattle.sessions.specs.declared.line_reading.LineFault.{LineFault}
 use Rattle.sessions.specs.declared.state.Session.{Session}
 use Rattle.graph_file.specs.declared.operators.Operator.{Operator as Kind}
@@ -26,9 +27,8 @@ use Rattle.operators.specs.declared.kits.Kit.{Kit}
 use Rattle.ruled_dispatch.specs.declared.passes.WorkerPass.{WorkerPass}
 use Rattle.work.specs.declared.crews.WorkerEnd.{WorkerEnd}
 use Rattle.crews.specs.Threads.{HaveWorked}
-use Rattle.conduct.specs.Ends.{WereTold}
 use Rattle.conduct.specs.Faults.{EndsInside, is_unstarted}
-use Rattle.conduct.specs.Served.{LinesShown, IsStopped, IsServed}
+use Rattle.conduct.specs.Served.{IsStopped, IsServed}
 
 inside : (f : ConductFault) (o : Option LineFault) → EndsBy f o → EndsInside f o
 inside fault.NoWorker o e = e
@@ -54,23 +54,7 @@ never_unstarted : {W : Type 0} (P : Type 0) (r : Result W ConductFault) (o : Opt
 never_unstarted P (Ok w) o e = tt
 never_unstarted P (Err f) o e = λ is. absurd (true≢false (sym is ∙ stepped_some f o e))
 
-pub same_told : (o : Option LineFault) (t : List (Event × Answer)) → o ≡ None → WereTold o t t []
-same_told None t none = sym (append-nil t)
-same_told (Some f) t none = inl (sym (append-nil t))
-
-pub no_moments : (o : Option LineFault) (t g : List ℕ) → AreMoments o t t g g
-no_moments None t g = ([], sym (append-nil t), sym (append-nil g))
-no_moments (Some f) t g = inl ([], sym (append-nil t), sym (append-nil g))
-
 module _ {S : Type 0} where
-  were_told : (o : Option LineFault) (a : Schedule) (before : List (Event × Answer)) (s : Session S) (t : List (Event × Answer)) → IsToldUnless o a before s t → WereTold o before t (answered s.minutes.items a)
-  were_told None a before s t m = m
-  were_told (Some f) a before s t (inl m) = inl m
-  were_told (Some f) a before s t (inr m) = inr m
-
-  fresh_told : (a : Schedule) (s : Session S) (t : List (Event × Answer)) → s.minutes.items ≡ [] → IsTold a t s t
-  fresh_told a s t empty = sym (append-nil t) ∙ ap (λ l. t ++ answered l a) (sym empty)
-
   -- the session, with the pass that has sent the stops
   abbrev pub with_pass : Session S → DirectorPass → Session S
   with_pass s pass = record { director = s.director; minutes = s.minutes; pass = pass; missed = s.missed }
@@ -86,55 +70,51 @@ module _ {S : Type 0} where
   }
 
   -- it was served
-  pub served : {W : Type 0} (look : Held S → State) (lanes : Lanes) (lane_count stops : ℕ) (old now : Session S) (pass : DirectorPass) (outcome : Result W ConductFault) (before after : LinesShown) (gave given : List ℕ)
-      → old.minutes.items ≡ []
+  pub served : {W : Type 0} (look : Held S → State) (lanes : Lanes) (lane_count stops : ℕ) (old now : Session S) (pass : DirectorPass) (outcome : Result W ConductFault) (are_told : List (Event × Answer) → Option Line → Type 0) (untouched : Type 0) (failed : Option LineFault) (is_over : Bool)
       → GoesOn look lanes lane_count old now
-      → ((a : Schedule) (first : List (Event × Answer)) → IsRun a lane_count old → IsTold a first old before.told → IsToldUnless after.failed a first now after.told)
-      → AreMoments after.failed before.ticks after.ticks gave given
-      → MatchResult outcome (λ _. after.failed ≡ None) (λ f. EndsBy f after.failed)
-      → OnOk outcome ((after.over ≡ true) × (after.waits ≡ None))
+      → ((a : Schedule) → IsRun a lane_count old → AreToldBy outcome are_told (answered now.minutes.items a))
+      → MatchResult outcome (λ _. failed ≡ None) (λ f. EndsBy f failed)
+      → OnOk outcome (is_over ≡ true)
       → OnOk outcome (0 < length now.minutes.items)
       → OnOk outcome (in_flight now.director.schedule.content ≡ 0)
       → sent_of pass ≡ sent_of now.pass ++ replicate stops item.Stop → heard_of pass ≡ heard_of now.pass → IsDirectorOf lanes pass → ((count : ℕ) → HasWorkers now.pass count → HasWorkers pass count)
-      → IsServed look lanes lane_count stops old (with_pass now pass) outcome before after gave given
-  served look lanes lane_count stops old now pass outcome before after gave given fresh goes told moments fault over begun idle sent heard of workers = record {
+      → IsServed look lanes lane_count stops old (with_pass now pass) outcome are_told untouched failed is_over
+  served look lanes lane_count stops old now pass outcome are_told untouched failed is_over goes told fault over begun idle sent heard of workers = record {
     pass = of;
     workers = λ count h. workers count (goes.workers count h);
     opened = goes.opened;
     followed = goes.followed;
     run = λ a run. stopped a lane_count stops now pass sent heard (goes.run a run);
-    told = λ a run. were_told after.failed a before.told now after.told (told a before.told run (fresh_told a old before.told fresh));
-    moments = moments;
-    fault = ends_inside outcome after.failed fault;
+    told = told;
+    fault = ends_inside outcome failed fault;
     over = over;
     begun = begun;
     idle = idle;
-    unstarted = never_unstarted _ outcome after.failed fault;
+    unstarted = never_unstarted _ outcome failed fault;
   }
 
   -- it was not, since a thread was refused
-  pub unserved : {W : Type 0} (look : Held S → State) (lanes : Lanes) (lane_count stops : ℕ) (old : Session S) (pass : DirectorPass) (shown : LinesShown) (given : List ℕ)
-      → old.minutes.items ≡ [] → shown.failed ≡ None
+  pub unserved : {W : Type 0} (look : Held S → State) (lanes : Lanes) (lane_count stops : ℕ) (old : Session S) (pass : DirectorPass) (are_told : List (Event × Answer) → Option Line → Type 0) (untouched : Type 0) (failed : Option LineFault) (is_over : Bool)
+      → old.minutes.items ≡ [] → are_told [] None → untouched → failed ≡ None
       → sent_of pass ≡ sent_of old.pass ++ replicate stops item.Stop → heard_of pass ≡ heard_of old.pass → IsDirectorOf lanes pass → ((count : ℕ) → HasWorkers old.pass count → HasWorkers pass count)
-      → IsServed {W = W} look lanes lane_count stops old (with_pass old pass) (Err fault.SpawnRefused) shown shown given given
-  unserved look lanes lane_count stops old pass shown given fresh sound sent heard of workers = record {
+      → IsServed {W = W} look lanes lane_count stops old (with_pass old pass) (Err fault.SpawnRefused) are_told untouched failed is_over
+  unserved look lanes lane_count stops old pass are_told untouched failed is_over fresh none same sound sent heard of workers = record {
     pass = of;
     workers = workers;
     opened = refl;
     followed = record { clean = λ h. h; was_open = λ _ h. h; stored = λ _ _ h. h };
     run = λ a run. stopped a lane_count stops old pass sent heard run;
-    told = λ a run. subst (λ (es : List Event). WereTold shown.failed shown.told shown.told (answered es a)) (sym fresh) (same_told shown.failed shown.told sound);
-    moments = no_moments shown.failed shown.ticks given;
+    told = λ a run. (None, subst (λ (es : List Event). are_told (answered es a) None) (sym fresh) none, tt);
     fault = sound;
     over = tt;
     begun = tt;
     idle = tt;
-    unstarted = λ _. (fresh, refl, refl);
+    unstarted = λ _. (fresh, same);
   }
 
-  pub same_stops : {W : Type 0} {look : Held S → State} {lanes : Lanes} {lane_count : ℕ} {old now : Session S} {outcome : Result W ConductFault} {before after : LinesShown} {gave given : List ℕ} (n m : ℕ) → n ≡ m
-      → IsServed look lanes lane_count n old now outcome before after gave given → IsServed look lanes lane_count m old now outcome before after gave given
-  same_stops {W} {look} {lanes} {lane_count} {old} {now} {outcome} {before} {after} {gave} {given} n m same = subst (λ k. IsServed look lanes lane_count k old now outcome before after gave given) same
+  pub same_stops : {W : Type 0} {look : Held S → State} {lanes : Lanes} {lane_count : ℕ} {old now : Session S} {outcome : Result W ConductFault} {are_told : List (Event × Answer) → Option Line → Type 0} {untouched : Type 0} {failed : Option LineFault} {is_over : Bool} (n m : ℕ) → n ≡ m
+      → IsServed look lanes lane_count n old now outcome are_told untouched failed is_over → IsServed look lanes lane_count m old now outcome are_told untouched failed is_over
+  same_stops {W} {look} {lanes} {lane_count} {old} {now} {outcome} {are_told} {untouched} {failed} {is_over} n m same = subst (λ k. IsServed look lanes lane_count k old now outcome are_told untouched failed is_over) same
 
 -- workers that worked from what their handles say worked from what they were given
 pub worked_from : {G O : Type 0} (kind_of : O → Kind) (runs : O → List (ℕ × Outcome)) (taken : O → Option ℕ) (ps ps' : List WorkerPass) (ss ss' : List (List Hold)) (ks ks' : List (Kit O)) (results : List (WorkerEnd G O × WorkerPass × List Hold))

@@ -1,11 +1,9 @@
--- What the ends of the crews say of the jobs that were handed out, and what the lines were told.
-use Rattle.std.specs.Prelude.{◌≡◌, ◌⊎◌, ℕ, ◌<◌, List, [], ◌∷◌, ◌++◌, length, map, sum_by, slice_index_or, Option, Some, None}
+-- What the ends of the crews say of the jobs that were handed out.
+use Rattle.std.specs.Prelude.{◌≡◌, ℕ, ◌<◌, List, length, map, sum_by, slice_index_or}
 use Rattle.sched_state.specs.declared.jobs.Job.{Job}
 use Rattle.sched_events.specs.Promises.{serials_in}
-use Rattle.sched_events.specs.declared.answers.Answer.{Answer}
 use Rattle.sched_events.specs.declared.events.Event.{Event}
 use Rattle.minutes.specs.Minutes.{of_worker}
-use Rattle.sessions.specs.declared.line_reading.LineFault.{LineFault}
 use Rattle.work.specs.declared.crews.WorkerEnd.{WorkerEnd}
 use Rattle.work.specs.declared.logs.Logged.{Logged}
 use Rattle.work.specs.Logs.{reports_of}
@@ -29,8 +27,3 @@ module _ {G O : Type 0} where
   EachToldItsOwn minutes ends =
       (k : ℕ) (e : WorkerEnd G O) → k < length ends
       → of_worker (serials_of (slice_index_or ends k e).log.items) minutes ≡ reports_of (slice_index_or ends k e).log.items
-
--- the lines were told these events with their answers, after what they had been told before; where they failed, perhaps all but the last
-abbrev pub WereTold : Option LineFault → List (Event × Answer) → List (Event × Answer) → List (Event × Answer) → Type 0
-WereTold None before after answers = after ≡ before ++ answers
-WereTold (Some fault) before after answers = (after ≡ before ++ answers) ⊎ ((last : Event × Answer) × (after ++ last ∷ [] ≡ before ++ answers))

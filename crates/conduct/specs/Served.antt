@@ -12,8 +12,8 @@ use Rattle.sched_model.specs.Schedule.{Schedule}
 use Rattle.sched_model.specs.States.{in_flight}
 use Rattle.director.specs.Directors.{Follows}
 use Rattle.minutes.specs.Minutes.{answered, reports_in, BeginWithRestart}
-use Rattle.sessions.specs.Moments.{AreMoments}
 use Rattle.sessions.specs.Runs.{IsRun}
+use Rattle.sessions.specs.Told.{AreToldBy}
 use Rattle.sessions.specs.declared.faults.ConductFault.{ConductFault}
 use Rattle.sessions.specs.declared.line_reading.Line.{Line}
 use Rattle.sessions.specs.declared.line_reading.LineFault.{LineFault}
@@ -27,16 +27,7 @@ use Rattle.work.specs.declared.crews.Crew.{Crew}
 use Rattle.work.specs.declared.crews.WorkerEnd.{WorkerEnd}
 use Rattle.crews.specs.Threads.{HaveWorked}
 use Rattle.conduct.specs.declared.equipment.Posts.{Posts}
-use Rattle.conduct.specs.Ends.{WereTold}
 use Rattle.conduct.specs.Faults.{EndsInside, is_unstarted}
-
--- what lines show
-pub record LinesShown : Type 0 where
-  pub told : List (Event × Answer)
-  pub ticks : List ℕ
-  pub waits : Option Line
-  pub failed : Option LineFault
-  pub over : Bool
 
 -- From the schedule a, with so many lanes: the schedule is that of the minutes, which were accepted; what was sent are the tries that they hand out,
 -- and then so many stops; what was heard, if no report was missed, is what they report; and the restart is their first event.
@@ -47,30 +38,29 @@ pub record IsStopped {S : Type 0} (a : Schedule) (lane_count stops : ℕ) (s : S
   pub heard : s.missed ≡ false → map (λ t. t.report) (heard_of s.pass) ≡ reports_in s.minutes.items
   pub begun : BeginWithRestart lane_count s.minutes.items
 
--- A session that had stepped nothing yet was served with so many lanes, and then so many stops were sent: what is left of it, how it ended, what the
--- lines showed before and after, and which moments the clock had given.
-pub record IsServed {S W : Type 0} (look : Held S → State) (lanes : Lanes) (lane_count stops : ℕ) (old new : Session S) (outcome : Result W ConductFault) (before after : LinesShown) (gave given : List ℕ) : Type 0 where
+-- A session that had stepped nothing yet was served with so many lanes, and then so many stops were sent: what is left of it, and how it ended. Of the
+-- lines and the clock: what they came from their first states to their last ones by (are_told), or that they are as they were (untouched); what the
+-- lines failed in, and whether they are over.
+pub record IsServed {S W : Type 0} (look : Held S → State) (lanes : Lanes) (lane_count stops : ℕ) (old new : Session S) (outcome : Result W ConductFault) (are_told : List (Event × Answer) → Option Line → Type 0) (untouched : Type 0) (failed : Option LineFault) (is_over : Bool) : Type 0 where
   pub pass : IsDirectorOf lanes new.pass
   pub workers : (count : ℕ) → HasWorkers old.pass count → HasWorkers new.pass count
   pub opened : new.director.opened ≡ old.director.opened
   pub followed : Follows old.director.schedule.content (look old.director.store) new.director.schedule.content (look new.director.store)
   pub run : (a : Schedule) → IsRun a lane_count old → IsStopped a lane_count stops new
-  pub told : (a : Schedule) → IsRun a lane_count old → WereTold after.failed before.told after.told (answered new.minutes.items a)
-  pub moments : AreMoments after.failed before.ticks after.ticks gave given
-  pub fault : MatchResult outcome (λ _. after.failed ≡ None) (λ f. EndsInside f after.failed)
-  pub over : OnOk outcome ((after.over ≡ true) × (after.waits ≡ None))
+  pub told : (a : Schedule) → IsRun a lane_count old → AreToldBy outcome are_told (answered new.minutes.items a)
+  pub fault : MatchResult outcome (λ _. failed ≡ None) (λ f. EndsInside f failed)
+  pub over : OnOk outcome (is_over ≡ true)
   pub begun : OnOk outcome (0 < length new.minutes.items)
   pub idle : OnOk outcome (in_flight new.director.schedule.content ≡ 0)
-  pub unstarted : IfErr outcome (λ f. is_unstarted f ≡ true → (new.minutes.items ≡ []) × (after ≡ before) × (given ≡ gave))
+  pub unstarted : IfErr outcome (λ f. is_unstarted f ≡ true → (new.minutes.items ≡ []) × untouched)
 
--- A run may start: the session has stepped nothing, and its pass is the director's; the lines wait for nothing and did not fail; and there is a pass, a share
+-- A run may start: the session has stepped nothing, and its pass is the director's; the lines did not fail; and there is a pass, a share
 -- and room for a thread for each crew, whose kits are whole.
-pub record IsReady {S D G O : Type 0} (kind_of : O → Kind) (lanes : Lanes) (lane_count : ℕ) (session : Session S) (posts : Posts D G O) (crews : List (Crew G O)) (shown : LinesShown) : Type 0 where
+pub record IsReady {S D G O : Type 0} (kind_of : O → Kind) (lanes : Lanes) (lane_count : ℕ) (session : Session S) (posts : Posts D G O) (crews : List (Crew G O)) (failed : Option LineFault) : Type 0 where
   pub pass : IsDirectorOf lanes session.pass
   pub fresh : session.minutes.items ≡ []
   pub within : lane_count ≤ session.director.schedule.content.limits.lanes
-  pub waits : shown.waits ≡ None
-  pub sound : shown.failed ≡ None
+  pub sound : failed ≡ None
   pub passes : All (IsWorkerOf lanes) posts.passes.items
   pub kits : All (λ c. IsKit kind_of c.kit) crews
   pub pass_each : length posts.passes.items ≡ length crews
@@ -82,7 +72,7 @@ pub record IsReady {S D G O : Type 0} (kind_of : O → Kind) (lanes : Lanes) (la
 -- are all.
 pub record IsManaged {S D G O W : Type 0} (look : Held S → State) (kind_of : O → Kind) (runs : O → List (ℕ × Outcome)) (taken : O → Option ℕ) (lanes : Lanes) (lane_count : ℕ)
     (old : Session S) (posts : Posts D G O) (crews : List (Crew G O)) (new : Session S) (outcome : Result W ConductFault) (results : List (WorkerEnd G O × WorkerPass × List Hold))
-    (before after : LinesShown) (gave given : List ℕ) : Type 0 where
-  pub served : IsServed look lanes lane_count (length results) old new outcome before after gave given
+    (are_told : List (Event × Answer) → Option Line → Type 0) (untouched : Type 0) (failed : Option LineFault) (is_over : Bool) : Type 0 where
+  pub served : IsServed look lanes lane_count (length results) old new outcome are_told untouched failed is_over
   pub worked : HaveWorked kind_of runs taken (take (length results) posts.passes.items) (take (length results) posts.shares.items) (take (length results) (map (λ c. c.kit) crews)) results
   pub all : OnOk outcome (length results ≡ length crews)

@@ -2,6 +2,7 @@
 ghost use Rattle.std.specs.Prelude.{◌≡◌, ◌<◌, ◌≤◌, All, None, length, map};
 ghost use Rattle.sqlite.specs.Held.{state};
 ghost use Rattle.operators.specs.Kits.{IsKit};
+ghost use Rattle.sessions.specs.Told.{AreTold};
 ghost use Rattle.conduct.specs.Run.{IsConducted};
 
 use crate::closing::close;
@@ -55,12 +56,9 @@ pub fn conduct<
     requires lanes { (lane_count ≤ 64) × (lane_count ≤ director.schedule.content.limits.lanes) }
     requires crews { length crews.items ≤ 16 }
     requires kits { All (λ c. IsKit O.kind_of c.kit) crews.items }
-    requires waits { L.waits lines.old ≡ None }
     requires sound { L.failed lines.old ≡ None }
     ensures { IsConducted (state S.Store) O.runs_of O.taken lane_count (map (λ c. c.kit) crews.items) director result
-        (record { told = L.told lines.old; ticks = L.ticks lines.old; waits = L.waits lines.old; failed = L.failed lines.old; over = L.over lines.old })
-        (record { told = L.told lines.new; ticks = L.ticks lines.new; waits = L.waits lines.new; failed = L.failed lines.new; over = L.over lines.new })
-        (C.given clock.old) (C.given clock.new) }
+        (AreTold L.tells C.gives lines.old clock.old lines.new clock.new) ((lines.new ≡ lines.old) × (clock.new ≡ clock.old)) (L.failed lines.new) (L.over lines.new) }
 {
     let workers = crews.len();
     if workers == 0 {
@@ -106,12 +104,9 @@ fn conduct_at<
     requires lanes { (lane_count ≤ 64) × (lane_count ≤ director.schedule.content.limits.lanes) }
     requires crews { (0 < length crews.items) × (length crews.items ≤ 16) }
     requires kits { All (λ c. IsKit O.kind_of c.kit) crews.items }
-    requires waits { L.waits lines.old ≡ None }
     requires sound { L.failed lines.old ≡ None }
     ensures { IsConducted (state S.Store) O.runs_of O.taken lane_count (map (λ c. c.kit) crews.items) director result
-        (record { told = L.told lines.old; ticks = L.ticks lines.old; waits = L.waits lines.old; failed = L.failed lines.old; over = L.over lines.old })
-        (record { told = L.told lines.new; ticks = L.ticks lines.new; waits = L.waits lines.new; failed = L.failed lines.new; over = L.over lines.new })
-        (C.given clock.old) (C.given clock.new) }
+        (AreTold L.tells C.gives lines.old clock.old lines.new clock.new) ((lines.new ≡ lines.old) × (clock.new ≡ clock.old)) (L.failed lines.new) (L.over lines.new) }
 {
     let workers = crews.len();
     let Ok(equipment) = equip::<D, G, O>(alloc, blank, lane_count, workers) else {

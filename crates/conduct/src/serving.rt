@@ -2,6 +2,7 @@
 ghost use Rattle.std.specs.Prelude.{◌≡◌, ◌≤◌, [], true, None, OnOk};
 ghost use Rattle.sqlite.specs.Held.{state};
 ghost use Rattle.ruled_dispatch.specs.Lanes.{IsDirectorOf};
+ghost use Rattle.sessions.specs.Told.{AreTold};
 ghost use Rattle.conduct.specs.Served.{IsServed};
 
 use crews::stop_all;
@@ -32,12 +33,9 @@ pub fn serve<S: Alter, L: Lines, C: Clock, R: Wait>(
     requires pass { IsDirectorOf lanes.now session.old.pass }
     requires fresh { session.old.minutes.items ≡ [] }
     requires lanes { lane_count ≤ session.old.director.schedule.content.limits.lanes }
-    requires waits { L.waits lines.old ≡ None }
     requires sound { L.failed lines.old ≡ None }
     ensures served { IsServed (state S.Store) lanes.now lane_count started.workers session.old session.new result
-        (record { told = L.told lines.old; ticks = L.ticks lines.old; waits = L.waits lines.old; failed = L.failed lines.old; over = L.over lines.old })
-        (record { told = L.told lines.new; ticks = L.ticks lines.new; waits = L.waits lines.new; failed = L.failed lines.new; over = L.over lines.new })
-        (C.given clock.old) (C.given clock.new) }
+        (AreTold L.tells C.gives lines.old clock.old lines.new clock.new) ((lines.new ≡ lines.old) × (clock.new ≡ clock.old)) (L.failed lines.new) (L.over lines.new) }
     ensures all { OnOk result (started.are_all ≡ true) }
 {
     if !started.are_all {

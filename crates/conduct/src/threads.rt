@@ -4,6 +4,7 @@
 //! of the references that the caller has.
 ghost use Rattle.std.specs.Prelude.{◌≡◌};
 ghost use Rattle.sqlite.specs.Held.{state};
+ghost use Rattle.sessions.specs.Told.{AreTold};
 ghost use Rattle.conduct.specs.Served.{IsReady, IsManaged};
 
 use crate::equipment::Posts;
@@ -61,11 +62,9 @@ pub fn manage<
     clock: &mut C,
 ) -> Managed<D, S, G, O>
     requires { IsReady O.kind_of lanes.now lane_count session posts crews.items
-        (record { told = L.told lines.old; ticks = L.ticks lines.old; waits = L.waits lines.old; failed = L.failed lines.old; over = L.over lines.old }) }
+        (L.failed lines.old) }
     ensures managed { IsManaged (state S.Store) O.kind_of O.runs_of O.taken lanes.now lane_count session posts crews.items result.session result.outcome result.results.items
-        (record { told = L.told lines.old; ticks = L.ticks lines.old; waits = L.waits lines.old; failed = L.failed lines.old; over = L.over lines.old })
-        (record { told = L.told lines.new; ticks = L.ticks lines.new; waits = L.waits lines.new; failed = L.failed lines.new; over = L.over lines.new })
-        (C.given clock.old) (C.given clock.new) }
+        (AreTold L.tells C.gives lines.old clock.old lines.new clock.new) ((lines.new ≡ lines.old) × (clock.new ≡ clock.old)) (L.failed lines.new) (L.over lines.new) }
 {
     let Lent {
         session,
@@ -113,24 +112,20 @@ fn in_scope<
     clock: &'c mut C,
 ) -> Lent<'l, 'c, D, S, G, O, L, C>
     requires { IsReady O.kind_of lanes.now lane_count session posts crews.items
-        (record { told = L.told lines.old; ticks = L.ticks lines.old; waits = L.waits lines.old; failed = L.failed lines.old; over = L.over lines.old }) }
+        (L.failed lines.old) }
     ensures lent { (result.lines.ghost_name ≡ lines.entry.ghost_name) × (result.clock.ghost_name ≡ clock.entry.ghost_name) }
     ensures managed { IsManaged (state S.Store) O.kind_of O.runs_of O.taken lanes.now lane_count session posts crews.items result.session result.outcome result.results.items
-        (record { told = L.told lines.old; ticks = L.ticks lines.old; waits = L.waits lines.old; failed = L.failed lines.old; over = L.over lines.old })
-        (record { told = L.told result.lines.now; ticks = L.ticks result.lines.now; waits = L.waits result.lines.now; failed = L.failed result.lines.now; over = L.over result.lines.now })
-        (C.given clock.old) (C.given result.clock.now) }
+        (AreTold L.tells C.gives lines.old clock.old result.lines.now result.clock.now) ((result.lines.now ≡ lines.old) × (result.clock.now ≡ clock.old)) (L.failed result.lines.now) (L.over result.lines.now) }
 {
     thread::scope(
         thread::scope_env(),
         rt,
         move |scope| -> Lent<'_, '_, D, S, G, O, L, C>
             requires { IsReady O.kind_of lanes.now lane_count session posts crews.items
-                (record { told = L.told lines.now; ticks = L.ticks lines.now; waits = L.waits lines.now; failed = L.failed lines.now; over = L.over lines.now }) }
+                (L.failed lines.now) }
             ensures lent { (result.lines.ghost_name ≡ lines.entry.ghost_name) × (result.clock.ghost_name ≡ clock.entry.ghost_name) }
             ensures managed { IsManaged (state S.Store) O.kind_of O.runs_of O.taken lanes.entry.now lane_count session posts crews.items result.session result.outcome result.results.items
-                (record { told = L.told lines.entry.now; ticks = L.ticks lines.entry.now; waits = L.waits lines.entry.now; failed = L.failed lines.entry.now; over = L.over lines.entry.now })
-                (record { told = L.told result.lines.now; ticks = L.ticks result.lines.now; waits = L.waits result.lines.now; failed = L.failed result.lines.now; over = L.over result.lines.now })
-                (C.given clock.entry.now) (C.given result.clock.now) }
+                (AreTold L.tells C.gives lines.entry.now clock.entry.now result.lines.now result.clock.now) ((result.lines.now ≡ lines.entry.now) × (result.clock.now ≡ clock.entry.now)) (L.failed result.lines.now) (L.over result.lines.now) }
         {
             run(
                 scope, rt, alloc, lanes, desk, lane_count, session, posts, crews, lines, clock,
@@ -166,12 +161,10 @@ fn run<
     clock: &'c mut C,
 ) -> Lent<'l, 'c, D, S, G, O, L, C>
     requires { IsReady O.kind_of lanes.now lane_count session posts crews.items
-        (record { told = L.told lines.old; ticks = L.ticks lines.old; waits = L.waits lines.old; failed = L.failed lines.old; over = L.over lines.old }) }
+        (L.failed lines.old) }
     ensures lent { (result.lines.ghost_name ≡ lines.entry.ghost_name) × (result.clock.ghost_name ≡ clock.entry.ghost_name) }
     ensures managed { IsManaged (state S.Store) O.kind_of O.runs_of O.taken lanes.now lane_count session posts crews.items result.session result.outcome result.results.items
-        (record { told = L.told lines.old; ticks = L.ticks lines.old; waits = L.waits lines.old; failed = L.failed lines.old; over = L.over lines.old })
-        (record { told = L.told result.lines.now; ticks = L.ticks result.lines.now; waits = L.waits result.lines.now; failed = L.failed result.lines.now; over = L.over result.lines.now })
-        (C.given clock.old) (C.given result.clock.now) }
+        (AreTold L.tells C.gives lines.old clock.old result.lines.now result.clock.now) ((result.lines.now ≡ lines.old) × (result.clock.now ≡ clock.old)) (L.failed result.lines.now) (L.over result.lines.now) }
 {
     let mut session = session;
     let Posts {

@@ -1,5 +1,6 @@
--- What listed lines and a listed clock show.
-use Rattle.std.specs.Prelude.{ℕ, List, Option}
+-- What listed lines were told, and what a listed clock gave.
+use Rattle.std.specs.Prelude.{◌≡◌, ℕ, List, [], ◌++◌, Option, None}
+use Rattle.std.proofs.Common.{sym, append-nil}
 use Rattle.sched_events.specs.declared.answers.Answer.{Answer}
 use Rattle.sched_events.specs.declared.events.Event.{Event}
 use Rattle.sessions.specs.declared.line_reading.Line.{Line}
@@ -10,7 +11,14 @@ use Rattle.session_rounds.specs.declared.listed_lines.ListedLines.{ListedLines}
 abbrev pub given_of : ListedClock → List ℕ
 given_of c = c.given.items
 
--- what lines were told, the moments of their ticks, and the line that is open
+-- from one state of it to another it gave these moments
+abbrev pub Gives : ListedClock → List ℕ → ListedClock → Type 0
+Gives c given later = given_of later ≡ given_of c ++ given
+
+pub gives_none : (c : ListedClock) → Gives c [] c
+gives_none c = sym (append-nil (given_of c))
+
+-- what lines were told, the moments of their ticks, and the line that waits for its answer
 abbrev pub told_of : ListedLines → List (Event × Answer)
 told_of l = l.told.items
 
@@ -19,3 +27,13 @@ ticks_of l = l.ticks.items
 
 abbrev pub open_of : ListedLines → Option Line
 open_of l = l.open_line
+
+-- From one state of them to another, if none waited then and they have not failed since, they were told these events with their answers, and of ticks
+-- at these moments; and this line waits.
+abbrev pub Tells : ListedLines → List (Event × Answer) → List ℕ → Option Line → ListedLines → Type 0
+Tells l told ticks waits later =
+    open_of l ≡ None → later.failed ≡ None
+    → (told_of later ≡ told_of l ++ told) × (ticks_of later ≡ ticks_of l ++ ticks) × (open_of later ≡ waits)
+
+pub tells_nothing : (l : ListedLines) → Tells l [] [] None l
+tells_nothing l none sound = (sym (append-nil (told_of l)), sym (append-nil (ticks_of l)), none)

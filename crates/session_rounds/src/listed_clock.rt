@@ -37,9 +37,11 @@ impl ListedClock {
 }
 
 impl Clock for ListedClock {
-    ghost use Rattle.session_rounds.specs.Lists.{given_of};
+    ghost use Rattle.session_rounds.specs.Lists.{Gives, gives_none};
 
-    ghost given = { given_of };
+    ghost gives = { Gives };
+
+    ghost begins = { gives_none };
 
     fn now(&mut self) -> Result<Moment, ClockFault> {
         if self.given.reserve(1).is_err() {

@@ -1,7 +1,8 @@
 //! Lines out of a list.
 ghost use Rattle.std.specs.Prelude.{◌≡◌, ◌<◌, [], None, Some, false, IfOk, IfSome, IfNone, OnOk, option_to_list, vec_len, vec_capacity};
 ghost use Rattle.minutes.specs.Minutes as minutes;
-ghost use Rattle.sessions.specs.Lines.{opens, told_part};
+ghost use Rattle.sessions.specs.Lines.{opens, ticked, told_part};
+ghost use Rattle.sessions.specs.declared.line_reading.Line.{Line};
 ghost use Rattle.session_rounds.specs.Lists.{open_of, ticks_of, told_of};
 
 use director::Fault;
@@ -86,6 +87,20 @@ impl ListedLines {
         }
     }
 
+    // The moment that is kept of an answer: that of a tick, where the line says to tick now.
+    fn tick_of(&self, event: &Event) -> Option<Moment>
+        ensures { (line : Line) → open_of self.now ≡ Some line
+            → option_to_list result ≡ ticked line event.now }
+    {
+        match &self.open_line {
+            Some(Line::TickNow) => match event {
+                Event::Tick(moment) => Some(*moment),
+                _ => None,
+            },
+            _ => None,
+        }
+    }
+
     // What is kept of an answer, and room for it.
     fn kept(
         &mut self,
@@ -132,17 +147,15 @@ fn opened(alloc: Global, line: &Line) -> Result<Option<Line>, AllocError>
 }
 
 impl Lines for ListedLines {
-    ghost use Rattle.session_rounds.specs.Lists.{open_of, ticks_of, told_of};
+    ghost use Rattle.session_rounds.specs.Lists.{Tells, tells_nothing};
 
-    ghost told = { told_of };
-
-    ghost ticks = { ticks_of };
-
-    ghost waits = { open_of };
+    ghost tells = { Tells };
 
     ghost failed = { λ l. l.failed };
 
     ghost over = { λ l. l.is_over };
+
+    ghost begins = { tells_nothing };
 
     fn next(&mut self, _schedule: &Schedule) -> Result<Option<Line>, LineFault> {
         if let Some(fault) = self.planned_fault() {
@@ -174,10 +187,8 @@ impl Lines for ListedLines {
             self.failed = Some(LineFault::Memory);
             return Err(LineFault::Memory);
         };
-        if let Some(Line::TickNow) = &self.open_line {
-            if let Event::Tick(moment) = event {
-                self.ticks.push_reserved(*moment);
-            }
+        if let Some(moment) = self.tick_of(event) {
+            self.ticks.push_reserved(moment);
         }
         if let Some(pair) = pair {
             self.told.push_reserved(pair);

@@ -1,3 +1,2 @@
 pub mod RunLemmas
 pub mod LineLemmas
-pub mod MomentLemmas

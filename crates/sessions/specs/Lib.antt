@@ -1,4 +1,4 @@
 pub mod Lines
-pub mod Moments
+pub mod Told
 pub mod Faults
 pub mod Runs

@@ -1,4 +1,4 @@
--- What a line opens, and what is told of its answer.
+-- What waits once a line is read, and what is told of its answer.
 use Rattle.std.specs.Prelude.{◌≡◌, ℕ, Bool, true, List, [], ◌∷◌, Option, Some, None, Result, Ok, Err}
 use Rattle.sched_events.specs.declared.answers.Answer.{Answer}
 use Rattle.sched_events.specs.declared.events.Event.{Event}
@@ -8,11 +8,17 @@ use Rattle.minutes.specs.Minutes.{is_of_line}
 use Rattle.sessions.specs.declared.line_reading.Line.{Line}
 use Rattle.sessions.specs.declared.line_reading.Line.TheVariants as Says
 
--- what is open once the line is read
+-- what waits for its answer once a line is read: not a drain, which has none
 abbrev pub opens : Line → Option Line
 opens (Says.Event e) = Some (Says.Event e)
 opens Says.TickNow = Some Says.TickNow
 opens Says.Drain = None
+
+-- the same of what was read, if a line was
+abbrev pub opened_by : {F : Type 0} → Result (Option Line) F → Option Line
+opened_by (Ok (Some line)) = opens line
+opened_by (Ok None) = None
+opened_by (Err fault) = None
 
 -- what may be read: an event of a line is no report and no restart
 abbrev pub may_be_read : Line → Bool
@@ -26,21 +32,16 @@ Takes (Says.Event x) e = x ≡ e
 Takes Says.TickNow e = (moment : ℕ) × (e ≡ Tick moment)
 Takes Says.Drain e = ⊥
 
-abbrev pub IsOpenTo : Option Line → Event → Type 0
-IsOpenTo None e = ⊥
-IsOpenTo (Some line) e = Takes line e
-
 -- the moment of a tick
 abbrev pub moment_of : Event → List ℕ
 moment_of (Tick moment) = moment ∷ []
 moment_of _ = []
 
--- the moment of a tick that the open line says to make now
-abbrev pub ticked : Option Line → Event → List ℕ
-ticked None e = []
-ticked (Some (Says.Event x)) e = []
-ticked (Some Says.TickNow) e = moment_of e
-ticked (Some Says.Drain) e = []
+-- the moment of a tick for a line that says to tick now
+abbrev pub ticked : Line → Event → List ℕ
+ticked (Says.Event x) e = []
+ticked Says.TickNow e = moment_of e
+ticked Says.Drain e = []
 
 -- an event with its answer, where it was accepted
 abbrev pub told_part : Event → Result Answer Fault → List (Event × Answer)

@@ -1,5 +1,5 @@
 -- What is true of a session at each moment, and what its steps keep.
-use Rattle.std.specs.Prelude.{◌≡◌, ◌⊎◌, ◌<◌, ℕ, true, false, List, [], ◌∷◌, ◌++◌, length, map, Option, Some, None, Result, OnOk, vec_len, vec_capacity}
+use Rattle.std.specs.Prelude.{◌≡◌, ◌<◌, ℕ, true, false, List, [], ◌∷◌, ◌++◌, length, map, Result, OnOk, vec_len, vec_capacity}
 use Rattle.sqlite.specs.Held.{Held}
 use Rattle.sqlite.specs.State.{State}
 use Rattle.ruled_dispatch.specs.Lanes.{sent_of, heard_of, IsDirectorOf, HasWorkers}
@@ -13,8 +13,7 @@ use Rattle.sched_model.specs.Schedule.{Schedule}
 use Rattle.director.specs.Directors.{Follows}
 use Rattle.director.specs.Lists.{IsOutcome}
 use Rattle.director.specs.declared.faults.Fault.{Fault}
-use Rattle.minutes.specs.Minutes.{answered, reports_in, BeginWithRestart}
-use Rattle.sessions.specs.declared.line_reading.LineFault.{LineFault}
+use Rattle.minutes.specs.Minutes.{reports_in, BeginWithRestart}
 use Rattle.sessions.specs.declared.state.Session.{Session}
 
 -- From the schedule a, with so many lanes, and of reports that were heard: the schedule is that of the minutes, each of which was accepted;
@@ -61,16 +60,3 @@ pub record IsAccepted {S : Type 0} (lanes : Lanes) (e : Event) (answer : Answer)
   pub workers : (count : ℕ) → HasWorkers old.pass count → HasWorkers new.pass count
   pub director : new.director ≡ old.director
   pub missed : new.missed ≡ old.missed
-
--- the lines were told the events of the minutes that they name, with their answers, after what they had been told before
-abbrev pub IsTold : {S : Type 0} → Schedule → List (Event × Answer) → Session S → List (Event × Answer) → Type 0
-IsTold a before s told = told ≡ before ++ answered s.minutes.items a
-
--- all of them, or all but the last
-abbrev pub MayLack : {S : Type 0} → Schedule → List (Event × Answer) → Session S → List (Event × Answer) → Type 0
-MayLack a before s told = (IsTold a before s told) ⊎ ((last : Event × Answer) × IsTold a before s (told ++ last ∷ []))
-
--- all of them, or, where the lines failed, perhaps all but the last
-abbrev pub IsToldUnless : {S : Type 0} → Option LineFault → Schedule → List (Event × Answer) → Session S → List (Event × Answer) → Type 0
-IsToldUnless None a before s told = IsTold a before s told
-IsToldUnless (Some fault) a before s told = MayLack a before s told

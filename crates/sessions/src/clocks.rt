@@ -1,5 +1,5 @@
 //! Where the moments come from at which `tick now` ticks.
-ghost use Rattle.std.specs.Prelude.{◌≡◌, ℕ, List, ◌++◌, ◌∷◌, [], MatchResult};
+ghost use Rattle.std.specs.Prelude.{ℕ, List, ◌++◌, ◌∷◌, [], MatchResult};
 
 use moment_core::Moment;
 use thiserror::Error;
@@ -18,13 +18,18 @@ pub enum ClockFault {
     Memory,
 }
 
-/// A clock. Who implements it keeps the moments that it gave.
+/// A clock. What it gave is a relation between two of its states, so who implements it need not keep it.
 pub trait Clock: Drop {
-    /// The moments that it gave, in order.
-    ghost given: { Self → List ℕ };
+    /// From one state to another it gave these moments, in order.
+    ghost gives: { Self → List ℕ → Self → Type 0 };
 
     /// The moment that it is.
     fn now(&mut self) -> Result<Moment, ClockFault>
-        ensures { MatchResult result (λ moment. given self.new ≡ given self.old ++ moment ∷ [])
-            (λ _. given self.new ≡ given self.old) };
+        ensures { MatchResult result
+            (λ moment. (c : Self) (given : List ℕ)
+            → gives c given self.old → gives c (given ++ moment ∷ []) self.new)
+            (λ _. (c : Self) (given : List ℕ) → gives c given self.old → gives c given self.new) };
+
+    /// Where nothing is done, it gave none.
+    ghost begins: { (c : Self) → gives c [] c };
 }

@@ -1,15 +1,14 @@
 //! A session that follows its lines until they are over.
-ghost use Rattle.std.specs.Prelude.{◌≡◌, ◌≤◌, ◌<◌, [], ℕ, List, length, true, None, Some, MatchResult, OnOk};
+ghost use Rattle.std.specs.Prelude.{◌≡◌, ◌≤◌, ◌<◌, [], ℕ, length, true, None, Some, MatchResult, OnOk};
 ghost use Rattle.sqlite.specs.Held.{state};
 ghost use Rattle.ruled_dispatch.specs.Lanes.{IsDirectorOf};
-ghost use Rattle.sched_events.specs.declared.answers.Answer.{Answer};
-ghost use Rattle.sched_events.specs.declared.events.Event.{Event};
 ghost use Rattle.sched_model.specs.Schedule.{Schedule};
 ghost use Rattle.sched_model.specs.States.{in_flight};
+ghost use Rattle.minutes.specs.Minutes.{answered};
 ghost use Rattle.sessions.specs.Faults.{EndsBy};
 ghost use Rattle.sessions.specs.Lines.{may_be_read, opens};
-ghost use Rattle.sessions.specs.Moments.{AreMoments};
-ghost use Rattle.sessions.specs.Runs.{GoesOn, IsRun, IsTold, IsToldUnless};
+ghost use Rattle.sessions.specs.Runs.{GoesOn, IsRun};
+ghost use Rattle.sessions.specs.Told.{AreTold, AreToldBy};
 ghost use Rattle.sessions.specs.declared.line_reading.Line.TheVariants as Says;
 
 use crate::clocks::Clock;
@@ -35,19 +34,15 @@ impl<S: Alter> Session<S> {
     ) -> Result<(), ConductFault>
         requires pass { IsDirectorOf lanes.now self.old.pass }
         requires begun { 0 < length self.old.minutes.items }
-        requires waits { L.waits lines.old ≡ Some Says.TickNow }
         requires sound { L.failed lines.old ≡ None }
         ensures goes_on { (lane_count : ℕ)
             → GoesOn (state S.Store) lanes.now lane_count self.old self.new }
         ensures begun { 0 < length self.new.minutes.items }
-        ensures told { (a : Schedule) (lane_count : ℕ) (before : List (Event × Answer))
-            → IsRun a lane_count self.old → IsTold a before self.old (L.told lines.old)
-            → IsToldUnless (L.failed lines.new) a before self.new (L.told lines.new) }
-        ensures moments { AreMoments (L.failed lines.new) (L.ticks lines.old) (L.ticks lines.new)
-            (C.given clock.old) (C.given clock.new) }
+        ensures told { (a : Schedule) (lane_count : ℕ) (l : L) (c : C) → IsRun a lane_count self.old
+            → AreTold L.tells C.gives l c lines.old clock.old (answered self.old.minutes.items a) (Some Says.TickNow)
+            → AreToldBy result (AreTold L.tells C.gives l c lines.new clock.new) (answered self.new.minutes.items a) }
         ensures fault { MatchResult result (λ _. L.failed lines.new ≡ None)
             (λ f. EndsBy f (L.failed lines.new)) }
-        ensures waits { OnOk result (L.waits lines.new ≡ None) }
     {
         if let Err(fault) = self.hear_all(rt, alloc, lanes) {
             return Err(fault);
@@ -77,18 +72,15 @@ impl<S: Alter> Session<S> {
     ) -> Result<(), ConductFault>
         requires pass { IsDirectorOf lanes.now self.old.pass }
         requires begun { 0 < length self.old.minutes.items }
-        requires waits { L.waits lines.old ≡ None }
         requires sound { L.failed lines.old ≡ None }
         ensures goes_on { (lane_count : ℕ)
             → GoesOn (state S.Store) lanes.now lane_count self.old self.new }
-        ensures told { (a : Schedule) (lane_count : ℕ) (before : List (Event × Answer))
-            → IsRun a lane_count self.old → IsTold a before self.old (L.told lines.old)
-            → IsToldUnless (L.failed lines.new) a before self.new (L.told lines.new) }
-        ensures moments { AreMoments (L.failed lines.new) (L.ticks lines.old) (L.ticks lines.new)
-            (C.given clock.old) (C.given clock.new) }
+        ensures told { (a : Schedule) (lane_count : ℕ) (l : L) (c : C) → IsRun a lane_count self.old
+            → AreTold L.tells C.gives l c lines.old clock.old (answered self.old.minutes.items a) None
+            → AreToldBy result (AreTold L.tells C.gives l c lines.new clock.new) (answered self.new.minutes.items a) }
         ensures fault { MatchResult result (λ _. L.failed lines.new ≡ None)
             (λ f. EndsBy f (L.failed lines.new)) }
-        ensures over { OnOk result ((L.over lines.new ≡ true) × (L.waits lines.new ≡ None)) }
+        ensures over { OnOk result (L.over lines.new ≡ true) }
         ensures begun { OnOk result (0 < length self.new.minutes.items) }
         ensures idle { OnOk result (in_flight self.new.director.schedule.content ≡ 0) }
     {
@@ -119,19 +111,15 @@ impl<S: Alter> Session<S> {
         requires pass { IsDirectorOf lanes.now self.old.pass }
         requires begun { 0 < length self.old.minutes.items }
         requires line { may_be_read line ≡ true }
-        requires waits { L.waits lines.old ≡ opens line }
         requires sound { L.failed lines.old ≡ None }
         ensures goes_on { (lane_count : ℕ)
             → GoesOn (state S.Store) lanes.now lane_count self.old self.new }
         ensures begun { 0 < length self.new.minutes.items }
-        ensures told { (a : Schedule) (lane_count : ℕ) (before : List (Event × Answer))
-            → IsRun a lane_count self.old → IsTold a before self.old (L.told lines.old)
-            → IsToldUnless (L.failed lines.new) a before self.new (L.told lines.new) }
-        ensures moments { AreMoments (L.failed lines.new) (L.ticks lines.old) (L.ticks lines.new)
-            (C.given clock.old) (C.given clock.new) }
+        ensures told { (a : Schedule) (lane_count : ℕ) (l : L) (c : C) → IsRun a lane_count self.old
+            → AreTold L.tells C.gives l c lines.old clock.old (answered self.old.minutes.items a) (opens line)
+            → AreToldBy result (AreTold L.tells C.gives l c lines.new clock.new) (answered self.new.minutes.items a) }
         ensures fault { MatchResult result (λ _. L.failed lines.new ≡ None)
             (λ f. EndsBy f (L.failed lines.new)) }
-        ensures waits { OnOk result (L.waits lines.new ≡ None) }
     {
         match line {
             Line::Event(event) => match self.step_line(rt, alloc, lanes, event, lines) {
@@ -156,17 +144,13 @@ impl<S: Alter> Session<S> {
         requires pass { IsDirectorOf lanes.now self.old.pass }
         requires fresh { self.old.minutes.items ≡ [] }
         requires lanes { lane_count ≤ self.old.director.schedule.content.limits.lanes }
-        requires waits { L.waits lines.old ≡ None }
         requires sound { L.failed lines.old ≡ None }
         ensures goes_on { GoesOn (state S.Store) lanes.now lane_count self.old self.new }
-        ensures told { (a : Schedule) (before : List (Event × Answer))
-            → IsRun a lane_count self.old → IsTold a before self.old (L.told lines.old)
-            → IsToldUnless (L.failed lines.new) a before self.new (L.told lines.new) }
-        ensures moments { AreMoments (L.failed lines.new) (L.ticks lines.old) (L.ticks lines.new)
-            (C.given clock.old) (C.given clock.new) }
+        ensures told { (a : Schedule) → IsRun a lane_count self.old
+            → AreToldBy result (AreTold L.tells C.gives lines.old clock.old lines.new clock.new) (answered self.new.minutes.items a) }
         ensures fault { MatchResult result (λ _. L.failed lines.new ≡ None)
             (λ f. EndsBy f (L.failed lines.new)) }
-        ensures over { OnOk result ((L.over lines.new ≡ true) × (L.waits lines.new ≡ None)) }
+        ensures over { OnOk result (L.over lines.new ≡ true) }
         ensures begun { OnOk result (0 < length self.new.minutes.items) }
         ensures idle { OnOk result (in_flight self.new.director.schedule.content ≡ 0) }
     {

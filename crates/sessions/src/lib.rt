@@ -8,8 +8,8 @@
 //! session.serve(rt, alloc, &lanes, 4, &mut lines, &mut clock)   // a restart with 4 lanes, each line, until no try is in flight
 //! ```
 //!
-//! Easy to get wrong: an event that was accepted stands in the minutes even where its answer could not be told, so with a fault the lines may
-//! know one event less than the minutes.
+//! Easy to get wrong: an event that was accepted stands in the minutes even where its answer could not be written, and counts as told to the
+//! lines then; who implements them knows whether it was.
 #![tactic(auto)]
 
 mod clocks;

@@ -1,8 +1,8 @@
 //! Where the lines come from, and where their answers go.
-ghost use Rattle.std.specs.Prelude.{◌≡◌, ◌++◌, ℕ, List, Bool, true, Some, None, Option, OnOk, MatchResult, MatchOption};
+ghost use Rattle.std.specs.Prelude.{◌≡◌, ◌++◌, ℕ, List, [], Bool, true, Some, None, Option, IfOk, MatchResult, MatchOption};
 ghost use Rattle.sched_events.specs.declared.answers.Answer.{Answer};
 ghost use Rattle.sched_events.specs.declared.events.Event.{Event};
-ghost use Rattle.sessions.specs.Lines.{may_be_read, opens, ticked, told_part, IsOpenTo};
+ghost use Rattle.sessions.specs.Lines.{may_be_read, opened_by, ticked, told_part, Takes};
 ghost use Rattle.sessions.specs.declared.line_reading.Line.{Line};
 ghost use Rattle.sessions.specs.declared.line_reading.Line.TheVariants as Says;
 ghost use Rattle.sessions.specs.declared.line_reading.LineFault.{LineFault};
@@ -35,16 +35,12 @@ pub enum LineFault {
     Memory,
 }
 
-/// Lines that are read one by one, each answered before the next. Who implements it keeps the lists that it shows.
+/// Lines that are read one by one, each answered before the next. What they were told is a relation between two of their states, so who
+/// implements it need not keep it.
 pub trait Lines: Drop {
-    /// The events that they were told, each with its answer.
-    ghost told: { Self → List (Event × Answer) };
-
-    /// The moments of the ticks that were answered for lines that say to tick now.
-    ghost ticks: { Self → List ℕ };
-
-    /// The line that waits for its answer.
-    ghost waits: { Self → Option Line };
+    /// From one state to another they were told these events, each with its answer, and of ticks at these moments for lines that say to tick
+    /// now; and this line waits for its answer then.
+    ghost tells: { Self → List (Event × Answer) → List ℕ → Option Line → Self → Type 0 };
 
     /// The fault that they answered.
     ghost failed: { Self → Option LineFault };
@@ -52,39 +48,35 @@ pub trait Lines: Drop {
     /// Whether no line is left.
     ghost over: { Self → Bool };
 
-    /// The next line, or none where they are over. They may look at the schedule.
+    /// The next line, or none where they are over. They may look at the schedule. No line waits before.
     fn next(&mut self, schedule: &Schedule) -> Result<Option<Line>, LineFault>
-        requires { waits self.old ≡ None }
-        ensures told { told self.new ≡ told self.old }
-        ensures ticks { ticks self.new ≡ ticks self.old }
-        ensures failed { MatchResult result (λ _. failed self.new ≡ failed self.old)
+        requires { failed self.old ≡ None }
+        ensures told { (s : Self) (told : List (Event × Answer)) (ticks : List ℕ)
+            → tells s told ticks None self.old → tells s told ticks (opened_by result) self.new }
+        ensures failed { MatchResult result (λ _. failed self.new ≡ None)
             (λ fault. failed self.new ≡ Some fault) }
-        ensures line { MatchResult result (λ next. MatchOption next
-            ((over self.new ≡ true) × (waits self.new ≡ None))
-            (λ line. (may_be_read line ≡ true) × (waits self.new ≡ opens line)))
-            (λ _. waits self.new ≡ None) };
+        ensures line { IfOk result (λ next. MatchOption next (over self.new ≡ true)
+            (λ line. may_be_read line ≡ true)) };
 
-    /// Tells the open line that its event was accepted, with the answer, or why not.
+    /// Tells the line that waits that its event was accepted, with the answer, or why not. It counts as told even where that fails.
     fn answered(&mut self, event: &Event, answer: &Result<Answer, Fault>) -> Result<(), LineFault>
-        requires { IsOpenTo (waits self.old) event.now }
-        ensures told { MatchResult result
-            (λ _. told self.new ≡ told self.old ++ told_part event.now answer.now)
-            (λ _. told self.new ≡ told self.old) }
-        ensures ticks { MatchResult result
-            (λ _. ticks self.new ≡ ticks self.old ++ ticked (waits self.old) event.now)
-            (λ _. ticks self.new ≡ ticks self.old) }
-        ensures waits { OnOk result (waits self.new ≡ None) }
-        ensures failed { MatchResult result (λ _. failed self.new ≡ failed self.old)
+        requires { failed self.old ≡ None }
+        ensures told { (s : Self) (told : List (Event × Answer)) (ticks : List ℕ) (line : Line)
+            → Takes line event.now → tells s told ticks (Some line) self.old
+            → tells s (told ++ told_part event.now answer.now) (ticks ++ ticked line event.now) None self.new }
+        ensures failed { MatchResult result (λ _. failed self.new ≡ None)
             (λ fault. failed self.new ≡ Some fault) }
         ensures over { over self.new ≡ over self.old };
 
-    /// Tells the open line, which says to tick now, that the clock gave no moment.
+    /// Tells the line that waits, which says to tick now, that the clock gave no moment.
     fn no_clock(&mut self, fault: ClockFault) -> Result<(), LineFault>
-        requires { waits self.old ≡ Some Says.TickNow }
-        ensures told { told self.new ≡ told self.old }
-        ensures ticks { ticks self.new ≡ ticks self.old }
-        ensures waits { OnOk result (waits self.new ≡ None) }
-        ensures failed { MatchResult result (λ _. failed self.new ≡ failed self.old)
+        requires { failed self.old ≡ None }
+        ensures told { (s : Self) (told : List (Event × Answer)) (ticks : List ℕ)
+            → tells s told ticks (Some Says.TickNow) self.old → tells s told ticks None self.new }
+        ensures failed { MatchResult result (λ _. failed self.new ≡ None)
             (λ fault. failed self.new ≡ Some fault) }
         ensures over { over self.new ≡ over self.old };
+
+    /// Where nothing is done, nothing was told.
+    ghost begins: { (s : Self) → tells s [] [] None s };
 }

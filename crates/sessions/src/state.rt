@@ -1,10 +1,7 @@
 //! What a run holds.
-ghost use Rattle.std.specs.Prelude.{◌≡◌, [], ℕ, List, false};
+ghost use Rattle.std.specs.Prelude.{◌≡◌, [], ℕ, false};
 ghost use Rattle.ruled_dispatch.specs.Lanes.{sent_of, heard_of};
-ghost use Rattle.sched_events.specs.declared.answers.Answer.{Answer};
-ghost use Rattle.sched_events.specs.declared.events.Event.{Event};
-ghost use Rattle.sched_model.specs.Schedule.{Schedule};
-ghost use Rattle.sessions.specs.Runs.{IsRun, IsTold};
+ghost use Rattle.sessions.specs.Runs.{IsRun};
 
 use director::Director;
 use ruled_dispatch::DirectorPass;
@@ -34,7 +31,6 @@ impl<S: Alter> Session<S> {
         ensures missed { result.missed ≡ false }
         ensures run { (lane_count : ℕ) → sent_of pass ≡ [] → heard_of pass ≡ []
             → IsRun director.schedule.content lane_count result }
-        ensures told { (a : Schedule) (told : List (Event × Answer)) → IsTold a told result told }
     {
         Session {
             director,

@@ -8,8 +8,9 @@ ghost use Rattle.sched_events.specs.declared.events.Event.TheVariants.{Restart};
 ghost use Rattle.sched_model.specs.Schedule.{Schedule};
 ghost use Rattle.minutes.specs.Minutes.{answered, is_of_line};
 ghost use Rattle.sessions.specs.Faults.{EndsBy};
-ghost use Rattle.sessions.specs.Lines.{ticked, IsOpenTo};
-ghost use Rattle.sessions.specs.Runs.{GoesOn, IsAccepted, IsRun, IsTold, IsToldUnless, IsTried};
+ghost use Rattle.sessions.specs.Lines.{ticked, Takes};
+ghost use Rattle.sessions.specs.Runs.{GoesOn, IsAccepted, IsRun, IsTried};
+ghost use Rattle.sessions.specs.declared.line_reading.Line.{Line};
 
 use crate::faults::{ConductFault, ended_by};
 use crate::line_reading::{LineFault, Lines};
@@ -96,20 +97,17 @@ impl<S: Alter> Session<S> {
         requires pass { IsDirectorOf lanes.now self.old.pass }
         requires begun { 0 < length self.old.minutes.items }
         requires line { is_of_line event ≡ true }
-        requires waits { IsOpenTo (L.waits lines.old) event }
         requires sound { L.failed lines.old ≡ None }
         ensures goes_on { (lane_count : ℕ)
             → GoesOn (state S.Store) lanes.now lane_count self.old self.new }
         ensures begun { 0 < length self.new.minutes.items }
-        ensures told { (a : Schedule) (lane_count : ℕ) (before : List (Event × Answer))
-            → IsRun a lane_count self.old → IsTold a before self.old (L.told lines.old)
-            → IsToldUnless (L.failed lines.new) a before self.new (L.told lines.new) }
-        ensures ticks { MatchResult result
-            (λ _. L.ticks lines.new ≡ L.ticks lines.old ++ ticked (L.waits lines.old) event)
-            (λ _. L.ticks lines.new ≡ L.ticks lines.old) }
+        ensures told { (a : Schedule) (lane_count : ℕ) (l : L) (moments : List ℕ) (line : Line)
+            → IsRun a lane_count self.old → Takes line event
+            → L.tells l (answered self.old.minutes.items a) moments (Some line) lines.old
+            → L.tells l (answered self.new.minutes.items a) (moments ++ ticked line event) None lines.new }
         ensures failed { MatchResult result (λ _. L.failed lines.new ≡ None)
             (λ fault. L.failed lines.new ≡ Some fault) }
-        ensures waits { OnOk result (L.waits lines.new ≡ None) }
+        ensures over { L.over lines.new ≡ L.over lines.old }
     {
         let result = self.try_step(alloc, &event);
         let told = lines.answered(&event, &result);

@@ -1,4 +1,4 @@
-use Rattle.std.proofs.Common.{rules, ◌≡◌, ◌<◌, ◌≤◌, ◌==◌, inl, false, length, map, vec_items, vec_capacity, refl, sym, ap, ◌∙◌, subst, arith, ne_eqb}
+use Rattle.std.proofs.Common.{rules, ◌≡◌, ◌<◌, ◌≤◌, ◌==◌, inl, false, [], length, map, vec_items, vec_capacity, refl, sym, ap, ◌∙◌, subst, arith, ne_eqb}
 use Rattle.std.proofs.lemmas.List.{length-map}
 use Rattle.sqlite.specs.Held.{state}
 use Rattle.ruled_dispatch.specs.Lanes.{IsDirectorOf, HasWorkers}
@@ -6,6 +6,7 @@ use Rattle.ruled_dispatch.specs.declared.passes.DirectorPass.{DirectorPass}
 use Rattle.director.specs.Directors.{DirectorValue}
 use Rattle.sched_core.specs.Changes.{ScheduleValue}
 use Rattle.sched_events.specs.SettledAndSound.{IsSoundAndSaid}
+use Rattle.sessions.specs.Told.{AreTold}
 use Rattle.sessions.specs.declared.faults.ConductFault.TheVariants as fault
 use Rattle.crews.specs.Threads.{HaveWorked}
 use Rattle.crews.proofs.Backs.{are_back, are_accounts, none_in_hand}
@@ -19,7 +20,8 @@ returns-in_default g c =
     let kits = map (λ x. x.kit) crews in
     let some : 0 < length kits = subst (λ n. 0 < n) (sym (length-map crews (λ x. x.kit))) c.requires.crews.0 in
     let none : false ≡ (length kits == 0) = sym (ne_eqb (length kits) 0 (λ e. absurd (omega arith))) in
-    unstarted_run (state g.S.Store) g.O.Operator.runs_of g.O.Operator.taken c.args.lane_count kits c.args.director _ _ _ fault.Memory refl c.new.ensures.items refl c.requires.sound refl (inl c.requires.sound) none
+    unstarted_run (state g.S.Store) g.O.Operator.runs_of g.O.Operator.taken c.args.lane_count kits c.args.director _ (AreTold g.L.Lines.tells g.C.Clock.gives c.args.lines.now c.args.clock.now c.args.lines.now c.args.clock.now) ((c.args.lines.now ≡ c.args.lines.now) × (c.args.clock.now ≡ c.args.clock.now)) _ _ fault.Memory refl c.new.ensures.items refl
+    (record { moments = []; told = g.met.L.Lines.begins c.args.lines.now; given = g.met.C.Clock.begins c.args.clock.now }) (refl, refl) refl (inl c.requires.sound) none
 
 pub manage-managed-requires-after_bounds : goal.manage-managed-requires-after_bounds
 manage-managed-requires-after_bounds g c κs within =
@@ -31,7 +33,6 @@ manage-managed-requires-after_bounds g c κs within =
       pass = subst (λ (p : DirectorPass). IsDirectorOf q.lanes p) (sym n.pass) e.all.0;
       fresh = n.minutes;
       within = subst (λ (x : DirectorValue g.row.S.Denot). c.args.lane_count ≤ x.schedule.content.limits.lanes) (sym n.director) c.requires.lanes.1;
-      waits = c.requires.waits;
       sound = c.requires.sound;
       passes = e.all.1;
       kits = c.requires.kits;

@@ -1,8 +1,9 @@
-use Rattle.std.proofs.Common.{◌≡◌, None, refl}
+use Rattle.std.proofs.Common.{Some, None, vec_items, refl, sym, subst}
 use Rattle.sqlite.specs.Held.{state}
-use Rattle.sessions.specs.Moments.{AreMoments}
-use Rattle.sessions.proofs.LineLemmas.{told_of, told_same, told_whole}
-use Rattle.sessions.proofs.MomentLemmas.{renamed, then_more, whole}
+use Rattle.minutes.specs.Minutes.{answered}
+use Rattle.sessions.specs.Lines.{opens}
+use Rattle.sessions.specs.Told.{AreTold}
+use Rattle.sessions.proofs.LineLemmas.{told_read, where_ok}
 use Rattle.sessions.proofs.RunLemmas.{goes_then}
 use Rattle.sessions.proofs.state.Session.follow.Goals as goal
 
@@ -16,46 +17,46 @@ pub returns-in-Ok-None-clause-goes_on : goal.returns-in-Ok-None-clause-goes_on
 returns-in-Ok-None-clause-goes_on g c n = goes_then (state g.S.Store) c.args.lanes.now n c.args.self.now c.loop.self c.drain.new.self (c.loop.invariant.goes_on n) (c.drain.ensures.goes_on n)
 
 pub returns-in-Ok-None-clause-told : goal.returns-in-Ok-None-clause-told
-returns-in-Ok-None-clause-told g c a n before was told =
-    told_whole (g.L.Lines.failed c.next-in-loop.new.self) a before c.drain.new.self (g.L.Lines.told c.next-in-loop.new.self)
-    (told_same a before c.loop.self c.drain.new.self (g.L.Lines.told c.loop.lines) (g.L.Lines.told c.next-in-loop.new.self) (c.drain.ensures.told a) c.next-in-loop.ensures.told (c.loop.invariant.told a n before was told))
+returns-in-Ok-None-clause-told g c a n l k was told =
+    let read : AreTold g.L.Lines.tells g.C.Clock.gives l k c.next-in-loop.new.self c.loop.clock (answered (vec_items c.loop.self.minutes) a) None =
+    told_read g.L.Lines.tells g.C.Clock.gives l k c.loop.lines c.next-in-loop.new.self c.loop.clock (answered (vec_items c.loop.self.minutes) a) c.in-Ok-None.field-0 None c.in-Ok-None.field-0-is (c.loop.invariant.told a n l k was told) c.in-Ok-None.ensures.told in (
+      None,
+      subst (λ answers. AreTold g.L.Lines.tells g.C.Clock.gives l k c.next-in-loop.new.self c.loop.clock answers None) (sym (c.drain.ensures.told a)) read,
+      where_ok c.drain.result refl,
+    )
 
 pub returns-in-Err-do_line-clause-goes_on : goal.returns-in-Err-do_line-clause-goes_on
 returns-in-Err-do_line-clause-goes_on g c n = goes_then (state g.S.Store) c.args.lanes.now n c.args.self.now c.loop.self c.do_line.new.self (c.loop.invariant.goes_on n) (c.do_line.ensures.goes_on n)
 
 pub returns-in-Err-do_line-clause-told : goal.returns-in-Err-do_line-clause-told
-returns-in-Err-do_line-clause-told g c a n before was told =
-    c.do_line.ensures.told a n before ((c.loop.invariant.goes_on n).run a was)
-    (told_same a before c.loop.self c.loop.self (g.L.Lines.told c.loop.lines) (g.L.Lines.told c.next-in-loop.new.self) refl c.next-in-loop.ensures.told (c.loop.invariant.told a n before was told))
-
-pub returns-in-Err-do_line-clause-moments : goal.returns-in-Err-do_line-clause-moments
-returns-in-Err-do_line-clause-moments g c =
-    then_more (g.L.Lines.failed c.do_line.new.lines) (g.L.Lines.ticks c.args.lines.now) (g.L.Lines.ticks c.next-in-loop.new.self) (g.L.Lines.ticks c.do_line.new.lines) (g.C.Clock.given c.args.clock.now) (g.C.Clock.given c.loop.clock) (g.C.Clock.given c.do_line.new.clock)
-    (renamed (g.L.Lines.ticks c.args.lines.now) (g.L.Lines.ticks c.loop.lines) (g.L.Lines.ticks c.next-in-loop.new.self) (g.C.Clock.given c.args.clock.now) (g.C.Clock.given c.loop.clock) c.next-in-loop.ensures.ticks c.loop.invariant.moments)
-    c.do_line.ensures.moments
+returns-in-Err-do_line-clause-told g c a n l k was told =
+    let read : AreTold g.L.Lines.tells g.C.Clock.gives l k c.next-in-loop.new.self c.loop.clock (answered (vec_items c.loop.self.minutes) a) (opens c.in-Ok-Some.line) =
+    told_read g.L.Lines.tells g.C.Clock.gives l k c.loop.lines c.next-in-loop.new.self c.loop.clock (answered (vec_items c.loop.self.minutes) a) c.in-Ok-Some.field-0 (Some c.in-Ok-Some.line) c.in-Ok-Some.field-0-is (c.loop.invariant.told a n l k was told) c.in-Ok-Some.ensures.told in
+    c.in-Err-do_line.ensures.told a n l k ((c.loop.invariant.goes_on n).run a was) read
 
 pub loop-preserved : goal.loop-preserved
 loop-preserved g c =
     let was = c.loop.invariant in
     let done = c.do_line.ensures in
-    let none : g.L.Lines.failed c.do_line.new.lines ≡ None = c.in_default.ensures.fault in
-    let moments : AreMoments (g.L.Lines.failed c.do_line.new.lines) (g.L.Lines.ticks c.args.lines.now) (g.L.Lines.ticks c.do_line.new.lines) (g.C.Clock.given c.args.clock.now) (g.C.Clock.given c.do_line.new.clock) =
-    then_more (g.L.Lines.failed c.do_line.new.lines) (g.L.Lines.ticks c.args.lines.now) (g.L.Lines.ticks c.next-in-loop.new.self) (g.L.Lines.ticks c.do_line.new.lines) (g.C.Clock.given c.args.clock.now) (g.C.Clock.given c.loop.clock) (g.C.Clock.given c.do_line.new.clock)
-    (renamed (g.L.Lines.ticks c.args.lines.now) (g.L.Lines.ticks c.loop.lines) (g.L.Lines.ticks c.next-in-loop.new.self) (g.C.Clock.given c.args.clock.now) (g.C.Clock.given c.loop.clock) c.next-in-loop.ensures.ticks was.moments)
-    done.moments in
     record {
       goes_on = λ n. goes_then (state g.S.Store) c.args.lanes.now n c.args.self.now c.loop.self c.do_line.new.self (was.goes_on n) (done.goes_on n);
       begun = done.begun;
-      told = λ a n before run told.
-          told_of (g.L.Lines.failed c.do_line.new.lines) a before c.do_line.new.self (g.L.Lines.told c.do_line.new.lines) none
-          (done.told a n before ((was.goes_on n).run a run)
-          (told_same a before c.loop.self c.loop.self (g.L.Lines.told c.loop.lines) (g.L.Lines.told c.next-in-loop.new.self) refl c.next-in-loop.ensures.told (was.told a n before run told)));
-      moments = whole (g.L.Lines.failed c.do_line.new.lines) (g.L.Lines.ticks c.args.lines.now) (g.L.Lines.ticks c.do_line.new.lines) (g.C.Clock.given c.args.clock.now) (g.C.Clock.given c.do_line.new.clock) none moments;
-      waits = c.in_default.ensures.waits;
-      failed = none;
+      told = λ a n l k run told.
+          let read : AreTold g.L.Lines.tells g.C.Clock.gives l k c.next-in-loop.new.self c.loop.clock (answered (vec_items c.loop.self.minutes) a) (opens c.in-Ok-Some.line) =
+          told_read g.L.Lines.tells g.C.Clock.gives l k c.loop.lines c.next-in-loop.new.self c.loop.clock (answered (vec_items c.loop.self.minutes) a) c.in-Ok-Some.field-0 (Some c.in-Ok-Some.line) c.in-Ok-Some.field-0-is (was.told a n l k run told) c.in-Ok-Some.ensures.told in
+          let after = c.in_default.ensures.told a n l k ((was.goes_on n).run a run) read in
+          subst (λ waits. AreTold g.L.Lines.tells g.C.Clock.gives l k c.do_line.new.lines c.do_line.new.clock (answered (vec_items c.do_line.new.self.minutes) a) waits) after.2 after.1;
+      failed = c.in_default.ensures.fault;
     }
 
 pub returns-in-Err-clause-told : goal.returns-in-Err-clause-told
-returns-in-Err-clause-told g c a n before was told =
-    told_whole (g.L.Lines.failed c.next-in-loop.new.self) a before c.loop.self (g.L.Lines.told c.next-in-loop.new.self)
-    (told_same a before c.loop.self c.loop.self (g.L.Lines.told c.loop.lines) (g.L.Lines.told c.next-in-loop.new.self) refl c.next-in-loop.ensures.told (c.loop.invariant.told a n before was told))
+returns-in-Err-clause-told g c a n l k was told =
+    let before = c.loop.invariant.told a n l k was told in (
+      None,
+      record {
+        moments = before.moments;
+        told = c.in-Err.ensures.told l (answered (vec_items c.loop.self.minutes) a) before.moments before.told;
+        given = before.given;
+      },
+      tt,
+    )

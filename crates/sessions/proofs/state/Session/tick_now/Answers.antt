@@ -1,6 +1,6 @@
-use Rattle.std.proofs.Common.{refl}
+use Rattle.std.proofs.Common.{[], ◌∷◌, ◌++◌, Some, None, refl, sym, subst}
 use Rattle.sqlite.specs.Held.{state}
-use Rattle.sessions.proofs.LineLemmas.{told_same}
+use Rattle.sessions.specs.declared.line_reading.Line.TheVariants as Says
 use Rattle.sessions.proofs.RunLemmas.{goes_then}
 use Rattle.sessions.proofs.state.Session.tick_now.Goals as goal
 
@@ -13,10 +13,29 @@ returns-in-Ok-step_line-clause-goes_on g c n = goes_then (state g.S.Store) c.arg
 pub returns-in-Err-step_line-clause-goes_on : goal.returns-in-Err-step_line-clause-goes_on
 returns-in-Err-step_line-clause-goes_on g c n = goes_then (state g.S.Store) c.args.lanes.now n c.args.self.now c.hear_all.new.self c.step_line.new.self (c.hear_all.ensures.goes_on n) (c.step_line.ensures.goes_on n)
 
+-- the moment that the clock gave is the tick's
 pub returns-in-Ok-step_line-clause-told : goal.returns-in-Ok-step_line-clause-told
-returns-in-Ok-step_line-clause-told g c a n before was told =
-    c.step_line.ensures.told a n before ((c.hear_all.ensures.goes_on n).run a was) (told_same a before c.args.self.now c.hear_all.new.self (g.L.Lines.told c.args.lines.now) (g.L.Lines.told c.args.lines.now) (c.hear_all.ensures.told a) refl told)
+returns-in-Ok-step_line-clause-told g c a n l k was told = (
+  None,
+  record {
+    moments = told.moments ++ c.in-Ok.moment ∷ [];
+    told =
+        c.step_line.ensures.told a n l told.moments Says.TickNow ((c.hear_all.ensures.goes_on n).run a was) (c.in-Ok.moment, refl)
+        (subst (λ answers. g.L.Lines.tells l answers told.moments (Some Says.TickNow) c.args.lines.now) (sym (c.hear_all.ensures.told a)) told.told);
+    given = c.in-Ok.ensures k told.moments told.given;
+  },
+  refl,
+)
 
 pub returns-in-Err-step_line-clause-told : goal.returns-in-Err-step_line-clause-told
-returns-in-Err-step_line-clause-told g c a n before was told =
-    c.step_line.ensures.told a n before ((c.hear_all.ensures.goes_on n).run a was) (told_same a before c.args.self.now c.hear_all.new.self (g.L.Lines.told c.args.lines.now) (g.L.Lines.told c.args.lines.now) (c.hear_all.ensures.told a) refl told)
+returns-in-Err-step_line-clause-told g c a n l k was told = (
+  None,
+  record {
+    moments = told.moments ++ c.in-Ok.moment ∷ [];
+    told =
+        c.step_line.ensures.told a n l told.moments Says.TickNow ((c.hear_all.ensures.goes_on n).run a was) (c.in-Ok.moment, refl)
+        (subst (λ answers. g.L.Lines.tells l answers told.moments (Some Says.TickNow) c.args.lines.now) (sym (c.hear_all.ensures.told a)) told.told);
+    given = c.in-Ok.ensures k told.moments told.given;
+  },
+  tt,
+)
