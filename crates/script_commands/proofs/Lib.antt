@@ -7,3 +7,4 @@ pub mod PartLemmas
 pub mod OptionLemmas
 pub mod RepairLemmas
 pub mod PathLemmas
+pub mod ScriptLemmas

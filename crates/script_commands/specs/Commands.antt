@@ -4,7 +4,7 @@ use Rattle.std.specs.Str.{bytes_eq, is_utf8}
 use Rattle.text_words.specs.Words.{words}
 use Rattle.script_lines.specs.Lines.{lines_of, line_limit, newline, IsFirstLine}
 use Rattle.sched_events.specs.declared.events.Event.TheVariants.{Load}
-use Rattle.script_commands.specs.Meanings.{meaning_by, wants_memory, IsReadAs}
+use Rattle.script_commands.specs.Meanings.{meaning_by, wants_memory, is_of_script, IsReadAs}
 use Rattle.script_commands.specs.declared.meanings.LineMeaning.{LineMeaning}
 use Rattle.script_commands.specs.declared.meanings.LineMeaning.TheVariants as means
 use Rattle.script_commands.specs.declared.commands.Command.{Command}
@@ -93,6 +93,11 @@ pub record IsFirst (commands : List Request) (given : Request) (rest : Option (L
   pub known : rest ≡ Some left
   pub first : commands ≡ wanted ∷ commands_in left
   pub same : IsGiven wanted given
+
+-- what a script has is no report of a worker and no restart
+abbrev pub is_asked : Request → Bool
+is_asked (Ok command) = is_of_script command
+is_asked (Err fault) = true
 
 -- the next command of bytes, or their end
 abbrev pub IsNext : List ℕ → Option Request → Option (List ℕ) → Type 0

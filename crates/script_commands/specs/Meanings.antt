@@ -5,7 +5,7 @@ use Rattle.graph_file.specs.Names.{is_name}
 use Rattle.moment_core.specs.Reading.{read_of}
 use Rattle.moment_core.specs.declared.reading.MomentFault.{MomentFault}
 use Rattle.sched_events.specs.declared.events.Event.{Event}
-use Rattle.sched_events.specs.declared.events.Event.TheVariants.{Load, Tick, Trigger, Backfill, Clear, Pause, Unpause, Resize}
+use Rattle.sched_events.specs.declared.events.Event.TheVariants.{Load, Tick, Trigger, Backfill, Clear, Pause, Unpause, Resize, Report, Restart}
 use Rattle.script_commands.specs.Options.{said_by}
 use Rattle.script_commands.specs.Repairs.{backfill_options, clear_options, of_backfill, of_clear}
 use Rattle.script_commands.specs.Sizes.{slots_of}
@@ -112,3 +112,14 @@ needs_memory _ = false
 abbrev pub IsReadAs : {E : Type 0} → LineMeaning → Result LineMeaning E → Type 0
 IsReadAs wanted (Ok asked) = asked ≡ wanted
 IsReadAs wanted (Err lack) = needs_memory wanted ≡ true
+
+-- a command whose event, if it has one, is neither a report of a worker nor a restart
+abbrev pub is_of_script : Command → Bool
+is_of_script (Step (Report serial stage)) = false
+is_of_script (Step (Restart lanes)) = false
+is_of_script _ = true
+
+-- the same of what a line asks for
+abbrev pub asks_of_script : LineMeaning → Bool
+asks_of_script (This command) = is_of_script command
+asks_of_script _ = true

@@ -2,10 +2,10 @@
 //!
 //! The text is kept while its lines are good. A bad line or want of memory does not end it: the lines up to `.` belong to it
 //! all the same.
-ghost use Rattle.std.specs.Prelude.{◌≡◌, ℕ, List, [], ◌∷◌, ◌++◌, ◌≤◌, length, Some, Option, IfOk, string_bytes, OnOk};
+ghost use Rattle.std.specs.Prelude.{◌≡◌, ℕ, true, List, [], ◌∷◌, ◌++◌, ◌≤◌, length, Some, Option, IfOk, string_bytes, OnOk};
 ghost use Rattle.script_lines.specs.Lines.{line_limit, lines_of};
 ghost use Rattle.script_commands.specs.Commands as spec;
-ghost use Rattle.script_commands.specs.Commands.{IsFirst, IsGiven, commands_from, load_of, with_line, with_newline};
+ghost use Rattle.script_commands.specs.Commands.{IsFirst, IsGiven, commands_from, is_asked, load_of, with_line, with_newline};
 ghost use Rattle.script_commands.specs.Commands.Place.{Inside};
 ghost use Rattle.script_commands.specs.Gathered.{Gathers};
 
@@ -58,7 +58,8 @@ impl Gathered {
 
     // The command that loads it.
     fn load(self) -> Result<Command, CommandFault>
-        ensures { (text : Option (List ℕ)) → Gathers text self → IsGiven (load_of text) result }
+        ensures load { (text : Option (List ℕ)) → Gathers text self → IsGiven (load_of text) result }
+        ensures asked { is_asked result ≡ true }
     {
         match self {
             Gathered::Text(text) => Ok(Command::Step(Event::Load(GraphText::from_string(text)))),
@@ -82,8 +83,9 @@ pub(crate) fn read_text<R: Read>(
     lines: &mut LineReader,
     input: &mut R,
 ) -> io::Result<Result<Command, CommandFault>>
-    ensures { IfOk result (λ given. (bytes : List ℕ) → R.remaining input.old ≡ Some bytes → IsFirst
-        (commands_from (Inside (Some [])) (lines_of bytes)) given (R.remaining input.new)) }
+    ensures first { IfOk result (λ given. (bytes : List ℕ) → R.remaining input.old ≡ Some bytes
+        → IsFirst (commands_from (Inside (Some [])) (lines_of bytes)) given (R.remaining input.new)) }
+    ensures asked { IfOk result (λ given. is_asked given ≡ true) }
 {
     let mut gathered = Gathered::Text(String::new(alloc));
     for _line in 0..MOST_LINES {

@@ -1,13 +1,13 @@
 //! The commands of a script, one after another.
 //!
 //! Easy to get wrong: a comment and a line of blanks ask for nothing even where they are too long or no UTF-8.
-ghost use Rattle.std.specs.Prelude.{◌≡◌, ℕ, ◌<◌, ◌≤◌, true, false, nat_lt, List, length, take, Some, MatchOption, IfOk};
+ghost use Rattle.std.specs.Prelude.{◌≡◌, ℕ, ◌<◌, ◌≤◌, true, false, nat_lt, List, length, take, Some, MatchOption, IfOk, IfSome};
 ghost use Rattle.std.specs.List.{list_all};
 ghost use Rattle.text_words.specs.Words.{is_blank as is_blank_byte, words};
 ghost use Rattle.script_lines.specs.Lines.{line_limit};
-ghost use Rattle.script_commands.specs.Meanings.{IsReadAs};
+ghost use Rattle.script_commands.specs.Meanings.{asks_of_script, IsReadAs};
 ghost use Rattle.script_commands.specs.Commands as spec;
-ghost use Rattle.script_commands.specs.Commands.{IsNext, IsMeaning, is_bad};
+ghost use Rattle.script_commands.specs.Commands.{IsNext, IsMeaning, is_asked, is_bad};
 
 use crate::commands::{Command, CommandFault, UsageFault};
 use crate::graph_texts::read_text;
@@ -33,8 +33,9 @@ pub fn next_command<R: Read>(
     lines: &mut LineReader,
     input: &mut R,
 ) -> io::Result<Option<Result<Command, CommandFault>>>
-    ensures { IfOk result (λ next. (bytes : List ℕ) → R.remaining input.old ≡ Some bytes
+    ensures next { IfOk result (λ next. (bytes : List ℕ) → R.remaining input.old ≡ Some bytes
         → IsNext bytes next (R.remaining input.new)) }
+    ensures asked { IfOk result (λ next. IfSome next (λ request. is_asked request ≡ true)) }
 {
     for _line in 0..MOST_LINES {
         match next_meaning(alloc, lines, input)? {
@@ -55,8 +56,9 @@ fn next_meaning<R: Read>(
     lines: &mut LineReader,
     input: &mut R,
 ) -> io::Result<Option<Result<LineMeaning, AllocError>>>
-    ensures { IfOk result (λ asked. (bytes : List ℕ) → R.remaining input.old ≡ Some bytes
+    ensures next { IfOk result (λ asked. (bytes : List ℕ) → R.remaining input.old ≡ Some bytes
         → IsMeaning bytes asked (R.remaining input.new)) }
+    ensures asked { IfOk result (λ asked. IfSome asked (λ it. IfOk it (λ meaning. asks_of_script meaning ≡ true))) }
 {
     match lines.read(input)? {
         Found::Line => Ok(Some(meaning_of(alloc, lines.line()))),
@@ -81,8 +83,9 @@ fn meaning_of(alloc: Global, line: &[u8]) -> Result<LineMeaning, AllocError>
 
 // What a line asks for that is too long, of which this is the beginning.
 fn meaning_of_long(start: &[u8], is_blank: bool) -> LineMeaning
-    ensures { (line : List ℕ) → line_limit < length line → start.now ≡ take line_limit line
+    ensures is { (line : List ℕ) → line_limit < length line → start.now ≡ take line_limit line
         → is_blank ≡ list_all is_blank_byte line → result ≡ spec.meaning_of line }
+    ensures asked { asks_of_script result ≡ true }
 {
     if is_comment(start) {
         return LineMeaning::Nothing;

@@ -6,15 +6,15 @@ use Rattle.script_commands.proofs.TextLemmas.{stands-line, text-ended, text-unen
 use Rattle.script_commands.proofs.graph_texts.read_text.Goals as goal
 use Rattle.script_commands.proofs.graph_texts.read_text.Goals.{in-Line-2, in-LongLine}
 
-pub returns-in-Line : goal.returns-in-Line
-returns-in-Line g c = λ bytes known.
+pub returns-in-Line-clause-first : goal.returns-in-Line-clause-first
+returns-in-Line-clause-first g c = λ bytes known.
     let s = c.loop-line.invariant bytes known in
     let first = rw c.in-Line.is at (c.in_ok-read.ensures.next s.left s.known) in
     let ends : ends_text c.read.new.self ≡ true = ap ends_text (sym c.line.ensures.value) ∙ sym c.ends_text.ensures ∙ c.if-ends_text.true in
-    text-ended _ _ _ _ _ c.read.new.self s first.0 ends c.load.ensures
+    text-ended _ _ _ _ _ c.read.new.self s first.0 ends c.load.ensures.load
 
-pub returns-in-End : goal.returns-in-End
-returns-in-End g c = λ bytes known.
+pub returns-in-End-clause-first : goal.returns-in-End-clause-first
+returns-in-End-clause-first g c = λ bytes known.
     let s = c.loop-line.invariant bytes known in
     let last = rw c.in-End.is at (c.in_ok-read.ensures.next s.left s.known) in
     text-unended _ _ _ _ s last.0 last.1
