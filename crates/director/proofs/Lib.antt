@@ -1,3 +1,4 @@
 pub mod ListLemmas
 pub mod OpenLemmas
 pub mod StepLemmas
+pub mod LimitLemmas

@@ -64,6 +64,7 @@ impl<S: Alter> Director<S> {
             → IsTrue (state S.Store d.store).is_open) }
         ensures crash { IfOk result (λ d. Survives (state S.Store store) (state S.Store d.store)
             (CommitsBy (RestartsIn limits lanes) (state S.Store store))) }
+        ensures limits { IfOk result (λ d. d.schedule.content.limits ≡ limits) }
         ensures fault { IfErr result (λ e. HasCleanDisk (state S.Store e.0)
             → IsOpenFault limits lanes (state S.Store store).now e.1) }
         ensures missing { is_ours (state S.Store store).now.schema ≡ false
@@ -102,6 +103,7 @@ impl<S: Alter> Director<S> {
         ensures crash { IfOk result (λ d. Survives (state S.Store self.store)
             (state S.Store d.store) (CommitsBy (RestartsIn self.schedule.content.limits lanes)
             (state S.Store self.store))) }
+        ensures limits { IfOk result (λ d. d.schedule.content.limits ≡ self.schedule.content.limits) }
         ensures fault { IfErr result (λ e. HasCleanDisk (state S.Store e.0)
             → IsOpenFault self.schedule.content.limits lanes (state S.Store self.store).now e.1) }
         ensures missing { is_ours (state S.Store self.store).now.schema ≡ false

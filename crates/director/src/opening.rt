@@ -32,6 +32,7 @@ pub fn restart<S: Alter>(
     ensures only { HasCleanDisk (state S.Store store.new) → OnOk result ((trees : Trees)
         → (state S.Store store.new).may_leave trees
         → trees ≡ (state S.Store store.new).now.trees) }
+    ensures limits { IfOk result (λ p. p.0.content.limits ≡ limits) }
     ensures fault { HasCleanDisk (state S.Store store.new)
         → IfErr result (IsOpenFault limits lanes (state S.Store store.old).now) }
     ensures missing { is_ours (state S.Store store.old).now.schema ≡ false

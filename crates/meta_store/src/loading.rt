@@ -19,6 +19,7 @@ impl<S: Alter> Store<S> {
     pub fn load(&mut self, alloc: Global, limits: Limits) -> Result<Schedule, StoreFault>
         ensures schedule { HasCleanDisk (state S.Store self.new) → IfOk result (λ loaded. ReadsAs
             limits (state S.Store self.old).now loaded.content) }
+        ensures limits { IfOk result (λ loaded. loaded.content.limits ≡ limits) }
         ensures kept { HasCleanDisk (state S.Store self.new)
             → IsTrue (state S.Store self.new).is_open
             → ((state S.Store self.new).now ≡ (state S.Store self.old).now)

@@ -1,4 +1,7 @@
+use Rattle.std.proofs.Common.{ap, ◌∙◌}
 use Rattle.sqlite.specs.Held.{state}
+use Rattle.sched_model.specs.Schedule.{Schedule}
+use Rattle.director.proofs.LimitLemmas.{restarted}
 use Rattle.director.proofs.OpenLemmas.{restart_told, opens_told, restarts_told, restarts_survive}
 use Rattle.director.proofs.opening.restart.Goals as goal
 
@@ -26,3 +29,7 @@ pub returns-in-Ok-clause-crash : goal.returns-in-Ok-clause-crash
 returns-in-Ok-clause-crash g c =
     restarts_survive c.args.limits c.args.lanes (state g.S.Store c.args.store.now) (state g.S.Store c.load.new.self) (state g.S.Store c.step.new.store) c.in_ok-schedule.schedule.content c.in_ok-schedule.ensures.schedule c.load.ensures.kept
     c.load.ensures.was_open c.load.ensures.crash c.step.ensures.crash
+
+pub returns-in-Ok-clause-limits : goal.returns-in-Ok-clause-limits
+returns-in-Ok-clause-limits g c =
+    ap (λ (x : Schedule). x.limits) c.in-Ok.ensures.accepted.after ∙ restarted c.args.lanes c.in_ok-schedule.schedule.content ∙ c.in_ok-schedule.ensures.limits
