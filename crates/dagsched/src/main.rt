@@ -1,59 +1,93 @@
-//! The program: `dagsched run --lanes N` reads a script from standard input and prints the answer of each command.
+//! The program: `dagsched run` reads a script from standard input, performs the tries that it hands out, and prints the answer of each command.
 //!
-//! `N` is the most tries that may be in flight, from 0 to 64; 4 where it is left out. The record is a new one, in memory.
+//! ```text
+//! dagsched run [--workers N] [--lanes N] [--scratch DIR]
+//! ```
+//!
+//! There are N workers, 1 to 16, and 2 where it is not said; the most tries that may be in flight are the lanes, 0 to 64, and 4 where it is not said;
+//! the folder under which each try of `command` has its own is `dagsched-scratch` where it is not said, and is made where it is not there. The record
+//! is a new one, in memory.
 //!
 //! The status is 0 where all is accepted, 1 where a command is refused, 2 for usage, 3 for a fault of the record, 4 for any other, and the
-//! greatest of these.
-//! A usage fault of the program's own words goes to standard error.
+//! greatest of these. A usage fault of the program's own words goes to standard error.
 #![tactic(auto)]
 
 use director::Fault;
 use meta_store::Store;
-use program_words::asked_lanes;
-use script_runner::{failure_status, put_failure, run_serial};
+use program_parts::{FileSources, SystemClock, operators_for, run_team};
+use program_words::{RunWords, asked_run};
+use script_reader::{failure_status, put_failure};
 use sqlite::{Connection, MemStore};
-use std::env;
 use std::io::{self, BufReader, BufWriter, ErrorKind};
 use std::process::ExitCode;
+use std::sync::Wait;
+use std::thread::Threads;
+use std::{env, fs};
 
 fn main(rt: HostRuntime) -> ExitCode {
-    ExitCode::from(status(&rt))
+    ExitCode::from(status(&rt, &rt))
 }
 
 // Does what the program's words ask for, and answers its status.
-fn status(rt: &HostRuntime) -> u8 {
-    match lanes(rt) {
-        Ok(Some(lanes)) => run(rt, lanes).unwrap_or_else(|_| out_of_memory(rt)),
-        Ok(None) => usage(rt),
-        Err(e) if e.kind() == ErrorKind::OutOfMemory => out_of_memory(rt),
-        Err(_) => usage(rt),
+fn status<T: Threads + Wait + Sync>(threads: &T, rt: &HostRuntime) -> u8 {
+    match run_words(threads, rt) {
+        Ok(status) => status,
+        Err(error) if error.kind() == ErrorKind::OutOfMemory => out_of_memory(rt),
+        Err(_) => 4,
     }
 }
 
-// The number of lanes with which the program's words ask for a script; an error where the words can't be had.
-fn lanes(rt: &HostRuntime) -> io::Result<Option<u32>> {
+// Runs the script that the words ask for.
+fn run_words<T: Threads + Wait + Sync>(threads: &T, rt: &HostRuntime) -> io::Result<u8> {
     let mut words = env::args(rt)?;
     let _program = words.next();
     let words = words.collect::<Vec<String>>(rt.alloc())?;
-    Ok(asked_lanes(words.as_slice()))
+    match asked_run(words.as_slice()) {
+        Some(asked) => run(threads, rt, asked),
+        None => usage(rt),
+    }
 }
 
 // Runs the script of standard input on a new record in memory, and answers its status.
-fn run(rt: &HostRuntime, lanes: u32) -> io::Result<u8> {
+fn run<T: Threads + Wait + Sync>(
+    threads: &T,
+    rt: &HostRuntime,
+    asked: RunWords<'_>,
+) -> io::Result<u8> {
     let alloc = rt.alloc();
+    // one that is there is taken, and without one each try of a command fails
+    let _ = fs::create_dir(rt, asked.scratch);
     match Store::create(alloc, Connection::open_in_memory(alloc)?) {
-        Ok(store) => run_on(rt, store, lanes),
+        Ok(store) => run_on(threads, rt, store, asked),
         Err((_conn, fault)) => fail(rt, &Fault::from(fault)),
     }
 }
 
 // Runs it on this record.
-fn run_on(rt: &HostRuntime, store: Store<MemStore>, lanes: u32) -> io::Result<u8> {
+fn run_on<T: Threads + Wait + Sync>(
+    threads: &T,
+    rt: &HostRuntime,
+    store: Store<MemStore>,
+    asked: RunWords<'_>,
+) -> io::Result<u8> {
     let alloc = rt.alloc();
+    let team = operators_for(*rt, alloc, asked.workers, asked.scratch)?;
     let input = BufReader::new(alloc, rt.stdin())?;
     let output = BufWriter::new(alloc, rt.stdout())?;
-    match run_serial(alloc, store, lanes, input, output) {
-        Ok((_store, status)) => Ok(status),
+    let sources = FileSources::new(*rt, alloc);
+    let mut clock = SystemClock::new(*rt);
+    match run_team(
+        threads,
+        alloc,
+        store,
+        asked.lanes,
+        team,
+        input,
+        output,
+        sources,
+        &mut clock,
+    ) {
+        Ok(ran) => Ok(ran.status),
         Err((_store, fault)) => fail(rt, &fault),
     }
 }
@@ -69,7 +103,9 @@ fn out_of_memory(rt: &HostRuntime) -> u8 {
     4
 }
 
-fn usage(rt: &HostRuntime) -> u8 {
-    let _ = eprintln!(rt; "usage 1 Words\nUsage: dagsched run [--lanes N] < SCRIPT");
-    2
+fn usage(rt: &HostRuntime) -> io::Result<u8> {
+    eprintln!(rt;
+        "usage 1 Words\nUsage: dagsched run [--workers N] [--lanes N] [--scratch DIR] < SCRIPT"
+    )?;
+    Ok(2)
 }

@@ -1,1 +1,3 @@
+pub mod Said
+pub mod Options
 pub mod Words

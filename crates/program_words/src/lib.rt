@@ -1,12 +1,16 @@
 //! The words that the program is started with.
 //!
 //! ```text
-//! dagsched run --lanes 8
+//! dagsched run --workers 4 --lanes 8 --scratch /tmp/tries
 //! ```
 #![tactic(auto)]
 
+mod asked;
+mod options;
+mod reading;
 #[cfg(test)]
 mod tests;
 mod words;
 
-pub use words::asked_lanes;
+pub use asked::RunWords;
+pub use words::asked_run;

@@ -1,52 +1,34 @@
 //! What the program's words ask for.
-ghost use Rattle.std.specs.Prelude.{◌≡◌, MatchOption, Some, None, true, false, take, drop, codes, map, string_bytes};
-ghost use Rattle.std.specs.Str.{bytes_eq};
-ghost use Rattle.program_words.specs.Words as spec;
-ghost use Rattle.program_words.specs.Words.{AsksFor, AreLanes};
+ghost use Rattle.std.specs.Prelude.{◌≡◌, map, string_bytes, MatchOption};
+ghost use Rattle.program_words.specs.Words.{AsksFor, IsNoNumber, IsNumber};
 
-// The most lanes.
-const MOST_LANES: u32 = 64;
+use crate::asked::RunWords;
+use crate::reading::said_by;
 
-/// The number of lanes with which the words after the program's name ask for a script: `run`, `run --lanes N` or `run --lanes=N`.
+/// What the words after the program's name ask for, where they ask for a script: `run [--workers N] [--lanes N] [--scratch DIR]`, the options in any order,
+/// each once, with its value as the next word or after a `=`.
 ///
-/// It is 0 to 64, in digits with a `+` before them or not, and 4 where the words say none. None where they ask for anything else.
-pub fn asked_lanes(words: &[String]) -> Option<u32>
-    ensures { AsksFor (spec.lanes_text (map string_bytes words.now)) result }
+/// Numbers are in digits with a `+` before them or not. There are 2 workers, 4 lanes and the folder `dagsched-scratch` where the words say nothing else.
+pub fn asked_run(words: &[String]) -> Option<RunWords<'_>>
+    ensures { AsksFor (map string_bytes words.now) result }
 {
-    lanes_of(lanes_text(words)?)
-}
-
-// The text of that number: 4 where the words say none.
-fn lanes_text(words: &[String]) -> Option<&str>
-    ensures { MatchOption result (spec.lanes_text (map string_bytes words.now) ≡ None)
-        (λ text. spec.lanes_text (map string_bytes words.now) ≡ Some text.now) }
-{
-    let (command, rest) = words.split_first()?;
+    let (command, options) = words.split_first()?;
     if command.as_str() != "run" {
         return None;
     }
-    match rest.len() {
-        0 => Some("4"),
-        1 => assigned(rest[0].as_str()),
-        2 if rest[0].as_str() == "--lanes" => Some(rest[1].as_str()),
-        _ => None,
-    }
+    let said = said_by(options)?;
+    Some(RunWords {
+        workers: number(said.workers.unwrap_or("2"), 1, 16)?,
+        lanes: number(said.lanes.unwrap_or("4"), 0, 64)?,
+        scratch: said.scratch.unwrap_or("dagsched-scratch"),
+    })
 }
 
-// What is assigned by `--lanes=N`.
-fn assigned(word: &str) -> Option<&str>
-    ensures { MatchOption result (bytes_eq (take 8 word.now) (codes "--lanes=") ≡ false)
-        (λ text. (bytes_eq (take 8 word.now) (codes "--lanes=") ≡ true) ×
-        (text.now ≡ drop 8 word.now)) }
-{
-    word.strip_prefix("--lanes=")
-}
-
-// The number of lanes that a text is.
-fn lanes_of(text: &str) -> Option<u32>
-    ensures { AreLanes text.now result }
+// The number from one to the other that a text is.
+fn number(text: &str, low: u32, high: u32) -> Option<u32>
+    ensures { MatchOption result (IsNoNumber low high text.now) (IsNumber low high text.now) }
 {
     text.parse::<u32>()
         .ok()
-        .filter(|lanes| *lanes <= MOST_LANES)
+        .filter(|number| low <= *number && *number <= high)
 }

@@ -1,4 +1,1 @@
-pub mod OutcomeLemmas
 pub mod RunLemmas
-pub mod LoopLemmas
-pub mod SerialLemmas

@@ -1,128 +1,182 @@
--- What scripts do.
-use Rattle.std.proofs.Common.{◌≡◌, ◌∙◌, ◌<◌, max, Option, Some, None, List, [], ◌∷◌, ◌++◌, Ok, Err, refl, sym, ap, subst, arith, inl, inr}
+-- What the run of a script promises, from what the conductor promises.
+use Rattle.std.proofs.Common.{◌≡◌, ◌∙◌, ℕ, Bool, true, false, not, ◌&&◌, List, [], ◌∷◌, ◌++◌, map, All, Option, Some, None, is_some, Result, Ok, Err, IfOk, refl, sym, ap, subst, inl, inr, arith, append_assoc, append-nil}
+use Rattle.std.proofs.lemmas.Grind.{flat_map-append}
+use Rattle.std.proofs.lemmas.List.{map-append}
+use Rattle.std.proofs.lemmas.List.Elements.{All-append, All-nil, All-push}
+use Rattle.sqlite.specs.Held.{Held}
+use Rattle.sqlite.specs.State.{State, HasCleanDisk}
+use Rattle.instance_machine.specs.declared.tries.Outcome.{Outcome}
+use Rattle.operators.specs.declared.kits.Kit.{Kit}
+use Rattle.sched_state.specs.Limits.{ceilings}
 use Rattle.sched_model.specs.Schedule.{Schedule}
-use Rattle.sched_events.specs.Causes.{refused}
-use Rattle.sched_events.specs.Outcomes.{unnamed}
-use Rattle.sched_events.specs.Steps.{step, steps, AreAccepted, accepted_among}
+use Rattle.sched_model.specs.States.{in_flight}
+use Rattle.sched_events.specs.Steps.{steps}
+use Rattle.sched_events.specs.declared.answers.Answer.{Answer}
 use Rattle.sched_events.specs.declared.events.Event.{Event}
-use Rattle.sched_events.specs.declared.refusals.Refusal.{Refusal}
-use Rattle.sched_events.specs.declared.refusals.Refusal.TheVariants.{Memory}
-use Rattle.sched_events.proofs.StepLemmas.{steps_parts}
 use Rattle.script_commands.specs.Commands.{Request}
-use Rattle.script_commands.specs.declared.commands.Command.TheVariants.{Step, ListRuns, ListTasks, ListPools}
-use Rattle.director.specs.Faults.{IsFaultOf}
-use Rattle.director.specs.declared.faults.Fault.{Fault}
-use Rattle.director.specs.declared.faults.Fault.TheVariants as failed
-use Rattle.script_runner.specs.Outcomes.{Outcome, IsOutcome, IsEventOutcome, failed_for, failure_status, refusal_status}
-use Rattle.script_runner.specs.Runs.{IsRun, IsPart, StepsEvents, event_of, events_of, then_outcome}
-use Rattle.script_runner.specs.Runs.IsPart.{none, kept, left}
+use Rattle.script_commands.specs.declared.commands.Command.TheVariants.{Step, LoadFile, TickNow}
+use Rattle.director.specs.Directors.{DirectorValue, Keeps, Opens, RestartsIn}
+use Rattle.minutes.specs.Minutes.{answered, of_lines}
+use Rattle.sessions.specs.declared.faults.ConductFault.{ConductFault}
+use Rattle.sessions.specs.declared.faults.ConductFault.TheVariants as fault
+use Rattle.sessions.specs.declared.line_reading.Line.{Line}
+use Rattle.sessions.specs.declared.line_reading.Line.TheVariants as Says
+use Rattle.sessions.specs.declared.line_reading.LineFault.{LineFault}
+use Rattle.conduct.specs.Faults.{came_to_its_end}
+use Rattle.conduct.specs.Run.{IsConducted}
+use Rattle.conduct.specs.declared.conducting.Conducted.{Conducted}
+use Rattle.script_reader.specs.Done.{FileText, Done, IsDone, HasDone, IsOpen, is_whole}
+use Rattle.script_reader.specs.Ends.{IsEndStatus}
+use Rattle.script_reader.proofs.DoneLemmas.{texts_in, asked_in, events_in, moments_in}
+use Rattle.minutes.proofs.GrowthLemmas.{answered_lines}
+use Rattle.sessions.specs.Told.{AreTold}
+use Rattle.crews.specs.declared.settling.Settled.{Settled}
+use Rattle.script_reader.specs.Readers.{Tells}
+use Rattle.script_reader.specs.declared.reader.ScriptReader.{ScriptReader}
+use Rattle.script_runner.specs.Named.{AreNamed}
+use Rattle.script_runner.specs.Runs.{IsRun}
 
--- ---- the events that are accepted
-accepted_parts : (es fs : List Event) (a : Schedule) → AreAccepted es a → AreAccepted fs (steps es a) → AreAccepted (es ++ fs) a
-accepted_parts [] fs a h k = k
-accepted_parts (e ∷ es) fs a h k = (h.0, h.1, accepted_parts es fs (step e a) h.2 k)
+-- ---- a line that still waits for its answer is done without an event
+record IsLeft (waits : Option Line) (asked : List Request) (texts : List FileText) : Type 0 where
+  left : List Done
+  each : All IsDone left
+  asks : asked_in left ≡ asked
+  reads : texts_in left ≡ texts
+  events : events_in left ≡ []
+  moments : moments_in left ≡ []
 
-among-first : (e : Event) (es : List Event) (a : Schedule) (o : Option Refusal) → refused a e ≡ o
-    → accepted_among (e ∷ es) a ≡ elim o [ None ↦ e ∷ accepted_among es (step e a) | Some r ↦ accepted_among es a ]
-among-first e es a o h = ap (λ (x : Option Refusal). let taken : List Event = elim x [ None ↦ e ∷ accepted_among es (step e a) | Some r ↦ accepted_among es a ] in taken) h
-
--- ---- one command
--- its event is stepped, or none is
-pub record StepsOne (r : Request) (a : Schedule) (o : Outcome) : Type 0 where
-  pub events : List Event
-  pub part : (rest more : List Event) → IsPart rest more → IsPart (events ++ rest) (event_of r ++ more)
-  pub schedule : o.schedule ≡ steps events a
-  pub accepted : AreAccepted events a
-  pub exact : o.status < 3 → (more : List Event) → accepted_among (event_of r ++ more) a ≡ events ++ accepted_among more (steps events a)
-  pub all : o.status ≡ 0 → events ≡ event_of r
-
-some-refusal : (r : Refusal) → refusal_status r ≡ 0 → ⊥
-some-refusal Memory h = cc
-some-refusal _ h = cc
-
-some-status : (f : Fault) → failure_status f ≡ 0 → ⊥
-some-status (failed.Refused r) h = some-refusal r h
-some-status (failed.Store s) h = cc
-some-status failed.Memory h = cc
-
-not_zero : (f : Fault) (a : Schedule) (o : Outcome) → o ≡ failed_for f a → o.status ≡ 0 → ⊥
-not_zero f a o h z = some-status f (sym (ap (λ (x : Outcome). x.status) h) ∙ z)
-
--- one that is refused is left out, unless the record was not written or memory was wanting
-left_out : (e : Event) (a : Schedule) (f : Fault) (o : Outcome) (more : List Event) → IsFaultOf a e f → o ≡ failed_for f a → o.status < 3
-    → accepted_among (e ∷ more) a ≡ accepted_among more a
-left_out e a (failed.Refused r) o more cause h few = among-first e more a (Some (unnamed r)) cause.first
-left_out e a (failed.Store s) o more of h few =
-    let three : o.status ≡ 3 = ap (λ (x : Outcome). x.status) h in
-    absurd (omega (arith, three, few))
-left_out e a failed.Memory o more of h few =
-    let four : o.status ≡ 4 = ap (λ (x : Outcome). x.status) h in
-    absurd (omega (arith, four, few))
-
-one-failed : (e : Event) (a : Schedule) (f : Fault) (o : Outcome) → IsFaultOf a e f → o ≡ failed_for f a → StepsOne (Ok (Step e)) a o
-one-failed e a f o why h = record {
-  events = [];
-  part = λ rest more p. left e rest more p;
-  schedule = ap (λ (x : Outcome). x.schedule) h;
-  accepted = tt;
-  exact = λ few more. left_out e a f o more why h few;
-  all = λ z. absurd (not_zero f a o h z);
+left_open : (waits : Option Line) (asked : List Request) (texts : List FileText) → IsOpen waits asked texts → IsLeft waits asked texts
+left_open None asked texts waiting = record { left = []; each = All-nil IsDone; asks = sym waiting.0; reads = sym waiting.1; events = refl; moments = refl }
+left_open (Some (Says.Event e)) asked texts (inl waiting) = record {
+  left = record { asked = Ok (Step e); texts = []; moments = []; events = [] } ∷ [];
+  each = All-push IsDone [] (record { asked = Ok (Step e); texts = []; moments = []; events = [] }) (All-nil IsDone) (refl, refl, inr refl);
+  asks = sym waiting.0;
+  reads = sym waiting.1;
+  events = refl;
+  moments = refl;
 }
-
-one-step : (e : Event) (a : Schedule) (o : Outcome) → IsEventOutcome e a o → StepsOne (Ok (Step e)) a o
-one-step e a o (inl (b, given, stepped, same)) = record {
-  events = e ∷ [];
-  part = λ rest more p. kept e rest more p;
-  schedule = ap (λ (x : Outcome). x.schedule) same ∙ stepped.after;
-  accepted = (stepped.ranged, stepped.accepted, tt);
-  exact = λ few more. among-first e more a None stepped.accepted;
-  all = λ z. refl;
+left_open (Some (Says.Event e)) asked texts (inr (path, text, asks, reads, is)) = record {
+  left = record { asked = Ok (LoadFile path); texts = (path, text) ∷ []; moments = []; events = [] } ∷ [];
+  each = All-push IsDone [] (record { asked = Ok (LoadFile path); texts = (path, text) ∷ []; moments = []; events = [] }) (All-nil IsDone) (refl, inr (text, refl, inr refl));
+  asks = sym asks;
+  reads = sym reads;
+  events = refl;
+  moments = refl;
 }
-one-step e a o (inr (f, why, same)) = one-failed e a f o why same
-
--- what is no event steps none
-no-event : (r : Request) (a : Schedule) (o : Outcome) → event_of r ≡ [] → o.schedule ≡ a → StepsOne r a o
-no-event r a o empty same = record {
-  events = [];
-  part = λ rest more p. subst (λ (es : List Event). IsPart rest (es ++ more)) (sym empty) p;
-  schedule = same;
-  accepted = tt;
-  exact = λ few more. ap (λ (es : List Event). accepted_among (es ++ more) a) empty;
-  all = λ z. sym empty;
+left_open (Some Says.TickNow) asked texts waiting = record {
+  left = record { asked = Ok TickNow; texts = []; moments = []; events = [] } ∷ [];
+  each = All-push IsDone [] (record { asked = Ok TickNow; texts = []; moments = []; events = [] }) (All-nil IsDone) (refl, inl (refl, refl));
+  asks = sym waiting.0;
+  reads = sym waiting.1;
+  events = refl;
+  moments = refl;
 }
+left_open (Some Says.Drain) asked texts waiting = absurd waiting
 
-one : (r : Request) (a : Schedule) (o : Outcome) → IsOutcome r a o → StepsOne r a o
-one (Ok (Step e)) a o h = one-step e a o h
-one (Ok ListRuns) a o h = no-event (Ok ListRuns) a o refl (ap (λ (x : Outcome). x.schedule) h)
-one (Ok ListTasks) a o h = no-event (Ok ListTasks) a o refl (ap (λ (x : Outcome). x.schedule) h)
-one (Ok ListPools) a o h = no-event (Ok ListPools) a o refl (ap (λ (x : Outcome). x.schedule) h)
-one (Err fault) a o h = no-event (Err fault) a o refl (ap (λ (x : Outcome). x.schedule) h)
+none_left : {waits : Option Line} {asked : List Request} {texts : List FileText} (l : IsLeft waits asked texts) → asked ≡ [] → l.left ≡ []
+none_left l none = empty l.left (l.asks ∙ none)
+  where
+    empty : (ds : List Done) → asked_in ds ≡ [] → ds ≡ []
+    empty [] e = refl
+    empty (d ∷ ds) e = cc
 
-joined : (r : Request) (rs : List Request) (a : Schedule) (first rest o : Outcome) → StepsOne r a first → StepsEvents rs first.schedule rest → o ≡ then_outcome first rest → StepsEvents (r ∷ rs) a o
-joined r rs a first rest o f s e = record {
-  events = f.events ++ s.events;
-  part = f.part s.events (events_of rs) s.part;
-  schedule = ap (λ (x : Outcome). x.schedule) e ∙ (s.schedule ∙ (ap (steps s.events) f.schedule ∙ sym (steps_parts f.events s.events a)));
-  accepted = accepted_parts f.events s.events a f.accepted (subst (AreAccepted s.events) f.schedule s.accepted);
-  exact = λ few.
-      let greatest : o.status ≡ max first.status rest.status = ap (λ (x : Outcome). x.status) e in
-      let here : first.status < 3 = omega arith in
-      let later : rest.status < 3 = omega arith in
-      ap (λ (es : List Event). f.events ++ es) (s.exact later ∙ ap (accepted_among (events_of rs)) f.schedule) ∙ sym (f.exact here (events_of rs));
-  all = λ z.
-      let greatest : o.status ≡ max first.status rest.status = ap (λ (x : Outcome). x.status) e in
-      let here : first.status ≡ 0 = omega arith in
-      let later : rest.status ≡ 0 = omega arith in
-      ap (λ (es : List Event). es ++ s.events) (f.all here) ∙ ap (λ (es : List Event). event_of r ++ es) (s.all later);
-}
+-- ---- the status
+ends_well : {T : Type 0} (answers status : ℕ) (outcome : Result T ConductFault) → IsEndStatus answers outcome status → status ≡ 0 → (came_to_its_end outcome ≡ true) × (answers ≡ 0)
+ends_well answers status (Ok v) is z = (refl, sym is ∙ z)
+ends_well answers status (Err (fault.StoreThrice e)) (inl is) z = absurd (omega arith)
+ends_well answers status (Err (fault.StoreThrice e)) (inr is) z = absurd (omega arith)
+ends_well answers status (Err fault.NoWorker) is z = absurd (omega arith)
+ends_well answers status (Err fault.SpawnRefused) is z = absurd (omega arith)
+ends_well answers status (Err fault.ReadFault) is z = absurd (omega arith)
+ends_well answers status (Err fault.Memory) is z = absurd (omega arith)
+ends_well answers status (Err fault.Unequal) is z = absurd (omega arith)
 
-pub script_steps : (rs : List Request) (a : Schedule) (o : Outcome) → IsRun rs a o → StepsEvents rs a o
-script_steps [] a o h = record {
-  events = [];
-  part = none;
-  schedule = ap (λ (x : Outcome). x.schedule) h;
-  accepted = tt;
-  exact = λ few. refl;
-  all = λ z. refl;
-}
-script_steps (r ∷ rs) a o (first, rest, is, run, e) = joined r rs a first rest o (one r a first is) (script_steps rs first.schedule rest run) e
+-- ---- the events of the minutes beside the script's lines
+pub named : {T : Type 0} (first : Option (List ℕ)) (gives : List FileText → Type 0) (clock : List ℕ → Type 0) (told : List (Event × Answer)) (moments : List ℕ) (waits : Option Line) (left : Option (List ℕ)) (answers status : ℕ) (broken over was_over : Bool) (outcome : Result T ConductFault)
+    → HasDone first gives told moments waits left answers broken (over && not was_over) → clock moments → was_over ≡ false
+    → (came_to_its_end outcome ≡ true → (over ≡ true) × (waits ≡ None)) → IsEndStatus answers outcome status
+    → AreNamed first gives clock (map (λ p. p.0) told) status
+named first gives clock told moments waits left answers status broken over was_over outcome h given fresh whole is =
+    let l = left_open waits h.open_asked h.open_texts h.opens in
+    let ds : List Done = h.done ++ l.left in
+    record {
+      done = ds;
+      each = All-append IsDone h.done l.left h.each l.each;
+      texts = subst gives (ap (λ x. texts_in h.done ++ x) (sym l.reads) ∙ sym (flat_map-append (λ (d : Done). d.texts) h.done l.left)) h.texts;
+      moments = subst clock (h.moments ∙ sym (append-nil (moments_in h.done)) ∙ ap (λ x. moments_in h.done ++ x) (sym l.moments) ∙ sym (flat_map-append (λ (d : Done). d.moments) h.done l.left)) given;
+      events_are = h.events ∙ sym (append-nil (events_in h.done)) ∙ ap (λ x. events_in h.done ++ x) (sym l.events) ∙ sym (flat_map-append (λ (d : Done). d.events) h.done l.left);
+      read = λ known e.
+          let r = h.read known e in (
+            r.0,
+            r.1 ∙ ap (λ x. asked_in h.done ++ (x ++ r.0)) (sym l.asks) ∙ sym (append_assoc (asked_in h.done) (asked_in l.left) r.0) ∙ ap (λ x. x ++ r.0) (sym (map-append (λ (d : Done). d.asked) h.done l.left)),
+            λ z.
+                let end = whole (ends_well answers status outcome is z).0 in
+                r.2 (ap (λ b. b && not was_over) end.0 ∙ ap not fresh),
+          );
+      whole = λ z.
+          let end = ends_well answers status outcome is z in
+          let waiting : IsOpen None h.open_asked h.open_texts = subst (λ (w : Option Line). IsOpen w h.open_asked h.open_texts) (whole end.0).1 h.opens in
+          let none : l.left ≡ [] = none_left l waiting.0 in
+          subst (λ (x : List Done). All (λ (d : Done). is_whole d.asked d.events ≡ true) (h.done ++ x)) (sym none)
+          (subst (λ (x : List Done). All (λ (d : Done). is_whole d.asked d.events ≡ true) x) (sym (append-nil h.done)) (h.whole end.1));
+    }
+
+-- ---- the whole run
+where_well : {A : Type 0} (P : Type 0) (r : Result A ConductFault) → (came_to_its_end r ≡ true → P) → IfOk r (λ _. P)
+where_well P (Ok v) h = h refl
+where_well P (Err f) h = tt
+
+module _ {S G O : Type 0} (look : Held S → State) (runs : O → List (ℕ × Outcome)) (taken : O → Option ℕ) where
+  pub is_run : (bytes : Option (List ℕ)) (gives : List FileText → Type 0) (clock : List ℕ → Type 0) (lanes : ℕ) (kits : List (Kit O)) (before : State) (d : DirectorValue S) (conducted : Conducted S G O) (status : ℕ)
+      (are_told : List (Event × Answer) → Option Line → Type 0) (untouched : Type 0) (failed : Option LineFault) (over : Bool)
+      → IsConducted look runs taken lanes kits d conducted are_told untouched failed over
+      → (HasCleanDisk (look d.store) → Opens ceilings 0 before.now d.schedule.content d.opened)
+      → (HasCleanDisk (look d.store) → RestartsIn ceilings 0 before.now (look d.store).now)
+      → AreNamed bytes gives clock (of_lines conducted.minutes.items) status
+      → IsRun look runs taken bytes gives clock lanes kits before conducted.director.store conducted.minutes.items conducted.outcome status
+  is_run bytes gives clock lanes kits before d conducted status are_told untouched failed over c opened restarted named =
+      let a = d.schedule.content in
+      let es = conducted.minutes.items in
+      record {
+        first = a;
+        given = d.opened;
+        opened = λ clean. opened (c.followed.clean clean);
+        accepted = c.accepted;
+        begun = c.begun;
+        stored = λ clean is_open rows stored.
+            let first = c.followed.clean clean in
+            let keeps : Keeps a (look d.store).now = subst (λ (x : Schedule). Keeps x (look d.store).now) (sym (opened first rows stored).stepped.after) (restarted first rows stored) in
+            subst (λ (x : Schedule). Keeps x (look conducted.director.store).now) c.stepped (c.followed.stored clean is_open keeps);
+        named = named;
+        idle = where_well (in_flight (steps es a) ≡ 0) conducted.outcome (λ well. ap in_flight (sym c.stepped) ∙ (c.whole well).3);
+        ends = c.ends;
+        once = c.once;
+        own = c.own;
+        accounts = c.accounts;
+        desk = c.desk;
+      }
+
+-- ---- the whole run, of the parts that come back
+module _ {S G O R W F C : Type 0} (look : Held S → State) (runs : O → List (ℕ × Outcome)) (taken : O → Option ℕ) (remaining : R → Option (List ℕ)) (gives : F → List FileText → F → Type 0) (ticks : C → List ℕ → C → Type 0) where
+  pub ran : (lanes : ℕ) (kits : List (Kit O)) (before : State) (d : DirectorValue S) (conducted : Conducted S G O) (first last : ScriptReader R W F) (clock later : C) (failed : Option LineFault) (untouched : Type 0)
+      → IsConducted look runs taken lanes kits d conducted (AreTold (Tells remaining gives) ticks first clock last later) untouched failed last.is_over
+      → (HasCleanDisk (look d.store) → Opens ceilings 0 before.now d.schedule.content d.opened)
+      → (HasCleanDisk (look d.store) → RestartsIn ceilings 0 before.now (look d.store).now)
+      → first.is_over ≡ false
+      → (store : Held S) (minutes : List Event) (outcome : Result (Settled G O) ConductFault) (status : ℕ) (sources : F)
+      → store ≡ conducted.director.store → minutes ≡ conducted.minutes.items → outcome ≡ conducted.outcome → IsEndStatus last.status conducted.outcome status → sources ≡ last.sources
+      → IsRun look runs taken (remaining first.input) (λ given. gives first.sources given sources) (λ moments. ticks clock moments later) lanes kits before store minutes outcome status
+  ran lanes kits before d conducted first last clock later failed untouched c opened restarted fresh store minutes outcome status sources same_store same_minutes same_outcome ends same_sources =
+      let a = d.schedule.content in
+      let es = conducted.minutes.items in
+      let t = c.told in
+      let named_here : AreNamed (remaining first.input) (λ given. gives first.sources given last.sources) (λ moments. ticks clock moments later) (of_lines es) status =
+      subst (λ (l : List Event). AreNamed (remaining first.input) (λ given. gives first.sources given last.sources) (λ moments. ticks clock moments later) l status) (answered_lines es a)
+      (named (remaining first.input) (λ given. gives first.sources given last.sources) (λ moments. ticks clock moments later) (answered es a) t.moments c.waits (remaining last.input) last.status status (is_some last.failed) last.is_over first.is_over conducted.outcome
+      t.told t.given fresh (λ well. ((c.whole well).0, (c.whole well).1)) ends)
+      in
+      let here = is_run look runs taken (remaining first.input) (λ given. gives first.sources given last.sources) (λ moments. ticks clock moments later) lanes kits before d conducted status _ untouched failed last.is_over c opened restarted named_here in
+      subst (λ (f : F). IsRun look runs taken (remaining first.input) (λ given. gives first.sources given f) (λ moments. ticks clock moments later) lanes kits before store minutes outcome status) (sym same_sources)
+      (subst (λ (s : Held S). IsRun look runs taken (remaining first.input) (λ given. gives first.sources given last.sources) (λ moments. ticks clock moments later) lanes kits before s minutes outcome status) (sym same_store)
+      (subst (λ (l : List Event). IsRun look runs taken (remaining first.input) (λ given. gives first.sources given last.sources) (λ moments. ticks clock moments later) lanes kits before conducted.director.store l outcome status) (sym same_minutes)
+      (subst (λ (o : Result (Settled G O) ConductFault). IsRun look runs taken (remaining first.input) (λ given. gives first.sources given last.sources) (λ moments. ticks clock moments later) lanes kits before conducted.director.store es o status) (sym same_outcome) here)))

@@ -1,4 +1,2 @@
-pub mod Outcomes
+pub mod Named
 pub mod Runs
-pub mod Serial
-pub mod StoreLines

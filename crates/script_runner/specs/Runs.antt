@@ -1,63 +1,46 @@
--- What comes of the commands of a script.
-use Rattle.std.specs.Prelude.{◌≡◌, ℕ, ◌<◌, max, List, [], ◌∷◌, ◌++◌, Option, Some, Result, Ok, Err, IfOk, OnOk}
-use Rattle.std.specs.Io.KnownBytes.{Appends}
+-- What the run of a script promises.
+use Rattle.std.specs.Prelude.{◌≡◌, ℕ, List, [], length, Option, Result, IfOk, IsTrue}
+use Rattle.sqlite.specs.Held.{Held}
+use Rattle.sqlite.specs.State.{State, HasCleanDisk}
+use Rattle.instance_machine.specs.declared.tries.Outcome.{Outcome}
+use Rattle.operators.specs.declared.kits.Kit.{Kit}
+use Rattle.record_rows.specs.Rows.{Rows}
+use Rattle.record_tables.specs.Holds.{Stores}
+use Rattle.sched_state.specs.Limits.{ceilings}
 use Rattle.sched_model.specs.Schedule.{Schedule}
-use Rattle.sched_events.specs.Steps.{steps, AreAccepted, accepted_among}
+use Rattle.sched_model.specs.States.{in_flight}
+use Rattle.sched_events.specs.Steps.{steps, handed_along, AreAccepted}
+use Rattle.sched_events.specs.declared.answers.Answer.{Answer}
 use Rattle.sched_events.specs.declared.events.Event.{Event}
-use Rattle.script_commands.specs.Commands.{Request, commands_in}
-use Rattle.script_commands.specs.declared.commands.Command.TheVariants.{Step, ListRuns, ListTasks, ListPools}
-use Rattle.script_runner.specs.Outcomes.{Outcome, IsOutcome}
+use Rattle.director.specs.Directors.{Keeps, Opens}
+use Rattle.minutes.specs.Minutes.{of_lines, BeginWithRestart}
+use Rattle.sessions.specs.declared.faults.ConductFault.{ConductFault}
+use Rattle.crews.specs.Settled.{AreAccounts}
+use Rattle.crews.specs.declared.settling.Settled.{Settled}
+use Rattle.conduct.specs.Ends.{EachStandsInALog, EachToldItsOwn}
+use Rattle.script_reader.specs.Done.{FileText}
+use Rattle.script_runner.specs.Named.{AreNamed}
 
--- the outcome of a command and then of those after it: the last schedule, all that is shown, the greatest status
-abbrev pub then_outcome : Outcome → Outcome → Outcome
-then_outcome first rest = record { schedule = rest.schedule; shown = first.shown ++ rest.shown; status = max first.status rest.status }
-
--- the commands, one after another, lead from a schedule to this outcome
-abbrev pub IsRun : List Request → Schedule → Outcome → Type 0
-IsRun [] a o = o ≡ record { schedule = a; shown = []; status = 0 }
-IsRun (r ∷ rs) a o =
-    (first : Outcome) × (rest : Outcome) × IsOutcome r a first × IsRun rs first.schedule rest × (o ≡ then_outcome first rest)
-
--- the events of commands, in order
-abbrev pub event_of : Request → List Event
-event_of (Ok (Step e)) = e ∷ []
-event_of (Ok ListRuns) = []
-event_of (Ok ListTasks) = []
-event_of (Ok ListPools) = []
-event_of (Err fault) = []
-
-abbrev pub events_of : List Request → List Event
-events_of [] = []
-events_of (r ∷ rs) = event_of r ++ events_of rs
-
--- the first list is the second one, or that without some of its elements
-pub data IsPart {X : Type 0} : List X → List X → Type 0 where
-  none : IsPart [] []
-  kept : (x : X) (xs ys : List X) → IsPart xs ys → IsPart (x ∷ xs) (x ∷ ys)
-  left : (x : X) (xs ys : List X) → IsPart xs ys → IsPart xs (x ∷ ys)
-
--- the schedule is that after some of the commands' events, in their order, each of them accepted: after exactly those that are accepted
--- where the record was written, memory sufficed and each text could be had, which is a status below 3, and after all where the status is 0
-pub record StepsEvents (commands : List Request) (a : Schedule) (o : Outcome) : Type 0 where
-  pub events : List Event
-  pub part : IsPart events (events_of commands)
-  pub schedule : o.schedule ≡ steps events a
-  pub accepted : AreAccepted events a
-  pub exact : o.status < 3 → events ≡ accepted_among (events_of commands) a
-  pub all : o.status ≡ 0 → events ≡ events_of commands
-
--- a command was done, and answered where writing succeeded
-pub record IsAnswered {E : Type 0} (r : Request) (a b : Schedule) (old new : Option (List ℕ)) (result : Result ℕ E) : Type 0 where
-  pub outcome : Outcome
-  pub is : IsOutcome r a outcome
-  pub schedule : b ≡ outcome.schedule
-  pub answered : IfOk result (λ status. (status ≡ outcome.status) × Appends old new outcome.shown)
-
--- some commands were done: those of the bytes where these are known and nothing failed, and else the first of them
-pub record IsScriptRun {E : Type 0} (bytes : Option (List ℕ)) (a b : Schedule) (old new : Option (List ℕ)) (result : Result ℕ E) : Type 0 where
-  pub commands : List Request
-  pub outcome : Outcome
-  pub run : IsRun commands a outcome
-  pub schedule : b ≡ outcome.schedule
-  pub answered : IfOk result (λ status. (status ≡ outcome.status) × Appends old new outcome.shown)
-  pub read : (known : List ℕ) → bytes ≡ Some known → (rest : List Request) × (commands_in known ≡ commands ++ rest) × OnOk result (rest ≡ [])
+-- A script of these bytes was run with so many lanes and these kits on what a record held before: what the record is now, the minutes, what became of the
+-- crews, and the status. The sources and the clock gave what their relations say.
+pub record IsRun {S G O : Type 0} (look : Held S → State) (runs : O → List (ℕ × Outcome)) (taken : O → Option ℕ) (bytes : Option (List ℕ)) (sources : List FileText → Type 0) (clock : List ℕ → Type 0) (lanes : ℕ) (kits : List (Kit O)) (before : State) (store : Held S) (minutes : List Event) (outcome : Result (Settled G O) ConductFault) (status : ℕ) : Type 0 where
+  -- the schedule that was opened, without lanes, and the answer to its restart
+  pub first : Schedule
+  pub given : Answer
+  pub opened : HasCleanDisk (look store) → Opens ceilings 0 before.now first given
+  -- each of the minutes was accepted, one after another; they begin with the restart, and have no other
+  pub accepted : AreAccepted minutes first
+  pub begun : BeginWithRestart lanes minutes
+  -- where the record stored rows and is still open, it stores the schedule after them
+  pub stored : HasCleanDisk (look store) → IsTrue (look store).is_open → (rows : Rows) → Stores before.now rows → Keeps (steps minutes first) (look store).now
+  -- those that are no report and no restart are named by the script's lines
+  pub named : AreNamed bytes sources clock (of_lines minutes) status
+  -- where the run ended well: no try is in flight; each try that was handed out stands in the log of one worker, as often as it was handed out, and no
+  -- other does; what the minutes report of a worker's jobs is what that worker told, in its order; and its log is an account of its kit
+  pub idle : IfOk outcome (λ s. in_flight (steps minutes first) ≡ 0)
+  pub ends : IfOk outcome (λ s. length s.ends.items ≡ length kits)
+  pub once : IfOk outcome (λ s. EachStandsInALog (handed_along minutes first) s.ends.items)
+  pub own : IfOk outcome (λ s. EachToldItsOwn minutes s.ends.items)
+  pub accounts : IfOk outcome (λ s. AreAccounts runs taken kits s.ends.items)
+  -- nothing is left at the desk
+  pub desk : IfOk outcome (λ s. (s.desk.slots ≡ 0) × (s.desk.holds.items ≡ []))

@@ -1,23 +1,16 @@
-//! Scripts: lines become commands, commands change a schedule, and each is answered by its lines.
+//! Scripts that are run: commands change a schedule and its record, workers perform the tries, and each command is answered by its lines.
 //!
-//! [`run_script`] does the commands of an input in their order, on one thread: an accepted event is stepped in the record and in memory, a
-//! refused one changes nothing, and what is no command is answered by its fault; the script goes on after each. [`run_serial`] opens a
-//! record and does so from what it holds on.
-//! A status says how a script went, the greatest of its answers': 0 accepted, 1 refused, 2 no command, 3 a fault of the record, 4 another fault.
+//! [`run_on`] opens a record and runs the script of an input on it. In: a record, lanes, crews, where the script comes from and where its answers go, and
+//! where texts and moments come from. Out: the record, a status, the events that were accepted and what became of the crews. An accepted event is
+//! stepped in the record and in memory, a refused one changes nothing, and what is no command is answered by its fault; the script goes on after each.
 //!
 //! ```text
-//! let (store, status) = run_serial(alloc, store, lanes, input, output)?;
+//! let ran = run_on(rt, alloc, store, RunOptions { lanes: 4 }, crews, input, output, sources, &mut clock)?;
 //! ```
+//!
+//! Easy to get wrong: the minutes have the workers' reports too, so they are more than the script's own events.
 #![tactic(auto)]
 
-mod answering;
-mod failing;
-mod laws;
-mod listing;
 mod running;
-mod serial;
 
-pub use failing::{failure_status, put_failure};
-pub use laws::{a_script_steps_its_events, what_is_set_back_is_told};
-pub use running::run_script;
-pub use serial::run_serial;
+pub use running::{Ran, RunOptions, run_on};

@@ -1,41 +1,130 @@
-//! Running a script.
+//! A script that is run on a record, by workers.
+ghost use Rattle.std.specs.Prelude.{◌≡◌, ◌≤◌, All, IfOk, IfErr, IsTrue, length, map};
 ghost use Rattle.sqlite.specs.Held.{state};
-ghost use Rattle.director.specs.Directors.{Follows};
-ghost use Rattle.script_runner.specs.Runs.{IsScriptRun};
+ghost use Rattle.sqlite.specs.State.{HasCleanDisk};
+ghost use Rattle.operators.specs.Kits.{IsKit};
+ghost use Rattle.sched_state.specs.Limits.{ceilings};
+ghost use Rattle.director.specs.Faults.{IsOpenFault};
+ghost use Rattle.script_reader.specs.Ends.{IsEndStatus};
+ghost use Rattle.script_runner.specs.Runs.{IsRun};
 
-use crate::answering::answer;
-use director::Director;
-use script_commands::next_command;
-use script_lines::LineReader;
+use conduct::{Conducted, conduct};
+use crews::Settled;
+use director::{Director, Fault};
+use meta_store::Store;
+use operators::Operator;
+use sched_core::{Event, Limits};
+use script_reader::{ScriptReader, Sources};
+use sessions::{Clock, ConductFault};
 use sqlite::Alter;
 use std::alloc::Global;
-use std::io::{self, ErrorKind, Read, Write};
+use std::io::{BufRead, Write};
+use std::sync::Wait;
+use std::thread::Threads;
+use work::{Crew, Gate};
 
-// How many commands are read before reading ends in an error.
-const MOST_COMMANDS: u64 = 1 << 40;
+/// How a script is run.
+#[derive(Clone, Copy, Debug, PartialEq, Eq)]
+pub struct RunOptions {
+    /// The most tries that may be in flight, at most 64. With none nothing is handed out.
+    pub lanes: u32,
+}
 
-/// Does the commands of a script and writes the answer of each, in order; the status is the greatest of theirs.
+/// What came of a script.
+#[derive(Drop)]
+pub struct Ran<S: Alter, G: Gate, O: Operator, F: Sources> {
+    /// The record.
+    pub store: Store<S>,
+    /// How it went: the greatest status of the answers and of the end. 0 where all was accepted, 1 where an event was refused, 2 where a line is no command,
+    /// 3 for a fault of the record, 4 for any other.
+    pub status: u8,
+    /// The events that were accepted, in their order, from the restart on.
+    pub minutes: Vec<Event>,
+    /// What became of the crews, in their order, or why the run ended before the script did.
+    pub outcome: Result<Settled<G, O>, ConductFault>,
+    /// Where the texts of `load PATH` came from.
+    pub sources: F,
+}
+
+/// Opens a record within the greatest limits, without lanes, and runs a script on it with workers, one for each crew, each on a thread of its own.
 ///
-/// An error is the reader's or the writer's. Then the first of the script's commands are done; what was written of their answers is not
-/// known, and no contract can say where a reader or a writer fails. `lines` is what the script is read with.
-pub fn run_script<S: Alter, R: Read, W: Write>(
+/// The input is read byte by byte, which is why it has a buffer. The output is flushed before each command is read. An error says why the record is
+/// not opened, and gives it back.
+pub fn run_on<
+    S: Alter + Drop,
+    G: Gate + Send,
+    O: Operator + Send,
+    R: BufRead + Drop,
+    W: Write + Drop,
+    F: Sources,
+    C: Clock,
+    T: Threads + Wait + Sync,
+>(
+    rt: &T,
     alloc: Global,
-    director: &mut Director<S>,
-    lines: &mut LineReader,
-    input: &mut R,
-    output: &mut W,
-) -> io::Result<u8>
-    ensures run { IsScriptRun (R.remaining input.old) director.old.schedule.content
-        director.new.schedule.content (W.contents output.old) (W.contents output.new) result }
-    ensures followed { Follows director.old.schedule.content (state S.Store director.old.store)
-        director.new.schedule.content (state S.Store director.new.store) }
+    store: Store<S>,
+    options: RunOptions,
+    crews: Vec<Crew<G, O>>,
+    input: R,
+    output: W,
+    sources: F,
+    clock: &mut C,
+) -> Result<Ran<S, G, O, F>, (Store<S>, Fault)>
+    requires lanes { options.lanes ≤ 64 }
+    requires crews { length crews.items ≤ 16 }
+    requires kits { All (λ c. IsKit O.kind_of c.kit) crews.items }
+    ensures run { IfOk result (λ ran. IsRun (state S.Store) O.runs_of O.taken (R.Read.remaining input)
+        (λ given. F.gives sources given ran.sources) (λ moments. C.gives clock.old moments clock.new)
+        options.lanes (map (λ c. c.kit) crews.items) (state S.Store store) ran.store ran.minutes.items ran.outcome ran.status) }
+    ensures fault { IfErr result (λ e. HasCleanDisk (state S.Store e.0)
+        → IsOpenFault ceilings 0 (state S.Store store).now e.1) }
+    ensures kept { IfErr result (λ e. HasCleanDisk (state S.Store e.0)
+        → IsTrue (state S.Store e.0).is_open
+        → ((state S.Store e.0).now ≡ (state S.Store store).now)
+        × ((state S.Store e.0).committed ≡ (state S.Store store).committed)) }
 {
-    let mut status = 0;
-    for _command in 0..MOST_COMMANDS {
-        match next_command(alloc, lines, input)? {
-            None => return Ok(status),
-            Some(request) => status = status.max(answer(alloc, director, request, output)?),
+    let Ok(mut reader) = ScriptReader::new(alloc, input, output, sources) else {
+        return Err((store, Fault::Memory));
+    };
+    match Director::open(alloc, store, 0, Limits::full()) {
+        Ok(director) => {
+            let conducted = conduct(
+                rt,
+                alloc,
+                director,
+                options.lanes,
+                crews,
+                &mut reader,
+                clock,
+            );
+            Ok(close(reader, conducted))
         }
+        Err(unopened) => Err(unopened),
     }
-    Err(io::Error::from(ErrorKind::Other))
+}
+
+// Ends a script that was run.
+fn close<S: Alter, G: Gate, O: Operator, R: BufRead + Drop, W: Write + Drop, F: Sources>(
+    reader: ScriptReader<R, W, F>,
+    conducted: Conducted<S, G, O>,
+) -> Ran<S, G, O, F>
+    ensures store { result.store ≡ conducted.director.store }
+    ensures status { IsEndStatus reader.status conducted.outcome result.status }
+    ensures minutes { result.minutes ≡ conducted.minutes }
+    ensures outcome { result.outcome ≡ conducted.outcome }
+    ensures sources { result.sources ≡ reader.sources }
+{
+    let Conducted {
+        director,
+        minutes,
+        outcome,
+    } = conducted;
+    let (status, sources) = reader.close(&outcome);
+    Ran {
+        store: director.close(),
+        status,
+        minutes,
+        outcome,
+        sources,
+    }
 }

@@ -1,7 +1,8 @@
 //! Graphs with more than one cycle: which of them is told is open.
 use crate::records::run;
-use std::alloc::Global;
+use std::sync::Wait;
 use std::test::Fail;
+use std::thread::Threads;
 
 // a and b wait for one another, and so do c, e and d.
 const TWO_CYCLES: &str = "load inline
@@ -18,16 +19,20 @@ task = [
 .
 ";
 
-fn printed(alloc: Global, script: &str) -> Result<String, Fail> {
-    let mut output = Vec::new(alloc);
-    run(alloc, 0, script.as_bytes(), &mut output)?;
+fn printed<T: Threads + Wait + Sync>(
+    rt: &T,
+    host: &HostRuntime,
+    script: &str,
+) -> Result<String, Fail> {
+    let mut output = Vec::new(host.alloc());
+    run(rt, host, 0, script.as_bytes(), &mut output)?;
     Ok(String::from_utf8(output).map_err(|_| "no text")?)
 }
 
 // A closed walk: each task is an upstream of the next, and the first of them in the file stands first.
 #[test]
 fn one_of_two_cycles_is_told(rt: HostRuntime) -> Result<(), Fail> {
-    let text = printed(rt.alloc(), TWO_CYCLES)?;
+    let text = printed(&rt, &rt, TWO_CYCLES)?;
     let cycles = [
         "refused 2 DagFault 4 Cycle a b\n",
         "refused 2 DagFault 4 Cycle c e d\n",

@@ -2,7 +2,9 @@
 use crate::records::run;
 use sched_core::{Event, GraphText, Limits, Moment, Outcome, Schedule, Stage};
 use std::alloc::{AllocError, Global};
+use std::sync::Wait;
 use std::test::Fail;
+use std::thread::Threads;
 
 // The file of a graph of so many tasks, each after the one before it where they are a chain.
 fn file(alloc: Global, tasks: u32, is_chain: bool) -> Result<String, AllocError> {
@@ -24,19 +26,24 @@ fn file(alloc: Global, tasks: u32, is_chain: bool) -> Result<String, AllocError>
 }
 
 // What a script that loads a chain of so many tasks prints.
-fn loaded(alloc: Global, tasks: u32) -> Result<String, Fail> {
+fn loaded<T: Threads + Wait + Sync>(
+    rt: &T,
+    host: &HostRuntime,
+    tasks: u32,
+) -> Result<String, Fail> {
+    let alloc = host.alloc();
     let text = file(alloc, tasks, true)?;
     let script = format!(in alloc; "load inline\n{text}.\n")?;
     let mut output = Vec::new(alloc);
-    run(alloc, 0, script.as_bytes(), &mut output)?;
+    run(rt, host, 0, script.as_bytes(), &mut output)?;
     Ok(String::from_utf8(output).map_err(|_| "no text")?)
 }
 
 #[test]
 fn a_graph_may_have_256_tasks(rt: HostRuntime) -> Result<(), Fail> {
-    let most = loaded(rt.alloc(), 256)?;
+    let most = loaded(&rt, &rt, 256)?;
     assert_eq!(rt; most.as_str(), "ok\n");
-    let more = loaded(rt.alloc(), 257)?;
+    let more = loaded(&rt, &rt, 257)?;
     assert_eq!(rt; more.as_str(), "refused 1 GraphFault 9 TooMany\n");
     Ok(())
 }

@@ -7,25 +7,42 @@ use graph_file::GraphFault;
 use sched_core::{Moment, Refusal};
 use script_commands::next_command;
 use script_lines::LineReader;
-use std::alloc::Global;
 use std::io::{BufReader, ErrorKind};
+use std::sync::Wait;
 use std::test::Fail;
+use std::thread::Threads;
 
 const TICKS: &[u8; 32] = b"tick 2024-01-02\ntick 2024-01-01\n";
 
-// The status of a script of two ticks whose reads fail after so many, and whether its clock was set and something was written.
-fn read_in(alloc: Global, calls: usize) -> Result<(u8, bool, bool), Fail> {
-    let text = TICKS.as_slice();
-    let input = BufReader::with_capacity(alloc, 1, Failing { text, calls })?;
-    let mut output = Vec::new(alloc);
-    let (schedule, status) = run(alloc, 0, input, &mut output)?;
-    Ok((status, schedule.now() > Moment::at(0), !output.is_empty()))
+// The status of a script of two ticks whose reads fail after so many, and whether its clock was set and its first tick was answered.
+fn read_in<T: Threads + Wait + Sync>(
+    rt: &T,
+    host: &HostRuntime,
+    calls: usize,
+) -> Result<(u8, bool, bool), Fail> {
+    let script = TICKS.as_slice();
+    let input = BufReader::with_capacity(
+        host.alloc(),
+        1,
+        Failing {
+            text: script,
+            calls,
+        },
+    )?;
+    let mut output = Vec::new(host.alloc());
+    let (schedule, status) = run(rt, host, 0, input, &mut output)?;
+    let text = output.as_slice();
+    if !text.ends_with(b"conduct 4 ReadFault\n") {
+        return Err(Fail::from("no last line"));
+    }
+    let is_answered = text.starts_with(b"ok\n");
+    Ok((status, schedule.now() > Moment::at(0), is_answered))
 }
 
 #[test]
 fn a_failed_read_ends_the_script(rt: HostRuntime) -> Result<(), Fail> {
     for calls in 0..33 {
-        let found = read_in(rt.alloc(), calls)?;
+        let found = read_in(&rt, &rt, calls)?;
         let is_done = calls >= 16;
         assert_eq!(rt; found, (4, is_done, is_done), "at {calls}");
     }
@@ -33,18 +50,22 @@ fn a_failed_read_ends_the_script(rt: HostRuntime) -> Result<(), Fail> {
 }
 
 // The status of the same script where writes fail after so many, the moment that it leaves, and how many writes are left.
-fn written_in(alloc: Global, calls: usize) -> Result<(u8, Moment, usize), Fail> {
+fn written_in<T: Threads + Wait + Sync>(
+    rt: &T,
+    host: &HostRuntime,
+    calls: usize,
+) -> Result<(u8, Moment, usize), Fail> {
     let mut writer = Failing { text: b"", calls };
-    let (schedule, status) = run(alloc, 0, TICKS.as_slice(), &mut writer)?;
+    let (schedule, status) = run(rt, host, 0, TICKS.as_slice(), &mut writer)?;
     Ok((status, schedule.now(), writer.calls))
 }
 
 #[test]
 fn a_failed_write_ends_the_script(rt: HostRuntime) -> Result<(), Fail> {
-    let (status, now, left) = written_in(rt.alloc(), 1_000)?;
+    let (status, now, left) = written_in(&rt, &rt, 1_000)?;
     assert_eq!(rt; (status, now), (1, Moment::at(1_704_153_600)));
     for calls in 0..1_000usize.saturating_sub(left) {
-        let (status, _, left) = written_in(rt.alloc(), calls)?;
+        let (status, _, left) = written_in(&rt, &rt, calls)?;
         assert_eq!(rt; (status, left), (4, 0), "at {calls}");
     }
     Ok(())

@@ -1,10 +1,10 @@
 //! What is asked of a schedule that has it not.
-use crate::records::{new_record, run};
-use director::Fault;
-use sched_core::{Moment, Name, Refusal, Schedule};
-use script_runner::run_serial;
+use crate::records::run;
+use sched_core::{Moment, Name, Schedule};
 use std::alloc::Global;
+use std::sync::Wait;
 use std::test::Fail;
+use std::thread::Threads;
 
 const SCRIPT: &str = "load inline
 dag_id = \"one\"
@@ -20,9 +20,9 @@ fn name(alloc: Global, text: &str) -> Result<Name, Fail> {
 }
 
 // The schedule of the script, with one lane.
-fn schedule(alloc: Global) -> Result<Schedule, Fail> {
-    let mut output = Vec::new(alloc);
-    let (schedule, _status) = run(alloc, 1, SCRIPT.as_bytes(), &mut output)?;
+fn schedule<T: Threads + Wait + Sync>(rt: &T, host: &HostRuntime) -> Result<Schedule, Fail> {
+    let mut output = Vec::new(host.alloc());
+    let (schedule, _status) = run(rt, host, 1, SCRIPT.as_bytes(), &mut output)?;
     Ok(schedule)
 }
 
@@ -40,7 +40,7 @@ fn tries(
 
 #[test]
 fn an_instance_is_found_by_its_key(rt: HostRuntime) -> Result<(), Fail> {
-    let schedule = schedule(rt.alloc())?;
+    let schedule = schedule(&rt, &rt)?;
     for (key, wanted) in [
         (("one", "2024-01-01", "t"), Some(1)),
         (("one", "2024-01-01", "one"), None),
@@ -49,17 +49,5 @@ fn an_instance_is_found_by_its_key(rt: HostRuntime) -> Result<(), Fail> {
     ] {
         assert_eq!(rt; tries(rt.alloc(), &schedule, key)?, wanted);
     }
-    Ok(())
-}
-
-#[test]
-fn a_script_has_64_lanes_at_most(rt: HostRuntime) -> Result<(), Fail> {
-    let mut output = Vec::new(rt.alloc());
-    let store = new_record(rt.alloc())?;
-    let ended = run_serial(rt.alloc(), store, 65, b"".as_slice(), &mut output);
-    let Err((_, fault)) = ended else {
-        return Err(Fail::from("opened"));
-    };
-    assert!(rt; matches!(fault, Fault::Refused(Refusal::LanesTooMany)));
     Ok(())
 }

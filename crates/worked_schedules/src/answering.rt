@@ -19,6 +19,9 @@ pub fn answer<W: Write>(
         Ok(Command::ListRuns) => put_runs(output, played.schedule().runs()),
         Ok(Command::ListTasks) => put_tasks(played.schedule(), output),
         Ok(Command::ListPools) => put_pools(played.schedule(), output),
+        Ok(Command::LoadFile(_) | Command::TickNow | Command::Drain) => output.write_all(
+            b"not here\n",
+        ),
         Err(fault) => put_fault(output, fault),
     }
 }

@@ -5,7 +5,7 @@ use crate::records::Played;
 use answer_lines::put_answer;
 use director::Fault;
 use sched_core::{Answer, Event};
-use script_runner::put_failure;
+use script_reader::put_failure;
 use std::alloc::Global;
 use std::io::{self, Write};
 

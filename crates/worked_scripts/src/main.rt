@@ -1,7 +1,8 @@
-//! Worked scripts: each from a new record in memory, with what it prints and its status.
+//! Worked scripts: each from a new record in memory, with one worker, with what it prints and its status.
 //!
 //! Standard input has headings, `== LANES TITLE`, and below each the lines of a script. Standard output has the same, with `> ` before each
-//! line of a script, and after them what the script prints and its status. So the output reads as one page.
+//! line of a script, and after them what the script prints and its status. So the output reads as one page. The clock of `tick now` gives three
+//! moments, 2024-01-02, 2024-01-03 and 2024-01-01, and then fails: once as it would past 2199, and then as one that is not there.
 //!
 //! ```text
 //! == 4 pools are sized and listed
@@ -15,51 +16,91 @@
 //! ```
 #![tactic(auto)]
 
+mod clocks;
 mod sections;
 
+use clocks::worked_clock;
 use meta_store::Store;
-use script_runner::{failure_status, put_failure, run_serial};
+use program_parts::{FileSources, operators_for, run_team};
+use script_reader::{failure_status, put_failure};
 use sections::{Section, next_section};
 use sqlite::Connection;
-use std::alloc::Global;
+use std::fs;
 use std::io::{self, BufWriter, ErrorKind, Read, Write};
+use std::sync::Wait;
+use std::thread::Threads;
+
+// Where the tries of `command` have their folders.
+const SCRATCH: &str = "tries";
 
 fn main(rt: HostRuntime) -> io::Result<()> {
     let alloc = rt.alloc();
+    // the folder of the tries of `command`
+    fs::create_dir(&rt, SCRATCH)?;
     let mut text = Vec::new(alloc);
     rt.stdin().read_to_end(&mut text)?;
     let mut output = BufWriter::new(alloc, rt.stdout())?;
-    run_all(alloc, text.as_slice(), &mut output)?;
-    output.flush()
+    run_all(&rt, &rt, text.as_slice(), &mut output)?;
+    output.flush()?;
+    fs::remove_dir(&rt, SCRATCH)
 }
 
 // Runs the scripts of a text, one after another.
-fn run_all<W: Write + Drop>(alloc: Global, text: &[u8], output: &mut W) -> io::Result<()> {
+fn run_all<T: Threads + Wait + Sync, W: Write + Drop>(
+    rt: &T,
+    host: &HostRuntime,
+    text: &[u8],
+    output: &mut W,
+) -> io::Result<()> {
     let mut left = text;
     for _section in 0..text.len() {
         let Some((section, rest)) = next_section(left) else {
             break;
         };
-        run(alloc, &section, output)?;
+        run(rt, host, &section, output)?;
         left = rest;
     }
     Ok(())
 }
 
-fn run<W: Write + Drop>(alloc: Global, section: &Section<'_>, output: &mut W) -> io::Result<()> {
+fn run<T: Threads + Wait + Sync, W: Write + Drop>(
+    rt: &T,
+    host: &HostRuntime,
+    section: &Section<'_>,
+    output: &mut W,
+) -> io::Result<()> {
     put_line(section.heading, output)?;
     echo(section.script, output)?;
-    let status = status(alloc, section, output)?;
+    let status = status(rt, host, section, output)?;
     writeln!(output, "status {status}\n")
 }
 
 // Runs a script on a new record in memory, and answers its status.
-fn status<W: Write + Drop>(alloc: Global, section: &Section<'_>, output: &mut W) -> io::Result<u8> {
+fn status<T: Threads + Wait + Sync, W: Write + Drop>(
+    rt: &T,
+    host: &HostRuntime,
+    section: &Section<'_>,
+    output: &mut W,
+) -> io::Result<u8> {
+    let alloc = host.alloc();
     let Ok(store) = Store::create(alloc, Connection::open_in_memory(alloc)?) else {
         return Err(io::Error::from(ErrorKind::OutOfMemory));
     };
-    match run_serial(alloc, store, section.lanes(), section.script, &mut *output) {
-        Ok((_store, status)) => Ok(status),
+    let team = operators_for(*host, alloc, 1, SCRATCH)?;
+    let sources = FileSources::new(*host, alloc);
+    let mut clock = worked_clock(alloc)?;
+    match run_team(
+        rt,
+        alloc,
+        store,
+        section.lanes(),
+        team,
+        section.script,
+        &mut *output,
+        sources,
+        &mut clock,
+    ) {
+        Ok(ran) => Ok(ran.status),
         Err((_store, fault)) => {
             put_failure(output, &fault)?;
             Ok(failure_status(&fault))

@@ -1,4 +1,6 @@
 //! The sections of a text, each a heading and the lines of a script.
+ghost use Rattle.std.specs.Prelude.{◌≤◌};
+
 use std::str;
 
 /// A heading, `== LANES TITLE`, and the text below it. Neither has the newline that ends it.
@@ -9,13 +11,16 @@ pub struct Section<'a> {
 }
 
 impl Section<'_> {
-    /// The number of lanes, none where the heading has no number.
-    pub fn lanes(&self) -> u32 {
+    /// The number of lanes, of 64 at most; none where the heading has no number.
+    pub fn lanes(&self) -> u32
+        ensures { result ≤ 64 }
+    {
         str::from_utf8(self.heading)
             .ok()
             .and_then(|text| text.split(' ').nth(1))
             .and_then(|word| word.parse::<u32>().ok())
             .unwrap_or(0)
+            .min(64)
     }
 }
 

@@ -1,0 +1,28 @@
+-- What an operator of whichever kind shows: what the one inside does.
+use Rattle.std.specs.Prelude.{ℕ, Bool, List, Option}
+use Rattle.graph_file.specs.declared.operators.Operator.{Operator as Kind}
+use Rattle.graph_file.specs.declared.operators.Operator.TheVariants as kinds
+use Rattle.instance_machine.specs.declared.tries.Outcome.{Outcome}
+use Rattle.program_parts.specs.declared.task_operators.TaskOperator.{TaskOperator}
+use Rattle.program_parts.specs.declared.task_operators.TaskOperator.TheVariants.{Noop, Exit, Command}
+
+module _ {P : Type 0} where
+  abbrev pub kind_of : (P → Kind) → TaskOperator P → Kind
+  kind_of kind (Noop o) = kinds.Noop
+  kind_of kind (Exit o) = kinds.Exit
+  kind_of kind (Command o) = kind o
+
+  abbrev pub runs_of : (P → List (ℕ × Outcome)) → TaskOperator P → List (ℕ × Outcome)
+  runs_of runs (Noop o) = o.progress.runs
+  runs_of runs (Exit o) = o.progress.runs
+  runs_of runs (Command o) = runs o
+
+  abbrev pub taken_by : (P → Option ℕ) → TaskOperator P → Option ℕ
+  taken_by taken (Noop o) = o.progress.taken
+  taken_by taken (Exit o) = o.progress.taken
+  taken_by taken (Command o) = taken o
+
+  abbrev pub performed_by : (P → Bool) → TaskOperator P → Bool
+  performed_by performed (Noop o) = o.progress.performed
+  performed_by performed (Exit o) = o.progress.performed
+  performed_by performed (Command o) = performed o

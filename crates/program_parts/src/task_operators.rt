@@ -1,0 +1,99 @@
+//! An operator of whichever kind, so that a worker may have one of each.
+use graph_file::Operator as Kind;
+use instance_machine::Outcome;
+use operators::{BeginFault, Exit, Noop, Operator, Program};
+use sched_state::Job;
+use std::alloc::{AllocError, Global};
+use std::process::Processes;
+use std::rt::Files;
+
+/// An operator of one of the three kinds, of which `command` is this one.
+#[derive(Drop)]
+pub enum TaskOperator<P: Operator> {
+    /// `noop`
+    Noop(Noop),
+    /// `exit`
+    Exit(Exit),
+    /// `command`
+    Command(P),
+}
+
+impl<P: Operator> Operator for TaskOperator<P> {
+    ghost use Rattle.program_parts.specs.TaskOperators as spec;
+
+    ghost kind_of = { spec.kind_of P.kind_of };
+
+    ghost runs_of = { spec.runs_of P.runs_of };
+
+    ghost taken = { spec.taken_by P.taken };
+
+    ghost performed = { spec.performed_by P.performed };
+
+    fn kind(&self) -> Kind {
+        match self {
+            TaskOperator::Noop(operator) => operator.kind(),
+            TaskOperator::Exit(operator) => operator.kind(),
+            TaskOperator::Command(operator) => operator.kind(),
+        }
+    }
+
+    fn runs(&self) -> &[(u64, Outcome)] {
+        match self {
+            TaskOperator::Noop(operator) => operator.runs(),
+            TaskOperator::Exit(operator) => operator.runs(),
+            TaskOperator::Command(operator) => operator.runs(),
+        }
+    }
+
+    fn begin(&mut self, job: &Job) -> Result<(), BeginFault> {
+        match self {
+            TaskOperator::Noop(operator) => operator.begin(job),
+            TaskOperator::Exit(operator) => operator.begin(job),
+            TaskOperator::Command(operator) => operator.begin(job),
+        }
+    }
+
+    fn perform(&mut self, job: &Job) -> Outcome {
+        match self {
+            TaskOperator::Noop(operator) => operator.perform(job),
+            TaskOperator::Exit(operator) => operator.perform(job),
+            TaskOperator::Command(operator) => operator.perform(job),
+        }
+    }
+
+    fn finish(&mut self) {
+        match self {
+            TaskOperator::Noop(operator) => operator.finish(),
+            TaskOperator::Exit(operator) => operator.finish(),
+            TaskOperator::Command(operator) => operator.finish(),
+        }
+    }
+}
+
+/// So many lists of the three operators, one list for each worker. The tries of `command` have their folders under this one.
+pub fn operators_for<R: Files + Processes + Copy + Drop>(
+    rt: R,
+    alloc: Global,
+    workers: u32,
+    scratch: &str,
+) -> Result<Vec<Vec<TaskOperator<Program<R>>>>, AllocError> {
+    let mut team = Vec::new(alloc);
+    for _worker in 0..workers {
+        team.push(three_operators(rt, alloc, scratch)?)?;
+    }
+    Ok(team)
+}
+
+// One operator of each kind.
+fn three_operators<R: Files + Processes + Copy + Drop>(
+    rt: R,
+    alloc: Global,
+    scratch: &str,
+) -> Result<Vec<TaskOperator<Program<R>>>, AllocError> {
+    let base = String::from_str(alloc, scratch)?;
+    let mut operators = Vec::new(alloc);
+    operators.push(TaskOperator::Noop(Noop::new(alloc)))?;
+    operators.push(TaskOperator::Exit(Exit::new(alloc)))?;
+    operators.push(TaskOperator::Command(Program::new(rt, alloc, base)))?;
+    Ok(operators)
+}

@@ -1,0 +1,46 @@
+-- The statuses of what is not done.
+use Rattle.std.specs.Prelude.{ℕ, List, Result, Ok, Err, codes}
+use Rattle.sched_events.specs.declared.answers.Answer.{Answer}
+use Rattle.sched_events.specs.declared.refusals.Refusal.{Refusal}
+use Rattle.sched_events.specs.declared.refusals.Refusal.TheVariants as refusal
+use Rattle.script_commands.specs.declared.commands.CommandFault.{CommandFault}
+use Rattle.script_commands.specs.declared.commands.CommandFault.TheVariants.{Usage, Source, Memory}
+use Rattle.sched_events.specs.declared.events.Event.{Event}
+use Rattle.answer_lines.specs.Answers.{answer_text}
+use Rattle.answer_lines.specs.Refusals.{refusal_text}
+use Rattle.director.specs.declared.faults.Fault.{Fault}
+use Rattle.director.specs.declared.faults.Fault.TheVariants as failed
+use Rattle.script_reader.specs.StoreLines.{store_text}
+
+-- the status of a refusal: 1, and 4 for want of memory
+abbrev pub refusal_status : Refusal → ℕ
+refusal_status refusal.Memory = 4
+refusal_status _ = 1
+
+-- the status of an event that is not stepped: that of its refusal, 3 for a fault of the record, and 4 for want of memory
+abbrev pub failure_status : Fault → ℕ
+failure_status (failed.Refused r) = refusal_status r
+failure_status (failed.Store fault) = 3
+failure_status failed.Memory = 4
+
+-- the status of an event that is answered so
+abbrev pub status_of : Result Answer Fault → ℕ
+status_of (Ok answer) = 0
+status_of (Err fault) = failure_status fault
+
+-- its line
+abbrev pub failure_text : Fault → List ℕ
+failure_text (failed.Refused r) = refusal_text r
+failure_text (failed.Store fault) = store_text fault
+failure_text failed.Memory = codes "memory\n"
+
+-- the status of what is no command: 2, and 4 for a text that could not be had
+abbrev pub fault_status : CommandFault → ℕ
+fault_status (Usage fault) = 2
+fault_status (Source fault) = 4
+fault_status Memory = 4
+
+-- what is shown of an event: its answer, or why it is not stepped
+abbrev pub shown_for : Event → Result Answer Fault → List ℕ
+shown_for e (Ok answer) = answer_text e answer
+shown_for e (Err fault) = failure_text fault

@@ -1,0 +1,101 @@
+//! A script as the lines of a session.
+ghost use Rattle.std.specs.Prelude.{◌≡◌, ◌&&◌, not, is_some, max, None, Some, Ok, OnOk, MatchResult};
+ghost use Rattle.std.specs.Io.KnownBytes.{Appends};
+ghost use Rattle.script_reader.specs.Statuses.{shown_for, status_of};
+
+use crate::clock_lines::put_clock_fault;
+use crate::failing::{failure_status, put_failure};
+use crate::reader::ScriptReader;
+use crate::sources::Sources;
+use answer_lines::put_answer;
+use director::Fault;
+use sched_core::Schedule;
+use sched_events::{Answer, Event};
+use sessions::{ClockFault, Line, LineFault, Lines};
+use std::io::{self, ErrorKind, Read, Write};
+
+impl<R: Read + Drop, W: Write + Drop, F: Sources> ScriptReader<R, W, F> {
+    // Writes the answer to an event, or why it was not accepted.
+    fn put(&mut self, event: &Event, answer: &Result<Answer, Fault>) -> io::Result<()>
+        ensures input { self.new.input ≡ self.old.input }
+        ensures sources { self.new.sources ≡ self.old.sources }
+        ensures failed { self.new.failed ≡ self.old.failed }
+        ensures over { self.new.is_over ≡ self.old.is_over }
+        ensures status { self.new.status ≡ max self.old.status (status_of answer.now) }
+        ensures shown { OnOk result (Appends (W.contents self.old.output) (W.contents self.new.output)
+            (shown_for event.now answer.now)) }
+    {
+        match answer {
+            Ok(answer) => put_answer(&mut self.output, event, answer),
+            Err(fault) => {
+                self.status = self.status.max(failure_status(fault));
+                put_failure(&mut self.output, fault)
+            }
+        }
+    }
+
+    // Keeps what the script failed in, if it did.
+    fn end(&mut self, put: io::Result<()>) -> Result<(), LineFault>
+        ensures input { self.new.input ≡ self.old.input }
+        ensures sources { self.new.sources ≡ self.old.sources }
+        ensures status { self.new.status ≡ self.old.status }
+        ensures over { self.new.is_over ≡ self.old.is_over }
+        ensures failed { MatchResult result (λ _. self.new.failed ≡ self.old.failed)
+            (λ fault. self.new.failed ≡ Some fault) }
+    {
+        match put {
+            Ok(()) => Ok(()),
+            Err(error) => {
+                let fault = fault_of(&error);
+                self.failed = Some(fault);
+                Err(fault)
+            }
+        }
+    }
+}
+
+// What a script fails in by an error of its reader or its writer.
+fn fault_of(error: &io::Error) -> LineFault {
+    match error.kind() {
+        ErrorKind::OutOfMemory => LineFault::Memory,
+        _ => LineFault::Failed,
+    }
+}
+
+impl<R: Read + Drop, W: Write + Drop, F: Sources> Lines for ScriptReader<R, W, F> {
+    ghost use Rattle.script_reader.specs.Readers.{Tells, tells_nothing};
+
+    ghost tells = { Tells R.remaining F.gives };
+
+    ghost failed = { λ s. s.failed };
+
+    ghost over = { λ s. s.is_over };
+
+    ghost begins = { tells_nothing R.remaining F.gives F.begins };
+
+    fn next(&mut self, schedule: &Schedule) -> Result<Option<Line>, LineFault> {
+        match self.read_line(schedule) {
+            Ok(next) => {
+                self.is_over = next.is_none();
+                Ok(next)
+            }
+            Err(error) => {
+                let fault = fault_of(&error);
+                self.failed = Some(fault);
+                self.is_over = false;
+                Err(fault)
+            }
+        }
+    }
+
+    fn answered(&mut self, event: &Event, answer: &Result<Answer, Fault>) -> Result<(), LineFault> {
+        let put = self.put(event, answer);
+        self.end(put)
+    }
+
+    fn no_clock(&mut self, fault: ClockFault) -> Result<(), LineFault> {
+        self.status = 4;
+        let put = put_clock_fault(&mut self.output, fault);
+        self.end(put)
+    }
+}

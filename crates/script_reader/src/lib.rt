@@ -1,0 +1,25 @@
+//! A script as the lines of a session: commands are read one by one, and each is answered before the next is read.
+//!
+//! A [`ScriptReader`] reads the commands of an input and writes their answers. What asks for rows is answered when it is read, and what is no
+//! command by its fault; an event, a tick at the moment that it is and a drain are left to whoever runs the schedule, by the calls of `Lines`. What
+//! was written is flushed before the next command is read. The texts of `load PATH` come from [`Sources`].
+//!
+//! ```text
+//! let mut reader = ScriptReader::new(alloc, input, output, sources)?;
+//! conduct(rt, alloc, director, 4, crews, &mut reader, &mut clock)
+//! ```
+//!
+//! Easy to get wrong: a drain is answered when the next command is read, since only then no try is in flight.
+#![tactic(auto)]
+
+mod answering;
+mod clock_lines;
+mod ending;
+mod failing;
+mod listing;
+mod reader;
+mod sources;
+
+pub use failing::{failure_status, put_failure};
+pub use reader::ScriptReader;
+pub use sources::Sources;

@@ -1,0 +1,190 @@
+//! A script that is read command by command, and answered line by line.
+ghost use Rattle.std.specs.Prelude.{◌≡◌, ◌++◌, ℕ, max, List, Bool, true, false, None, Some, Option, Ok, Err, is_err, IfOk, IfSome, MatchOption, MatchResult, OnOk};
+ghost use Rattle.std.specs.Io.KnownBytes.{Appends};
+ghost use Rattle.sched_events.specs.declared.answers.Answer.{Answer};
+ghost use Rattle.sched_events.specs.declared.events.Event.{Event};
+ghost use Rattle.script_commands.specs.Commands.{is_asked};
+ghost use Rattle.script_commands.specs.declared.commands.Command.TheVariants.{LoadFile};
+ghost use Rattle.script_commands.specs.declared.commands.SourceFault.{SourceFault};
+ghost use Rattle.answer_lines.specs.Faults.{fault_text, source_text};
+ghost use Rattle.sessions.specs.Lines.{may_be_read, opened_by};
+ghost use Rattle.script_reader.specs.Commands.{Does, is_end, line_of, texts_of};
+ghost use Rattle.script_reader.specs.Done.{FileText, HasDone};
+ghost use Rattle.script_reader.specs.Shown.{IsShown};
+ghost use Rattle.script_reader.specs.Statuses as spec;
+
+use crate::listing::{put_pools, put_tasks};
+use crate::sources::Sources;
+use answer_lines::{put_fault, put_ok, put_runs};
+use sched_core::Schedule;
+use sched_events::Event;
+use sched_state::GraphText;
+use script_commands::{Command, CommandFault, FilePath, next_command};
+use script_lines::LineReader;
+use sessions::{Line, LineFault};
+use std::alloc::{AllocError, Global};
+use std::io::{self, ErrorKind, Read, Write};
+
+// How many commands are read before reading ends in an error.
+const MOST_COMMANDS: u64 = 1 << 40;
+
+/// A script that is read command by command, and answered line by line.
+#[derive(Drop)]
+pub struct ScriptReader<R: Read + Drop, W: Write + Drop, F: Sources> {
+    pub(crate) alloc: Global,
+    pub(crate) lines: LineReader,
+    pub(crate) input: R,
+    pub(crate) output: W,
+    pub(crate) sources: F,
+    // The greatest status of what was answered.
+    pub(crate) status: u8,
+    // A drain was read, and is answered before the next command is read.
+    pub(crate) has_drained: bool,
+    pub(crate) failed: Option<LineFault>,
+    pub(crate) is_over: bool,
+}
+
+impl<R: Read + Drop, W: Write + Drop, F: Sources> ScriptReader<R, W, F> {
+    /// A script of which nothing is read yet.
+    pub fn new(alloc: Global, input: R, output: W, sources: F) -> Result<Self, AllocError>
+        ensures input { IfOk result (λ reader. reader.input ≡ input) }
+        ensures output { IfOk result (λ reader. reader.output ≡ output) }
+        ensures sources { IfOk result (λ reader. reader.sources ≡ sources) }
+        ensures status { IfOk result (λ reader. reader.status ≡ 0) }
+        ensures failed { IfOk result (λ reader. reader.failed ≡ None) }
+        ensures over { IfOk result (λ reader. reader.is_over ≡ false) }
+    {
+        Ok(ScriptReader {
+            alloc,
+            lines: LineReader::new(alloc)?,
+            input,
+            output,
+            sources,
+            status: 0,
+            has_drained: false,
+            failed: None,
+            is_over: false,
+        })
+    }
+
+    // Reads and answers commands, up to one that leaves a line to the run; nothing where the script is over.
+    pub(crate) fn read_line(&mut self, schedule: &Schedule) -> io::Result<Option<Line>>
+        ensures told { (first : Option (List ℕ)) (s : F) (told : List (Event × Answer)) (ticks : List ℕ) (has_ended : Bool)
+            → HasDone first (λ given. F.gives s given self.old.sources) told ticks None
+            (R.remaining self.old.input) self.old.status false has_ended
+            → HasDone first (λ given. F.gives s given self.new.sources) told ticks (opened_by result)
+            (R.remaining self.new.input) self.new.status (is_err result) (is_end result) }
+        ensures failed { self.new.failed ≡ self.old.failed }
+        ensures line { IfOk result (λ next. IfSome next (λ line. may_be_read line ≡ true)) }
+    {
+        self.answer_drain()?;
+        for _command in 0..MOST_COMMANDS {
+            self.output.flush()?;
+            match next_command(self.alloc, &mut self.lines, &mut self.input)? {
+                None => return Ok(None),
+                Some(request) => match self.do_command(schedule, request)? {
+                    None => {}
+                    Some(line) => return Ok(Some(line)),
+                },
+            }
+        }
+        Err(io::Error::from(ErrorKind::Other))
+    }
+
+    // Answers a drain that was read: when the next command is read, no try is in flight.
+    fn answer_drain(&mut self) -> io::Result<()>
+        ensures input { self.new.input ≡ self.old.input }
+        ensures sources { self.new.sources ≡ self.old.sources }
+        ensures status { self.new.status ≡ self.old.status }
+        ensures failed { self.new.failed ≡ self.old.failed }
+    {
+        if self.has_drained {
+            self.has_drained = false;
+            put_ok(&mut self.output)?;
+        }
+        Ok(())
+    }
+
+    // Does one command: the line that it leaves to the run, or none where it is answered.
+    fn do_command(
+        &mut self,
+        schedule: &Schedule,
+        request: Result<Command, CommandFault>,
+    ) -> io::Result<Option<Line>>
+        requires { is_asked request ≡ true }
+        ensures does { Does request result self.old.status self.new.status }
+        ensures texts { (s : F) (given : List FileText) → F.gives s given self.old.sources
+            → F.gives s (given ++ texts_of request (line_of result)) self.new.sources }
+        ensures input { self.new.input ≡ self.old.input }
+        ensures failed { self.new.failed ≡ self.old.failed }
+        ensures line { IfOk result (λ next. IfSome next (λ line. may_be_read line ≡ true)) }
+        ensures shown { IfOk result (λ next. MatchOption next
+            (IsShown schedule.now.content request (W.contents self.old.output) (W.contents self.new.output))
+            (λ _. W.contents self.new.output ≡ W.contents self.old.output)) }
+    {
+        match request {
+            Ok(Command::Step(event)) => Ok(Some(Line::Event(event))),
+            Ok(Command::LoadFile(path)) => self.load(&path),
+            Ok(Command::TickNow) => Ok(Some(Line::TickNow)),
+            Ok(Command::Drain) => {
+                self.has_drained = true;
+                Ok(Some(Line::Drain))
+            }
+            Ok(Command::ListRuns) => no_line(put_runs(&mut self.output, schedule.runs())),
+            Ok(Command::ListTasks) => no_line(put_tasks(&mut self.output, schedule)),
+            Ok(Command::ListPools) => no_line(put_pools(&mut self.output, schedule)),
+            Err(fault) => self.refuse(fault),
+        }
+    }
+
+    // The event that loads the file at this path.
+    fn load(&mut self, path: &FilePath) -> io::Result<Option<Line>>
+        ensures does { Does (Ok (LoadFile path.now)) result self.old.status self.new.status }
+        ensures texts { (s : F) (given : List FileText) → F.gives s given self.old.sources
+            → F.gives s (given ++ texts_of (Ok (LoadFile path.now)) (line_of result)) self.new.sources }
+        ensures input { self.new.input ≡ self.old.input }
+        ensures failed { self.new.failed ≡ self.old.failed }
+        ensures line { IfOk result (λ next. IfSome next (λ line. may_be_read line ≡ true)) }
+        ensures shown { IfOk result (λ next. MatchOption next
+            ((fault : SourceFault) × Appends (W.contents self.old.output) (W.contents self.new.output) (source_text fault))
+            (λ _. W.contents self.new.output ≡ W.contents self.old.output)) }
+    {
+        match self.sources.text(path.as_str()) {
+            Ok(text) => Ok(Some(Line::Event(Event::Load(GraphText::from_string(text))))),
+            Err(fault) => self.refuse(CommandFault::Source(fault)),
+        }
+    }
+
+    // Answers what is no command, or has no text.
+    fn refuse(&mut self, fault: CommandFault) -> io::Result<Option<Line>>
+        ensures none { IfOk result (λ next. next ≡ None) }
+        ensures status { self.new.status ≡ max self.old.status (spec.fault_status fault) }
+        ensures input { self.new.input ≡ self.old.input }
+        ensures sources { self.new.sources ≡ self.old.sources }
+        ensures failed { self.new.failed ≡ self.old.failed }
+        ensures shown { OnOk result (Appends (W.contents self.old.output) (W.contents self.new.output) (fault_text fault)) }
+    {
+        self.status = self.status.max(fault_status(fault));
+        no_line(put_fault(&mut self.output, fault))
+    }
+}
+
+// What a command leaves to the run that is answered.
+fn no_line(put: io::Result<()>) -> io::Result<Option<Line>>
+    ensures { MatchResult put (λ _. result ≡ Ok None) (λ error. result ≡ Err error) }
+{
+    match put {
+        Ok(()) => Ok(None),
+        Err(error) => Err(error),
+    }
+}
+
+// The status of what is no command: 2 for its words, 4 where there is no text.
+fn fault_status(fault: CommandFault) -> u8
+    ensures { result ≡ spec.fault_status fault }
+{
+    match fault {
+        CommandFault::Usage(_) => 2,
+        CommandFault::Source(_) | CommandFault::Memory => 4,
+    }
+}
