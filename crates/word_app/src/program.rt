@@ -1,0 +1,131 @@
+//! The program's command, with all commands under it.
+ghost use Rattle.std.specs.Prelude.{◌≡◌, false, IfOk};
+ghost use Rattle.clap.specs.Words.{app_of};
+ghost use Rattle.clap.specs.declared.builder.command.Command.TheViews.{out-Command as fields_of};
+ghost use Rattle.word_app.specs.App as spec;
+
+use crate::commands::{
+    drain_command, explain_command, list_command, load_command, of_dag, resize_command,
+    run_command, tick_command,
+};
+use crate::repairs::{backfill_command, clear_command};
+use crate::rules::option;
+use clap::Command;
+use std::alloc::{AllocError, Global};
+
+// The program's command with no command under it.
+fn start<'a>(alloc: Global) -> Result<Command<'a>, AllocError>
+    ensures app { IfOk result (λ c. app_of c ≡ spec.start) }
+    ensures globals { IfOk result (λ c. (fields_of c).has_globals ≡ false) }
+{
+    let record = option(
+        alloc,
+        "record",
+        "PATH",
+        "The file of the record; with none it is in memory, and gone at the end",
+    );
+    let command = Command::new(alloc, "dagsched")
+        .bin_name("dagsched")?
+        .about("Schedules graphs of tasks as Airflow 2 does")
+        .after_help(
+            "A moment is 2024-02-29, which is its first second, or 2024-02-29T12:30:00Z, in UTC.",
+        )
+        .no_binary_name(true)
+        .subcommand_required(true)
+        .disable_help_subcommand(true)
+        .arg(record)?;
+    Ok(command)
+}
+
+// With the commands that change no graph.
+fn with_looks<'a>(alloc: Global, names: &'a [&'a str]) -> Result<Command<'a>, AllocError>
+    ensures app { IfOk result (λ c. app_of c ≡ spec.with_looks names.entry) }
+    ensures globals { IfOk result (λ c. (fields_of c).has_globals ≡ false) }
+{
+    let run = run_command(alloc)?;
+    let list = list_command(alloc, names)?;
+    let explain = explain_command(alloc)?;
+    let command = start(alloc)?;
+    let command = command.subcommand(run)?.subcommand(list)?;
+    let command = command.subcommand(explain)?;
+    Ok(command)
+}
+
+// With a command of a graph.
+fn with_dag<'a>(
+    alloc: Global,
+    command: Command<'a>,
+    name: &'a str,
+    about: &'a str,
+) -> Result<Command<'a>, AllocError>
+    requires globals { (fields_of command).has_globals ≡ false }
+    ensures app { IfOk result (λ c. app_of c ≡ spec.with_dag (app_of command.entry) name.entry.now) }
+    ensures globals { IfOk result (λ c. (fields_of c).has_globals ≡ false) }
+{
+    let added = of_dag(alloc, name, about)?;
+    let command = command.subcommand(added)?;
+    Ok(command)
+}
+
+// With the commands of a graph alone.
+fn with_dags<'a>(alloc: Global, command: Command<'a>) -> Result<Command<'a>, AllocError>
+    requires globals { (fields_of command).has_globals ≡ false }
+    ensures app { IfOk result (λ c. app_of c ≡ spec.with_dags (app_of command.entry)) }
+    ensures globals { IfOk result (λ c. (fields_of c).has_globals ≡ false) }
+{
+    let command = with_dag(
+        alloc,
+        command,
+        "trigger",
+        "Makes a run of a graph by hand, at the moment of the record's clock",
+    )?;
+    let command = with_dag(
+        alloc,
+        command,
+        "pause",
+        "Pauses a graph: it gets no runs, and no try of it is handed out",
+    )?;
+    let command = with_dag(alloc, command, "unpause", "Lets a paused graph go on")?;
+    Ok(command)
+}
+
+// With the commands that repair, and that of pools.
+fn with_repairs<'a>(alloc: Global, command: Command<'a>) -> Result<Command<'a>, AllocError>
+    requires globals { (fields_of command).has_globals ≡ false }
+    ensures app { IfOk result (λ c. app_of c ≡ spec.with_repairs (app_of command.entry)) }
+    ensures globals { IfOk result (λ c. (fields_of c).has_globals ≡ false) }
+{
+    let backfill = backfill_command(alloc)?;
+    let clear = clear_command(alloc)?;
+    let resize = resize_command(alloc)?;
+    let command = command.subcommand(backfill)?.subcommand(clear)?;
+    let command = command.subcommand(resize)?;
+    Ok(command)
+}
+
+// With the commands of scripts alone.
+fn with_script_words<'a>(alloc: Global, command: Command<'a>) -> Result<Command<'a>, AllocError>
+    requires globals { (fields_of command).has_globals ≡ false }
+    ensures app { IfOk result (λ c. app_of c ≡ spec.with_script_words (app_of command.entry)) }
+    ensures globals { IfOk result (λ c. (fields_of c).has_globals ≡ false) }
+{
+    let load = load_command(alloc)?;
+    let tick = tick_command(alloc)?;
+    let drain = drain_command(alloc)?;
+    let command = command.subcommand(load)?.subcommand(tick)?;
+    let command = command.subcommand(drain)?;
+    Ok(command)
+}
+
+/// The program's command, where `names` are the words that `list` takes. Its words stand without the program's name before them.
+///
+/// An `Err` says that memory ran out.
+pub fn command<'a>(alloc: Global, names: &'a [&'a str]) -> Result<Command<'a>, AllocError>
+    ensures { IfOk result (λ c. app_of c ≡ spec.dagsched names.entry) }
+{
+    let looks = with_looks(alloc, names)?;
+    let named = with_dags(alloc, looks)?;
+    let repaired = with_repairs(alloc, named)?;
+    let whole = with_script_words(alloc, repaired)?;
+    Ok(whole)
+}

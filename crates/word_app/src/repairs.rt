@@ -1,0 +1,89 @@
+//! The commands that repair past days.
+ghost use Rattle.std.specs.Prelude.{◌≡◌, false, IfOk};
+ghost use Rattle.clap.specs.Words.{app_of};
+ghost use Rattle.clap.specs.declared.builder.command.Command.TheViews.{out-Command as fields_of};
+ghost use Rattle.word_app.specs.App as spec;
+
+use crate::commands::of_dag;
+use crate::rules::{flag, option, word};
+use clap::Command;
+use std::alloc::{AllocError, Global};
+
+/// `NAME DAG FROM TO`.
+fn spanned<'a>(alloc: Global, name: &'a str, about: &'a str) -> Result<Command<'a>, AllocError>
+    ensures app { IfOk result (λ c. app_of c ≡ spec.spanned name.entry.now) }
+    ensures globals { IfOk result (λ c. (fields_of c).has_globals ≡ false) }
+{
+    let from = word(alloc, "from", "FROM", "The first moment of the span");
+    let to = word(
+        alloc,
+        "to",
+        "TO",
+        "The last moment of the span, which is part of it",
+    );
+    let command = of_dag(alloc, name, about)?.arg(from)?.arg(to)?;
+    Ok(command)
+}
+
+/// `backfill DAG FROM TO [--reset]`.
+pub(crate) fn backfill_command<'a>(alloc: Global) -> Result<Command<'a>, AllocError>
+    ensures app { IfOk result (λ c. app_of c ≡ spec.backfill) }
+    ensures globals { IfOk result (λ c. (fields_of c).has_globals ≡ false) }
+{
+    let reset = flag(
+        alloc,
+        "reset",
+        "Also sets back all task instances of the runs that are there",
+    );
+    let command = spanned(
+        alloc,
+        "backfill",
+        "Makes the runs of past intervals that a graph lacks",
+    )?
+    .arg(reset)?;
+    Ok(command)
+}
+
+// The command that clears, but for its last two flags.
+fn clear_span<'a>(alloc: Global) -> Result<Command<'a>, AllocError>
+    ensures app { IfOk result (λ c. app_of c ≡ spec.clear_span) }
+    ensures globals { IfOk result (λ c. (fields_of c).has_globals ≡ false) }
+{
+    let task = option(
+        alloc,
+        "task",
+        "TASK",
+        "Only the instances of this task; of all tasks where it is not there",
+    );
+    let upstream = flag(
+        alloc,
+        "upstream",
+        "With --task, also all that it depends on",
+    );
+    let command = spanned(
+        alloc,
+        "clear",
+        "Sets task instances back, with a fresh allowance of tries",
+    )?;
+    let command = command.arg(task)?.arg(upstream)?;
+    Ok(command)
+}
+
+/// `clear DAG FROM TO [--task TASK] [--upstream] [--downstream] [--only-failed]`.
+pub(crate) fn clear_command<'a>(alloc: Global) -> Result<Command<'a>, AllocError>
+    ensures app { IfOk result (λ c. app_of c ≡ spec.clear) }
+    ensures globals { IfOk result (λ c. (fields_of c).has_globals ≡ false) }
+{
+    let downstream = flag(
+        alloc,
+        "downstream",
+        "With --task, also all that depends on it",
+    );
+    let only_failed = flag(
+        alloc,
+        "only-failed",
+        "Of these the failed and upstream_failed alone",
+    );
+    let command = clear_span(alloc)?.arg(downstream)?.arg(only_failed)?;
+    Ok(command)
+}
