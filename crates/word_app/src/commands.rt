@@ -21,7 +21,7 @@ pub(crate) fn run_command<'a>(alloc: Global) -> Result<Command<'a>, AllocError>
     let lanes = lanes_option(alloc);
     let scratch = scratch_option(alloc);
     let command = Command::new(alloc, "run").about(
-        "Runs a script: reads commands from standard input, a line each, while workers perform tries",
+        "Runs a script: commands from standard input, a line each",
     );
     let command = command.arg(workers)?.arg(lanes)?.arg(scratch)?;
     Ok(command)

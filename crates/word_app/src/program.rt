@@ -22,7 +22,7 @@ fn start<'a>(alloc: Global) -> Result<Command<'a>, AllocError>
         alloc,
         "record",
         "PATH",
-        "The file of the record; with none it is in memory, and gone at the end",
+        "The file of the record; without it the record is in memory",
     );
     let command = Command::new(alloc, "dagsched")
         .bin_name("dagsched")?

@@ -53,7 +53,7 @@ fn clear_span<'a>(alloc: Global) -> Result<Command<'a>, AllocError>
         alloc,
         "task",
         "TASK",
-        "Only the instances of this task; of all tasks where it is not there",
+        "Only this task; without it all tasks",
     );
     let upstream = flag(
         alloc,

@@ -101,7 +101,7 @@ pub(crate) fn lanes_option<'a>(alloc: Global) -> Arg<'a>
         alloc,
         "lanes",
         "N",
-        "The most tries in flight at once, 0 to 64; with 0 nothing is handed out",
+        "The most tries in flight at once, 0 to 64",
     );
     lanes
         .value_parser(value_parser!(u32).range(0..=64))
@@ -117,7 +117,7 @@ pub(crate) fn scratch_option<'a>(alloc: Global) -> Arg<'a>
         alloc,
         "scratch",
         "DIR",
-        "The folder under which each try of a program has one of its own",
+        "Where each try of a program gets a folder",
     );
     scratch.default_value("dagsched-scratch")
 }

@@ -1,0 +1,6 @@
+mod NumberLemmas
+mod AppLemmas
+mod MatchLemmas
+mod WordsLemmas
+mod ReadingLemmas
+mod EnteredLemmas

@@ -1,0 +1,48 @@
+-- The command line that words say, or their fault.
+use Rattle.std.specs.Prelude.{◌≡◌, ◌≢◌, List, [], ◌∷◌, map, codes, Option, Some, None, Result, Ok, Err, MatchResult}
+use Rattle.clap.specs.Words.{Row, Text, first_of, matches_of, subcommand_of, fault_of}
+use Rattle.clap.specs.Kinds.{Kinds}
+use Rattle.clap.specs.declared.error.kind.ErrorKind.{ErrorKind}
+use Rattle.clap.specs.declared.error.kind.ErrorKind.TheVariants.{OutOfMemory}
+use Rattle.word_app.specs.App.{Texts, dagsched}
+use Rattle.command_words.specs.declared.commands.UsageFault.{UsageFault}
+use Rattle.command_words.specs.declared.commands.UsageFault.TheVariants.{Words, Memory}
+use Rattle.command_words.specs.declared.commands.Command.{Command}
+use Rattle.command_words.specs.declared.commands.CommandLine.{CommandLine}
+use Rattle.command_words.specs.declared.kinds.CommandKind.{CommandKind}
+use Rattle.command_words.specs.Values.{after}
+use Rattle.command_words.specs.Commands.{command_in, kind_named}
+
+-- the words that `list` takes, wherever they lie in memory
+abbrev pub IsListed : Texts → Type 0
+IsListed names = map (λ name. name.now) names.now ≡ codes "runs" ∷ codes "tasks" ∷ codes "pools" ∷ []
+
+abbrev pub command_of_kind : Option CommandKind → List Row → Result Command UsageFault
+command_of_kind None rows = Err Words
+command_of_kind (Some kind) rows = command_in kind rows
+
+-- what the command says, by its name and its matches
+abbrev pub command_at : Option (Text × List Row) → Result Command UsageFault
+command_at None = Err Words
+command_at (Some entered) = command_of_kind (kind_named entered.0) entered.1
+
+-- what the matches say: those of the options before the command, and those of the command
+abbrev pub line_at : List Row → Option (Text × List Row) → Result CommandLine UsageFault
+line_at rows entered = after (command_at entered) (λ command. Ok (record { record_path = first_of (codes "record") rows; command = command }))
+
+abbrev pub line_unless : Kinds → List Row → Option (Text × List Row) → Result CommandLine UsageFault
+line_unless [] rows entered = line_at rows entered
+line_unless (kind ∷ kinds) rows entered = Err Words
+
+-- the command line that words say, or their fault: Words where clap refuses them, and else the first name or moment that is none
+abbrev pub line_of : Texts → List Text → Result CommandLine UsageFault
+line_of names words = line_unless (fault_of (dagsched names) words) (matches_of (dagsched names) words) (subcommand_of (dagsched names) words)
+
+-- the fault of words that clap refuses, by its cause
+abbrev pub usage_of : ErrorKind → UsageFault
+usage_of OutOfMemory = Memory
+usage_of _ = Words
+
+-- what is read is what the words say, but for want of memory
+abbrev pub IsRead : Texts → List Text → Result CommandLine UsageFault → Type 0
+IsRead names words read = MatchResult read (λ line. line_of names words ≡ Ok line) (λ fault. fault ≢ Memory → line_of names words ≡ Err fault)

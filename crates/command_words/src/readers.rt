@@ -1,0 +1,110 @@
+//! Words are read.
+//!
+//! Easy to get wrong: clap's command cannot be kept for the next words, since its contract wants words that live as long as the
+//! command, so it is built for each list of words.
+ghost use Rattle.std.specs.Prelude.{◌≡◌, IfOk, map, string_bytes};
+ghost use Rattle.clap.specs.Words.{found_of, rows_of, subcommand_rows_of, matches_of, subcommand_of, fault_of, FailsBy};
+ghost use Rattle.word_app.specs.App.{Texts, dagsched};
+ghost use Rattle.command_words.specs.Lines as spec;
+ghost use Rattle.command_words.specs.Lines.{IsListed, IsRead};
+
+use crate::commands::{CommandLine, UsageFault};
+use crate::lines::line_in;
+use clap::error::ErrorKind;
+use clap::{ArgMatches, Error};
+use std::alloc::{AllocError, Global};
+
+static LISTED: [&str; 3] = ["runs", "tasks", "pools"];
+
+/// Reads the words of commands. Contracts speak of `names`, the words that `list` takes, wherever they lie in memory.
+#[derive(Clone, Copy, Debug)]
+pub struct CommandReader {
+    names: &'static [&'static str],
+    ghost listed: { IsListed names },
+}
+
+impl CommandReader {
+    /// A reader. It takes no memory.
+    pub fn new() -> CommandReader {
+        CommandReader { names: listed() }
+    }
+
+    /// What the words ask for, without the program's name before them.
+    ///
+    /// `Words` is answered exactly where clap refuses the words; else the first word that should be a name or a moment and is none is
+    /// answered, in the order of the command's words. `NotHere` and `BadLine` never come from here. `Memory` may come in the place of any answer.
+    pub fn read(&self, alloc: Global, words: &[String]) -> Result<CommandLine, UsageFault>
+        ensures { IsRead self.now.names (map string_bytes words.now) result }
+    {
+        read_by(alloc, self.names, words)
+    }
+
+    /// clap's text for words that it refuses, as it is shown to a user, with a newline at its end; `None` where it takes them. An `Err` says that
+    /// memory ran out.
+    pub fn refusal_text(
+        &self,
+        alloc: Global,
+        words: &[String],
+    ) -> Result<Option<String>, AllocError> {
+        match parsed(alloc, self.names, words) {
+            Ok(_) => Ok(None),
+            Err(error) => {
+                let text = format!(in alloc; "{error}")?;
+                Ok(Some(text))
+            }
+        }
+    }
+}
+
+/// What the words ask for, as [`CommandReader::read`] has it.
+pub fn read_command(alloc: Global, words: &[String]) -> Result<CommandLine, UsageFault>
+    ensures { (names : Texts) × IsListed names × IsRead names (map string_bytes words.now) result }
+{
+    read_by(alloc, listed(), words)
+}
+
+/// clap's text for words that it refuses, as [`CommandReader::refusal_text`] has it.
+pub fn refusal_text(alloc: Global, words: &[String]) -> Result<Option<String>, AllocError> {
+    CommandReader::new().refusal_text(alloc, words)
+}
+
+// The words that `list` takes.
+fn listed() -> &'static [&'static str]
+    ensures { IsListed result }
+{
+    LISTED.as_slice()
+}
+
+// What the words ask for, where these are the words that `list` takes.
+fn read_by(alloc: Global, names: &[&str], words: &[String]) -> Result<CommandLine, UsageFault>
+    ensures { IsRead names.entry (map string_bytes words.now) result }
+{
+    match parsed(alloc, names, words) {
+        Ok(matches) => line_in(alloc, &matches),
+        Err(error) => Err(usage_of(error.kind())),
+    }
+}
+
+// What clap makes of the words.
+fn parsed<'a>(
+    alloc: Global,
+    names: &'a [&'a str],
+    words: &'a [String],
+) -> Result<ArgMatches<'a>, Error>
+    ensures rows { IfOk result (λ m. rows_of (found_of m) ≡ matches_of (dagsched names.entry) (map string_bytes words.entry.now)) }
+    ensures subcommand { IfOk result (λ m. subcommand_rows_of m ≡ subcommand_of (dagsched names.entry) (map string_bytes words.entry.now)) }
+    ensures kinds { FailsBy (fault_of (dagsched names.entry) (map string_bytes words.entry.now)) result }
+{
+    let command = word_app::command(alloc, names)?;
+    command.try_get_matches_from(words)
+}
+
+// The fault of words that clap refuses.
+fn usage_of(kind: ErrorKind) -> UsageFault
+    ensures { result ≡ spec.usage_of kind }
+{
+    match kind {
+        ErrorKind::OutOfMemory => UsageFault::Memory,
+        _ => UsageFault::Words,
+    }
+}
