@@ -1,0 +1,81 @@
+//! What words ask for, in one plain line.
+use crate::events::write_event;
+use crate::faults::write_fault;
+use command_words::{
+    Command, CommandLine, GraphSource, Listing, Question, ScriptOptions, TickTime, UsageFault,
+};
+use std::io;
+
+/// Writes what was read.
+pub(crate) fn write_answer(
+    rt: &HostRuntime,
+    read: Result<CommandLine, UsageFault>,
+) -> io::Result<()> {
+    match read {
+        Ok(line) => write_command_line(rt, line),
+        Err(fault) => write_fault(rt, fault),
+    }
+}
+
+fn write_command_line(rt: &HostRuntime, line: CommandLine) -> io::Result<()> {
+    let CommandLine {
+        record_path,
+        command,
+    } = line;
+    if let Some(path) = record_path {
+        let path = path.as_str();
+        print!(rt; "record '{path}' ")?;
+    }
+    write_command(rt, command)
+}
+
+fn write_command(rt: &HostRuntime, command: Command) -> io::Result<()> {
+    match command {
+        Command::Run(options) => write_options(rt, &options),
+        Command::List(listing) => write_listing(rt, listing),
+        Command::Explain(question) => write_question(rt, &question),
+        Command::Step(event) => write_event(rt, event),
+        Command::Load(source) => write_source(rt, source),
+        Command::Tick(time) => write_time(rt, time),
+        Command::Drain => rt.print("drain"),
+    }
+}
+
+fn write_options(rt: &HostRuntime, options: &ScriptOptions) -> io::Result<()> {
+    let workers = options.workers.get();
+    let lanes = options.lanes.get();
+    let scratch = options.scratch.as_str();
+    print!(rt; "run workers {workers} lanes {lanes} scratch '{scratch}'")
+}
+
+fn write_listing(rt: &HostRuntime, listing: Listing) -> io::Result<()> {
+    match listing {
+        Listing::Runs => rt.print("list runs"),
+        Listing::Tasks => rt.print("list tasks"),
+        Listing::Pools => rt.print("list pools"),
+    }
+}
+
+fn write_question(rt: &HostRuntime, question: &Question) -> io::Result<()> {
+    let graph = question.graph.as_str();
+    let logical = question.logical;
+    let task = question.task.as_str();
+    print!(rt; "explain {graph} {logical} {task}")
+}
+
+fn write_source(rt: &HostRuntime, source: GraphSource) -> io::Result<()> {
+    match source {
+        GraphSource::File(path) => {
+            let path = path.as_str();
+            print!(rt; "load file '{path}'")
+        }
+        GraphSource::Inline => rt.print("load inline"),
+    }
+}
+
+fn write_time(rt: &HostRuntime, time: TickTime) -> io::Result<()> {
+    match time {
+        TickTime::At(moment) => print!(rt; "tick at {moment}"),
+        TickTime::Now => rt.print("tick now"),
+    }
+}
