@@ -1,5 +1,5 @@
 -- The command line that words say, or their fault.
-use Rattle.std.specs.Prelude.{◌≡◌, ◌≢◌, List, [], ◌∷◌, map, codes, Option, Some, None, Result, Ok, Err, MatchResult}
+use Rattle.std.specs.Prelude.{◌≡◌, ◌≢◌, Bool, true, false, List, [], ◌∷◌, map, codes, Option, Some, None, Result, Ok, Err, MatchResult}
 use Rattle.clap.specs.Words.{Row, Text, first_of, matches_of, subcommand_of, fault_of}
 use Rattle.clap.specs.Kinds.{Kinds}
 use Rattle.clap.specs.declared.error.kind.ErrorKind.{ErrorKind}
@@ -46,3 +46,11 @@ usage_of _ = Words
 -- what is read is what the words say, but for want of memory
 abbrev pub IsRead : Texts → List Text → Result CommandLine UsageFault → Type 0
 IsRead names words read = MatchResult read (λ line. line_of names words ≡ Ok line) (λ fault. fault ≢ Memory → line_of names words ≡ Err fault)
+
+-- clap refuses the words
+abbrev pub is_faulty : Kinds → Bool
+is_faulty [] = false
+is_faulty (kind ∷ kinds) = true
+
+abbrev pub is_refused : Texts → List Text → Bool
+is_refused names words = is_faulty (fault_of (dagsched names) words)

@@ -2,11 +2,11 @@
 //!
 //! Easy to get wrong: clap's command cannot be kept for the next words, since its contract wants words that live as long as the
 //! command, so it is built for each list of words.
-ghost use Rattle.std.specs.Prelude.{◌≡◌, IfOk, map, string_bytes};
-ghost use Rattle.clap.specs.Words.{found_of, rows_of, subcommand_rows_of, matches_of, subcommand_of, fault_of, FailsBy};
+ghost use Rattle.std.specs.Prelude.{◌≡◌, ◌≢◌, IfOk, is_some, map, string_bytes, true};
+ghost use Rattle.clap.specs.Words.{found_of, rows_of, subcommand_rows_of, matches_of, subcommand_of, fault_of, kind_of, FailsBy};
 ghost use Rattle.word_app.specs.App.{Texts, dagsched};
 ghost use Rattle.command_words.specs.Lines as spec;
-ghost use Rattle.command_words.specs.Lines.{IsListed, IsRead};
+ghost use Rattle.command_words.specs.Lines.{IsListed, IsRead, is_refused};
 
 use crate::commands::{CommandLine, UsageFault};
 use crate::lines::line_in;
@@ -25,7 +25,9 @@ pub struct CommandReader {
 
 impl CommandReader {
     /// A reader. It takes no memory.
-    pub fn new() -> CommandReader {
+    pub fn new() -> CommandReader
+        ensures { IsListed result.names }
+    {
         CommandReader { names: listed() }
     }
 
@@ -39,20 +41,16 @@ impl CommandReader {
         read_by(alloc, self.names, words)
     }
 
-    /// clap's text for words that it refuses, as it is shown to a user, with a newline at its end; `None` where it takes them. An `Err` says that
-    /// memory ran out.
+    /// clap's text for words that it refuses, as it is shown to a user, with a newline at its end; `None` exactly where it takes them. An `Err` says
+    /// that memory ran out.
     pub fn refusal_text(
         &self,
         alloc: Global,
         words: &[String],
-    ) -> Result<Option<String>, AllocError> {
-        match parsed(alloc, self.names, words) {
-            Ok(_) => Ok(None),
-            Err(error) => {
-                let text = format!(in alloc; "{error}")?;
-                Ok(Some(text))
-            }
-        }
+    ) -> Result<Option<String>, AllocError>
+        ensures { IfOk result (λ text. is_some text ≡ is_refused self.now.names (map string_bytes words.now)) }
+    {
+        refusal_by(alloc, self.names, words)
     }
 }
 
@@ -64,8 +62,10 @@ pub fn read_command(alloc: Global, words: &[String]) -> Result<CommandLine, Usag
 }
 
 /// clap's text for words that it refuses, as [`CommandReader::refusal_text`] has it.
-pub fn refusal_text(alloc: Global, words: &[String]) -> Result<Option<String>, AllocError> {
-    CommandReader::new().refusal_text(alloc, words)
+pub fn refusal_text(alloc: Global, words: &[String]) -> Result<Option<String>, AllocError>
+    ensures { (names : Texts) × IsListed names × IfOk result (λ text. is_some text ≡ is_refused names (map string_bytes words.now)) }
+{
+    refusal_by(alloc, listed(), words)
 }
 
 // The words that `list` takes.
@@ -82,6 +82,29 @@ fn read_by(alloc: Global, names: &[&str], words: &[String]) -> Result<CommandLin
     match parsed(alloc, names, words) {
         Ok(matches) => line_in(alloc, &matches),
         Err(error) => Err(usage_of(error.kind())),
+    }
+}
+
+// clap's text for the words, where it refuses them.
+fn refusal_by(alloc: Global, names: &[&str], words: &[String]) -> Result<Option<String>, AllocError>
+    ensures { IfOk result (λ text. is_some text ≡ is_refused names.entry (map string_bytes words.now)) }
+{
+    match parsed(alloc, names, words) {
+        Ok(_) => Ok(None),
+        Err(error) => shown(alloc, &error),
+    }
+}
+
+// The text of a refusal that has another cause than memory.
+fn shown(alloc: Global, error: &Error) -> Result<Option<String>, AllocError>
+    ensures { IfOk result (λ text. (is_some text ≡ true) × (spec.usage_of (kind_of error.now) ≢ UsageFault.Memory)) }
+{
+    match usage_of(error.kind()) {
+        UsageFault::Memory => Err(AllocError),
+        _ => {
+            let text = format!(in alloc; "{error}")?;
+            Ok(Some(text))
+        }
     }
 }
 
