@@ -6,7 +6,7 @@ use Rattle.pool_book.specs.declared.pools.PoolFault.{PoolFault as FaultOfPool}
 use Rattle.pool_book.specs.declared.pools.PoolFault.TheVariants as pool
 use Rattle.sched_events.specs.declared.refusals.Refusal.{Refusal}
 use Rattle.sched_events.specs.declared.refusals.Refusal.TheVariants.{GraphFault, DagFault, UnknownPool, TooManyGraphs, GraphDiffers, UnknownGraph, UnknownTask, ClockBack, BadSpan, RunExists, NoInterval, InFlight, NotInFlight, OutOfTurn, PoolFault, LanesTooMany, RecordFull, Memory}
-use Rattle.answer_lines.specs.Faults.{graph_fault_text}
+use Rattle.answer_lines.specs.GraphFaults.{graph_fault_text}
 use Rattle.answer_lines.specs.DagFaults.{dag_fault_text}
 
 -- the line of a pool that could not be made; want of memory is `memory` here too

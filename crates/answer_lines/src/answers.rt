@@ -11,10 +11,8 @@ use sched_events::{Answer, Event, RunId};
 use sched_state::RunKind;
 use std::io::{self, Write};
 
-/// Writes the answer to an event: `made DAG RUNID` for each run made; `cleared N` for a clear and a backfill with a reset, where N task
-/// instances that were not none were set back; `more` where some runs are left; `try SERIAL DAG LOGICAL TASK NUMBER` for each try handed
-/// out; and `ok`.
-pub fn put_answer<W: Write>(output: &mut W, event: &Event, answer: &Answer) -> io::Result<()>
+// Writes the answer to an event.
+pub(crate) fn put_answer<W: Write>(output: &mut W, event: &Event, answer: &Answer) -> io::Result<()>
     ensures { OnOk result (Appends (W.contents output.old) (W.contents output.new)
         (answer_text event.now answer.now)) }
 {
@@ -47,8 +45,8 @@ fn put_cleared<W: Write>(output: &mut W, cleared: u32) -> io::Result<()>
     writeln!(output, "cleared {cleared}")
 }
 
-/// Writes `ok`, which ends an answer and the rows of a list.
-pub fn put_ok<W: Write>(output: &mut W) -> io::Result<()>
+// Writes `ok`, which ends an answer and the rows of a list.
+pub(crate) fn put_ok<W: Write>(output: &mut W) -> io::Result<()>
     ensures { OnOk result (Appends (W.contents output.old) (W.contents output.new) (codes "ok\n")) }
 {
     output.write_all(b"ok\n")

@@ -1,7 +1,8 @@
-//! The lines that a program prints: answers, refusals, faults and rows, byte by byte.
+//! The lines that the program prints: answers, refusals, faults, rows and reasons, byte by byte.
 //!
-//! Each function appends its lines to a writer, and its contract says their bytes. No call allocates; a write that fails is answered as
-//! the writer's error, after which nothing is known of what was written.
+//! [`put`] writes what is [`Shown`] at once, and its contract says the bytes. [`put_listing`] and [`put_reasons`] write the rows
+//! of lists with the `ok` at their end. No call allocates; a write that fails is answered as the writer's error, after which nothing is
+//! known of what was written.
 //!
 //! ```text
 //! made one scheduled__2024-02-28T00:00:00+00:00
@@ -18,17 +19,20 @@
 #![tactic(auto)]
 
 mod answers;
+mod command_faults;
 mod dag_faults;
-mod faults;
+mod graph_faults;
 mod jobs;
+mod listing;
 mod pools;
+mod reasons;
+mod record_faults;
 mod refusals;
+mod run_faults;
 mod runs;
+mod shown;
 mod tasks;
 
-pub use answers::{put_answer, put_ok};
-pub use faults::put_fault;
-pub use pools::put_pool;
-pub use refusals::put_refusal;
-pub use runs::put_runs;
-pub use tasks::put_task;
+pub use listing::put_listing;
+pub use reasons::put_reasons;
+pub use shown::{Shown, put};

@@ -6,8 +6,8 @@ ghost use Rattle.answer_lines.specs.Pools.{pool_line};
 use sched_events::PoolRow;
 use std::io::{self, Write};
 
-/// Writes `NAME SIZE OCCUPIED OPEN`; fewer slots than none are open where the pool was made smaller than what is taken of it.
-pub fn put_pool<W: Write>(output: &mut W, row: &PoolRow<'_>) -> io::Result<()>
+// Writes `NAME SIZE OCCUPIED OPEN`.
+pub(crate) fn put_pool<W: Write>(output: &mut W, row: &PoolRow<'_>) -> io::Result<()>
     ensures { OnOk result (Appends (W.contents output.old) (W.contents output.new)
         (pool_line row.now)) }
 {

@@ -4,13 +4,13 @@ ghost use Rattle.std.specs.Io.KnownBytes.{Appends};
 ghost use Rattle.answer_lines.specs.Refusals as spec;
 
 use crate::dag_faults::put_dag_fault;
-use crate::faults::put_graph_fault;
+use crate::graph_faults::put_graph_fault;
 use pool_book::PoolFault;
 use sched_events::Refusal;
 use std::io::{self, Write};
 
-/// Writes `refused N Name` with what the refusal carries, and `memory` for want of memory.
-pub fn put_refusal<W: Write>(output: &mut W, refusal: &Refusal) -> io::Result<()>
+// Writes `refused N Name` with what the refusal carries, and `memory` for want of memory.
+pub(crate) fn put_refusal<W: Write>(output: &mut W, refusal: &Refusal) -> io::Result<()>
     ensures { OnOk result (Appends (W.contents output.old) (W.contents output.new)
         (spec.refusal_text refusal.now)) }
 {

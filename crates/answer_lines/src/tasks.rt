@@ -7,8 +7,8 @@ use crate::answers::prefix;
 use sched_events::InstanceRow;
 use std::io::{self, Write};
 
-/// Writes `DAG RUNID TASK STATE TRIES`.
-pub fn put_task<W: Write>(output: &mut W, row: &InstanceRow<'_>) -> io::Result<()>
+// Writes `DAG RUNID TASK STATE TRIES`.
+pub(crate) fn put_task<W: Write>(output: &mut W, row: &InstanceRow<'_>) -> io::Result<()>
     ensures { OnOk result (Appends (W.contents output.old) (W.contents output.new)
         (task_line row.now)) }
 {

@@ -1,28 +1,27 @@
-//! The program: `dagsched run` reads a script from standard input, performs the tries that it hands out, and prints the answer of each command.
+//! The program: `dagsched [--record PATH] COMMAND` does one command on a record, and `dagsched run` reads a script of commands from standard input
+//! and performs the tries that it hands out.
 //!
 //! ```text
-//! dagsched run [--workers N] [--lanes N] [--scratch DIR]
+//! dagsched --record nightly.db run --workers 4 < SCRIPT
+//! dagsched --record nightly.db list tasks
 //! ```
 //!
-//! There are N workers, 1 to 16, and 2 where it is not said; the most tries that may be in flight are the lanes, 0 to 64, and 4 where it is not said;
-//! the folder under which each try of `command` has its own is `dagsched-scratch` where it is not said, and is made where it is not there. The record
-//! is a new one, in memory.
-//!
-//! The status is 0 where all is accepted, 1 where a command is refused, 2 for usage, 3 for a fault of the record, 4 for any other, and the
-//! greatest of these. A usage fault of the program's own words goes to standard error.
+//! The record is the one in the file at PATH, which is made where it is not there, or else a new one, in memory. `docs/SCRIPTS.md` is the page of all
+//! words, answers and statuses. A usage fault of the program's own words goes to standard error.
 #![tactic(auto)]
 
-use director::Fault;
-use meta_store::Store;
-use program_parts::{FileSources, SystemClock, operators_for, run_team};
-use program_words::{RunWords, asked_run};
-use script_reader::{failure_status, put_failure};
-use sqlite::{Connection, MemStore};
-use std::io::{self, BufReader, BufWriter, ErrorKind};
+mod records;
+mod scripts;
+mod usage;
+
+use crate::records::{in_file, in_memory};
+use crate::usage::put_usage;
+use command_words::{Command, CommandLine, UsageFault, read_command};
+use std::env;
+use std::io::{self, ErrorKind};
 use std::process::ExitCode;
 use std::sync::Wait;
 use std::thread::Threads;
-use std::{env, fs};
 
 fn main(rt: HostRuntime) -> ExitCode {
     ExitCode::from(status(&rt, &rt))
@@ -37,75 +36,45 @@ fn status<T: Threads + Wait + Sync>(threads: &T, rt: &HostRuntime) -> u8 {
     }
 }
 
-// Runs the script that the words ask for.
-fn run_words<T: Threads + Wait + Sync>(threads: &T, rt: &HostRuntime) -> io::Result<u8> {
-    let mut words = env::args(rt)?;
-    let _program = words.next();
-    let words = words.collect::<Vec<String>>(rt.alloc())?;
-    match asked_run(words.as_slice()) {
-        Some(asked) => run(threads, rt, asked),
-        None => usage(rt),
-    }
-}
-
-// Runs the script of standard input on a new record in memory, and answers its status.
-fn run<T: Threads + Wait + Sync>(
-    threads: &T,
-    rt: &HostRuntime,
-    asked: RunWords<'_>,
-) -> io::Result<u8> {
-    let alloc = rt.alloc();
-    // one that is there is taken, and without one each try of a command fails
-    let _ = fs::create_dir(rt, asked.scratch);
-    match Store::create(alloc, Connection::open_in_memory(alloc)?) {
-        Ok(store) => run_on(threads, rt, store, asked),
-        Err((_conn, fault)) => fail(rt, &Fault::from(fault)),
-    }
-}
-
-// Runs it on this record.
-fn run_on<T: Threads + Wait + Sync>(
-    threads: &T,
-    rt: &HostRuntime,
-    store: Store<MemStore>,
-    asked: RunWords<'_>,
-) -> io::Result<u8> {
-    let alloc = rt.alloc();
-    let team = operators_for(*rt, alloc, asked.workers, asked.scratch)?;
-    let input = BufReader::new(alloc, rt.stdin())?;
-    let output = BufWriter::new(alloc, rt.stdout())?;
-    let sources = FileSources::new(*rt, alloc);
-    let mut clock = SystemClock::new(*rt);
-    match run_team(
-        threads,
-        alloc,
-        store,
-        asked.lanes,
-        team,
-        input,
-        output,
-        sources,
-        &mut clock,
-    ) {
-        Ok(ran) => Ok(ran.status),
-        Err((_store, fault)) => fail(rt, &fault),
-    }
-}
-
-// Prints why no script is run, and answers the status.
-fn fail(rt: &HostRuntime, fault: &Fault) -> io::Result<u8> {
-    put_failure(&mut rt.stdout(), fault)?;
-    Ok(failure_status(fault))
-}
-
 fn out_of_memory(rt: &HostRuntime) -> u8 {
     let _ = println!(rt; "memory");
     4
 }
 
-fn usage(rt: &HostRuntime) -> io::Result<u8> {
-    eprintln!(rt;
-        "usage 1 Words\nUsage: dagsched run [--workers N] [--lanes N] [--scratch DIR] < SCRIPT"
-    )?;
-    Ok(2)
+fn run_words<T: Threads + Wait + Sync>(threads: &T, rt: &HostRuntime) -> io::Result<u8> {
+    let mut words = env::args(rt)?;
+    let _program = words.next();
+    let words = words.collect::<Vec<String>>(rt.alloc())?;
+    match read_command(rt.alloc(), words.as_slice()) {
+        Ok(line) => do_line(threads, rt, line),
+        Err(UsageFault::Memory) => Err(io::Error::from(ErrorKind::OutOfMemory)),
+        Err(fault) => put_usage(rt, fault, words.as_slice()),
+    }
+}
+
+// Does the command, if it has its place here.
+fn do_line<T: Threads + Wait + Sync>(
+    threads: &T,
+    rt: &HostRuntime,
+    line: CommandLine,
+) -> io::Result<u8> {
+    let CommandLine {
+        record_path,
+        command,
+    } = line;
+    if is_of_scripts(&command) {
+        return put_usage(rt, UsageFault::NotHere, &[]);
+    }
+    match record_path {
+        Some(path) => in_file(threads, rt, path.as_str(), &command),
+        None => in_memory(threads, rt, &command),
+    }
+}
+
+// Whether the command is for scripts alone.
+fn is_of_scripts(command: &Command) -> bool {
+    matches!(
+        command,
+        Command::Load(_) | Command::Tick(_) | Command::Drain
+    )
 }

@@ -5,7 +5,7 @@ ghost use Rattle.operators.specs.Kits.{IsKit};
 use director::Fault;
 use meta_store::Store;
 use operators::{Kit, Operator};
-use script_reader::Sources;
+use script_reader::{Progress, Script, Sources};
 use script_runner::{Ran, RunOptions, run_on};
 use sessions::Clock;
 use sqlite::Alter;
@@ -23,6 +23,7 @@ pub fn run_team<
     R: BufRead + Drop,
     W: Write + Drop,
     F: Sources,
+    P: Progress,
     C: Clock,
     T: Threads + Wait + Sync,
 >(
@@ -31,9 +32,7 @@ pub fn run_team<
     store: Store<S>,
     lanes: u32,
     team: Vec<Vec<O>>,
-    input: R,
-    output: W,
-    sources: F,
+    script: Script<R, W, F, P>,
     clock: &mut C,
 ) -> Result<Ran<S, OpenGate, O, F>, (Store<S>, Fault)>
     requires { lanes ≤ 64 }
@@ -44,17 +43,7 @@ pub fn run_team<
     if crews.len() > 16 {
         return Err((store, Fault::Memory));
     }
-    run_on(
-        rt,
-        alloc,
-        store,
-        RunOptions { lanes },
-        crews,
-        input,
-        output,
-        sources,
-        clock,
-    )
+    run_on(rt, alloc, store, RunOptions { lanes }, crews, script, clock)
 }
 
 // The crews, if each list of operators is a kit and there is memory.

@@ -1,10 +1,6 @@
 pub mod AskLemmas
-pub mod TextLemmas
+pub mod MeaningLemmas
 pub mod RequestLemmas
-pub mod NameLemmas
-pub mod SizeLemmas
-pub mod PartLemmas
-pub mod OptionLemmas
-pub mod RepairLemmas
-pub mod PathLemmas
 pub mod ScriptLemmas
+pub mod TextLemmas
+pub mod WordLemmas

@@ -1,9 +1,3 @@
-pub mod Values
-pub mod Options
-pub mod Sizes
-pub mod Repairs
-pub mod Meanings
 pub mod Commands
 pub mod Gathered
-pub mod Holding
-pub mod GraphCommands
+pub mod Meanings

@@ -1,120 +1,66 @@
--- What a line asks for.
-use Rattle.std.specs.Prelude.{◌≡◌, ℕ, Bool, true, false, if◌then◌else◌, List, [], ◌∷◌, codes, Option, Some, None, Result, Ok, Err}
-use Rattle.std.specs.Str.{bytes_eq, is_utf8}
-use Rattle.graph_file.specs.Names.{is_name}
-use Rattle.moment_core.specs.Reading.{read_of}
-use Rattle.moment_core.specs.declared.reading.MomentFault.{MomentFault}
-use Rattle.sched_events.specs.declared.events.Event.{Event}
-use Rattle.sched_events.specs.declared.events.Event.TheVariants.{Load, Tick, Trigger, Backfill, Clear, Pause, Unpause, Resize, Report, Restart}
-use Rattle.script_commands.specs.Options.{said_by}
-use Rattle.script_commands.specs.Repairs.{backfill_options, clear_options, of_backfill, of_clear}
-use Rattle.script_commands.specs.Sizes.{slots_of}
-use Rattle.script_commands.specs.Values.{values, are_none, only, two}
+-- What a line of a script asks for.
+use Rattle.std.specs.Prelude.{◌≡◌, ⊤, Bool, true, false, List, Option, Some, None, Result, Ok, Err}
+use Rattle.clap.specs.Words.{Text}
+use Rattle.word_app.specs.App.{Texts}
+use Rattle.sched_events.specs.declared.events.Event.TheVariants.{Tick, Report, Restart}
+use Rattle.command_words.specs.Lines.{line_of}
+use Rattle.command_words.specs.declared.commands.Command.{Command}
+use Rattle.command_words.specs.declared.commands.Command.TheVariants as says
+use Rattle.command_words.specs.declared.commands.CommandLine.{CommandLine}
+use Rattle.command_words.specs.declared.commands.GraphSource.{GraphSource}
+use Rattle.command_words.specs.declared.commands.GraphSource.TheVariants.{File, Inline}
+use Rattle.command_words.specs.declared.commands.TickTime.{TickTime}
+use Rattle.command_words.specs.declared.commands.TickTime.TheVariants.{At, Now}
+use Rattle.command_words.specs.declared.commands.UsageFault.{UsageFault}
+use Rattle.command_words.specs.declared.commands.UsageFault.TheVariants.{NotHere}
 use Rattle.script_commands.specs.declared.meanings.LineMeaning.{LineMeaning}
-use Rattle.script_commands.specs.declared.meanings.LineMeaning.TheVariants.{Nothing, Text, This, Fault}
-use Rattle.script_commands.specs.declared.commands.Command.{Command}
-use Rattle.script_commands.specs.declared.commands.Command.TheVariants.{Step, LoadFile, TickNow, Drain, ListRuns, ListTasks, ListPools}
-use Rattle.script_commands.specs.declared.commands.UsageFault.TheVariants.{Words, BadName, BadMoment, BadLine}
+use Rattle.script_commands.specs.declared.meanings.LineMeaning.TheVariants.{Nothing, Text as TextFollows, This, Fault}
+use Rattle.script_commands.specs.declared.commands.ScriptCommand.{ScriptCommand}
+use Rattle.script_commands.specs.declared.commands.ScriptCommand.TheVariants.{Step, LoadFile, TickNow, Drain, List as ListRows, Explain}
 
--- a moment, or why a word is none
-abbrev pub at_reading : Result ℕ MomentFault → LineMeaning
-at_reading (Ok moment) = This (Step (Tick moment))
-at_reading (Err fault) = Fault (BadMoment fault)
+-- `load inline`, whose text follows, and `load PATH`
+abbrev pub of_source : GraphSource → LineMeaning
+of_source Inline = TextFollows
+of_source (File path) = This (LoadFile path)
 
--- `tick now`, `tick MOMENT`
-abbrev pub at_moment : List ℕ → LineMeaning
-at_moment value = if bytes_eq value (codes "now") then This TickNow else at_reading (read_of value)
+-- `tick MOMENT`, `tick now`
+abbrev pub of_time : TickTime → LineMeaning
+of_time (At moment) = This (Step (Tick moment))
+of_time Now = This TickNow
 
--- `list runs`, `list tasks`, `list pools`
-abbrev pub listed : List ℕ → LineMeaning
-listed value =
-    if bytes_eq value (codes "runs") then This ListRuns
-    else (if bytes_eq value (codes "tasks") then This ListTasks
-    else (if bytes_eq value (codes "pools") then This ListPools
-    else Fault Words))
+-- a command in a script, where `run` has no place
+abbrev pub of_command : Command → LineMeaning
+of_command (says.Run options) = Fault NotHere
+of_command (says.List listing) = This (ListRows listing)
+of_command (says.Explain question) = This (Explain question)
+of_command (says.Step event) = This (Step event)
+of_command (says.Load source) = of_source source
+of_command (says.Tick time) = of_time time
+of_command says.Drain = This Drain
 
--- `load PATH`; a path is text
-abbrev pub at_path : List ℕ → LineMeaning
-at_path value = if is_utf8 value then This (LoadFile value) else Fault BadLine
+-- nor has `--record`
+abbrev pub of_parts : Option Text → Command → LineMeaning
+of_parts (Some path) command = Fault NotHere
+of_parts None command = of_command command
 
--- `load inline`, `load PATH`: `inline` is no path
-abbrev pub loaded : List ℕ → LineMeaning
-loaded value = if bytes_eq value (codes "inline") then Text else at_path value
+abbrev pub of_line : CommandLine → LineMeaning
+of_line line = of_parts line.record_path line.command
 
--- `drain`, which has no value
-abbrev pub drained : Bool → LineMeaning
-drained alone = if alone then This Drain else Fault Words
+abbrev pub of_reading : Result CommandLine UsageFault → LineMeaning
+of_reading (Ok line) = of_line line
+of_reading (Err fault) = Fault fault
 
--- the event of a graph or a pool, where the word is a name
-abbrev pub of_name : (List ℕ → Event) → List ℕ → LineMeaning
-of_name event value = if is_name value then This (Step (event value)) else Fault BadName
+-- what words ask for
+unfoldable pub meaning_by : Texts → List Text → LineMeaning
+meaning_by names words = of_reading (line_of names words)
 
--- a name and its value: `tick now`, `tick MOMENT`, `list ROWS`
-abbrev pub without_name : List ℕ → List ℕ → LineMeaning
-without_name name value =
-    if bytes_eq name (codes "tick") then at_moment value
-    else (if bytes_eq name (codes "list") then listed value
-    else Fault Words)
-
--- the same, and `trigger DAG`, `pause DAG`, `unpause DAG`, `load inline`, `load PATH`
-abbrev pub with_value : List ℕ → List ℕ → LineMeaning
-with_value name value =
-    if bytes_eq name (codes "trigger") then of_name Trigger value
-    else (if bytes_eq name (codes "pause") then of_name Pause value
-    else (if bytes_eq name (codes "unpause") then of_name Unpause value
-    else (if bytes_eq name (codes "load") then loaded value
-    else without_name name value)))
-
-abbrev pub with_values : List ℕ → Option (List ℕ) → LineMeaning
-with_values name (Some value) = with_value name value
-with_values name None = Fault Words
-
--- `resize POOL SIZE`: that the size is none is answered before that the name is none
-abbrev pub with_size : List ℕ → Option ℕ → LineMeaning
-with_size pool (Some size) = of_name (λ name. Resize name size) pool
-with_size pool None = Fault Words
-
-abbrev pub of_pool : Option (List ℕ × List ℕ) → LineMeaning
-of_pool (Some (pool, size)) = with_size pool (slots_of size)
-of_pool None = Fault Words
-
--- a name and its words: `backfill` and `clear` have options, `resize` has two values, `drain` has none, and each other command one
-abbrev pub with_words : List ℕ → List (List ℕ) → LineMeaning
-with_words name args =
-    if bytes_eq name (codes "backfill") then of_backfill (said_by backfill_options args)
-    else (if bytes_eq name (codes "clear") then of_clear (said_by clear_options args)
-    else (if bytes_eq name (codes "resize") then of_pool (two (values args))
-    else (if bytes_eq name (codes "drain") then drained (are_none (values args))
-    else with_values name (only (values args)))))
-
--- what words ask for: the first is the command's name
-abbrev pub meaning_by : List (List ℕ) → LineMeaning
-meaning_by [] = Nothing
-meaning_by (name ∷ args) = with_words name args
-
--- a command that holds a text, a name or a path, for which memory can run out
-abbrev pub wants_memory : Command → Bool
-wants_memory (Step (Load text)) = true
-wants_memory (Step (Trigger id)) = true
-wants_memory (Step (Backfill id from to reset)) = true
-wants_memory (Step (Clear c)) = true
-wants_memory (Step (Pause id)) = true
-wants_memory (Step (Unpause id)) = true
-wants_memory (Step (Resize name size)) = true
-wants_memory (LoadFile path) = true
-wants_memory _ = false
-
-abbrev pub needs_memory : LineMeaning → Bool
-needs_memory (This command) = wants_memory command
-needs_memory _ = false
-
--- what is wanted is given, or there was no memory for it
+-- what is wanted is given, or memory ran out
 abbrev pub IsReadAs : {E : Type 0} → LineMeaning → Result LineMeaning E → Type 0
 IsReadAs wanted (Ok asked) = asked ≡ wanted
-IsReadAs wanted (Err lack) = needs_memory wanted ≡ true
+IsReadAs wanted (Err lack) = ⊤
 
 -- a command whose event, if it has one, is neither a report of a worker nor a restart
-abbrev pub is_of_script : Command → Bool
+abbrev pub is_of_script : ScriptCommand → Bool
 is_of_script (Step (Report serial stage)) = false
 is_of_script (Step (Restart lanes)) = false
 is_of_script _ = true

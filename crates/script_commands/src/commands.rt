@@ -1,13 +1,11 @@
 //! What a script asks for, and why a line is no command.
-use crate::paths::FilePath;
-use moment_core::MomentFault;
+use command_words::{FilePath, Listing, Question, UsageFault};
 use sched_events::Event;
 
 /// What a script asks for.
 #[derive(Debug, Drop)]
-pub enum Command {
-    /// An event for the schedule: `load inline` with its text, `tick MOMENT`, `trigger DAG`, `backfill DAG FROM TO`, `clear DAG FROM TO`,
-    /// `pause DAG`, `unpause DAG` or `resize POOL SIZE`.
+pub enum ScriptCommand {
+    /// An event for the schedule: `load inline` with its text, `tick MOMENT`, `trigger`, `backfill`, `clear`, `pause`, `unpause` or `resize`.
     Step(Event),
     /// `load PATH`: the graph file at this path is loaded.
     LoadFile(FilePath),
@@ -15,26 +13,10 @@ pub enum Command {
     TickNow,
     /// `drain`: waits until no try is in flight.
     Drain,
-    /// `list runs`: the runs are shown, by graph id and logical date.
-    ListRuns,
-    /// `list tasks`: the task instances are shown, by graph id, logical date and task id.
-    ListTasks,
-    /// `list pools`: the pools are shown, by name.
-    ListPools,
-}
-
-/// Why a line is no command.
-#[derive(Clone, Copy, Debug, PartialEq, Eq)]
-pub enum UsageFault {
-    /// There is no such command, or it has too few words, too many or others, an option that it has not, an option twice, or a size that
-    /// is no number from 0 to 1,000,000.
-    Words,
-    /// A word that should be the name of a graph, a task or a pool is no name.
-    BadName,
-    /// A word that should be a moment is none.
-    BadMoment(MomentFault),
-    /// The line, or a line of the graph's text, is longer than 65,536 bytes or is not UTF-8.
-    BadLine,
+    /// `list`: rows are shown.
+    List(Listing),
+    /// `explain`: it is said why a task instance stands where it does.
+    Explain(Question),
 }
 
 /// Why there is no text of a graph.
@@ -46,7 +28,7 @@ pub enum SourceFault {
     NotText,
     /// The file has more than 1,048,576 bytes.
     TooLong,
-    /// There was no memory for the file.
+    /// There was no memory for the text.
     Memory,
     /// The script ends before the `.` that ends the text.
     NoEnd,
@@ -57,6 +39,4 @@ pub enum SourceFault {
 pub enum CommandFault {
     Usage(UsageFault),
     Source(SourceFault),
-    /// Memory ran out for a graph's text, for a name or for a path.
-    Memory,
 }

@@ -3,14 +3,16 @@
 //! The text is kept while its lines are good. A bad line or want of memory does not end it: the lines up to `.` belong to it
 //! all the same.
 ghost use Rattle.std.specs.Prelude.{◌≡◌, ℕ, true, List, [], ◌∷◌, ◌++◌, ◌≤◌, length, Some, Option, IfOk, string_bytes, OnOk};
+ghost use Rattle.word_app.specs.App.{Texts};
 ghost use Rattle.script_lines.specs.Lines.{line_limit, lines_of};
 ghost use Rattle.script_commands.specs.Commands as spec;
 ghost use Rattle.script_commands.specs.Commands.{IsFirst, IsGiven, commands_from, is_asked, load_of, with_line, with_newline};
 ghost use Rattle.script_commands.specs.Commands.Place.{Inside};
 ghost use Rattle.script_commands.specs.Gathered.{Gathers};
 
-use crate::commands::{Command, CommandFault, SourceFault, UsageFault};
+use crate::commands::{CommandFault, ScriptCommand, SourceFault};
 use crate::requests::{MOST_LINES, text_of};
+use command_words::UsageFault;
 use sched_events::Event;
 use sched_state::GraphText;
 use script_lines::{Found, LineReader};
@@ -57,14 +59,16 @@ impl Gathered {
     }
 
     // The command that loads it.
-    fn load(self) -> Result<Command, CommandFault>
+    fn load(self) -> Result<ScriptCommand, CommandFault>
         ensures load { (text : Option (List ℕ)) → Gathers text self → IsGiven (load_of text) result }
         ensures asked { is_asked result ≡ true }
     {
         match self {
-            Gathered::Text(text) => Ok(Command::Step(Event::Load(GraphText::from_string(text)))),
+            Gathered::Text(text) => Ok(ScriptCommand::Step(Event::Load(GraphText::from_string(
+                text,
+            )))),
             Gathered::BadLine => Err(CommandFault::Usage(UsageFault::BadLine)),
-            Gathered::Memory => Err(CommandFault::Memory),
+            Gathered::Memory => Err(CommandFault::Source(SourceFault::Memory)),
         }
     }
 }
@@ -82,9 +86,9 @@ pub(crate) fn read_text<R: Read>(
     alloc: Global,
     lines: &mut LineReader,
     input: &mut R,
-) -> io::Result<Result<Command, CommandFault>>
-    ensures first { IfOk result (λ given. (bytes : List ℕ) → R.remaining input.old ≡ Some bytes
-        → IsFirst (commands_from (Inside (Some [])) (lines_of bytes)) given (R.remaining input.new)) }
+) -> io::Result<Result<ScriptCommand, CommandFault>>
+    ensures first { IfOk result (λ given. (names : Texts) (bytes : List ℕ) → R.remaining input.old ≡ Some bytes
+        → IsFirst names (commands_from names (Inside (Some [])) (lines_of bytes)) given (R.remaining input.new)) }
     ensures asked { IfOk result (λ given. is_asked given ≡ true) }
 {
     let mut gathered = Gathered::Text(String::new(alloc));

@@ -2,7 +2,7 @@
 use Rattle.std.specs.Prelude.{◌≡◌, ℕ, Bool, true, false, List, [], ◌∷◌, Option, Some, None, Result, Ok, Err}
 use Rattle.sched_events.specs.declared.events.Event.TheVariants.{Load}
 use Rattle.script_commands.specs.Commands.{Request}
-use Rattle.script_commands.specs.declared.commands.Command.TheVariants.{Step, LoadFile, TickNow, Drain}
+use Rattle.script_commands.specs.declared.commands.ScriptCommand.TheVariants.{Step, LoadFile, TickNow, Drain}
 use Rattle.script_reader.specs.Done.{FileText, is_whole}
 use Rattle.sessions.specs.declared.line_reading.Line.{Line}
 use Rattle.sessions.specs.declared.line_reading.Line.TheVariants as Says

@@ -5,8 +5,9 @@ use Rattle.std.specs.List.{flat_map}
 use Rattle.sched_events.specs.declared.answers.Answer.{Answer}
 use Rattle.sched_events.specs.declared.events.Event.{Event}
 use Rattle.sched_events.specs.declared.events.Event.TheVariants.{Load, Tick}
+use Rattle.word_app.specs.App.{Texts}
 use Rattle.script_commands.specs.Commands.{Request, commands_in}
-use Rattle.script_commands.specs.declared.commands.Command.TheVariants.{Step, LoadFile, TickNow}
+use Rattle.script_commands.specs.declared.commands.ScriptCommand.TheVariants.{Step, LoadFile, TickNow}
 use Rattle.sessions.specs.declared.line_reading.Line.{Line}
 use Rattle.sessions.specs.declared.line_reading.Line.TheVariants as Says
 
@@ -64,7 +65,7 @@ IsOpen (Some Says.Drain) asked texts = ⊥
 -- What was done of a script, of whose bytes these were there at first: commands one after another, with the texts that the sources gave, with the
 -- events that were told, and with ticks at these moments; this line waits for its answer; and these bytes are left, unless the script could not be
 -- read or answered further. Where the script has ended, no command is left; and all was done where the status is 0.
-pub record HasDone (first : Option (List ℕ)) (gives : List FileText → Type 0) (told : List (Event × Answer)) (ticks : List ℕ) (waits : Option Line) (left : Option (List ℕ)) (status : ℕ) (is_broken has_ended : Bool) : Type 0 where
+pub record HasDone (names : Texts) (first : Option (List ℕ)) (gives : List FileText → Type 0) (told : List (Event × Answer)) (ticks : List ℕ) (waits : Option Line) (left : Option (List ℕ)) (status : ℕ) (is_broken has_ended : Bool) : Type 0 where
   pub done : List Done
   pub open_asked : List Request
   pub open_texts : List FileText
@@ -74,8 +75,8 @@ pub record HasDone (first : Option (List ℕ)) (gives : List FileText → Type 0
   pub events : map (λ p. p.0) told ≡ flat_map (λ d. d.events) done
   pub moments : ticks ≡ flat_map (λ d. d.moments) done
   pub read : (known : List ℕ) → first ≡ Some known
-      → (rest : List Request) × (commands_in known ≡ map (λ d. d.asked) done ++ (open_asked ++ rest))
-      × (has_ended ≡ true → rest ≡ []) × (is_broken ≡ false → (bytes : List ℕ) × (left ≡ Some bytes) × (rest ≡ commands_in bytes))
+      → (rest : List Request) × (commands_in names known ≡ map (λ d. d.asked) done ++ (open_asked ++ rest))
+      × (has_ended ≡ true → rest ≡ []) × (is_broken ≡ false → (bytes : List ℕ) × (left ≡ Some bytes) × (rest ≡ commands_in names bytes))
   pub whole : status ≡ 0 → All (λ d. is_whole d.asked d.events ≡ true) done
 
 -- where nothing was read, nothing was done
@@ -83,8 +84,8 @@ not_both : (b : Bool) → (b && not b) ≡ true → true ≡ false
 not_both true e = sym e
 not_both false e = sym e
 
-pub begun : (first : Option (List ℕ)) (gives : List FileText → Type 0) (status : ℕ) (broken was_over : Bool) → gives [] → HasDone first gives [] [] None first status broken (was_over && not was_over)
-begun first gives status broken was_over none = record {
+pub begun : (names : Texts) (first : Option (List ℕ)) (gives : List FileText → Type 0) (status : ℕ) (broken was_over : Bool) → gives [] → HasDone names first gives [] [] None first status broken (was_over && not was_over)
+begun names first gives status broken was_over none = record {
   done = [];
   open_asked = [];
   open_texts = [];
@@ -93,6 +94,6 @@ begun first gives status broken was_over none = record {
   texts = none;
   events = refl;
   moments = refl;
-  read = λ known e. (commands_in known, refl, (λ ends. absurd (true≢false (not_both was_over ends))), λ _. (known, e, refl));
+  read = λ known e. (commands_in names known, refl, (λ ends. absurd (true≢false (not_both was_over ends))), λ _. (known, e, refl));
   whole = λ z k d below. absurd (omega arith);
 }

@@ -1,16 +1,7 @@
 -- The end of a script that was run.
-use Rattle.std.specs.Prelude.{◌≡◌, ◌⊎◌, ℕ, max, List, codes, Result, Ok, Err}
+use Rattle.std.specs.Prelude.{◌≡◌, ◌⊎◌, ℕ, max, Result, Ok, Err}
 use Rattle.sessions.specs.declared.faults.ConductFault.{ConductFault}
-use Rattle.sessions.specs.declared.faults.ConductFault.TheVariants.{NoWorker, SpawnRefused, StoreThrice, ReadFault, Memory, Unequal}
-
--- the line of a run that ended with a fault: `conduct`, its number and name; want of memory is `memory`
-abbrev pub end_text : ConductFault → List ℕ
-end_text NoWorker = codes "conduct 1 NoWorker\n"
-end_text SpawnRefused = codes "conduct 2 SpawnRefused\n"
-end_text (StoreThrice error) = codes "conduct 3 StoreThrice\n"
-end_text ReadFault = codes "conduct 4 ReadFault\n"
-end_text Memory = codes "memory\n"
-end_text Unequal = codes "conduct 6 Unequal\n"
+use Rattle.sessions.specs.declared.faults.ConductFault.TheVariants.{StoreThrice}
 
 -- the status of a run that ended with a fault: 3 where it is of the record, 4 for any other and where its line was not written
 abbrev pub status_at : {E T : Type 0} → ℕ → ConductFault → Result T E → ℕ

@@ -1,8 +1,6 @@
-pub mod ClockLines
 pub mod Commands
 pub mod Done
 pub mod Ends
 pub mod Readers
 pub mod Shown
 pub mod Statuses
-pub mod StoreLines

@@ -1,16 +1,19 @@
 -- The statuses of what is not done.
-use Rattle.std.specs.Prelude.{ℕ, List, Result, Ok, Err, codes}
+use Rattle.std.specs.Prelude.{ℕ, List, Result, Ok, Err}
 use Rattle.sched_events.specs.declared.answers.Answer.{Answer}
 use Rattle.sched_events.specs.declared.refusals.Refusal.{Refusal}
 use Rattle.sched_events.specs.declared.refusals.Refusal.TheVariants as refusal
 use Rattle.script_commands.specs.declared.commands.CommandFault.{CommandFault}
-use Rattle.script_commands.specs.declared.commands.CommandFault.TheVariants.{Usage, Source, Memory}
+use Rattle.script_commands.specs.declared.commands.CommandFault.TheVariants.{Usage, Source}
+use Rattle.command_words.specs.declared.commands.UsageFault.{UsageFault}
+use Rattle.command_words.specs.declared.commands.UsageFault.TheVariants as usage
+use Rattle.explain.specs.declared.reasons.ExplainFault.{ExplainFault}
+use Rattle.explain.specs.declared.reasons.ExplainFault.TheVariants as unexplained
 use Rattle.sched_events.specs.declared.events.Event.{Event}
 use Rattle.answer_lines.specs.Answers.{answer_text}
-use Rattle.answer_lines.specs.Refusals.{refusal_text}
+use Rattle.answer_lines.specs.RecordFaults.{failure_text}
 use Rattle.director.specs.declared.faults.Fault.{Fault}
 use Rattle.director.specs.declared.faults.Fault.TheVariants as failed
-use Rattle.script_reader.specs.StoreLines.{store_text}
 
 -- the status of a refusal: 1, and 4 for want of memory
 abbrev pub refusal_status : Refusal → ℕ
@@ -28,17 +31,19 @@ abbrev pub status_of : Result Answer Fault → ℕ
 status_of (Ok answer) = 0
 status_of (Err fault) = failure_status fault
 
--- its line
-abbrev pub failure_text : Fault → List ℕ
-failure_text (failed.Refused r) = refusal_text r
-failure_text (failed.Store fault) = store_text fault
-failure_text failed.Memory = codes "memory\n"
+-- the status of what is no command: 2, and 4 for a text that could not be had and for want of memory
+abbrev pub usage_status : UsageFault → ℕ
+usage_status usage.Memory = 4
+usage_status _ = 2
 
--- the status of what is no command: 2, and 4 for a text that could not be had
-abbrev pub fault_status : CommandFault → ℕ
-fault_status (Usage fault) = 2
-fault_status (Source fault) = 4
-fault_status Memory = 4
+abbrev pub command_status : CommandFault → ℕ
+command_status (Usage fault) = usage_status fault
+command_status (Source fault) = 4
+
+-- the status of a question without an answer: 1, and 4 for want of memory
+abbrev pub explain_status : ExplainFault → ℕ
+explain_status unexplained.Memory = 4
+explain_status _ = 1
 
 -- what is shown of an event: its answer, or why it is not stepped
 abbrev pub shown_for : Event → Result Answer Fault → List ℕ

@@ -3,21 +3,22 @@ ghost use Rattle.std.specs.Prelude.{◌≡◌, ◌&&◌, not, is_some, max, None
 ghost use Rattle.std.specs.Io.KnownBytes.{Appends};
 ghost use Rattle.script_reader.specs.Statuses.{shown_for, status_of};
 
-use crate::clock_lines::put_clock_fault;
-use crate::failing::{failure_status, put_failure};
+use crate::progress::Progress;
 use crate::reader::ScriptReader;
 use crate::sources::Sources;
-use answer_lines::put_answer;
+use crate::statuses::failure_status;
+use answer_lines::{Shown, put};
 use director::Fault;
 use sched_core::Schedule;
 use sched_events::{Answer, Event};
 use sessions::{ClockFault, Line, LineFault, Lines};
 use std::io::{self, ErrorKind, Read, Write};
 
-impl<R: Read + Drop, W: Write + Drop, F: Sources> ScriptReader<R, W, F> {
+impl<R: Read + Drop, W: Write + Drop, F: Sources, P: Progress> ScriptReader<R, W, F, P> {
     // Writes the answer to an event, or why it was not accepted.
     fn put(&mut self, event: &Event, answer: &Result<Answer, Fault>) -> io::Result<()>
         ensures input { self.new.input ≡ self.old.input }
+        ensures words { self.new.words ≡ self.old.words }
         ensures sources { self.new.sources ≡ self.old.sources }
         ensures failed { self.new.failed ≡ self.old.failed }
         ensures over { self.new.is_over ≡ self.old.is_over }
@@ -26,10 +27,10 @@ impl<R: Read + Drop, W: Write + Drop, F: Sources> ScriptReader<R, W, F> {
             (shown_for event.now answer.now)) }
     {
         match answer {
-            Ok(answer) => put_answer(&mut self.output, event, answer),
+            Ok(answer) => put(&mut self.output, Shown::Answer(event, answer)),
             Err(fault) => {
                 self.status = self.status.max(failure_status(fault));
-                put_failure(&mut self.output, fault)
+                put(&mut self.output, Shown::Failure(fault))
             }
         }
     }
@@ -37,6 +38,7 @@ impl<R: Read + Drop, W: Write + Drop, F: Sources> ScriptReader<R, W, F> {
     // Keeps what the script failed in, if it did.
     fn end(&mut self, put: io::Result<()>) -> Result<(), LineFault>
         ensures input { self.new.input ≡ self.old.input }
+        ensures words { self.new.words ≡ self.old.words }
         ensures sources { self.new.sources ≡ self.old.sources }
         ensures status { self.new.status ≡ self.old.status }
         ensures over { self.new.is_over ≡ self.old.is_over }
@@ -62,7 +64,7 @@ fn fault_of(error: &io::Error) -> LineFault {
     }
 }
 
-impl<R: Read + Drop, W: Write + Drop, F: Sources> Lines for ScriptReader<R, W, F> {
+impl<R: Read + Drop, W: Write + Drop, F: Sources, P: Progress> Lines for ScriptReader<R, W, F, P> {
     ghost use Rattle.script_reader.specs.Readers.{Tells, tells_nothing};
 
     ghost tells = { Tells R.remaining F.gives };
@@ -93,9 +95,13 @@ impl<R: Read + Drop, W: Write + Drop, F: Sources> Lines for ScriptReader<R, W, F
         self.end(put)
     }
 
+    fn waits(&mut self, schedule: &Schedule) {
+        self.progress.show(schedule);
+    }
+
     fn no_clock(&mut self, fault: ClockFault) -> Result<(), LineFault> {
         self.status = 4;
-        let put = put_clock_fault(&mut self.output, fault);
+        let put = put(&mut self.output, Shown::NoMoment(fault));
         self.end(put)
     }
 }

@@ -2,10 +2,11 @@
 //!
 //! A [`ScriptReader`] reads the commands of an input and writes their answers. What asks for rows is answered when it is read, and what is no
 //! command by its fault; an event, a tick at the moment that it is and a drain are left to whoever runs the schedule, by the calls of `Lines`. What
-//! was written is flushed before the next command is read. The texts of `load PATH` come from [`Sources`].
+//! was written is flushed before the next command is read. The texts of `load PATH` come from [`Sources`]; how a drain goes on is shown by a
+//! [`Progress`].
 //!
 //! ```text
-//! let mut reader = ScriptReader::new(alloc, input, output, sources)?;
+//! let mut reader = ScriptReader::new(alloc, Script { input, output, sources, progress: NoProgress })?;
 //! conduct(rt, alloc, director, 4, crews, &mut reader, &mut clock)
 //! ```
 //!
@@ -13,13 +14,15 @@
 #![tactic(auto)]
 
 mod answering;
-mod clock_lines;
 mod ending;
-mod failing;
-mod listing;
+mod progress;
 mod reader;
+mod scripts;
 mod sources;
+mod statuses;
 
-pub use failing::{failure_status, put_failure};
+pub use progress::{NoProgress, Progress};
 pub use reader::ScriptReader;
+pub use scripts::Script;
 pub use sources::Sources;
+pub use statuses::{command_status, explain_status, failure_status};

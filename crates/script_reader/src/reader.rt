@@ -1,25 +1,31 @@
 //! A script that is read command by command, and answered line by line.
-ghost use Rattle.std.specs.Prelude.{◌≡◌, ◌++◌, ℕ, max, List, Bool, true, false, None, Some, Option, Ok, Err, is_err, IfOk, IfSome, MatchOption, MatchResult, OnOk};
+ghost use Rattle.std.specs.Prelude.{◌≡◌, ◌≤◌, ◌++◌, ℕ, max, List, Bool, true, false, None, Some, Option, Ok, Err, is_err, IfOk, IfSome, MatchOption, MatchResult, OnOk};
 ghost use Rattle.std.specs.Io.KnownBytes.{Appends};
 ghost use Rattle.sched_events.specs.declared.answers.Answer.{Answer};
 ghost use Rattle.sched_events.specs.declared.events.Event.{Event};
 ghost use Rattle.script_commands.specs.Commands.{is_asked};
-ghost use Rattle.script_commands.specs.declared.commands.Command.TheVariants.{LoadFile};
+ghost use Rattle.script_commands.specs.declared.commands.ScriptCommand.TheVariants.{LoadFile};
 ghost use Rattle.script_commands.specs.declared.commands.SourceFault.{SourceFault};
-ghost use Rattle.answer_lines.specs.Faults.{fault_text, source_text};
+ghost use Rattle.answer_lines.specs.CommandFaults.{command_fault_text, source_text};
+ghost use Rattle.command_words.specs.Lines.{IsListed};
+ghost use Rattle.word_app.specs.App.{Texts};
 ghost use Rattle.sessions.specs.Lines.{may_be_read, opened_by};
 ghost use Rattle.script_reader.specs.Commands.{Does, is_end, line_of, texts_of};
 ghost use Rattle.script_reader.specs.Done.{FileText, HasDone};
-ghost use Rattle.script_reader.specs.Shown.{IsShown};
+ghost use Rattle.script_reader.specs.Shown.{IsExplained, IsShown};
 ghost use Rattle.script_reader.specs.Statuses as spec;
 
-use crate::listing::{put_pools, put_tasks};
+use crate::progress::Progress;
+use crate::scripts::Script;
 use crate::sources::Sources;
-use answer_lines::{put_fault, put_ok, put_runs};
+use crate::statuses::{command_status, explain_status};
+use answer_lines::{Shown, put, put_listing, put_reasons};
+use command_words::{CommandReader, FilePath, Question};
+use explain::explain;
 use sched_core::Schedule;
 use sched_events::Event;
 use sched_state::GraphText;
-use script_commands::{Command, CommandFault, FilePath, next_command};
+use script_commands::{CommandFault, ScriptCommand, next_command};
 use script_lines::LineReader;
 use sessions::{Line, LineFault};
 use std::alloc::{AllocError, Global};
@@ -30,12 +36,14 @@ const MOST_COMMANDS: u64 = 1 << 40;
 
 /// A script that is read command by command, and answered line by line.
 #[derive(Drop)]
-pub struct ScriptReader<R: Read + Drop, W: Write + Drop, F: Sources> {
+pub struct ScriptReader<R: Read + Drop, W: Write + Drop, F: Sources, P: Progress> {
     pub(crate) alloc: Global,
+    pub(crate) words: CommandReader,
     pub(crate) lines: LineReader,
     pub(crate) input: R,
     pub(crate) output: W,
     pub(crate) sources: F,
+    pub(crate) progress: P,
     // The greatest status of what was answered.
     pub(crate) status: u8,
     // A drain was read, and is answered before the next command is read.
@@ -44,22 +52,32 @@ pub struct ScriptReader<R: Read + Drop, W: Write + Drop, F: Sources> {
     pub(crate) is_over: bool,
 }
 
-impl<R: Read + Drop, W: Write + Drop, F: Sources> ScriptReader<R, W, F> {
+impl<R: Read + Drop, W: Write + Drop, F: Sources, P: Progress> ScriptReader<R, W, F, P> {
     /// A script of which nothing is read yet.
-    pub fn new(alloc: Global, input: R, output: W, sources: F) -> Result<Self, AllocError>
-        ensures input { IfOk result (λ reader. reader.input ≡ input) }
-        ensures output { IfOk result (λ reader. reader.output ≡ output) }
-        ensures sources { IfOk result (λ reader. reader.sources ≡ sources) }
+    pub fn new(alloc: Global, script: Script<R, W, F, P>) -> Result<Self, AllocError>
+        ensures listed { IfOk result (λ reader. IsListed reader.words.names) }
+        ensures input { IfOk result (λ reader. reader.input ≡ script.input) }
+        ensures output { IfOk result (λ reader. reader.output ≡ script.output) }
+        ensures sources { IfOk result (λ reader. reader.sources ≡ script.sources) }
         ensures status { IfOk result (λ reader. reader.status ≡ 0) }
         ensures failed { IfOk result (λ reader. reader.failed ≡ None) }
         ensures over { IfOk result (λ reader. reader.is_over ≡ false) }
     {
-        Ok(ScriptReader {
-            alloc,
-            lines: LineReader::new(alloc)?,
+        let lines = LineReader::new(alloc)?;
+        let Script {
             input,
             output,
             sources,
+            progress,
+        } = script;
+        Ok(ScriptReader {
+            alloc,
+            words: CommandReader::new(),
+            lines,
+            input,
+            output,
+            sources,
+            progress,
             status: 0,
             has_drained: false,
             failed: None,
@@ -69,18 +87,21 @@ impl<R: Read + Drop, W: Write + Drop, F: Sources> ScriptReader<R, W, F> {
 
     // Reads and answers commands, up to one that leaves a line to the run; nothing where the script is over.
     pub(crate) fn read_line(&mut self, schedule: &Schedule) -> io::Result<Option<Line>>
-        ensures told { (first : Option (List ℕ)) (s : F) (told : List (Event × Answer)) (ticks : List ℕ) (has_ended : Bool)
-            → HasDone first (λ given. F.gives s given self.old.sources) told ticks None
+        ensures words { self.new.words ≡ self.old.words }
+        ensures told { (names : Texts) (first : Option (List ℕ)) (s : F) (told : List (Event × Answer)) (ticks : List ℕ) (has_ended : Bool)
+            → names ≡ self.old.words.names
+            → HasDone names first (λ given. F.gives s given self.old.sources) told ticks None
             (R.remaining self.old.input) self.old.status false has_ended
-            → HasDone first (λ given. F.gives s given self.new.sources) told ticks (opened_by result)
+            → HasDone names first (λ given. F.gives s given self.new.sources) told ticks (opened_by result)
             (R.remaining self.new.input) self.new.status (is_err result) (is_end result) }
         ensures failed { self.new.failed ≡ self.old.failed }
         ensures line { IfOk result (λ next. IfSome next (λ line. may_be_read line ≡ true)) }
     {
+        self.progress.clear();
         self.answer_drain()?;
         for _command in 0..MOST_COMMANDS {
             self.output.flush()?;
-            match next_command(self.alloc, &mut self.lines, &mut self.input)? {
+            match next_command(self.alloc, &self.words, &mut self.lines, &mut self.input)? {
                 None => return Ok(None),
                 Some(request) => match self.do_command(schedule, request)? {
                     None => {}
@@ -94,13 +115,14 @@ impl<R: Read + Drop, W: Write + Drop, F: Sources> ScriptReader<R, W, F> {
     // Answers a drain that was read: when the next command is read, no try is in flight.
     fn answer_drain(&mut self) -> io::Result<()>
         ensures input { self.new.input ≡ self.old.input }
+        ensures words { self.new.words ≡ self.old.words }
         ensures sources { self.new.sources ≡ self.old.sources }
         ensures status { self.new.status ≡ self.old.status }
         ensures failed { self.new.failed ≡ self.old.failed }
     {
         if self.has_drained {
             self.has_drained = false;
-            put_ok(&mut self.output)?;
+            put(&mut self.output, Shown::Done)?;
         }
         Ok(())
     }
@@ -109,13 +131,14 @@ impl<R: Read + Drop, W: Write + Drop, F: Sources> ScriptReader<R, W, F> {
     fn do_command(
         &mut self,
         schedule: &Schedule,
-        request: Result<Command, CommandFault>,
+        request: Result<ScriptCommand, CommandFault>,
     ) -> io::Result<Option<Line>>
         requires { is_asked request ≡ true }
         ensures does { Does request result self.old.status self.new.status }
         ensures texts { (s : F) (given : List FileText) → F.gives s given self.old.sources
             → F.gives s (given ++ texts_of request (line_of result)) self.new.sources }
         ensures input { self.new.input ≡ self.old.input }
+        ensures words { self.new.words ≡ self.old.words }
         ensures failed { self.new.failed ≡ self.old.failed }
         ensures line { IfOk result (λ next. IfSome next (λ line. may_be_read line ≡ true)) }
         ensures shown { IfOk result (λ next. MatchOption next
@@ -123,16 +146,17 @@ impl<R: Read + Drop, W: Write + Drop, F: Sources> ScriptReader<R, W, F> {
             (λ _. W.contents self.new.output ≡ W.contents self.old.output)) }
     {
         match request {
-            Ok(Command::Step(event)) => Ok(Some(Line::Event(event))),
-            Ok(Command::LoadFile(path)) => self.load(&path),
-            Ok(Command::TickNow) => Ok(Some(Line::TickNow)),
-            Ok(Command::Drain) => {
+            Ok(ScriptCommand::Step(event)) => Ok(Some(Line::Event(event))),
+            Ok(ScriptCommand::LoadFile(path)) => self.load(&path),
+            Ok(ScriptCommand::TickNow) => Ok(Some(Line::TickNow)),
+            Ok(ScriptCommand::Drain) => {
                 self.has_drained = true;
                 Ok(Some(Line::Drain))
             }
-            Ok(Command::ListRuns) => no_line(put_runs(&mut self.output, schedule.runs())),
-            Ok(Command::ListTasks) => no_line(put_tasks(&mut self.output, schedule)),
-            Ok(Command::ListPools) => no_line(put_pools(&mut self.output, schedule)),
+            Ok(ScriptCommand::List(listing)) => {
+                no_line(put_listing(&mut self.output, schedule, listing))
+            }
+            Ok(ScriptCommand::Explain(question)) => self.explain(schedule, &question),
             Err(fault) => self.refuse(fault),
         }
     }
@@ -143,6 +167,7 @@ impl<R: Read + Drop, W: Write + Drop, F: Sources> ScriptReader<R, W, F> {
         ensures texts { (s : F) (given : List FileText) → F.gives s given self.old.sources
             → F.gives s (given ++ texts_of (Ok (LoadFile path.now)) (line_of result)) self.new.sources }
         ensures input { self.new.input ≡ self.old.input }
+        ensures words { self.new.words ≡ self.old.words }
         ensures failed { self.new.failed ≡ self.old.failed }
         ensures line { IfOk result (λ next. IfSome next (λ line. may_be_read line ≡ true)) }
         ensures shown { IfOk result (λ next. MatchOption next
@@ -155,17 +180,42 @@ impl<R: Read + Drop, W: Write + Drop, F: Sources> ScriptReader<R, W, F> {
         }
     }
 
+    // Answers why a task instance stands where it does.
+    fn explain(&mut self, schedule: &Schedule, question: &Question) -> io::Result<Option<Line>>
+        ensures none { IfOk result (λ next. next ≡ None) }
+        ensures status { self.old.status ≤ self.new.status }
+        ensures input { self.new.input ≡ self.old.input }
+        ensures words { self.new.words ≡ self.old.words }
+        ensures sources { self.new.sources ≡ self.old.sources }
+        ensures failed { self.new.failed ≡ self.old.failed }
+        ensures shown { OnOk result (IsExplained schedule.now.content question.now (W.contents self.old.output) (W.contents self.new.output)) }
+    {
+        let Question {
+            graph,
+            logical,
+            task,
+        } = question;
+        match explain(self.alloc, schedule, graph, *logical, task) {
+            Ok(reasons) => no_line(put_reasons(&mut self.output, reasons.as_slice())),
+            Err(fault) => {
+                self.status = self.status.max(explain_status(fault));
+                no_line(put(&mut self.output, Shown::Unexplained(fault)))
+            }
+        }
+    }
+
     // Answers what is no command, or has no text.
     fn refuse(&mut self, fault: CommandFault) -> io::Result<Option<Line>>
         ensures none { IfOk result (λ next. next ≡ None) }
-        ensures status { self.new.status ≡ max self.old.status (spec.fault_status fault) }
+        ensures status { self.new.status ≡ max self.old.status (spec.command_status fault) }
         ensures input { self.new.input ≡ self.old.input }
+        ensures words { self.new.words ≡ self.old.words }
         ensures sources { self.new.sources ≡ self.old.sources }
         ensures failed { self.new.failed ≡ self.old.failed }
-        ensures shown { OnOk result (Appends (W.contents self.old.output) (W.contents self.new.output) (fault_text fault)) }
+        ensures shown { OnOk result (Appends (W.contents self.old.output) (W.contents self.new.output) (command_fault_text fault)) }
     {
-        self.status = self.status.max(fault_status(fault));
-        no_line(put_fault(&mut self.output, fault))
+        self.status = self.status.max(command_status(fault));
+        no_line(put(&mut self.output, Shown::NoCommand(fault)))
     }
 }
 
@@ -176,15 +226,5 @@ fn no_line(put: io::Result<()>) -> io::Result<Option<Line>>
     match put {
         Ok(()) => Ok(None),
         Err(error) => Err(error),
-    }
-}
-
-// The status of what is no command: 2 for its words, 4 where there is no text.
-fn fault_status(fault: CommandFault) -> u8
-    ensures { result ≡ spec.fault_status fault }
-{
-    match fault {
-        CommandFault::Usage(_) => 2,
-        CommandFault::Source(_) | CommandFault::Memory => 4,
     }
 }

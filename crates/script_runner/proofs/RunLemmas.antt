@@ -14,7 +14,9 @@ use Rattle.sched_events.specs.Steps.{steps}
 use Rattle.sched_events.specs.declared.answers.Answer.{Answer}
 use Rattle.sched_events.specs.declared.events.Event.{Event}
 use Rattle.script_commands.specs.Commands.{Request}
-use Rattle.script_commands.specs.declared.commands.Command.TheVariants.{Step, LoadFile, TickNow}
+use Rattle.script_commands.specs.declared.commands.ScriptCommand.TheVariants.{Step, LoadFile, TickNow}
+use Rattle.word_app.specs.App.{Texts}
+use Rattle.command_words.specs.Lines.{IsListed}
 use Rattle.director.specs.Directors.{DirectorValue, Keeps, Opens, RestartsIn}
 use Rattle.minutes.specs.Minutes.{answered, of_lines}
 use Rattle.sessions.specs.declared.faults.ConductFault.{ConductFault}
@@ -92,14 +94,16 @@ ends_well answers status (Err fault.Memory) is z = absurd (omega arith)
 ends_well answers status (Err fault.Unequal) is z = absurd (omega arith)
 
 -- ---- the events of the minutes beside the script's lines
-pub named : {T : Type 0} (first : Option (List ℕ)) (gives : List FileText → Type 0) (clock : List ℕ → Type 0) (told : List (Event × Answer)) (moments : List ℕ) (waits : Option Line) (left : Option (List ℕ)) (answers status : ℕ) (broken over was_over : Bool) (outcome : Result T ConductFault)
-    → HasDone first gives told moments waits left answers broken (over && not was_over) → clock moments → was_over ≡ false
+pub named : {T : Type 0} (words : Texts) (first : Option (List ℕ)) (gives : List FileText → Type 0) (clock : List ℕ → Type 0) (told : List (Event × Answer)) (moments : List ℕ) (waits : Option Line) (left : Option (List ℕ)) (answers status : ℕ) (broken over was_over : Bool) (outcome : Result T ConductFault)
+    → IsListed words → HasDone words first gives told moments waits left answers broken (over && not was_over) → clock moments → was_over ≡ false
     → (came_to_its_end outcome ≡ true → (over ≡ true) × (waits ≡ None)) → IsEndStatus answers outcome status
     → AreNamed first gives clock (map (λ p. p.0) told) status
-named first gives clock told moments waits left answers status broken over was_over outcome h given fresh whole is =
+named words first gives clock told moments waits left answers status broken over was_over outcome listed h given fresh whole is =
     let l = left_open waits h.open_asked h.open_texts h.opens in
     let ds : List Done = h.done ++ l.left in
     record {
+      words = words;
+      listed = listed;
       done = ds;
       each = All-append IsDone h.done l.left h.each l.each;
       texts = subst gives (ap (λ x. texts_in h.done ++ x) (sym l.reads) ∙ sym (flat_map-append (λ (d : Done). d.texts) h.done l.left)) h.texts;
@@ -157,23 +161,23 @@ module _ {S G O : Type 0} (look : Held S → State) (runs : O → List (ℕ × O
       }
 
 -- ---- the whole run, of the parts that come back
-module _ {S G O R W F C : Type 0} (look : Held S → State) (runs : O → List (ℕ × Outcome)) (taken : O → Option ℕ) (remaining : R → Option (List ℕ)) (gives : F → List FileText → F → Type 0) (ticks : C → List ℕ → C → Type 0) where
-  pub ran : (lanes : ℕ) (kits : List (Kit O)) (before : State) (d : DirectorValue S) (conducted : Conducted S G O) (first last : ScriptReader R W F) (clock later : C) (failed : Option LineFault) (untouched : Type 0)
+module _ {S G O R W F P C : Type 0} (look : Held S → State) (runs : O → List (ℕ × Outcome)) (taken : O → Option ℕ) (remaining : R → Option (List ℕ)) (gives : F → List FileText → F → Type 0) (ticks : C → List ℕ → C → Type 0) where
+  pub ran : (lanes : ℕ) (kits : List (Kit O)) (before : State) (d : DirectorValue S) (conducted : Conducted S G O) (first last : ScriptReader R W F P) (clock later : C) (failed : Option LineFault) (untouched : Type 0)
       → IsConducted look runs taken lanes kits d conducted (AreTold (Tells remaining gives) ticks first clock last later) untouched failed last.is_over
       → (HasCleanDisk (look d.store) → Opens ceilings 0 before.now d.schedule.content d.opened)
       → (HasCleanDisk (look d.store) → RestartsIn ceilings 0 before.now (look d.store).now)
-      → first.is_over ≡ false
+      → first.is_over ≡ false → IsListed first.words.names
       → (store : Held S) (minutes : List Event) (outcome : Result (Settled G O) ConductFault) (status : ℕ) (sources : F)
       → store ≡ conducted.director.store → minutes ≡ conducted.minutes.items → outcome ≡ conducted.outcome → IsEndStatus last.status conducted.outcome status → sources ≡ last.sources
       → IsRun look runs taken (remaining first.input) (λ given. gives first.sources given sources) (λ moments. ticks clock moments later) lanes kits before store minutes outcome status
-  ran lanes kits before d conducted first last clock later failed untouched c opened restarted fresh store minutes outcome status sources same_store same_minutes same_outcome ends same_sources =
+  ran lanes kits before d conducted first last clock later failed untouched c opened restarted fresh listed store minutes outcome status sources same_store same_minutes same_outcome ends same_sources =
       let a = d.schedule.content in
       let es = conducted.minutes.items in
       let t = c.told in
       let named_here : AreNamed (remaining first.input) (λ given. gives first.sources given last.sources) (λ moments. ticks clock moments later) (of_lines es) status =
       subst (λ (l : List Event). AreNamed (remaining first.input) (λ given. gives first.sources given last.sources) (λ moments. ticks clock moments later) l status) (answered_lines es a)
-      (named (remaining first.input) (λ given. gives first.sources given last.sources) (λ moments. ticks clock moments later) (answered es a) t.moments c.waits (remaining last.input) last.status status (is_some last.failed) last.is_over first.is_over conducted.outcome
-      t.told t.given fresh (λ well. ((c.whole well).0, (c.whole well).1)) ends)
+      (named first.words.names (remaining first.input) (λ given. gives first.sources given last.sources) (λ moments. ticks clock moments later) (answered es a) t.moments c.waits (remaining last.input) last.status status (is_some last.failed) last.is_over first.is_over conducted.outcome
+      listed t.told.1 t.given fresh (λ well. ((c.whole well).0, (c.whole well).1)) ends)
       in
       let here = is_run look runs taken (remaining first.input) (λ given. gives first.sources given last.sources) (λ moments. ticks clock moments later) lanes kits before d conducted status _ untouched failed last.is_over c opened restarted named_here in
       subst (λ (f : F). IsRun look runs taken (remaining first.input) (λ given. gives first.sources given f) (λ moments. ticks clock moments later) lanes kits before store minutes outcome status) (sym same_sources)

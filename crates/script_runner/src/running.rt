@@ -14,7 +14,7 @@ use director::{Director, Fault};
 use meta_store::Store;
 use operators::Operator;
 use sched_core::{Event, Limits};
-use script_reader::{ScriptReader, Sources};
+use script_reader::{Progress, Script, ScriptReader, Sources};
 use sessions::{Clock, ConductFault};
 use sqlite::Alter;
 use std::alloc::Global;
@@ -48,8 +48,8 @@ pub struct Ran<S: Alter, G: Gate, O: Operator, F: Sources> {
 
 /// Opens a record within the greatest limits, without lanes, and runs a script on it with workers, one for each crew, each on a thread of its own.
 ///
-/// The input is read byte by byte, which is why it has a buffer. The output is flushed before each command is read. An error says why the record is
-/// not opened, and gives it back.
+/// The output is flushed before each command is read. While a drain goes on, the script's progress is shown. An error says why the record is not
+/// opened, and gives it back.
 pub fn run_on<
     S: Alter + Drop,
     G: Gate + Send,
@@ -57,6 +57,7 @@ pub fn run_on<
     R: BufRead + Drop,
     W: Write + Drop,
     F: Sources,
+    P: Progress,
     C: Clock,
     T: Threads + Wait + Sync,
 >(
@@ -65,16 +66,14 @@ pub fn run_on<
     store: Store<S>,
     options: RunOptions,
     crews: Vec<Crew<G, O>>,
-    input: R,
-    output: W,
-    sources: F,
+    script: Script<R, W, F, P>,
     clock: &mut C,
 ) -> Result<Ran<S, G, O, F>, (Store<S>, Fault)>
     requires lanes { options.lanes ≤ 64 }
     requires crews { length crews.items ≤ 16 }
     requires kits { All (λ c. IsKit O.kind_of c.kit) crews.items }
-    ensures run { IfOk result (λ ran. IsRun (state S.Store) O.runs_of O.taken (R.Read.remaining input)
-        (λ given. F.gives sources given ran.sources) (λ moments. C.gives clock.old moments clock.new)
+    ensures run { IfOk result (λ ran. IsRun (state S.Store) O.runs_of O.taken (R.Read.remaining script.input)
+        (λ given. F.gives script.sources given ran.sources) (λ moments. C.gives clock.old moments clock.new)
         options.lanes (map (λ c. c.kit) crews.items) (state S.Store store) ran.store ran.minutes.items ran.outcome ran.status) }
     ensures fault { IfErr result (λ e. HasCleanDisk (state S.Store e.0)
         → IsOpenFault ceilings 0 (state S.Store store).now e.1) }
@@ -83,7 +82,7 @@ pub fn run_on<
         → ((state S.Store e.0).now ≡ (state S.Store store).now)
         × ((state S.Store e.0).committed ≡ (state S.Store store).committed)) }
 {
-    let Ok(mut reader) = ScriptReader::new(alloc, input, output, sources) else {
+    let Ok(mut reader) = ScriptReader::new(alloc, script) else {
         return Err((store, Fault::Memory));
     };
     match Director::open(alloc, store, 0, Limits::full()) {
@@ -104,10 +103,15 @@ pub fn run_on<
 }
 
 // Ends a script that was run.
-fn close<S: Alter, G: Gate, O: Operator, R: BufRead + Drop, W: Write + Drop, F: Sources>(
-    reader: ScriptReader<R, W, F>,
-    conducted: Conducted<S, G, O>,
-) -> Ran<S, G, O, F>
+fn close<
+    S: Alter,
+    G: Gate,
+    O: Operator,
+    R: BufRead + Drop,
+    W: Write + Drop,
+    F: Sources,
+    P: Progress,
+>(reader: ScriptReader<R, W, F, P>, conducted: Conducted<S, G, O>) -> Ran<S, G, O, F>
     ensures store { result.store ≡ conducted.director.store }
     ensures status { IsEndStatus reader.status conducted.outcome result.status }
     ensures minutes { result.minutes ≡ conducted.minutes }

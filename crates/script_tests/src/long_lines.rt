@@ -1,14 +1,15 @@
 //! Lines that are too long for a script.
-use script_commands::{Command, CommandFault, UsageFault, next_command};
+use command_words::{CommandReader, Listing, UsageFault};
+use script_commands::{CommandFault, ScriptCommand, next_command};
 use script_lines::LineReader;
 use std::alloc::Global;
 use std::io::{self, Read};
 use std::test::Fail;
 
 // What a script asks for, in a letter: a list of the runs, words that are no command, or a bad line.
-fn letter(request: &Result<Command, CommandFault>) -> char {
+fn letter(request: &Result<ScriptCommand, CommandFault>) -> char {
     match request {
-        Ok(Command::ListRuns) => 'l',
+        Ok(ScriptCommand::List(Listing::Runs)) => 'l',
         Err(CommandFault::Usage(UsageFault::Words)) => 'w',
         Err(CommandFault::Usage(UsageFault::BadLine)) => 'b',
         _ => '?',
@@ -17,10 +18,11 @@ fn letter(request: &Result<Command, CommandFault>) -> char {
 
 // The letters of a script, of no more than ten.
 fn letters<R: Read + Drop>(alloc: Global, mut script: R) -> Result<String, Fail> {
+    let reader = CommandReader::new();
     let mut lines = LineReader::new(alloc)?;
     let mut text = String::new(alloc);
     for _command in 0..10 {
-        let Some(request) = next_command(alloc, &mut lines, &mut script)? else {
+        let Some(request) = next_command(alloc, &reader, &mut lines, &mut script)? else {
             break;
         };
         text.push(letter(&request))?;

@@ -1,28 +1,38 @@
 //! What is written where memory ran out.
-use answer_lines::{put_fault, put_refusal};
+use answer_lines::{Shown, put};
+use command_words::UsageFault;
+use director::Fault;
 use pool_book::PoolFault;
 use sched_core::Refusal;
-use script_commands::CommandFault;
+use script_commands::{CommandFault, SourceFault};
 use std::alloc::Global;
 use std::test::Fail;
 
-fn refused(alloc: Global, refusal: &Refusal) -> Result<Vec<u8>, Fail> {
+fn written(alloc: Global, shown: Shown<'_>) -> Result<Vec<u8>, Fail> {
     let mut line = Vec::new(alloc);
-    put_refusal(&mut line, refusal)?;
+    put(&mut line, shown)?;
     Ok(line)
 }
 
 #[test]
 fn want_of_memory_has_its_line(rt: HostRuntime) -> Result<(), Fail> {
     let alloc = rt.alloc();
-    let event = refused(alloc, &Refusal::Memory)?;
-    let pool = refused(alloc, &Refusal::PoolFault(PoolFault::Memory))?;
-    let mut line = Vec::new(alloc);
-    put_fault(&mut line, CommandFault::Memory)?;
+    let event = written(alloc, Shown::Failure(&Fault::Refused(Refusal::Memory)))?;
+    let pool = Fault::Refused(Refusal::PoolFault(PoolFault::Memory));
+    let pool = written(alloc, Shown::Failure(&pool))?;
+    let words = CommandFault::Usage(UsageFault::Memory);
+    let words = written(alloc, Shown::NoCommand(words))?;
+    let text = CommandFault::Source(SourceFault::Memory);
+    let text = written(alloc, Shown::NoCommand(text))?;
     let wanted = b"memory\n".as_slice();
     assert_eq!(rt;
-        (event.as_slice(), pool.as_slice(), line.as_slice()),
-        (wanted, wanted, wanted)
+        (
+            event.as_slice(),
+            pool.as_slice(),
+            words.as_slice(),
+            text.as_slice()
+        ),
+        (wanted, wanted, wanted, wanted)
     );
     Ok(())
 }

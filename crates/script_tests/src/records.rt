@@ -6,6 +6,7 @@ use meta_store::Store;
 use operators::Program;
 use program_parts::{TaskOperator, operators_for, run_team};
 use sched_core::{Limits, Schedule};
+use script_reader::{NoProgress, Script};
 use script_runner::Ran;
 use session_rounds::ListedClock;
 use sqlite::{Connection, MemStore};
@@ -39,15 +40,19 @@ pub fn run_with<T: Threads + Wait + Sync, R: BufRead + Drop, W: Write + Drop>(
     let alloc = host.alloc();
     let team = operators_for(*host, alloc, workers, "no-such-folder")?;
     let mut clock = ListedClock::new(alloc, Vec::new(alloc));
+    let script = Script {
+        input,
+        output,
+        sources: NoSources,
+        progress: NoProgress,
+    };
     let ran = run_team(
         rt,
         alloc,
         new_record(alloc)?,
         lanes,
         team,
-        input,
-        output,
-        NoSources,
+        script,
         &mut clock,
     );
     Ok(ran.map_err(|_| "not opened")?)

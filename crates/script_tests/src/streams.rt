@@ -1,8 +1,10 @@
 //! Scripts whose input or output fails.
 use crate::failing::Failing;
 use crate::records::run;
-use answer_lines::put_refusal;
+use answer_lines::{Shown, put};
+use command_words::CommandReader;
 use cron_timetable::CronFault;
+use director::Fault;
 use graph_file::GraphFault;
 use sched_core::{Moment, Refusal};
 use script_commands::next_command;
@@ -74,9 +76,15 @@ fn a_failed_write_ends_the_script(rt: HostRuntime) -> Result<(), Fail> {
 #[test]
 fn a_failed_read_is_no_command(rt: HostRuntime) -> Result<(), Fail> {
     let text = b"load inline\na\n.\n".as_slice();
+    let reader = CommandReader::new();
     for calls in 0..16 {
         let mut lines = LineReader::new(rt.alloc())?;
-        let read = next_command(rt.alloc(), &mut lines, &mut Failing { text, calls });
+        let read = next_command(
+            rt.alloc(),
+            &reader,
+            &mut lines,
+            &mut Failing { text, calls },
+        );
         let kind = read.err().ok_or("read")?.kind();
         assert_eq!(rt; kind, ErrorKind::BrokenPipe, "after {calls} reads");
     }
@@ -86,18 +94,18 @@ fn a_failed_read_is_no_command(rt: HostRuntime) -> Result<(), Fail> {
 // A line of 41 bytes, of which each write takes one.
 #[test]
 fn a_failed_write_is_an_error(rt: HostRuntime) -> Result<(), Fail> {
-    let refusal = Refusal::GraphFault(GraphFault::Cron(CronFault::NeverFires));
+    let fault = Fault::Refused(Refusal::GraphFault(GraphFault::Cron(CronFault::NeverFires)));
     for calls in 0..41 {
-        let ended = put_refusal(&mut Failing { text: b"", calls }, &refusal);
+        let ended = put(&mut Failing { text: b"", calls }, Shown::Failure(&fault));
         let kind = ended.err().ok_or("written")?.kind();
         assert_eq!(rt; kind, ErrorKind::BrokenPipe, "at {calls}");
     }
-    put_refusal(
+    put(
         &mut Failing {
             text: b"",
             calls: 41,
         },
-        &refusal,
+        Shown::Failure(&fault),
     )?;
     Ok(())
 }

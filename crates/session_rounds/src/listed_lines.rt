@@ -197,6 +197,8 @@ impl Lines for ListedLines {
         Ok(())
     }
 
+    fn waits(&mut self, _schedule: &Schedule) {}
+
     fn no_clock(&mut self, _fault: ClockFault) -> Result<(), LineFault> {
         if let Some(fault) = self.planned_fault() {
             return Err(fault);

@@ -8,7 +8,7 @@ use Rattle.sched_model.specs.Schedule.{Schedule}
 use Rattle.director.specs.declared.faults.Fault.{Fault}
 use Rattle.minutes.specs.Minutes.{answered, answered_part, is_of_line, is_restart, report_part}
 use Rattle.minutes.proofs.GrowthLemmas.{along_more}
-use Rattle.sessions.specs.Lines.{opened_by, told_part}
+use Rattle.sessions.specs.Lines.{opened_by, told_part, TellsOn}
 use Rattle.sessions.specs.Told.{AreTold}
 use Rattle.sessions.specs.declared.line_reading.Line.{Line}
 use Rattle.sessions.specs.declared.line_reading.LineFault.{LineFault}
@@ -55,6 +55,17 @@ told_read tells gives l c lines read clock answers next now is before reads = re
   told = subst (λ (waits : Option Line). tells l answers before.moments (opened_by {F = LineFault} (Ok waits)) read) is (reads l answers before.moments before.told);
   given = before.given;
 }
+
+-- nothing more was told, and the same was answered
+pub told_on : {L C : Type 0} (tells : L → List (Event × Answer) → List ℕ → Option Line → L → Type 0) (gives : C → List ℕ → C → Type 0) (l : L) (c : C) (lines later : L) (clock : C) {answers all : List (Event × Answer)} (waits : Option Line)
+    → TellsOn tells lines later → answers ≡ all
+    → AreTold tells gives l c lines clock answers waits → AreTold tells gives l c later clock all waits
+told_on tells gives l c lines later clock waits on same before =
+    subst (λ answers. AreTold tells gives l c later clock answers waits) same (record {
+      moments = before.moments;
+      told = on l _ before.moments waits before.told;
+      given = before.given;
+    })
 
 -- what holds anyway holds where it ends well
 pub where_ok : {A F P : Type 0} (r : Result A F) → P → OnOk r P

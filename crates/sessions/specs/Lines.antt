@@ -47,3 +47,7 @@ ticked Says.Drain e = []
 abbrev pub told_part : Event → Result Answer Fault → List (Event × Answer)
 told_part e (Ok answer) = (e, answer) ∷ []
 told_part e (Err fault) = []
+
+-- from one state of lines to another nothing more was told, and what waits is the same
+abbrev pub TellsOn : {L : Type 0} → (L → List (Event × Answer) → List ℕ → Option Line → L → Type 0) → L → L → Type 0
+TellsOn {L} tells l later = (s : L) (told : List (Event × Answer)) (ticks : List ℕ) (waits : Option Line) → tells s told ticks waits l → tells s told ticks waits later

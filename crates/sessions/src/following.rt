@@ -86,7 +86,7 @@ impl<S: Alter> Session<S> {
     {
         for _ in rt.forever() {
             match lines.next(self.director.schedule()) {
-                Ok(None) => return self.drain(rt, alloc, lanes),
+                Ok(None) => return self.drain(rt, alloc, lanes, lines),
                 Ok(Some(line)) => {
                     if let Err(fault) = self.do_line(rt, alloc, lanes, line, lines, clock) {
                         return Err(fault);
@@ -127,7 +127,7 @@ impl<S: Alter> Session<S> {
                 Err(fault) => Err(ended_by_lines(fault)),
             },
             Line::TickNow => self.tick_now(rt, alloc, lanes, lines, clock),
-            Line::Drain => self.drain(rt, alloc, lanes),
+            Line::Drain => self.drain(rt, alloc, lanes, lines),
         }
     }
 

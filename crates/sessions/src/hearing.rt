@@ -8,9 +8,11 @@ ghost use Rattle.sched_model.specs.States.{in_flight};
 ghost use Rattle.director.specs.Directors.{Follows};
 ghost use Rattle.minutes.specs.Minutes.{answered};
 ghost use Rattle.sessions.specs.Faults.{EndsBy};
+ghost use Rattle.sessions.specs.Lines.{TellsOn};
 ghost use Rattle.sessions.specs.Runs.{GoesOn, IsRun, IsRunWith};
 
 use crate::faults::{ConductFault, ended_by};
+use crate::line_reading::Lines;
 use crate::state::Session;
 use director::Fault;
 use ruled_dispatch::{Lanes, WorkerReport};
@@ -136,20 +138,24 @@ impl<S: Alter> Session<S> {
         unreachable!()
     }
 
-    /// Hears and steps reports until no try is in flight.
-    pub fn drain<R: Wait>(
+    /// Hears and steps reports until no try is in flight. The lines are shown how the schedule stands before each is waited for.
+    pub fn drain<L: Lines, R: Wait>(
         &mut self,
         rt: &R,
         alloc: Global,
         lanes: &Lanes,
+        lines: &mut L,
     ) -> Result<(), ConductFault>
         requires pass { IsDirectorOf lanes.now self.old.pass }
         requires begun { 0 < length self.old.minutes.items }
         ensures goes_on { (lane_count : ℕ)
             → GoesOn (state S.Store) lanes.now lane_count self.old self.new }
         ensures begun { 0 < length self.new.minutes.items }
-        ensures told { (a : Schedule)
+        ensures answered { (a : Schedule)
             → answered self.new.minutes.items a ≡ answered self.old.minutes.items a }
+        ensures told { TellsOn L.tells lines.old lines.new }
+        ensures failed { L.failed lines.new ≡ L.failed lines.old }
+        ensures over { L.over lines.new ≡ L.over lines.old }
         ensures fault { IfErr result (λ f. EndsBy f None) }
         ensures idle { OnOk result (in_flight self.new.director.schedule.content ≡ 0) }
     {
@@ -157,6 +163,7 @@ impl<S: Alter> Session<S> {
             if self.director.schedule().in_flight() == 0 {
                 return Ok(());
             }
+            lines.waits(self.director.schedule());
             if let Err(fault) = self.await_one(rt, alloc, lanes) {
                 return Err(fault);
             }

@@ -2,7 +2,7 @@
 ghost use Rattle.std.specs.Prelude.{◌≡◌, ◌++◌, ℕ, List, [], Bool, true, Some, None, Option, IfOk, MatchResult, MatchOption};
 ghost use Rattle.sched_events.specs.declared.answers.Answer.{Answer};
 ghost use Rattle.sched_events.specs.declared.events.Event.{Event};
-ghost use Rattle.sessions.specs.Lines.{may_be_read, opened_by, ticked, told_part, Takes};
+ghost use Rattle.sessions.specs.Lines.{may_be_read, opened_by, ticked, told_part, Takes, TellsOn};
 ghost use Rattle.sessions.specs.declared.line_reading.Line.{Line};
 ghost use Rattle.sessions.specs.declared.line_reading.Line.TheVariants as Says;
 ghost use Rattle.sessions.specs.declared.line_reading.LineFault.{LineFault};
@@ -75,6 +75,12 @@ pub trait Lines: Drop {
             → tells s told ticks (Some Says.TickNow) self.old → tells s told ticks None self.new }
         ensures failed { MatchResult result (λ _. failed self.new ≡ None)
             (λ fault. failed self.new ≡ Some fault) }
+        ensures over { over self.new ≡ over self.old };
+
+    /// In a drain a report is waited for next. They may show how the schedule stands; nothing is told by it.
+    fn waits(&mut self, schedule: &Schedule)
+        ensures told { TellsOn tells self.old self.new }
+        ensures failed { failed self.new ≡ failed self.old }
         ensures over { over self.new ≡ over self.old };
 
     /// Where nothing is done, nothing was told.

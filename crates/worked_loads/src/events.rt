@@ -1,36 +1,29 @@
 //! The events that make the record: three pools, three graphs of one task, two days, and what workers report.
-use sched_core::{Event, Outcome, Stage};
-use script_commands::{Command, next_command};
-use script_lines::LineReader;
+use sched_core::{Clearing, Event, GraphText, Moment, Name, Outcome, Slots, Stage};
 use std::alloc::Global;
 
-/// What comes before the reports: each graph gets the runs of two days. Four of their six tries go out.
-pub const BEGINNING: &str = "\
-load inline
-dag_id = \"a\"
+// 2024-01-01 and 2024-01-03.
+const FIRST_DAY: u64 = 1_704_067_200;
+
+const THIRD_DAY: u64 = 1_704_240_000;
+
+const GRAPHS: [&str; 3] = [
+    "dag_id = \"a\"
 schedule = \"@daily\"
 start_date = \"2024-01-01\"
 task = [{ task_id = \"t\", operator = \"noop\" }]
-.
-load inline
-dag_id = \"b\"
+",
+    "dag_id = \"b\"
 schedule = \"@daily\"
 start_date = \"2024-01-01\"
 task = [{ task_id = \"t\", operator = \"noop\", retries = 1, retry_delay = 0 }]
-.
-load inline
-dag_id = \"c\"
+",
+    "dag_id = \"c\"
 schedule = \"@daily\"
 start_date = \"2024-01-01\"
 task = [{ task_id = \"t\", operator = \"noop\" }]
-.
-resize p 3
-resize q 3
-tick 2024-01-03
-";
-
-/// What comes after the reports: the first day of `a` is done once more.
-pub const REPAIR: &str = "clear a 2024-01-01 2024-01-01\n";
+",
+];
 
 /// The first try of `b` fails, so that it gets a second one, and that of `a` is a success.
 pub const REPORTS: [(u64, Stage); 4] = [
@@ -40,17 +33,36 @@ pub const REPORTS: [(u64, Stage); 4] = [
     (1, Stage::Ended(Outcome::Success)),
 ];
 
-/// The events of a script's commands, in order; none where it has another command.
-pub fn events_of(alloc: Global, script: &str) -> Option<Vec<Event>> {
-    let mut lines = LineReader::new(alloc).ok()?;
-    let mut left = script.as_bytes();
+/// What comes before the reports: each graph gets the runs of two days. Four of their six tries go out.
+pub fn beginning(alloc: Global) -> Option<Vec<Event>> {
     let mut events = Vec::new(alloc);
-    for _byte in 0..script.len() {
-        match next_command(alloc, &mut lines, &mut left).ok()? {
-            Some(Ok(Command::Step(event))) => events.push(event).ok()?,
-            Some(_) => return None,
-            None => break,
-        }
+    for text in GRAPHS {
+        let text = String::from_str(alloc, text).ok()?;
+        events.push(Event::Load(GraphText::from_string(text))).ok()?;
     }
+    for pool in ["p", "q"] {
+        let pool = Name::read(alloc, pool).ok()?;
+        events.push(Event::Resize(pool, Slots::new(3)?)).ok()?;
+    }
+    let tick = Event::Tick(moment(THIRD_DAY)?);
+    events.push(tick).ok()?;
     Some(events)
+}
+
+/// What comes after the reports: the first day of `a` is done once more.
+pub fn repair(alloc: Global) -> Option<Event> {
+    let day = moment(FIRST_DAY)?;
+    Some(Event::Clear(Clearing {
+        graph: Name::read(alloc, "a").ok()?,
+        from: day,
+        to: day,
+        task: None,
+        upstream: false,
+        downstream: false,
+        only_failed: false,
+    }))
+}
+
+fn moment(secs: u64) -> Option<Moment> {
+    Moment::from_secs(i64::try_from(secs).ok()?)
 }

@@ -1,5 +1,5 @@
 //! Records that are made to be changed.
-use crate::events::{BEGINNING, REPAIR, REPORTS, events_of};
+use crate::events::{REPORTS, beginning, repair};
 use meta_store::Store;
 use sched_core::{Event, Limits, Schedule};
 use sqlite::{Connection, MemStore};
@@ -33,24 +33,19 @@ impl Kept {
         let _answer = self.schedule.commit(change);
         Some(())
     }
-
-    fn run(&mut self, alloc: Global, script: &str) -> Option<()> {
-        for event in &events_of(alloc, script)? {
-            self.step(alloc, event)?;
-        }
-        Some(())
-    }
 }
 
 /// A new record of these events.
 pub fn new_record(alloc: Global) -> Option<Store<MemStore>> {
     let mut kept = Kept::new(alloc)?;
     kept.step(alloc, &Event::Restart(4))?;
-    kept.run(alloc, BEGINNING)?;
+    for event in &beginning(alloc)? {
+        kept.step(alloc, event)?;
+    }
     for (serial, stage) in REPORTS {
         kept.step(alloc, &Event::Report(serial, stage))?;
     }
-    kept.run(alloc, REPAIR)?;
+    kept.step(alloc, &repair(alloc)?)?;
     let Kept { schedule: _, store } = kept;
     Some(store)
 }

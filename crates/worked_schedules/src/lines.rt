@@ -1,10 +1,10 @@
-//! What a line is: a title, a remark, limits, an event that no script has words for, a question, or a line of a script.
+//! What a line is: a title, a remark, limits, an event that no script has words for, or a line of a script.
 use sched_core::{Event, Limits, Outcome, Stage};
 use std::str;
 
 /// What a line is.
 #[derive(Drop)]
-pub enum Line<'a> {
+pub enum Line {
     /// `== TITLE`: a new record begins, within the greatest limits.
     Title,
     /// A comment, or a line without a byte.
@@ -13,15 +13,13 @@ pub enum Line<'a> {
     Limits(Option<Limits>),
     /// `restart LANES`, or `report SERIAL STAGE`, where the stage is `started` or how the try ended.
     Event(Event),
-    /// `explain GRAPH DATE TASK`: why the instance of the task in the run of the graph with this logical date is where it is.
-    Explain(&'a str),
     /// A line of a script.
     Script,
 }
 
-impl<'a> Line<'a> {
+impl Line {
     /// What this line is, which has no newline.
-    pub fn of(line: &'a [u8]) -> Line<'a> {
+    pub fn of(line: &[u8]) -> Line {
         match str::from_utf8(line) {
             Ok(text) => of_text(text),
             Err(_) => Line::Script,
@@ -29,7 +27,7 @@ impl<'a> Line<'a> {
     }
 }
 
-fn of_text(text: &str) -> Line<'_> {
+fn of_text(text: &str) -> Line {
     if text.is_empty() || text.starts_with("#") {
         return Line::Remark;
     }
@@ -38,7 +36,6 @@ fn of_text(text: &str) -> Line<'_> {
     }
     match text.split_once(' ') {
         Some(("limits", rest)) => Line::Limits(limits_of(rest)),
-        Some(("explain", rest)) => Line::Explain(rest),
         Some((name, rest)) => match event_of(name, rest) {
             Some(event) => Line::Event(event),
             None => Line::Script,

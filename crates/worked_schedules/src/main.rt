@@ -4,9 +4,8 @@
 //! the same events lead to in one call.
 //!
 //! Standard input has titles, each of which begins a new record, and below a title the events that come to it: the lines of a script,
-//! and the words for what no script says (`lines`), among them questions why a task instance waits. Standard output has the same lines
-//! again, with `> ` before each, and after each what it answers, as a script prints it, and what it leaves (`leaving`), or the reasons
-//! (`explaining`). So the output reads as one page.
+//! and the words for what no script says (`lines`). Standard output has the same lines
+//! again, with `> ` before each, and after each what it answers, as a script prints it, and what it leaves (`leaving`). So the output reads as one page.
 //!
 //! ```text
 //! == a lane takes one try

@@ -1,11 +1,11 @@
 //! The lines of a text, one after another.
 use crate::answering::answer;
-use crate::explaining::explain_words;
 use crate::lines::Line;
 use crate::records::{Played, Records};
 use crate::stepping::step;
+use command_words::CommandReader;
 use sched_core::Limits;
-use script_commands::{Command, CommandFault, next_command};
+use script_commands::{CommandFault, ScriptCommand, SourceFault, next_command};
 use script_lines::LineReader;
 use std::alloc::Global;
 use std::io::{self, Write};
@@ -53,10 +53,6 @@ fn play_line<'a, W: Write>(
             echo(line, output)?;
             step(alloc, &mut records.played, &event, output)?;
         }
-        Line::Explain(words) => {
-            echo(line, output)?;
-            explain_words(alloc, records.played.schedule(), words, output)?;
-        }
         Line::Script => {
             return play_script(alloc, &mut records.played, lines, text, output);
         }
@@ -101,10 +97,11 @@ fn play_script<'a, W: Write>(
     text: &'a [u8],
     output: &mut W,
 ) -> io::Result<&'a [u8]> {
-    let (mut request, left) = next_request(alloc, lines, text)?;
-    if matches!(request, Some(Err(CommandFault::Memory))) {
-        (request, _) = next_request(alloc, lines, text)?;
+    let mut found = next_request(alloc, lines, text);
+    if lacks_memory(&found) {
+        found = next_request(alloc, lines, text);
     }
+    let (request, left) = found?;
     let read = text.len().saturating_sub(left.len());
     echo(&text[..read], output)?;
     if let Some(request) = request {
@@ -113,14 +110,32 @@ fn play_script<'a, W: Write>(
     Ok(left)
 }
 
+// What a command asks for, and the text after it.
+type Asked<'a> = (Option<Result<ScriptCommand, CommandFault>>, &'a [u8]);
+
+// Whether memory ran out for the command, or it could not be read.
+fn lacks_memory(found: &io::Result<Asked<'_>>) -> bool {
+    match found {
+        Ok((request, _)) => is_lack(request),
+        Err(_) => true,
+    }
+}
+
+fn is_lack(request: &Option<Result<ScriptCommand, CommandFault>>) -> bool {
+    let Some(Err(fault)) = request else {
+        return false;
+    };
+    *fault == CommandFault::Source(SourceFault::Memory)
+}
+
 // What the next command of a script asks for, and the text after it.
 fn next_request<'a>(
     alloc: Global,
     lines: &mut LineReader,
     text: &'a [u8],
-) -> io::Result<(Option<Result<Command, CommandFault>>, &'a [u8])> {
+) -> io::Result<Asked<'a>> {
     let mut left = text;
-    let request = next_command(alloc, lines, &mut left)?;
+    let request = next_command(alloc, &CommandReader::new(), lines, &mut left)?;
     Ok((request, left))
 }
 

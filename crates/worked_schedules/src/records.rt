@@ -1,7 +1,7 @@
 //! A schedule and its record in memory, and whether they are the same at the end.
-use crate::answering::{put_pools, put_tasks};
 use crate::leaving::put_left;
-use answer_lines::put_runs;
+use answer_lines::put_listing;
+use command_words::Listing;
 use director::{Director, Fault};
 use meta_store::Store;
 use sched_core::{Answer, Event, Limits, Schedule};
@@ -100,9 +100,9 @@ fn new_director(alloc: Global, limits: Limits) -> Result<Director<MemStore>, All
 // What is shown of a schedule: its runs, task instances and pools, and what it leaves.
 fn shown(alloc: Global, schedule: &Schedule) -> io::Result<Vec<u8>> {
     let mut text = Vec::new(alloc);
-    put_runs(&mut text, schedule.runs())?;
-    put_tasks(schedule, &mut text)?;
-    put_pools(schedule, &mut text)?;
+    for listing in [Listing::Runs, Listing::Tasks, Listing::Pools] {
+        put_listing(&mut text, schedule, listing)?;
+    }
     put_left(schedule, &mut text)?;
     Ok(text)
 }

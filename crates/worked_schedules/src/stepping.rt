@@ -2,10 +2,9 @@
 //! what is written.
 use crate::leaving::put_left;
 use crate::records::Played;
-use answer_lines::put_answer;
+use answer_lines::{Shown, put};
 use director::Fault;
 use sched_core::{Answer, Event};
-use script_reader::put_failure;
 use std::alloc::Global;
 use std::io::{self, Write};
 
@@ -17,8 +16,8 @@ pub fn step<W: Write>(
     output: &mut W,
 ) -> io::Result<()> {
     match done_or_again(alloc, played, event) {
-        Ok(answer) => put_answer(output, event, &answer)?,
-        Err(fault) => put_failure(output, &fault)?,
+        Ok(answer) => put(output, Shown::Answer(event, &answer))?,
+        Err(fault) => put(output, Shown::Failure(&fault))?,
     }
     put_left(played.schedule(), output)
 }

@@ -19,10 +19,11 @@
 mod clocks;
 mod sections;
 
+use answer_lines::{Shown, put};
 use clocks::worked_clock;
 use meta_store::Store;
 use program_parts::{FileSources, operators_for, run_team};
-use script_reader::{failure_status, put_failure};
+use script_reader::{NoProgress, Script, failure_status};
 use sections::{Section, next_section};
 use sqlite::Connection;
 use std::fs;
@@ -87,22 +88,17 @@ fn status<T: Threads + Wait + Sync, W: Write + Drop>(
         return Err(io::Error::from(ErrorKind::OutOfMemory));
     };
     let team = operators_for(*host, alloc, 1, SCRATCH)?;
-    let sources = FileSources::new(*host, alloc);
+    let script = Script {
+        input: section.script,
+        output: &mut *output,
+        sources: FileSources::new(*host, alloc),
+        progress: NoProgress,
+    };
     let mut clock = worked_clock(alloc)?;
-    match run_team(
-        rt,
-        alloc,
-        store,
-        section.lanes(),
-        team,
-        section.script,
-        &mut *output,
-        sources,
-        &mut clock,
-    ) {
+    match run_team(rt, alloc, store, section.lanes(), team, script, &mut clock) {
         Ok(ran) => Ok(ran.status),
         Err((_store, fault)) => {
-            put_failure(output, &fault)?;
+            put(output, Shown::Failure(&fault))?;
             Ok(failure_status(&fault))
         }
     }

@@ -1,6 +1,6 @@
 use Rattle.std.proofs.Common.{◌++◌, append_assoc, codes}
 use Rattle.std.proofs.lemmas.Result.{on_ok_weaker}
-use Rattle.answer_lines.specs.Faults.{graph_fault_text}
+use Rattle.answer_lines.specs.GraphFaults.{graph_fault_text}
 use Rattle.answer_lines.specs.DagFaults.{dag_fault_text}
 use Rattle.answer_lines.proofs.AppendLemmas.{appends_both}
 use Rattle.answer_lines.proofs.refusals.put_refusal.Goals as goal

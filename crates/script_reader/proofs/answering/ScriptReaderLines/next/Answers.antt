@@ -5,13 +5,17 @@ use Rattle.script_reader.proofs.answering.ScriptReaderLines.next.Goals as goal
 
 pub returns-in-Ok-clause-told : goal.returns-in-Ok-clause-told
 returns-in-Ok-clause-told g c s told ticks h =
-    let none : c.is_none-self.result ≡ is_none c.in-Ok.next = search rules in
-    read_tells g.R.Read.remaining g.F.Sources.gives s c.args.self.now {E = Error} _ _ _ _ _ told ticks (Ok c.in-Ok.next) (λ first f ended. c.in-Ok.ensures.told first f told ticks ended) c.requires
-    (ap is_some (c.in-Ok.ensures.failed ∙ c.requires)) (none ∙ is_end_none Error c.in-Ok.next) h
+    let none : c.is_none-self.result ≡ is_none c.in-Ok.next = search rules in (
+      ap (λ w. w.names) c.in-Ok.ensures.words ∙ h.0,
+      read_tells g.R.Read.remaining g.F.Sources.gives s c.args.self.now {E = Error} _ _ _ _ _ told ticks (Ok c.in-Ok.next) (λ names first f ended. c.in-Ok.ensures.told names first f told ticks ended) c.requires
+          (ap is_some (c.in-Ok.ensures.failed ∙ c.requires)) (none ∙ is_end_none Error c.in-Ok.next) h,
+    )
 
 pub returns-in-Ok-clause-failed : goal.returns-in-Ok-clause-failed
 returns-in-Ok-clause-failed g c = c.in-Ok.ensures.failed ∙ c.requires
 
 pub returns-in-Err-clause-told : goal.returns-in-Err-clause-told
-returns-in-Err-clause-told g c s told ticks h =
-    read_tells g.R.Read.remaining g.F.Sources.gives s c.args.self.now {E = Error} _ _ _ (Some c.fault_of-fault.result) _ told ticks (Err c.in-Err.error) (λ first f ended. c.in-Err.ensures.told first f told ticks ended) c.requires refl refl h
+returns-in-Err-clause-told g c s told ticks h = (
+  ap (λ w. w.names) c.in-Err.ensures.words ∙ h.0,
+  read_tells g.R.Read.remaining g.F.Sources.gives s c.args.self.now {E = Error} _ _ _ (Some c.fault_of-fault.result) _ told ticks (Err c.in-Err.error) (λ names first f ended. c.in-Err.ensures.told names first f told ticks ended) c.requires refl refl h,
+)

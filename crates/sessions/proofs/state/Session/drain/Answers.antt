@@ -13,7 +13,10 @@ loop-preserved g c =
     record {
       goes_on = λ n. goes_then (state g.S.Store) c.args.lanes.now n c.args.self.now c.loop.self c.await_one.new.self (was.goes_on n) (done.goes_on n);
       begun = done.begun;
-      told = λ a. done.told a ∙ was.told a;
+      answered = λ a. done.told a ∙ was.answered a;
+      told = λ s told ticks waits before. c.waits.ensures.told s told ticks waits (was.told s told ticks waits before);
+      failed = c.waits.ensures.failed ∙ was.failed;
+      over = c.waits.ensures.over ∙ was.over;
     }
 
 pub returns-in-Err-clause-goes_on : goal.returns-in-Err-clause-goes_on

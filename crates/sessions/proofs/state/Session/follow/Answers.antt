@@ -3,7 +3,7 @@ use Rattle.sqlite.specs.Held.{state}
 use Rattle.minutes.specs.Minutes.{answered}
 use Rattle.sessions.specs.Lines.{opens}
 use Rattle.sessions.specs.Told.{AreTold}
-use Rattle.sessions.proofs.LineLemmas.{told_read, where_ok}
+use Rattle.sessions.proofs.LineLemmas.{told_on, told_read, where_ok}
 use Rattle.sessions.proofs.RunLemmas.{goes_then}
 use Rattle.sessions.proofs.state.Session.follow.Goals as goal
 
@@ -21,7 +21,7 @@ returns-in-Ok-None-clause-told g c a n l k was told =
     let read : AreTold g.L.Lines.tells g.C.Clock.gives l k c.next-in-loop.new.self c.loop.clock (answered (vec_items c.loop.self.minutes) a) None =
     told_read g.L.Lines.tells g.C.Clock.gives l k c.loop.lines c.next-in-loop.new.self c.loop.clock (answered (vec_items c.loop.self.minutes) a) c.in-Ok-None.field-0 None c.in-Ok-None.field-0-is (c.loop.invariant.told a n l k was told) c.in-Ok-None.ensures.told in (
       None,
-      subst (λ answers. AreTold g.L.Lines.tells g.C.Clock.gives l k c.next-in-loop.new.self c.loop.clock answers None) (sym (c.drain.ensures.told a)) read,
+      told_on g.L.Lines.tells g.C.Clock.gives l k c.next-in-loop.new.self c.drain.new.lines c.loop.clock None c.drain.ensures.told (sym (c.drain.ensures.answered a)) read,
       where_ok c.drain.result refl,
     )
 

@@ -1,4 +1,0 @@
-use Rattle.answer_lines.proofs.faults.put_usage_fault.Goals as goal
-
-pub returns-in-BadMoment : goal.returns-in-BadMoment
-returns-in-BadMoment g c = rw (c.in-BadMoment.is, ← c.moment_fault_name-name.ensures) c.writeln.ensures.bytes

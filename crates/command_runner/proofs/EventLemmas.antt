@@ -1,0 +1,50 @@
+-- An event in a record that was opened for it.
+use Rattle.std.proofs.Common.{◌≡◌, ◌∙◌, ℕ, List, Option, Result, Ok, Err, OnOk, MatchResult, IsTrue, sym, subst, inl, inr}
+use Rattle.std.specs.Io.KnownBytes.{Appends}
+use Rattle.sqlite.specs.Held.{Held}
+use Rattle.sqlite.specs.State.{State, HasCleanDisk}
+use Rattle.sched_state.specs.Limits.{ceilings}
+use Rattle.sched_model.specs.Schedule.{Schedule}
+use Rattle.sched_events.specs.declared.events.Event.{Event}
+use Rattle.director.specs.Directors.{DirectorValue, Keeps, Opens, RestartsIn}
+use Rattle.director.specs.Faults.{IsOpenFault}
+use Rattle.director.specs.declared.faults.Fault.{Fault}
+use Rattle.answer_lines.specs.RecordFaults.{failure_text}
+use Rattle.script_reader.specs.Statuses.{failure_status}
+use Rattle.command_runner.specs.Events.{IsStepDone, IsStepped, IsUnopened}
+use Rattle.command_runner.specs.Writes.{IsWritten}
+
+pub stepped : {S : Type 0} (look : Held S → State) (before : State) (d : DirectorValue S) (e : Event) (old new : Option (List ℕ)) (store : Held S) (status : ℕ)
+    → (HasCleanDisk (look d.store) → Opens ceilings 0 before.now d.schedule.content d.opened)
+    → (HasCleanDisk (look d.store) → RestartsIn ceilings 0 before.now (look d.store).now)
+    → IsStepDone look d e old new store status → IsStepped look before e old new store status
+stepped look before d e old new store status opened restarted done = record {
+  first = d.schedule.content;
+  given = d.opened;
+  answer = done.answer;
+  after = done.after;
+  opened = λ clean. opened (done.followed.clean clean);
+  outcome = done.outcome;
+  stored = λ clean is_open rows stored.
+      let first = done.followed.clean clean in
+      let keeps : Keeps d.schedule.content (look d.store).now = subst (λ (a : Schedule). Keeps a (look d.store).now) (sym (opened first rows stored).stepped.after) (restarted first rows stored) in
+      done.followed.stored clean is_open keeps;
+  shown = done.shown;
+}
+
+-- what was written, by what came of writing it
+pub written : {E T : Type 0} (text : List ℕ) (wanted told : ℕ) (old new : Option (List ℕ)) (put : Result T E) (status : ℕ) → told ≡ wanted → OnOk put (Appends old new text) → MatchResult put (λ _. status ≡ told) (λ _. status ≡ 4) → IsWritten text wanted old new status
+written text wanted told old new (Ok v) status same text_is is = inl (is ∙ same, text_is)
+written text wanted told old new (Err e) status same text_is is = inr is
+
+pub unopened : {S E T : Type 0} (look : Held S → State) (before : State) (store : Held S) (fault : Fault) (old new : Option (List ℕ)) (told : ℕ) (put : Result T E) (status : ℕ)
+    → (HasCleanDisk (look store) → IsOpenFault ceilings 0 before.now fault)
+    → (HasCleanDisk (look store) → IsTrue (look store).is_open → ((look store).now ≡ before.now) × ((look store).committed ≡ before.committed))
+    → told ≡ failure_status fault → OnOk put (Appends old new (failure_text fault)) → MatchResult put (λ _. status ≡ told) (λ _. status ≡ 4)
+    → IsUnopened look before old new store status
+unopened look before store fault old new told put status cause kept same text_is is = record {
+  fault = fault;
+  cause = cause;
+  kept = kept;
+  shown = written (failure_text fault) (failure_status fault) told old new put status same text_is is;
+}

@@ -1,0 +1,4 @@
+pub mod Commands
+pub mod Events
+pub mod Looks
+pub mod Writes

@@ -1,0 +1,39 @@
+//! A command outside of scripts.
+ghost use Rattle.sqlite.specs.Held.{state};
+ghost use Rattle.command_runner.specs.Commands.{IsDone};
+
+use crate::events::step_event;
+use crate::looks::{answer_question, show_rows};
+use crate::writing::status_after;
+use answer_lines::{Shown, put};
+use command_words::{Command, UsageFault};
+use meta_store::Store;
+use script_commands::CommandFault;
+use sqlite::Alter;
+use std::alloc::Global;
+use std::io::Write;
+
+/// Does one command on a record, writes its answer, and gives the record back, with the status: that of the answer, and 4 where it was not written.
+///
+/// `trigger`, `backfill`, `clear`, `pause`, `unpause` and `resize` open the record within the greatest limits, without lanes, and step their event.
+/// `list` and `explain` look at what the record holds, and leave it as it is. `run` is the caller's; it and what is for scripts alone, `load`, `tick`
+/// and `drain`, have no place here.
+pub fn run_command<S: Alter + Drop, W: Write>(
+    alloc: Global,
+    store: Store<S>,
+    command: &Command,
+    output: &mut W,
+) -> (Store<S>, u8)
+    ensures { IsDone (state S.Store) store command.now (W.contents output.old) (W.contents output.new) result.0 result.1 }
+{
+    match command {
+        Command::Step(event) => step_event(alloc, store, event, output),
+        Command::List(listing) => show_rows(alloc, store, *listing, output),
+        Command::Explain(question) => answer_question(alloc, store, question, output),
+        Command::Run(_) | Command::Load(_) | Command::Tick(_) | Command::Drain => {
+            let fault = CommandFault::Usage(UsageFault::NotHere);
+            let put = put(output, Shown::NoCommand(fault));
+            (store, status_after(2, put))
+        }
+    }
+}

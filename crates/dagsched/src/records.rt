@@ -1,0 +1,88 @@
+//! The record on which a command is done.
+ghost use Rattle.std.specs.Prelude.{◌≡◌, false};
+
+use crate::scripts::run_script;
+use answer_lines::{Shown, put};
+use command_runner::run_command;
+use command_words::Command;
+use director::Fault;
+use meta_store::{Store, StoreFault};
+use script_reader::failure_status;
+use sqlite::{Alter, Connection, Error, ErrorCode};
+use std::io::{self, ErrorKind};
+use std::sync::Wait;
+use std::thread::Threads;
+
+/// Does a command on the record in this file, which is made where there is none, and closes the file; the status.
+pub fn in_file<T: Threads + Wait + Sync>(
+    threads: &T,
+    rt: &HostRuntime,
+    path: &str,
+    command: &Command,
+) -> io::Result<u8> {
+    match Connection::open(rt, path) {
+        Ok(conn) => {
+            let (conn, status) = on_connection(threads, rt, conn, command)?;
+            match conn.close() {
+                Ok(()) => Ok(status),
+                Err(_) => Ok(status.max(3)),
+            }
+        }
+        Err(Error::SqliteFailure(ErrorCode::OutOfMemory)) => {
+            Err(io::Error::from(ErrorKind::OutOfMemory))
+        }
+        Err(_) => {
+            put(&mut rt.stdout(), Shown::Unopened)?;
+            Ok(3)
+        }
+    }
+}
+
+/// Does a command on a new record in memory; the status.
+pub fn in_memory<T: Threads + Wait + Sync>(
+    threads: &T,
+    rt: &HostRuntime,
+    command: &Command,
+) -> io::Result<u8> {
+    let conn = Connection::open_in_memory(rt.alloc())?;
+    let (_conn, status) = on_connection(threads, rt, conn, command)?;
+    Ok(status)
+}
+
+// Makes a record, or takes the one that is there, and does the command on it.
+fn on_connection<S: Alter + Drop, T: Threads + Wait + Sync>(
+    threads: &T,
+    rt: &HostRuntime,
+    conn: Connection<S>,
+    command: &Command,
+) -> io::Result<(Connection<S>, u8)>
+    requires { conn.in_transaction ≡ false }
+{
+    match Store::create(rt.alloc(), conn) {
+        Ok(store) => on_store(threads, rt, store, command),
+        Err((conn, StoreFault::NotOurs)) => on_store(threads, rt, Store::adopt(conn), command),
+        Err((conn, fault)) => {
+            let status = put_failure(rt, &Fault::from(fault))?;
+            Ok((conn, status))
+        }
+    }
+}
+
+fn on_store<S: Alter + Drop, T: Threads + Wait + Sync>(
+    threads: &T,
+    rt: &HostRuntime,
+    store: Store<S>,
+    command: &Command,
+) -> io::Result<(Connection<S>, u8)> {
+    let (store, status) = match command {
+        Command::Run(options) => run_script(threads, rt, store, options)?,
+        _ => run_command(rt.alloc(), store, command, &mut rt.stdout()),
+    };
+    Ok((store.release(), status))
+}
+
+/// Prints why a record is not opened; the status.
+pub fn put_failure(rt: &HostRuntime, fault: &Fault) -> io::Result<u8> {
+    put(&mut rt.stdout(), Shown::Failure(fault))?;
+    Ok(failure_status(fault))
+}

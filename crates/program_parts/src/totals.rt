@@ -1,0 +1,43 @@
+//! How far the task instances of a schedule are.
+use sched_core::Schedule;
+use trigger_rules::State;
+
+// How many task instances are how far.
+#[derive(Clone, Copy, Debug, PartialEq, Eq)]
+pub(crate) struct Totals {
+    // With a try without an end.
+    pub(crate) in_flight: usize,
+    // Success or skipped.
+    pub(crate) done: usize,
+    // Failed, or an upstream of them is.
+    pub(crate) failed: usize,
+    // For their upstreams, for slots or for their next try.
+    pub(crate) waiting: usize,
+}
+
+impl Totals {
+    // Goes over all task instances.
+    pub(crate) fn of(schedule: &Schedule) -> Totals {
+        let mut totals = Totals {
+            in_flight: 0,
+            done: 0,
+            failed: 0,
+            waiting: 0,
+        };
+        for row in schedule.instances() {
+            totals.add(row.state);
+        }
+        totals
+    }
+
+    fn add(&mut self, state: State) {
+        match state {
+            State::Queued | State::Running => self.in_flight = self.in_flight.saturating_add(1),
+            State::Success | State::Skipped => self.done = self.done.saturating_add(1),
+            State::Failed | State::UpstreamFailed => self.failed = self.failed.saturating_add(1),
+            State::None | State::Scheduled | State::UpForRetry => {
+                self.waiting = self.waiting.saturating_add(1);
+            }
+        }
+    }
+}
