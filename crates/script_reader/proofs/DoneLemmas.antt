@@ -1,5 +1,5 @@
 -- What was done of a script, after one command more.
-use Rattle.std.proofs.Common.{◌≡◌, ◌∙◌, ◌⊎◌, inl, inr, ℕ, ◌<◌, ◌==◌, max, Bool, true, false, true≢false, not, ◌&&◌, List, [], ◌∷◌, ◌++◌, length, map, flat_map, Option, Some, None, is_some, is_none, Result, Ok, Err, is_err, refl, sym, ap, subst, arith, append_assoc, append-nil}
+use Rattle.std.proofs.Common.{◌≡◌, ◌∙◌, ◌⊎◌, inl, inr, ℕ, ◌<◌, ◌==◌, max, Bool, true, false, true≢false, not, ◌&&◌, List, [], ◌∷◌, ◌++◌, length, map, flat_map, Option, Some, None, is_none, Result, Ok, Err, is_err, refl, sym, ap, subst, arith, append_assoc, append-nil}
 use Rattle.std.proofs.lemmas.Grind.{flat_map-append}
 use Rattle.std.proofs.lemmas.List.{map-append}
 use Rattle.std.proofs.lemmas.List.Elements.{All-push}
@@ -18,9 +18,6 @@ use Rattle.director.specs.declared.faults.Fault.TheVariants as failed
 use Rattle.script_reader.specs.Statuses.{refusal_status, failure_status, status_of}
 use Rattle.std.specs.Result.{IsErrAnd}
 use Rattle.script_reader.specs.Commands.{Leaves, Does, is_end, line_of, texts_of}
-use Rattle.sessions.specs.declared.line_reading.LineFault.{LineFault}
-use Rattle.script_reader.specs.Readers.{Tells}
-use Rattle.script_reader.specs.declared.reader.ScriptReader.{ScriptReader}
 use Rattle.script_reader.specs.Done.{FileText, Done, IsDone, IsPerhaps, MayBeDone, IsOpen, HasDone, is_whole}
 
 -- ---- statuses
@@ -32,10 +29,6 @@ fails : (f : Fault) → 0 < failure_status f
 fails (failed.Refused r) = refuses r
 fails (failed.Store f) = omega arith
 fails failed.Memory = omega arith
-
-first_of : (b c : Bool) → (b && c) ≡ true → b ≡ true
-first_of true c e = refl
-first_of false c e = e
 
 -- nothing need be done of a command
 untouched : (r : Request) → MayBeDone r [] [] []
@@ -321,7 +314,7 @@ module _ (names : Texts) where
       (closed_more first gives told ticks Says.TickNow left status ended h [] [] status' broken (closed_untold h.open_asked h.open_texts h.opens) (λ z. absurd (omega arith))))
 
   -- it is not said to have ended where it was not said before
-  ended_less : (first : Option (List ℕ)) (gives : List FileText → Type 0) (told : List (Event × Answer)) (ticks : List ℕ) (waits : Option Line) (left : Option (List ℕ)) (status : ℕ) (is_broken ended ended' : Bool) → (ended' ≡ true → ended ≡ true)
+  pub ended_less : (first : Option (List ℕ)) (gives : List FileText → Type 0) (told : List (Event × Answer)) (ticks : List ℕ) (waits : Option Line) (left : Option (List ℕ)) (status : ℕ) (is_broken ended ended' : Bool) → (ended' ≡ true → ended ≡ true)
       → HasDone names first gives told ticks waits left status is_broken ended → HasDone names first gives told ticks waits left status is_broken ended'
   ended_less first gives told ticks waits left status is_broken ended ended' less h = record {
     done = h.done;
@@ -379,57 +372,6 @@ module _ (names : Texts) where
         none_more first gives gives' told ticks left left' status status' ended h given is
         (λ xs g. subst (λ l. gives' (xs ++ l)) (no_texts given) (subst (λ (x : Result (Option Line) E). gives' (xs ++ texts_of given (line_of x))) was (to xs g)))
         (subst (λ (x : Result (Option Line) E). Does given x status status') was does)
-
--- ---- the same of readers
-module _ {R W F P : Type 0} (remaining : R → Option (List ℕ)) (gives : F → List FileText → F → Type 0) (s old new : ScriptReader R W F P) where
-  -- what was done is said of the reader once it is answered
-  moved : (told : List (Event × Answer)) (ticks : List ℕ) (waits : Option Line) → new.words.names ≡ s.words.names → new.input ≡ old.input → new.sources ≡ old.sources → new.is_over ≡ old.is_over
-      → HasDone s.words.names (remaining s.input) (λ given. gives s.sources given old.sources) told ticks waits (remaining old.input) new.status (is_some new.failed) (old.is_over && not s.is_over)
-      → Tells remaining gives s told ticks waits new
-  moved told ticks waits words input sources over h = (
-    words,
-    subst (λ (b : Bool). HasDone s.words.names (remaining s.input) (λ given. gives s.sources given new.sources) told ticks waits (remaining new.input) new.status (is_some new.failed) (b && not s.is_over)) (sym over)
-        (subst (λ (f : F). HasDone s.words.names (remaining s.input) (λ given. gives s.sources given f) told ticks waits (remaining new.input) new.status (is_some new.failed) (old.is_over && not s.is_over)) (sym sources)
-        (subst (λ (r : R). HasDone s.words.names (remaining s.input) (λ given. gives s.sources given old.sources) told ticks waits (remaining r) new.status (is_some new.failed) (old.is_over && not s.is_over)) (sym input) h)),
-  )
-
-  sound : (told : List (Event × Answer)) (ticks : List ℕ) (waits : Option Line) → old.failed ≡ None → Tells remaining gives s told ticks waits old
-      → HasDone s.words.names (remaining s.input) (λ given. gives s.sources given old.sources) told ticks waits (remaining old.input) old.status false (old.is_over && not s.is_over)
-  sound told ticks waits none h =
-      subst (λ (o : Option LineFault). HasDone s.words.names (remaining s.input) (λ given. gives s.sources given old.sources) told ticks waits (remaining old.input) old.status (is_some o) (old.is_over && not s.is_over)) none h.1
-
-  pub answered_tells : (told : List (Event × Answer)) (ticks : List ℕ) (line : Line) (e : Event) (q : Result Answer Fault) → new.words.names ≡ old.words.names → new.input ≡ old.input → new.sources ≡ old.sources → new.is_over ≡ old.is_over
-      → new.status ≡ max old.status (status_of q) → old.failed ≡ None → Takes line e → Tells remaining gives s told ticks (Some line) old → Tells remaining gives s (told ++ told_part e q) (ticks ++ ticked line e) None new
-  answered_tells told ticks line e q words input sources over status none takes h =
-      moved (told ++ told_part e q) (ticks ++ ticked line e) None (words ∙ h.0) input sources over
-      (told_more s.words.names (remaining s.input) (λ given. gives s.sources given old.sources) told ticks line (remaining old.input) old.status (old.is_over && not s.is_over) (sound told ticks (Some line) none h) e q new.status (is_some new.failed) takes status)
-
-  pub untold_tells : (told : List (Event × Answer)) (ticks : List ℕ) → new.words.names ≡ old.words.names → new.input ≡ old.input → new.sources ≡ old.sources → new.is_over ≡ old.is_over
-      → 0 < new.status → old.failed ≡ None → Tells remaining gives s told ticks (Some Says.TickNow) old → Tells remaining gives s told ticks None new
-  untold_tells told ticks words input sources over some none h =
-      moved told ticks None (words ∙ h.0) input sources over
-      (untold_more s.words.names (remaining s.input) (λ given. gives s.sources given old.sources) told ticks (remaining old.input) old.status new.status (is_some new.failed) (old.is_over && not s.is_over) (sound told ticks (Some Says.TickNow) none h) some)
-
--- ---- what the calls of a session see
-module _ {R W F P : Type 0} (remaining : R → Option (List ℕ)) (gives : F → List FileText → F → Type 0) (s old : ScriptReader R W F P) where
-  -- what a read does, where words are read in the same way
-  abbrev pub Reads : {E : Type 0} → R → F → ℕ → List (Event × Answer) → List ℕ → Result (Option Line) E → Type 0
-  Reads input sources status told ticks next =
-      (names : Texts) (first : Option (List ℕ)) (f : F) (has_ended : Bool) → names ≡ old.words.names
-      → HasDone names first (λ given. gives f given old.sources) told ticks None (remaining old.input) old.status false has_ended
-      → HasDone names first (λ given. gives f given sources) told ticks (opened_by next) (remaining input) status (is_err next) (is_end next)
-
-  -- of a reader that has these parts after a read
-  pub read_tells : {E : Type 0} (input : R) (sources : F) (status : ℕ) (failed : Option LineFault) (over : Bool) (told : List (Event × Answer)) (ticks : List ℕ) (next : Result (Option Line) E) → Reads input sources status told ticks next
-      → old.failed ≡ None → is_some failed ≡ is_err next → over ≡ is_end next
-      → Tells remaining gives s told ticks None old → HasDone s.words.names (remaining s.input) (λ given. gives s.sources given sources) told ticks (opened_by next) (remaining input) status (is_some failed) (over && not s.is_over)
-  read_tells input sources status failed over told ticks next read none broken ended h =
-      let was : HasDone s.words.names (remaining s.input) (λ given. gives s.sources given old.sources) told ticks None (remaining old.input) old.status false (old.is_over && not s.is_over) =
-      subst (λ (o : Option LineFault). HasDone s.words.names (remaining s.input) (λ given. gives s.sources given old.sources) told ticks None (remaining old.input) old.status (is_some o) (old.is_over && not s.is_over)) none h.1 in
-      let now = read s.words.names (remaining s.input) s.sources (old.is_over && not s.is_over) (sym h.0) was in
-      ended_less s.words.names (remaining s.input) (λ given. gives s.sources given sources) told ticks (opened_by next) (remaining input) status (is_some failed) (is_end next) (over && not s.is_over)
-      (λ both. sym ended ∙ first_of over (not s.is_over) both)
-      (subst (λ (b : Bool). HasDone s.words.names (remaining s.input) (λ given. gives s.sources given sources) told ticks (opened_by next) (remaining input) status b (is_end next)) (sym broken) now)
 
 -- words that are read in the same way ask for the same
 pub next_named : (names other : Texts) → names ≡ other → (known : List ℕ) (asked : Option Request) (left : Option (List ℕ)) → IsNext other known asked left → IsNext names known asked left

@@ -1,1 +1,2 @@
 pub mod DoneLemmas
+pub mod ReaderLemmas

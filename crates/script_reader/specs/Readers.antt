@@ -7,14 +7,11 @@ use Rattle.script_reader.specs.Done.{FileText, HasDone, begun}
 use Rattle.script_reader.specs.declared.reader.ScriptReader.{ScriptReader}
 
 module _ {R W F P : Type 0} (remaining : R → Option (List ℕ)) (gives : F → List FileText → F → Type 0) where
-  -- from one state to another the commands of the script were done, of which this was told, with what the sources gave
-  abbrev pub Does : ScriptReader R W F P → List (Event × Answer) → List ℕ → Option Line → ScriptReader R W F P → Type 0
-  Does s told ticks waits t =
-      HasDone s.words.names (remaining s.input) (λ given. gives s.sources given t.sources) told ticks waits (remaining t.input) t.status (is_some t.failed) (t.is_over && not s.is_over)
-
-  -- and words are read in the same way
+  -- from one state to another words are read in the same way, and the commands of the script were done, of which this was told, with what the sources gave
   abbrev pub Tells : ScriptReader R W F P → List (Event × Answer) → List ℕ → Option Line → ScriptReader R W F P → Type 0
-  Tells s told ticks waits t = (t.words.names ≡ s.words.names) × Does s told ticks waits t
+  Tells s told ticks waits t =
+      (t.words.names ≡ s.words.names)
+      × HasDone s.words.names (remaining s.input) (λ given. gives s.sources given t.sources) told ticks waits (remaining t.input) t.status (is_some t.failed) (t.is_over && not s.is_over)
 
   pub tells_nothing : ((f : F) → gives f [] f) → (s : ScriptReader R W F P) → Tells s [] [] None s
   tells_nothing none s = (refl, begun s.words.names (remaining s.input) (λ given. gives s.sources given s.sources) s.status (is_some s.failed) s.is_over (none s.sources))

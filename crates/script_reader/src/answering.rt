@@ -1,6 +1,7 @@
 //! A script as the lines of a session.
-ghost use Rattle.std.specs.Prelude.{◌≡◌, ◌&&◌, not, is_some, max, None, Some, Ok, OnOk, MatchResult};
+ghost use Rattle.std.specs.Prelude.{◌≡◌, ◌&&◌, not, is_some, is_err, max, None, Some, Ok, OnOk, MatchResult};
 ghost use Rattle.std.specs.Io.KnownBytes.{Appends};
+ghost use Rattle.answer_lines.specs.RunFaults.{clock_text};
 ghost use Rattle.script_reader.specs.Statuses.{shown_for, status_of};
 
 use crate::progress::Progress;
@@ -42,6 +43,8 @@ impl<R: Read + Drop, W: Write + Drop, F: Sources, P: Progress> ScriptReader<R, W
         ensures sources { self.new.sources ≡ self.old.sources }
         ensures status { self.new.status ≡ self.old.status }
         ensures over { self.new.is_over ≡ self.old.is_over }
+        ensures output { self.new.output ≡ self.old.output }
+        ensures ended { is_err result ≡ is_err put }
         ensures failed { MatchResult result (λ _. self.new.failed ≡ self.old.failed)
             (λ fault. self.new.failed ≡ Some fault) }
     {
@@ -68,6 +71,10 @@ impl<R: Read + Drop, W: Write + Drop, F: Sources, P: Progress> Lines for ScriptR
     ghost use Rattle.script_reader.specs.Readers.{Tells, tells_nothing};
 
     ghost tells = { Tells R.remaining F.gives };
+
+    ghost shows = { λ s event answer t. Appends (W.contents s.output) (W.contents t.output) (shown_for event answer) };
+
+    ghost shows_no_clock = { λ s fault t. Appends (W.contents s.output) (W.contents t.output) (clock_text fault) };
 
     ghost failed = { λ s. s.failed };
 

@@ -151,6 +151,10 @@ impl Lines for ListedLines {
 
     ghost tells = { Tells };
 
+    ghost shows = { λ s event answer t. Unit {0} };
+
+    ghost shows_no_clock = { λ s fault t. Unit {0} };
+
     ghost failed = { λ l. l.failed };
 
     ghost over = { λ l. l.is_over };

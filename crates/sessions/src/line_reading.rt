@@ -1,8 +1,10 @@
 //! Where the lines come from, and where their answers go.
-ghost use Rattle.std.specs.Prelude.{◌≡◌, ◌++◌, ℕ, List, [], Bool, true, Some, None, Option, IfOk, MatchResult, MatchOption};
+ghost use Rattle.std.specs.Prelude.{◌≡◌, ◌++◌, ℕ, List, [], Bool, true, Some, None, Option, Result, IfOk, OnOk, MatchResult, MatchOption};
 ghost use Rattle.sched_events.specs.declared.answers.Answer.{Answer};
 ghost use Rattle.sched_events.specs.declared.events.Event.{Event};
+ghost use Rattle.director.specs.declared.faults.Fault.{Fault};
 ghost use Rattle.sessions.specs.Lines.{may_be_read, opened_by, ticked, told_part, Takes, TellsOn};
+ghost use Rattle.sessions.specs.declared.clocks.ClockFault.{ClockFault};
 ghost use Rattle.sessions.specs.declared.line_reading.Line.{Line};
 ghost use Rattle.sessions.specs.declared.line_reading.Line.TheVariants as Says;
 ghost use Rattle.sessions.specs.declared.line_reading.LineFault.{LineFault};
@@ -42,6 +44,12 @@ pub trait Lines: Drop {
     /// now; and this line waits for its answer then.
     ghost tells: { Self → List (Event × Answer) → List ℕ → Option Line → Self → Type 0 };
 
+    /// What they show of an answer, from the state before it to the state after it.
+    ghost shows: { Self → Event → Result Answer Fault → Self → Type 0 };
+
+    /// What they show where the clock gave no moment, likewise.
+    ghost shows_no_clock: { Self → ClockFault → Self → Type 0 };
+
     /// The fault that they answered.
     ghost failed: { Self → Option LineFault };
 
@@ -64,6 +72,7 @@ pub trait Lines: Drop {
         ensures told { (s : Self) (told : List (Event × Answer)) (ticks : List ℕ) (line : Line)
             → Takes line event.now → tells s told ticks (Some line) self.old
             → tells s (told ++ told_part event.now answer.now) (ticks ++ ticked line event.now) None self.new }
+        ensures shown { OnOk result (shows self.old event.now answer.now self.new) }
         ensures failed { MatchResult result (λ _. failed self.new ≡ None)
             (λ fault. failed self.new ≡ Some fault) }
         ensures over { over self.new ≡ over self.old };
@@ -73,6 +82,7 @@ pub trait Lines: Drop {
         requires { failed self.old ≡ None }
         ensures told { (s : Self) (told : List (Event × Answer)) (ticks : List ℕ)
             → tells s told ticks (Some Says.TickNow) self.old → tells s told ticks None self.new }
+        ensures shown { OnOk result (shows_no_clock self.old fault self.new) }
         ensures failed { MatchResult result (λ _. failed self.new ≡ None)
             (λ fault. failed self.new ≡ Some fault) }
         ensures over { over self.new ≡ over self.old };

@@ -1,5 +1,5 @@
 use Rattle.std.proofs.Common.{◌∙◌, ap}
-use Rattle.script_reader.proofs.DoneLemmas.{answered_tells}
+use Rattle.script_reader.proofs.ReaderLemmas.{answered_tells}
 use Rattle.script_reader.proofs.answering.ScriptReaderLines.answered.Goals as goal
 
 pub returns-clause-told : goal.returns-clause-told

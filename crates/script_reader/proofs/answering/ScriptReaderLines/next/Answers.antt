@@ -1,6 +1,7 @@
 use Rattle.std.proofs.Common.{rules, ◌≡◌, ◌∙◌, is_some, is_none, Some, Ok, Err, ap, refl}
 use Rattle.std.specs.declared.io.Error.{Error}
-use Rattle.script_reader.proofs.DoneLemmas.{is_end_none, read_tells}
+use Rattle.script_reader.proofs.DoneLemmas.{is_end_none}
+use Rattle.script_reader.proofs.ReaderLemmas.{read_tells}
 use Rattle.script_reader.proofs.answering.ScriptReaderLines.next.Goals as goal
 
 pub returns-in-Ok-clause-told : goal.returns-in-Ok-clause-told

@@ -1,5 +1,5 @@
 use Rattle.std.proofs.Common.{rules, ap}
-use Rattle.script_reader.proofs.DoneLemmas.{untold_tells}
+use Rattle.script_reader.proofs.ReaderLemmas.{untold_tells}
 use Rattle.script_reader.proofs.answering.ScriptReaderLines.no_clock.Goals as goal
 
 pub returns-clause-told : goal.returns-clause-told
