@@ -6,6 +6,7 @@ use sched_state::Job;
 use std::alloc::{AllocError, Global};
 use std::process::Processes;
 use std::rt::Files;
+use work::OpenGate;
 
 /// An operator of one of the three kinds, of which `command` is this one.
 #[derive(Drop)]
@@ -70,16 +71,16 @@ impl<P: Operator> Operator for TaskOperator<P> {
     }
 }
 
-/// So many lists of the three operators, one list for each worker. The tries of `command` have their folders under this one.
+/// So many lists of the three operators, one list for each worker, beside gates that are open. The tries of `command` have their folders under this one.
 pub fn operators_for<R: Files + Processes + Copy + Drop>(
     rt: R,
     alloc: Global,
     workers: u32,
     scratch: &str,
-) -> Result<Vec<Vec<TaskOperator<Program<R>>>>, AllocError> {
+) -> Result<Vec<(Vec<TaskOperator<Program<R>>>, OpenGate)>, AllocError> {
     let mut team = Vec::new(alloc);
     for _worker in 0..workers {
-        team.push(three_operators(rt, alloc, scratch)?)?;
+        team.push((three_operators(rt, alloc, scratch)?, OpenGate))?;
     }
     Ok(team)
 }

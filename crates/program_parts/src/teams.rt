@@ -1,5 +1,5 @@
-//! Scripts run by teams: lists of operators, one list for each worker.
-ghost use Rattle.std.specs.Prelude.{◌≤◌, All, IfOk, IfSome};
+//! Scripts run by teams: for each worker a list of operators, and a gate.
+ghost use Rattle.std.specs.Prelude.{◌≤◌, All, IfOk};
 ghost use Rattle.operators.specs.Kits.{IsKit};
 
 use director::Fault;
@@ -13,12 +13,13 @@ use std::alloc::{AllocError, Global};
 use std::io::{BufRead, Write};
 use std::sync::Wait;
 use std::thread::Threads;
-use work::{Crew, OpenGate};
+use work::{Crew, Gate};
 
 /// Runs a script on a record with a worker for each of these lists of operators, of which each has one of each kind, and 16 are there at most. For any other team, or
 /// without memory for it, the answer is that of want of memory.
 pub fn run_team<
     S: Alter + Drop,
+    G: Gate + Send,
     O: Operator + Send,
     R: BufRead + Drop,
     W: Write + Drop,
@@ -31,10 +32,10 @@ pub fn run_team<
     alloc: Global,
     store: Store<S>,
     lanes: u32,
-    team: Vec<Vec<O>>,
+    team: Vec<(Vec<O>, G)>,
     script: Script<R, W, F, P>,
     clock: &mut C,
-) -> Result<Ran<S, OpenGate, O, F>, (Store<S>, Fault)>
+) -> Result<Ran<S, G, O, F>, (Store<S>, Fault)>
     requires { lanes ≤ 64 }
 {
     let Ok(crews) = make_crews(alloc, team) else {
@@ -47,31 +48,18 @@ pub fn run_team<
 }
 
 // The crews, if each list of operators is a kit and there is memory.
-fn make_crews<O: Operator>(
+fn make_crews<G: Gate, O: Operator>(
     alloc: Global,
-    team: Vec<Vec<O>>,
-) -> Result<Vec<Crew<OpenGate, O>>, AllocError>
+    team: Vec<(Vec<O>, G)>,
+) -> Result<Vec<Crew<G, O>>, AllocError>
     ensures { IfOk result (λ crews. All (λ c. IsKit O.kind_of c.kit) crews.items) }
 {
     let mut crews = Vec::new(alloc);
-    for operators in team {
-        let Some(crew) = crew_of(operators) else {
+    for (operators, gate) in team {
+        let Ok(kit) = Kit::new(operators) else {
             return Err(AllocError);
         };
-        crews.push(crew)?;
+        crews.push(Crew { kit, gate })?;
     }
     Ok(crews)
-}
-
-// A crew of these operators, if they are a kit.
-fn crew_of<O: Operator>(operators: Vec<O>) -> Option<Crew<OpenGate, O>>
-    ensures { IfSome result (λ crew. IsKit O.kind_of crew.kit) }
-{
-    match Kit::new(operators) {
-        Ok(kit) => Some(Crew {
-            kit,
-            gate: OpenGate,
-        }),
-        Err(_operators) => None,
-    }
 }

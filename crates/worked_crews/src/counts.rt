@@ -1,8 +1,7 @@
 //! Several workers do many jobs; printed is what is the same whichever worker does which.
-use crate::gates::Caller;
 use crate::makers::make_jobs;
 use crate::teams::run_team;
-use crew_rounds::Round;
+use crew_rounds::{Caller, Round};
 use graph_file::Operator as Kind;
 use operators::{BoxedOperator, Exit, Noop};
 use std::alloc::{AllocError, Global};

@@ -1,7 +1,7 @@
 //! A gate holds one worker back, with its first job, until the other has done all others.
-use crate::gates::{Caller, Turnstile};
 use crate::makers::make_jobs;
 use crate::teams::run_team;
+use crew_rounds::{Caller, Turnstile};
 use operators::{BoxedOperator, Exit, Noop};
 use std::alloc::{AllocError, Global};
 use std::io;

@@ -1,8 +1,7 @@
 //! One worker does jobs; its log, what was heard of it and what its kit performed are printed. A word is `OPERATOR` or `OPERATOR:ARGUMENT`.
-use crate::gates::Caller;
 use crate::makers::make_job;
 use crate::teams::run_team;
-use crew_rounds::Round;
+use crew_rounds::{Caller, Round};
 use graph_file::Operator as Kind;
 use operators::{BoxedOperator, Exit, Noop, Operator};
 use sched_state::Job;

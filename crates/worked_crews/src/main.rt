@@ -7,12 +7,10 @@
 #![tactic(auto)]
 
 mod counts;
-mod gates;
 mod held;
 mod logs;
 mod makers;
 mod meetings;
-mod parties;
 mod teams;
 
 use std::alloc::Global;

@@ -1,8 +1,7 @@
 //! Two workers with a job each wait for one another, in their gates or in their operators. Both see the other only where they run at once.
-use crate::gates::{Caller, Meeting};
 use crate::makers::make_jobs;
-use crate::parties::Party;
 use crate::teams::run_team;
+use crew_rounds::{Caller, Meeting, Party};
 use operators::{BoxedOperator, Exit, Noop};
 use std::alloc::Global;
 use std::io;
