@@ -11,22 +11,24 @@ use std::sync::atomic::{AtomicU64, Ordering};
 use std::sync::{Arc, Wait};
 use work::{Gate, Pause};
 
-/// Meets the other party before each job.
+/// Meets the other party before each job, or nobody.
 #[derive(Drop)]
 pub struct Meeting {
-    party: Party,
+    party: Option<Party>,
 }
 
 impl Meeting {
-    /// The gate of one party.
-    pub fn new(party: Party) -> Meeting {
+    /// The gate of one party, or an open one.
+    pub fn new(party: Option<Party>) -> Meeting {
         Meeting { party }
     }
 }
 
 impl Gate for Meeting {
     fn before<R: Wait>(&mut self, _rt: &R, _job: &Job) {
-        self.party.meet();
+        if let Some(party) = &self.party {
+            party.meet();
+        }
     }
 
     fn after<R: Wait>(&mut self, _rt: &R, _job: &Job, _outcome: Outcome) {}

@@ -32,6 +32,14 @@ none_at f (x ∷ rs) j none =
     let rest : change_from (λ n y. f y) (j + 1) rs ≡ None = none_at f rs (j + 1) (λ k y e. none (suc k) y e) in
     rw (here, change_from, rest) refl
 
+-- what stands at a place is what is read there
+pub found_there : (rs : List Run) (n : ℕ) (r : Run) → slice_get rs n ≡ Some r → r ≡ get_or rs n r
+found_there [] n r there = absurd (let c : ◌≡◌ {A = Option Run} None (Some r) = there in cc)
+found_there (x ∷ rs) zero r there =
+    let c : ◌≡◌ {A = Option Run} (Some x) (Some r) = there in
+    cc
+found_there (x ∷ rs) (suc n) r there = found_there rs n r there
+
 stays : (a : Schedule) (r : Run) → can_start a r ≡ false → start_run a r ≡ None
 stays a r e = ap (λ b. when b (record r { phase = Running })) e
 

@@ -1,5 +1,5 @@
 -- The states of a run's instances over a graph, and what a decision and a start are.
-use Rattle.std.specs.Prelude.{◌≡◌, ◌≢◌, ℕ, Bool, true, false, List, MatchOption, Option, Some, None, unwrap_or, slice_get}
+use Rattle.std.specs.Prelude.{◌≡◌, ◌≢◌, ◌<◌, ◌&&◌, ℕ, Bool, true, false, not, nat_lt, List, length, MatchOption, Option, Some, None, unwrap_or, slice_get}
 use Rattle.dag_check.specs.Graphs.{Dag}
 use Rattle.trigger_rules.specs.declared.states.State.{State}
 use Rattle.trigger_rules.specs.declared.states.State.TheVariants as state
@@ -9,8 +9,9 @@ use Rattle.instance_machine.specs.Instances.{InstanceValue}
 use Rattle.instance_machine.specs.States.{state_of}
 use Rattle.sched_state.specs.declared.runs.Run.{Run}
 use Rattle.sched_model.specs.Lists.{zip_with, last_passing}
-use Rattle.sched_model.specs.Schedule.{Schedule}
-use Rattle.sched_model.specs.States.{is_earlier}
+use Rattle.sched_model.specs.Schedule.{Schedule, is_paused, max_active_runs_of}
+use Rattle.sched_model.specs.Settle.{can_start}
+use Rattle.sched_model.specs.States.{is_earlier, active_runs}
 use Rattle.sched_laws.specs.Sweep.{decision_in}
 use Rattle.sched_laws.specs.Stages.{start_one}
 use Rattle.sched_draft.specs.Parts.{decided_as}
@@ -40,3 +41,16 @@ IsDecision a r p v = MatchOption v (decision_in a p r ≡ None) (Decides a r p)
 abbrev pub IsFirstStart : Schedule → Schedule → Bool → Type 0
 IsFirstStart a b true = start_one a ≡ Some b
 IsFirstStart a b false = (start_one a ≡ None) × (b ≡ a)
+
+-- whether a queued run of the graph can start
+abbrev pub takes_runs : Schedule → List ℕ → Bool
+takes_runs a id = not (is_paused a id) && nat_lt (active_runs a id) (max_active_runs_of a id)
+
+-- no run before the place can start
+abbrev pub NoneStartsBefore : Schedule → ℕ → Type 0
+NoneStartsBefore a n = (k : ℕ) (q : Run) → k < n → slice_get a.runs k ≡ Some q → can_start a q ≡ false
+
+-- the place of the first run that can start, if one can
+abbrev pub IsFirstThatCan : Schedule → Option ℕ → Type 0
+IsFirstThatCan a None = NoneStartsBefore a (length a.runs)
+IsFirstThatCan a (Some n) = NoneStartsBefore a n × ((r : Run) × (slice_get a.runs n ≡ Some r) × (can_start a r ≡ true))

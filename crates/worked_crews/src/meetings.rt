@@ -32,7 +32,7 @@ fn meet_in_gates<R: Threads + Wait + Print + Sync>(rt: &R, alloc: Global) -> io:
         operators.push(Box::new(alloc, Noop::new(alloc))?)?;
         operators.push(Box::new(alloc, Caller::new(alloc, None))?)?;
         operators.push(Box::new(alloc, Exit::new(alloc))?)?;
-        team.push((operators, Meeting::new(party)))?;
+        team.push((operators, Meeting::new(Some(party))))?;
     }
     let jobs = make_jobs(alloc, 2, "noop", "[]")?;
     match run_team(rt, alloc, 2, team, jobs) {

@@ -32,7 +32,8 @@ impl<D: Disk> Flaky<D> {
     }
 }
 
-// Whether the next write is passed on, where so many are still passed on, so many are to be refused then, and so many were.
+// Counts the next write as one that is passed on, or as a refused one, which is an error. The counts are of writes that pass before the refusals, of refusals
+// that are left, and of those that were.
 fn admit(passes: &mut u64, refusals: &mut u64, refused: &mut u64) -> io::Result<()>
     ensures faults { CountsFault result refused.old refused.new }
     ensures kind { finds_no_room result ≡ false }

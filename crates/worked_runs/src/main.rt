@@ -8,6 +8,7 @@ mod flaky;
 mod meetings;
 mod refusals;
 mod scripts;
+mod teams;
 
 use std::io;
 use std::sync::Wait;

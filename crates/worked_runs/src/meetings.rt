@@ -1,16 +1,12 @@
 //! Two workers with a try each wait for one another, in their gates or in their operators. Both see the other only where they run at once.
-use crate::scripts::run;
-use crew_rounds::{Caller, Meeting, Party};
-use meta_store::Store;
-use operators::{Exit, Noop, Operator};
-use program_parts::TaskOperator;
-use sqlite::Connection;
-use std::alloc::{AllocError, Global};
-use std::io::{self, ErrorKind};
-use std::sync::Wait;
-use std::sync::atomic::Ordering;
+use crate::scripts::{Writes, run};
+use crate::teams::{Worker, worker};
+use crew_rounds::Party;
+use std::alloc::Global;
+use std::io;
+use std::sync::atomic::{AtomicU64, Ordering};
+use std::sync::{Arc, Wait};
 use std::thread::Threads;
-use work::{Gate, OpenGate};
 
 const TWO_TASKS: &str = "load inline
 dag_id = \"two\"
@@ -42,11 +38,9 @@ fn meet_in_gates<T: Threads + Wait + Sync>(rt: &T, host: &HostRuntime) -> io::Re
     let (one, two, seen) = Party::pair(alloc)?;
     let mut team = Vec::new(alloc);
     for party in [one, two] {
-        team.push((operators(alloc, None)?, Meeting::new(party)))?;
+        team.push(worker(alloc, Some(party), None)?)?;
     }
-    let printed = printed_by(rt, host, team)?;
-    let seen = seen.load(Ordering::SeqCst);
-    println!(host; " {printed}; saw the other: {seen}")
+    write_run(rt, host, team, &seen)
 }
 
 // Has them meet in their operators of `command`.
@@ -55,32 +49,19 @@ fn meet_in_operators<T: Threads + Wait + Sync>(rt: &T, host: &HostRuntime) -> io
     let (one, two, seen) = Party::pair(alloc)?;
     let mut team = Vec::new(alloc);
     for party in [one, two] {
-        team.push((operators(alloc, Some(party))?, OpenGate))?;
+        team.push(worker(alloc, None, Some(party))?)?;
     }
-    let printed = printed_by(rt, host, team)?;
-    let seen = seen.load(Ordering::SeqCst);
-    println!(host; " {printed}; saw the other: {seen}")
+    write_run(rt, host, team, &seen)
 }
 
-// One operator of each kind, of which that of `command` may meet somebody.
-fn operators(alloc: Global, party: Option<Party>) -> Result<Vec<TaskOperator<Caller>>, AllocError> {
-    let mut operators = Vec::new(alloc);
-    operators.push(TaskOperator::Noop(Noop::new(alloc)))?;
-    operators.push(TaskOperator::Command(Caller::new(alloc, party)))?;
-    operators.push(TaskOperator::Exit(Exit::new(alloc)))?;
-    Ok(operators)
-}
-
-// What the script of two tasks prints on a new record in memory.
-fn printed_by<G: Gate + Send, O: Operator + Send, T: Threads + Wait + Sync>(
+// Runs the script of two tasks on a disk that refuses nothing, and writes what it prints and the count.
+fn write_run<T: Threads + Wait + Sync>(
     rt: &T,
     host: &HostRuntime,
-    team: Vec<(Vec<O>, G)>,
-) -> io::Result<String> {
-    let alloc = host.alloc();
-    let Ok(record) = Store::create(alloc, Connection::open_in_memory(alloc)?) else {
-        return Err(io::Error::from(ErrorKind::OutOfMemory));
-    };
-    let (printed, _record) = run(rt, host, record, team, TWO_TASKS)?;
-    Ok(printed)
+    team: Vec<Worker>,
+    seen: &Arc<AtomicU64, Global>,
+) -> io::Result<()> {
+    let (printed, _refused) = run(rt, host, Writes::all_pass(), team, TWO_TASKS)?;
+    let seen = seen.load(Ordering::SeqCst);
+    println!(host; " {printed}; saw the other: {seen}")
 }
