@@ -4,7 +4,7 @@ use Rattle.sched_state.specs.Lists.{repeat}
 use Rattle.sched_state.specs.Limits.{Bounds}
 use Rattle.sched_model.specs.Schedule.{Schedule}
 use Rattle.sched_model.specs.Settle.{move, move_runs, settle, moves_left, with_runs}
-use Rattle.sched_model.specs.Handout.{hand, hand_one, hand_out, best_offer, serials_left}
+use Rattle.sched_model.specs.Handout.{hand, hand_one, best_offer, serials_left}
 use Rattle.sched_model.specs.Changes.{restart}
 use Rattle.sched_model.specs.NamedRuns.{add_runs}
 use Rattle.sched_events.specs.Steps.{step}

@@ -1,5 +1,5 @@
 //! Lists of events.
-ghost use Rattle.std.specs.Prelude.{◌≤◌, take, length, IfOk, IfErr};
+ghost use Rattle.std.specs.Prelude.{◌≡◌, ◌≤◌, take, length, IfOk, IfErr};
 ghost use Rattle.sqlite.specs.Held.{state};
 ghost use Rattle.director.specs.Directors.{Follows};
 ghost use Rattle.director.specs.Lists.{Answers, AnswersSome};
@@ -23,6 +23,7 @@ impl<S: Alter> Director<S> {
         ensures some { IfErr result (λ e. (e.1 ≤ length events.items)
             × AnswersSome self.old.schedule.content (take e.1 events.items)
             self.new.schedule.content) }
+        ensures opened { self.new.opened ≡ self.old.opened }
         ensures stored { Follows self.old.schedule.content (state S.Store self.old.store)
             self.new.schedule.content (state S.Store self.new.store) }
     {

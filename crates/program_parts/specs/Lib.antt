@@ -1,1 +1,2 @@
 pub mod TaskOperators
+pub mod Teams

@@ -1,4 +1,9 @@
 //! An operator of whichever kind, so that a worker may have one of each.
+ghost use Rattle.std.specs.Prelude.{◌≡◌, All, IfOk, length};
+ghost use Rattle.graph_file.specs.declared.operators.Operator.TheVariants as kinds;
+ghost use Rattle.program_parts.specs.TaskOperators.{kind_of};
+ghost use Rattle.program_parts.specs.Teams.{IsWhole};
+
 use graph_file::Operator as Kind;
 use instance_machine::Outcome;
 use operators::{BeginFault, Exit, Noop, Operator, Program};
@@ -77,7 +82,10 @@ pub fn operators_for<R: Files + Processes + Copy + Drop>(
     alloc: Global,
     workers: u32,
     scratch: &str,
-) -> Result<Vec<(Vec<TaskOperator<Program<R>>>, OpenGate)>, AllocError> {
+) -> Result<Vec<(Vec<TaskOperator<Program<R>>>, OpenGate)>, AllocError>
+    ensures workers { IfOk result (λ team. length team.items ≡ workers) }
+    ensures whole { IfOk result (λ team. All (λ w. IsWhole (kind_of (λ _. kinds.Command)) w.0.items) team.items) }
+{
     let mut team = Vec::new(alloc);
     for _worker in 0..workers {
         team.push((three_operators(rt, alloc, scratch)?, OpenGate))?;
@@ -90,7 +98,9 @@ fn three_operators<R: Files + Processes + Copy + Drop>(
     rt: R,
     alloc: Global,
     scratch: &str,
-) -> Result<Vec<TaskOperator<Program<R>>>, AllocError> {
+) -> Result<Vec<TaskOperator<Program<R>>>, AllocError>
+    ensures { IfOk result (λ operators. IsWhole (kind_of (λ _. kinds.Command)) operators.items) }
+{
     let base = String::from_str(alloc, scratch)?;
     let mut operators = Vec::new(alloc);
     operators.push(TaskOperator::Noop(Noop::new(alloc)))?;

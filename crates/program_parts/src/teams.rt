@@ -1,6 +1,11 @@
 //! Scripts run by teams: for each worker a list of operators, and a gate.
-ghost use Rattle.std.specs.Prelude.{◌≤◌, All, IfOk};
+ghost use Rattle.std.specs.Prelude.{◌≡◌, ◌≤◌, All, IfErr, IfOk, IsTrue, OnErr, length, map};
+ghost use Rattle.sqlite.specs.Held.{state};
+ghost use Rattle.sqlite.specs.State.{HasCleanDisk};
 ghost use Rattle.operators.specs.Kits.{IsKit};
+ghost use Rattle.sched_state.specs.Limits.{ceilings};
+ghost use Rattle.director.specs.Faults.{IsOpenFault};
+ghost use Rattle.program_parts.specs.Teams.{AreKitsOf, IsTeamRun, IsWhole};
 
 use director::Fault;
 use meta_store::Store;
@@ -15,8 +20,8 @@ use std::sync::Wait;
 use std::thread::Threads;
 use work::{Crew, Gate};
 
-/// Runs a script on a record with a worker for each of these lists of operators, of which each has one of each kind, and 16 are there at most. For any other team, or
-/// without memory for it, the answer is that of want of memory.
+/// Runs a script on a record with a worker for each of these lists of operators, of which each has one of each kind: what `run_on` does with crews of
+/// such kits.
 pub fn run_team<
     S: Alter + Drop,
     G: Gate + Send,
@@ -36,28 +41,40 @@ pub fn run_team<
     script: Script<R, W, F, P>,
     clock: &mut C,
 ) -> Result<Ran<S, G, O, F>, (Store<S>, Fault)>
-    requires { lanes ≤ 64 }
+    requires lanes { lanes ≤ 64 }
+    requires workers { length team.items ≤ 16 }
+    requires whole { All (λ w. IsWhole O.kind_of w.0.items) team.items }
+    ensures run { IfOk result (λ ran. IsTeamRun (state S.Store) O.kind_of O.runs_of O.taken (R.Read.remaining script.input)
+        (λ given. F.gives script.sources given ran.sources) (λ moments. C.gives clock.old moments clock.new)
+        lanes (map (λ w. w.0.items) team.items) (state S.Store store) ran.store ran.minutes.items ran.outcome ran.status) }
+    ensures fault { IfErr result (λ e. HasCleanDisk (state S.Store e.0)
+        → IsOpenFault ceilings 0 (state S.Store store).now e.1) }
+    ensures kept { IfErr result (λ e. HasCleanDisk (state S.Store e.0)
+        → IsTrue (state S.Store e.0).is_open
+        → ((state S.Store e.0).now ≡ (state S.Store store).now)
+        × ((state S.Store e.0).committed ≡ (state S.Store store).committed)) }
+    ensures untouched { OnErr result (clock.new ≡ clock.old) }
 {
     let Ok(crews) = make_crews(alloc, team) else {
         return Err((store, Fault::Memory));
     };
-    if crews.len() > 16 {
-        return Err((store, Fault::Memory));
-    }
     run_on(rt, alloc, store, RunOptions { lanes }, crews, script, clock)
 }
 
-// The crews, if each list of operators is a kit and there is memory.
+// A crew for each list of operators.
 fn make_crews<G: Gate, O: Operator>(
     alloc: Global,
     team: Vec<(Vec<O>, G)>,
 ) -> Result<Vec<Crew<G, O>>, AllocError>
-    ensures { IfOk result (λ crews. All (λ c. IsKit O.kind_of c.kit) crews.items) }
+    requires { All (λ w. IsWhole O.kind_of w.0.items) team.items }
+    ensures kits { IfOk result (λ crews. All (λ c. IsKit O.kind_of c.kit) crews.items) }
+    ensures made { IfOk result (λ crews. AreKitsOf O.kind_of (map (λ w. w.0.items) team.items) (map (λ c. c.kit) crews.items)) }
+    ensures count { IfOk result (λ crews. length crews.items ≡ length team.items) }
 {
     let mut crews = Vec::new(alloc);
     for (operators, gate) in team {
         let Ok(kit) = Kit::new(operators) else {
-            return Err(AllocError);
+            unreachable!()
         };
         crews.push(Crew { kit, gate })?;
     }

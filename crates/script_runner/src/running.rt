@@ -1,5 +1,5 @@
 //! A script that is run on a record, by workers.
-ghost use Rattle.std.specs.Prelude.{◌≡◌, ◌≤◌, All, IfOk, IfErr, IsTrue, length, map};
+ghost use Rattle.std.specs.Prelude.{◌≡◌, ◌≤◌, All, IfOk, IfErr, IsTrue, OnErr, length, map};
 ghost use Rattle.sqlite.specs.Held.{state};
 ghost use Rattle.sqlite.specs.State.{HasCleanDisk};
 ghost use Rattle.operators.specs.Kits.{IsKit};
@@ -81,6 +81,7 @@ pub fn run_on<
         → IsTrue (state S.Store e.0).is_open
         → ((state S.Store e.0).now ≡ (state S.Store store).now)
         × ((state S.Store e.0).committed ≡ (state S.Store store).committed)) }
+    ensures untouched { OnErr result (clock.new ≡ clock.old) }
 {
     let Ok(mut reader) = ScriptReader::new(alloc, script) else {
         return Err((store, Fault::Memory));

@@ -35,7 +35,8 @@ pub fn run_with<T: Threads + Wait + Sync, R: BufRead + Drop, W: Write + Drop>(
     input: R,
     output: W,
 ) -> Result<RanHere, Fail>
-    requires { lanes ≤ 64 }
+    requires workers { workers ≤ 16 }
+    requires lanes { lanes ≤ 64 }
 {
     let alloc = host.alloc();
     let team = operators_for(*host, alloc, workers, "no-such-folder")?;

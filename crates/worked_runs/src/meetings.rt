@@ -1,4 +1,8 @@
 //! Two workers with a try each wait for one another, in their gates or in their operators. Both see the other only where they run at once.
+ghost use Rattle.graph_file.specs.declared.operators.Operator.TheVariants as kinds;
+ghost use Rattle.program_parts.specs.TaskOperators.{kind_of};
+ghost use Rattle.program_parts.specs.Teams.{IsWhole};
+
 use crate::scripts::{Writes, run};
 use crate::teams::{Worker, worker};
 use crew_rounds::Party;
@@ -36,31 +40,34 @@ pub fn write_answer<T: Threads + Wait + Sync>(
 fn meet_in_gates<T: Threads + Wait + Sync>(rt: &T, host: &HostRuntime) -> io::Result<()> {
     let alloc = host.alloc();
     let (one, two, seen) = Party::pair(alloc)?;
-    let mut team = Vec::new(alloc);
-    for party in [one, two] {
-        team.push(worker(alloc, Some(party), None)?)?;
-    }
-    write_run(rt, host, team, &seen)
+    let first = worker(alloc, Some(one), None)?;
+    let second = worker(alloc, Some(two), None)?;
+    write_run(rt, host, first, second, &seen)
 }
 
 // Has them meet in their operators of `command`.
 fn meet_in_operators<T: Threads + Wait + Sync>(rt: &T, host: &HostRuntime) -> io::Result<()> {
     let alloc = host.alloc();
     let (one, two, seen) = Party::pair(alloc)?;
-    let mut team = Vec::new(alloc);
-    for party in [one, two] {
-        team.push(worker(alloc, None, Some(party))?)?;
-    }
-    write_run(rt, host, team, &seen)
+    let first = worker(alloc, None, Some(one))?;
+    let second = worker(alloc, None, Some(two))?;
+    write_run(rt, host, first, second, &seen)
 }
 
 // Runs the script of two tasks on a disk that refuses nothing, and writes what it prints and the count.
 fn write_run<T: Threads + Wait + Sync>(
     rt: &T,
     host: &HostRuntime,
-    team: Vec<Worker>,
+    first: Worker,
+    second: Worker,
     seen: &Arc<AtomicU64, Global>,
-) -> io::Result<()> {
+) -> io::Result<()>
+    requires first { IsWhole (kind_of (λ _. kinds.Command)) first.0.items }
+    requires second { IsWhole (kind_of (λ _. kinds.Command)) second.0.items }
+{
+    let mut team = Vec::new(host.alloc());
+    team.push(first)?;
+    team.push(second)?;
     let (printed, _refused) = run(rt, host, Writes::all_pass(), team, TWO_TASKS)?;
     let seen = seen.load(Ordering::SeqCst);
     println!(host; " {printed}; saw the other: {seen}")

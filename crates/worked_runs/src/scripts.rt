@@ -1,5 +1,8 @@
 //! A script that is run over a new record whose disk may refuse writes, and what it prints in one line.
-ghost use Rattle.std.specs.Prelude.{◌≡◌, false};
+ghost use Rattle.std.specs.Prelude.{◌≡◌, ◌≤◌, All, false, length};
+ghost use Rattle.graph_file.specs.declared.operators.Operator.TheVariants as kinds;
+ghost use Rattle.program_parts.specs.TaskOperators.{kind_of};
+ghost use Rattle.program_parts.specs.Teams.{IsWhole};
 
 use crate::flaky::Flaky;
 use crate::teams::Worker;
@@ -43,7 +46,10 @@ pub fn run<T: Threads + Wait + Sync>(
     writes: Writes,
     team: Vec<Worker>,
     script: &str,
-) -> io::Result<(String, u64)> {
+) -> io::Result<(String, u64)>
+    requires workers { length team.items ≤ 16 }
+    requires whole { All (λ w. IsWhole (kind_of (λ _. kinds.Command)) w.0.items) team.items }
+{
     let alloc = host.alloc();
     let files = Files {
         log: Flaky::new(Memory::new(alloc), writes.passes, writes.refusals),
@@ -69,7 +75,9 @@ fn run_on_connection<T: Threads + Wait + Sync>(
     team: Vec<Worker>,
     script: &str,
 ) -> io::Result<(String, u64)>
-    requires { conn.in_transaction ≡ false }
+    requires settled { conn.in_transaction ≡ false }
+    requires workers { length team.items ≤ 16 }
+    requires whole { All (λ w. IsWhole (kind_of (λ _. kinds.Command)) w.0.items) team.items }
 {
     let alloc = host.alloc();
     match Store::create(alloc, conn) {
@@ -92,7 +100,10 @@ fn run_on_record<T: Threads + Wait + Sync>(
     record: Store<FlakyStore>,
     team: Vec<Worker>,
     script: &str,
-) -> io::Result<(String, Store<FlakyStore>)> {
+) -> io::Result<(String, Store<FlakyStore>)>
+    requires workers { length team.items ≤ 16 }
+    requires whole { All (λ w. IsWhole (kind_of (λ _. kinds.Command)) w.0.items) team.items }
+{
     let alloc = host.alloc();
     let mut printed = Vec::new(alloc);
     let mut clock = ListedClock::new(alloc, Vec::new(alloc));

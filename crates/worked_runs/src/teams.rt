@@ -1,4 +1,9 @@
 //! Workers with an operator of each kind, which may wait for one another.
+ghost use Rattle.std.specs.Prelude.{IfOk};
+ghost use Rattle.graph_file.specs.declared.operators.Operator.TheVariants as kinds;
+ghost use Rattle.program_parts.specs.TaskOperators.{kind_of};
+ghost use Rattle.program_parts.specs.Teams.{IsWhole};
+
 use crew_rounds::{Caller, Meeting, Party};
 use operators::{Exit, Noop};
 use program_parts::TaskOperator;
@@ -12,7 +17,9 @@ pub fn worker(
     alloc: Global,
     in_gate: Option<Party>,
     in_operator: Option<Party>,
-) -> Result<Worker, AllocError> {
+) -> Result<Worker, AllocError>
+    ensures { IfOk result (λ w. IsWhole (kind_of (λ _. kinds.Command)) w.0.items) }
+{
     let mut operators = Vec::new(alloc);
     operators.push(TaskOperator::Noop(Noop::new(alloc)))?;
     operators.push(TaskOperator::Command(Caller::new(alloc, in_operator)))?;

@@ -1,4 +1,4 @@
-use Rattle.std.proofs.Common.{◌+◌, ◌<◌, ◌++◌, ◌∷◌, [], List, Result, length, take, sym, subst, arith}
+use Rattle.std.proofs.Common.{◌∙◌, ◌+◌, ◌<◌, ◌++◌, ◌∷◌, [], List, Result, length, take, sym, subst, arith}
 use Rattle.sched_events.specs.declared.answers.Answer.{Answer}
 use Rattle.sched_events.specs.declared.events.Event.{Event}
 use Rattle.director.specs.Lists.{Answers}
@@ -20,8 +20,12 @@ returns-in-Err-clause-some g c =
 pub returns-in-Err-clause-stored : goal.returns-in-Err-clause-stored
 returns-in-Err-clause-stored g c = follows_then _ _ _ _ _ _ c.loop-done.invariant.stored c.step-answer.ensures.followed
 
+pub returns-in-Err-clause-opened : goal.returns-in-Err-clause-opened
+returns-in-Err-clause-opened g c = c.step-answer.ensures.opened ∙ c.loop-done.invariant.opened
+
 pub loop-done-preserved : goal.loop-done-preserved
 loop-done-preserved g c = record {
+  opened = c.step-answer.ensures.opened ∙ c.loop-done.invariant.opened;
   answered = subst (λ (rs : List (Result Answer Fault)). Answers c.args.self.now.schedule.content (take (c.loop-done.done + 1) c.args.events.items) rs c.step-answer.new.self.schedule.content) (sym c.in_default.ensures.items)
       (answers_here c.args.self.now.schedule.content _ _ c.args.events.items c.deref-event-items.result.now c.loop-done.given.items c.loop-done.done c.event-item.result c.step-answer.result c.deref-event-items.ensures.value c.loop-done-test.true
       c.event-item.is c.loop-done.invariant.answered c.step-answer.ensures.outcome);
