@@ -8,9 +8,9 @@ use Rattle.sched_state.specs.declared.jobs.Job.{Job}
 use Rattle.sched_state.specs.declared.graphs.LoadedGraph.{LoadedGraph}
 use Rattle.sched_model.specs.Schedule.{Schedule, Pool}
 use Rattle.sched_model.specs.NamedRuns.{NamedRun}
-use Rattle.sched_model.specs.Changes.{load_graph, set_now}
-use Rattle.sched_model.specs.Clearing.{cleared_by, count_cleared}
-use Rattle.sched_model.specs.Rows.{task, graph, holding, a_day, daily, with_lanes, tick, does, clears, resized}
+use Rattle.sched_model.specs.Changes.{advance, load_graph, set_now}
+use Rattle.sched_model.specs.Clearing.{cleared_by, clear, count_cleared, reset_by}
+use Rattle.sched_model.specs.Rows.{task, graph, holding, a_day, daily, with_lanes, tick, does, clears, pause, two_leaves}
 
 abbrev pub two_days_on : ℕ
 two_days_on = a_day + a_day
@@ -36,6 +36,10 @@ days from to = record { graph = codes "g"; from = from; to = to; task = None; up
 abbrev pub cleared_days : ℕ → ℕ → Schedule
 cleared_days from to = clears (days from to) three_days_done
 
+-- what the reset of a backfill of g names at these dates is set back
+abbrev pub reset_days : List ℕ → Schedule
+reset_days dates = advance [] (clear (reset_by (codes "g") dates) three_days_done)
+
 -- how many instances it names
 abbrev pub count_of : Schedule → Clearing → ℕ
 count_of a c = count_cleared a (cleared_by a c)
@@ -58,6 +62,10 @@ from_task t up down failed = record { graph = codes "g"; from = 0; to = 0; task 
 
 abbrev pub around_b : Bool → Bool → Clearing
 around_b up down = from_task (Some (codes "b")) up down false
+
+-- a of two tasks is a success, b is in flight, and the graph is paused
+abbrev pub half_done : Schedule
+half_done = pause true (does 1 outcome.Success two_leaves)
 
 -- ---- of one graph that may have one run running: two days
 abbrev pub one_and_one_queued : Schedule

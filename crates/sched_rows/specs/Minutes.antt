@@ -1,5 +1,5 @@
 -- Minutes as intervals, for the check to compute.
-use Rattle.std.specs.Prelude.{ℕ, ◌+◌, ◌-◌, ◌^◌, true, List, [], ◌∷◌, None}
+use Rattle.std.specs.Prelude.{ℕ, ◌+◌, ◌-◌, ◌^◌, true, List, [], ◌∷◌}
 use Rattle.graph_file.specs.declared.graph_specs.GraphSpec.{GraphSpec}
 use Rattle.cron_timetable.specs.Fields.{Fields}
 use Rattle.cron_timetable.specs.declared.timetables.Interval.{Interval}

@@ -4,7 +4,7 @@ ghost use Rattle.trigger_rules.specs.declared.states.State.TheVariants as state;
 ghost use Rattle.instance_machine.specs.declared.tries.Outcome.TheVariants as outcome;
 ghost use Rattle.sched_state.specs.declared.runs.RunPhase.TheVariants as phase;
 ghost use Rattle.sched_model.specs.Rows.{a_day, all_states, clears, does, phases, told_between};
-ghost use Rattle.sched_rows.specs.Days.{two_days_on, three_days_done, days, cleared_days, count_of, chain_done, chain_failed, from_task, around_b, one_and_one_queued};
+ghost use Rattle.sched_rows.specs.Days.{two_days_on, three_days_done, days, cleared_days, reset_days, count_of, chain_done, chain_failed, from_task, around_b, half_done, one_and_one_queued};
 
 /// A clear names the runs of its graph from its first date to its last one, both of them too, and no other graph's.
 pub fn a_clear_names_the_days_of_a_graph()
@@ -19,6 +19,8 @@ pub fn a_clear_names_the_days_of_a_graph()
     ensures between { told_between three_days_done (cleared_days 1 (a_day + 1)) ≡ (7, codes "g", a_day, codes "t") ∷ [] }
     ensures backwards { told_between three_days_done (cleared_days two_days_on 0) ≡ [] }
     ensures phases { phases (cleared_days a_day a_day)
+        ≡ phase.Success ∷ phase.Running ∷ phase.Success ∷ phase.Success ∷ phase.Success ∷ phase.Success ∷ [] }
+    ensures reset { phases (reset_days (a_day ∷ 5 ∷ []))
         ≡ phase.Success ∷ phase.Running ∷ phase.Success ∷ phase.Success ∷ phase.Success ∷ phase.Success ∷ [] }
     ensures count { count_of three_days_done (days a_day two_days_on) ≡ 2 }
 {}
@@ -45,12 +47,13 @@ pub fn a_clear_follows_the_edges()
     ensures only_failed_count { count_of chain_failed (from_task None false false true) ≡ 3 }
 {}
 
-/// An ended run goes on after a clear, and one that is queued stays so. What was none is not counted.
+/// An ended run goes on after a clear, and one that is queued or running stays so. What was none is not counted.
 pub fn a_clear_queues_what_had_ended()
     ensures was_failed { phases chain_failed ≡ phase.Failed ∷ [] }
     ensures failed { phases (clears (from_task None false false true) chain_failed) ≡ phase.Running ∷ [] }
     ensures was { phases one_and_one_queued ≡ phase.Running ∷ phase.Queued ∷ [] }
     ensures queued { phases (clears (days a_day a_day) one_and_one_queued) ≡ phase.Running ∷ phase.Queued ∷ [] }
+    ensures running { phases (clears (from_task (Some (codes "a")) false false false) half_done) ≡ phase.Running ∷ [] }
     ensures not_counted { count_of one_and_one_queued (days 0 two_days_on) ≡ 1 }
     ensures after_the_other { phases (clears (days 0 0) (does 2 outcome.Success (does 1 outcome.Success one_and_one_queued)))
         ≡ phase.Running ∷ phase.Success ∷ [] }
