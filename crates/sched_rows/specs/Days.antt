@@ -10,7 +10,7 @@ use Rattle.sched_model.specs.Schedule.{Schedule, Pool}
 use Rattle.sched_model.specs.NamedRuns.{NamedRun}
 use Rattle.sched_model.specs.Changes.{advance, load_graph, set_now}
 use Rattle.sched_model.specs.Clearing.{cleared_by, clear, count_cleared, reset_by}
-use Rattle.sched_model.specs.Rows.{task, graph, holding, a_day, daily, with_lanes, tick, does, clears, pause, two_leaves}
+use Rattle.sched_model.specs.Rows.{task, graph, holding, a_day, daily, with_lanes, tick, does, clears, pause, one_lane, two_leaves}
 
 abbrev pub two_days_on : ℕ
 two_days_on = a_day + a_day
@@ -70,6 +70,17 @@ half_done = pause true (does 1 outcome.Success two_leaves)
 -- ---- of one graph that may have one run running: two days
 abbrev pub one_and_one_queued : Schedule
 one_and_one_queued = tick (daily (codes "g") 0 ∷ daily (codes "g") a_day ∷ []) two_days_on (with_lanes 4 (holding (one_task_of (codes "g") 1 ∷ [])))
+
+-- ---- one lane, and two days that are due: the next serial is this one
+abbrev pub one_lane_from : ℕ → Schedule
+one_lane_from serial = record one_lane { next = serial }
+
+abbrev pub two_days_from : ℕ → Schedule
+two_days_from serial = tick (daily (codes "one") 0 ∷ daily (codes "one") a_day ∷ []) two_days_on (one_lane_from serial)
+
+-- ---- a graph whose first task is b, and whose second is a
+abbrev pub b_before_a : Schedule
+b_before_a = tick (daily (codes "g") 0 ∷ []) a_day (holding (graph (codes "g") 16 (task (codes "b") ∷ task (codes "a") ∷ []) ([] ∷ [] ∷ []) ∷ []))
 
 -- ---- graphs and pools as they are listed
 abbrev pub graphs_seen : Schedule → List (List ℕ × List ℕ × Bool)

@@ -8,6 +8,8 @@
 
 mod causes;
 mod clearing;
+mod codes;
+mod handing;
 mod listing;
 mod naming;
 mod planning;
