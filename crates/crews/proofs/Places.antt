@@ -1,7 +1,5 @@
 -- What holds of each element, by its place: in images of a list, and of what went from the front of one list behind another.
-use Rattle.std.proofs.Common.{◌≡◌, ℕ, zero, suc, ◌<◌, List, [], ◌∷◌, ◌++◌, length, get_or, map, take, sym, ap, subst, ◌∙◌, append_assoc, arith, replicate, refl}
-use Rattle.std.proofs.lemmas.List.{length-map}
-use Rattle.std.proofs.Math.Seq.{take-append_seam}
+use Rattle.std.proofs.Common.{◌≡◌, ℕ, zero, suc, ◌<◌, List, [], ◌∷◌, ◌++◌, length, get_or, map, sym, ap, subst, ◌∙◌, append_assoc, arith, replicate, refl}
 
 module _ {A : Type 0} where
   -- what holds of each at its place holds of its three images there
@@ -36,11 +34,6 @@ module _ {A : Type 0} where
   moved f done now a left rest all b grown split same was =
       ap (λ l. map f l ++ rest) grown ∙ ap (λ l. l ++ rest) (map_snoc f done a) ∙ append_assoc (map f done) (f a ∷ []) rest
       ∙ ap (λ x. map f done ++ x ∷ rest) same ∙ ap (λ l. map f done ++ l) (sym split) ∙ was
-
-  -- the image that stands before a rest is the front of both
-  pub is_front : {B : Type 0} (f : A → B) (xs : List A) (rest all : List B) → map f xs ++ rest ≡ all → map f xs ≡ take (length xs) all
-  is_front f xs rest all e =
-      sym (take-append_seam (map f xs) rest) ∙ ap (λ n. take n (map f xs ++ rest)) (length-map xs f) ∙ ap (take (length xs)) e
 
   pub replicate_snoc : (n : ℕ) (x : A) → replicate n x ++ x ∷ [] ≡ replicate (suc n) x
   replicate_snoc zero x = refl

@@ -1,7 +1,5 @@
 -- A record that is read and restarted.
-use Rattle.std.proofs.Common.{◌≡◌, ◌∙◌, ℕ, inl, inr, sym, subst, arith, Result, IfErr, IsTrue}
-use Rattle.std.specs.Result.{IsErrAnd}
-use Rattle.std.proofs.lemmas.Result.{err_from_is_err_and}
+use Rattle.std.proofs.Common.{◌≡◌, ◌∙◌, ℕ, sym, subst, arith, IsTrue}
 use Rattle.sqlite.specs.Effect.{Database}
 use Rattle.sqlite.specs.State.{State, HasCleanDisk, Survives}
 use Rattle.sqlite.specs.Tree.{Trees}
@@ -17,25 +15,13 @@ use Rattle.sched_events.specs.declared.answers.Answer.{Answer}
 use Rattle.sched_events.specs.declared.events.Event.TheVariants.{Restart}
 use Rattle.meta_store.specs.Loads.{IsReadAs, ReadsAs, IsLoadFault}
 use Rattle.meta_store.specs.Stores.{CommitsBy}
-use Rattle.meta_store.specs.declared.faults.StoreFault.{StoreFault}
 use Rattle.meta_store.specs.declared.faults.StoreFault.TheVariants as store
 use Rattle.director.specs.Directors.{Keeps, StepsIn, RestartsIn, Opens}
-use Rattle.director.specs.Faults.{IsOfStore, IsFaultOf, IsOpenFault}
+use Rattle.director.specs.Faults.{IsFaultOf, IsOpenFault}
 use Rattle.director.specs.declared.faults.Fault.{Fault}
 use Rattle.director.specs.declared.faults.Fault.TheVariants.{Refused, Store, Memory}
 
 module _ (l : Bounds) (lanes : ℕ) where
-  -- ---- faults
-  of_load : (db : Database) (s : StoreFault) (f : Fault) → IsLoadFault l db s → IsOfStore s f → IsOpenFault l lanes db f
-  of_load db s f fault (inl (memory, is)) = subst (IsOpenFault l lanes db) (sym is) tt
-  of_load db s f fault (inr (other, is)) = subst (IsOpenFault l lanes db) (sym is) (other, fault)
-
-  -- the record is not read
-  pub load_fails : {T : Type 0} (db : Database) (s : StoreFault) (r : Result T Fault) → IsLoadFault l db s → IsErrAnd r (IsOfStore s) → IfErr r (IsOpenFault l lanes db)
-  load_fails {T} db s r fault told =
-      let p = err_from_is_err_and r told in
-      subst (λ (x : Result T Fault). IfErr x (IsOpenFault l lanes db)) (sym p.1) (of_load db s p.0 fault p.2)
-
   -- it is read as a schedule
   reads : (db : Database) (a : Schedule) → ReadsAs l db a → (rows : Rows) → Stores db rows → IsReadAs l rows (schedule_of l rows)
   reads db a read rows stored = let h = read rows stored in subst (IsReadAs l rows) h.is h

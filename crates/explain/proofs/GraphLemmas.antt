@@ -71,9 +71,6 @@ module _ (a : Schedule) (s : SubjectValue) (found : IsSubjectOf a s) where
   pub all_upstreams : rule_waits a s ≡ true → flat_map (upstream_if s) (ups s.graph.dag s.place) ≡ upstreams a s
   all_upstreams waits = upstreams_are (ups s.graph.dag s.place) ∙ ap (λ (b : Bool). upstreams_if b a s) (sym waits)
 
-  pub no_upstreams : rule_waits a s ≡ false → [] ≡ upstreams a s
-  no_upstreams decides = ap (λ (b : Bool). upstreams_if b a s) (sym decides)
-
   -- the run before is of the same graph
   pub past_is : (b : Run) → previous a s.run ≡ Some b → past_by (state_in s.graph.dag b s.place) b ≡ past_in a s b
   past_is b before =

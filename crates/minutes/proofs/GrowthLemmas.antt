@@ -6,7 +6,6 @@ use Rattle.sched_events.specs.Events.{IsInRange}
 use Rattle.sched_events.specs.Steps.{step, steps, answer_to, handed_along, AreAccepted}
 use Rattle.sched_events.specs.declared.answers.Answer.{Answer}
 use Rattle.sched_events.specs.declared.events.Event.{Event}
-use Rattle.sched_events.specs.declared.events.Event.TheVariants.{Restart}
 use Rattle.sched_model.specs.Schedule.{Schedule}
 use Rattle.minutes.specs.Minutes.{along, answered, is_of_line, is_restart, of_lines, report_part, reports_in, BeginWithRestart}
 
@@ -36,10 +35,6 @@ pub begun_more : (lanes : ℕ) (es : List Event) (e : Event) → 0 < length es �
 begun_more lanes [] e some later begun = absurd (omega arith)
 begun_more lanes (x ∷ xs) e some later begun =
     (begun.0, All-append (λ (y : Event). is_restart y ≡ false) xs (e ∷ []) begun.1 (All-cons (λ (y : Event). is_restart y ≡ false) e [] later (All-nil (λ (y : Event). is_restart y ≡ false))))
-
--- the first event
-pub begun_once : (lanes : ℕ) → BeginWithRestart lanes (Restart lanes ∷ [])
-begun_once lanes = (refl, All-nil (λ (y : Event). is_restart y ≡ false))
 
 -- the events among those that are answered
 pub answered_lines : (es : List Event) (a : Schedule) → map (λ p. p.0) (answered es a) ≡ of_lines es

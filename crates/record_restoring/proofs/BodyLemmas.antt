@@ -52,9 +52,6 @@ read_if l text spec g e h =
 pub row_test : (l : Bounds) (rows : Rows) (d : DagRow) (g : Dag) → reads l d.body ≡ Some g → is_dag_row_right (reads l) rows d ≡ (is_body_right rows d.dag_id (Some g) && is_between 0 1 d.paused)
 row_test l rows d g e = ap (λ o. is_body_right rows d.dag_id o && is_between 0 1 d.paused) e
 
-pub row_unread : (l : Bounds) (rows : Rows) (d : DagRow) → reads l d.body ≡ None → is_dag_row_right (reads l) rows d ≡ false
-row_unread l rows d e = ap (λ o. is_body_right rows d.dag_id o && is_between 0 1 d.paused) e
-
 pub row_graph : (l : Bounds) (d : DagRow) (g : Dag) (text : List ℕ) (paused : Bool) → reads l d.body ≡ Some g → text ≡ d.body → paused ≡ flag_of (natural d.paused) → graph_if d (reads l d.body) ≡ record { text = text; dag = g; paused = paused } ∷ []
 row_graph l d g text paused e f h =
     ap (graph_if d) e

@@ -62,11 +62,6 @@ module _ {X : Type 0} (before : X → X → Bool) (trans : Transitive before) wh
       let q : suc n + 1 ≡ suc (suc n) = omega arith in
       subst (λ m. rises before (take m xs) ≡ true) (sym q) (rises_on xs n x y r (subst (λ m. slice_get xs m ≡ Some x) p e) f b)
 
--- at most one element rises
-pub rises_first : {X : Type 0} (before : X → X → Bool) (xs : List X) → rises before (take 1 xs) ≡ true
-rises_first before [] = refl
-rises_first before (x ∷ xs) = refl
-
 -- neighbours that do not rise
 pub falls : {X : Type 0} (before : X → X → Bool) (xs : List X) (n : ℕ) (x y : X) → 0 < n → slice_get xs (n - 1) ≡ Some x → slice_get xs n ≡ Some y → before x y ≡ false → rises before xs ≡ false
 falls before xs n x y l e f b = false_from_ne_true (rises before xs) (λ r. true≢false (sym (rises_pair before xs (n - 1) n x y r (omega arith) e f) ∙ b))

@@ -1,12 +1,11 @@
 -- The book of pools that rows say.
-use Rattle.std.proofs.Common.{◌≡◌, refl, ap, ◌∙◌, ℕ, zero, suc, ◌+◌, ◌<◌, ◌≤◌, List, [], ◌∷◌, ◌++◌, take, length, map, Bool, true, false, cond, Option, Some, None, option_map, unwrap_or, slice_get, get_or, arith}
+use Rattle.std.proofs.Common.{◌≡◌, refl, ap, ◌∙◌, ℕ, zero, suc, ◌+◌, ◌<◌, List, [], ◌∷◌, ◌++◌, take, length, map, Bool, true, false, cond, Option, Some, None, option_map, unwrap_or, slice_get, get_or, arith}
 use Rattle.std.specs.BTreeMap.{insert_entry}
 use Rattle.std.specs.Cmp.Lexicographic.{nat_list_cmp_total, nat_list_eq_equiv, texts_ties}
 use Rattle.std.specs.List.{list_all}
 use Rattle.std.specs.Ordering.{is_eq, ordering_reverse, match_ordering}
 use Rattle.std.specs.declared.cmp.Ordering.TheVariants.{Less, Greater}
 use Rattle.std.proofs.lemmas.Bool.{and_from}
-use Rattle.std.proofs.lemmas.List.{take_all}
 use Rattle.pool_book.specs.Pools.{Entries, PoolUse, pool_of, occupied_of, resized}
 use Rattle.record_rows.specs.Rows.{PoolRow}
 use Rattle.sched_state.specs.Lists.{same, name_cmp, is_less}
@@ -79,9 +78,6 @@ pub pools_counted : (xs : List PoolRow) (n : ℕ) → n < length xs → length (
 pools_counted [] n l = absurd (omega arith)
 pools_counted (x ∷ xs) zero l = refl
 pools_counted (x ∷ xs) (suc n) l = ap suc (pools_counted xs n (omega arith))
-
-pub all_added : (xs : List PoolRow) (n : ℕ) (es : Entries) → length xs ≤ n → es ≡ vacant_pools (take n xs) → es ≡ vacant_pools xs
-all_added xs n es l e = e ∙ ap vacant_pools (take_all n xs l)
 
 -- the pools of the book are those of the rows
 pub pools_read : (xs : List PoolRow) → pools_in (vacant_pools xs) ≡ map pool_for xs

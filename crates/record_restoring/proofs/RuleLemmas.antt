@@ -42,37 +42,14 @@ from_dags l rows = in_table table.Dag (dag_fault (reads l) l rows) ∷ from_runs
 abbrev from_pools : Bounds → Rows → List (Option (Table × ℕ))
 from_pools l rows = in_table table.Pool (pool_fault l rows) ∷ from_dags l rows
 
-pub meta_first : (l : Bounds) (rows : Rows) (n : ℕ) → meta_fault l rows ≡ Some n → record_fault l rows ≡ Some (table.Meta, n)
-meta_first l rows n e = here table.Meta (meta_fault l rows) (from_pools l rows) n e
-
-pub pools_first : (l : Bounds) (rows : Rows) (n : ℕ) → meta_fault l rows ≡ None → pool_fault l rows ≡ Some n → record_fault l rows ≡ Some (table.Pool, n)
-pools_first l rows n m e = skip table.Meta (meta_fault l rows) (from_pools l rows) m ∙ here table.Pool (pool_fault l rows) (from_dags l rows) n e
-
 to_dags : (l : Bounds) (rows : Rows) → meta_fault l rows ≡ None → pool_fault l rows ≡ None → record_fault l rows ≡ first_some (from_dags l rows)
 to_dags l rows m p = skip table.Meta (meta_fault l rows) (from_pools l rows) m ∙ skip table.Pool (pool_fault l rows) (from_dags l rows) p
-
-pub dags_first : (l : Bounds) (rows : Rows) (t : Table) (n : ℕ) → meta_fault l rows ≡ None → pool_fault l rows ≡ None → in_table table.Dag (dag_fault (reads l) l rows) ≡ Some (t, n) → record_fault l rows ≡ Some (t, n)
-dags_first l rows t n m p e = to_dags l rows m p ∙ ap (λ o. first_some (o ∷ from_runs l rows)) e
 
 to_runs : (l : Bounds) (rows : Rows) → meta_fault l rows ≡ None → pool_fault l rows ≡ None → dag_fault (reads l) l rows ≡ None → record_fault l rows ≡ first_some (from_runs l rows)
 to_runs l rows m p d = to_dags l rows m p ∙ skip table.Dag (dag_fault (reads l) l rows) (from_runs l rows) d
 
-pub runs_first : (l : Bounds) (rows : Rows) (n : ℕ) → meta_fault l rows ≡ None → pool_fault l rows ≡ None → dag_fault (reads l) l rows ≡ None → run_fault (graphs_of (reads l) rows) l rows ≡ Some n → record_fault l rows ≡ Some (table.Run, n)
-runs_first l rows n m p d e = to_runs l rows m p d ∙ here table.Run (run_fault (graphs_of (reads l) rows) l rows) (from_instances l rows) n e
-
 to_instances : (l : Bounds) (rows : Rows) → meta_fault l rows ≡ None → pool_fault l rows ≡ None → dag_fault (reads l) l rows ≡ None → run_fault (graphs_of (reads l) rows) l rows ≡ None → record_fault l rows ≡ first_some (from_instances l rows)
 to_instances l rows m p d r = to_runs l rows m p d ∙ skip table.Run (run_fault (graphs_of (reads l) rows) l rows) (from_instances l rows) r
-
-pub instances_first : (l : Bounds) (rows : Rows) (n : ℕ) → meta_fault l rows ≡ None → pool_fault l rows ≡ None → dag_fault (reads l) l rows ≡ None → run_fault (graphs_of (reads l) rows) l rows ≡ None
-    → instance_fault (graphs_of (reads l) rows) rows ≡ Some n → record_fault l rows ≡ Some (table.Instance, n)
-instances_first l rows n m p d r e = to_instances l rows m p d r ∙ here table.Instance (instance_fault (graphs_of (reads l) rows) rows) (from_attempts l rows) n e
-
-pub attempts_first : (l : Bounds) (rows : Rows) (n : ℕ) → meta_fault l rows ≡ None → pool_fault l rows ≡ None → dag_fault (reads l) l rows ≡ None → run_fault (graphs_of (reads l) rows) l rows ≡ None
-    → instance_fault (graphs_of (reads l) rows) rows ≡ None → attempt_fault (graphs_of (reads l) rows) (meta_of rows).next_serial rows ≡ Some n → record_fault l rows ≡ Some (table.Attempt, n)
-attempts_first l rows n m p d r i e =
-    to_instances l rows m p d r
-    ∙ skip table.Instance (instance_fault (graphs_of (reads l) rows) rows) (from_attempts l rows) i
-    ∙ here table.Attempt (attempt_fault (graphs_of (reads l) rows) (meta_of rows).next_serial rows) (from_ends l rows) n e
 
 -- the last rule decides where the others pass
 pub ends_last : (l : Bounds) (rows : Rows) → Passes l rows → record_fault l rows ≡ in_table table.Run (end_fault (graphs_of (reads l) rows) rows)

@@ -105,10 +105,6 @@ attempt_test gs next rows w x t b o e f =
     ∙ ap (λ (u : Option TaskSpec). is_attempt_of next x (unwrap_or u no_task) (tries_in rows w.dag_id w.logical w.task_id) w) f
     ∙ ap (λ (c : List AttemptRow). is_attempt_of next x t c w) (o.tries ∙ sym e)
 
-pub attempt_none : (gs : List LoadedGraph) (next : ℤ) (rows : Rows) (w : AttemptRow) → list_any (is_of w.dag_id w.logical w.task_id) rows.instances ≡ false → is_attempt_row_right gs next rows w ≡ false
-attempt_none gs next rows w e =
-    ap (λ c. c && is_attempt_of next (instance_row_in rows w.dag_id w.logical w.task_id) (task_named (dag_among gs w.dag_id).tasks w.task_id) (tries_in rows w.dag_id w.logical w.task_id) w) e
-
 -- the task of a right row of an instance is there
 pub task_there : (gs : List LoadedGraph) (rows : Rows) (w : AttemptRow) (x : InstanceRow) (n : ℕ) → Own rows w x → slice_get rows.instances n ≡ Some x → list_all (is_instance_row_right gs rows) rows.instances ≡ true
     → find (λ (u : TaskSpec). same u.task_id w.task_id) (dag_among gs w.dag_id).tasks ≡ None → ⊥

@@ -52,10 +52,6 @@ by_then P Q R joins a b c p q = record {
 pub goes_puts : (f g : Rows → Rows) (a b c : State) → GoesBy (PutsIn f) a b → GoesBy (PutsIn g) b c → GoesBy (PutsIn (λ t. g (f t))) a c
 goes_puts f g = by_then (PutsIn f) (PutsIn g) (PutsIn (λ t. g (f t))) (λ x y z p q t stored. q (f t) (p t stored))
 
--- a change that implies another
-pub goes_so : (P Q : Database → Database → Type 0) → ((x y : Database) → P x y → Q x y) → (a b : State) → GoesBy P a b → GoesBy Q a b
-goes_so P Q so a b p = record { survives = p.survives; kept = p.kept; inside = p.inside; changed = λ clean inside. so a.now b.now (p.changed clean inside) }
-
 pub stops_then : (R : Database → Database → Type 0) (a b c : State) → GoesBy R a b → Stops b c → Stops a c
 stops_then R a b c p q = record {
   survives = survives_then a b c _ _ _ (λ _ db none. none) (λ _ db none. none) p.survives q.survives;

@@ -3,7 +3,7 @@ use Rattle.std.proofs.Common.{◌≡◌, refl, sym, ap, subst, ◌∙◌, zero, 
 use Rattle.std.specs.List.{zip}
 use Rattle.std.proofs.lemmas.Bool.{and_from}
 use Rattle.dag_check.specs.Graphs.{Dag}
-use Rattle.record_rows.specs.Rows.{Rows, MetaRow, PoolRow, DagRow, RunRow, InstanceRow, AttemptRow}
+use Rattle.record_rows.specs.Rows.{MetaRow, PoolRow, DagRow, RunRow, InstanceRow, AttemptRow}
 use Rattle.sched_state.specs.declared.graphs.LoadedGraph.{LoadedGraph}
 use Rattle.sched_state.specs.declared.runs.Run.{Run}
 use Rattle.sched_state.proofs.NameLemmas.{same_itself}
@@ -76,9 +76,6 @@ attempt_itself x = and_from _ _ (number_itself x.serial) (and_from _ _ (same_its
     (and_from _ _ (number_itself x.slots) (and_from _ _ (if_itself x.started) (and_from _ _ (if_itself x.ended) (if_itself x.outcome))))))))
 
 -- ---- all rows
-abbrev with_graph_rows : Rows → List DagRow → List InstanceRow → List AttemptRow → Rows
-with_graph_rows rows ds is ts = record rows { dags = ds; instances = is; attempts = ts }
-
 -- where the rest stays, the rows of graphs alone differ
 pub quiet_rows : (a : Schedule) (hs : List LoadedGraph) (ds : List DagRow) → HaveSameDags a.graphs hs a.runs → ds ≡ lacked same_dag_row (map dag_row a.graphs) (map dag_row hs)
     → record { metas = []; pools = []; dags = ds; runs = []; instances = []; attempts = [] } ≡ rows_between a (record a { graphs = hs })

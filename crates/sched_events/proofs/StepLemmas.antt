@@ -36,7 +36,7 @@ use Rattle.sched_laws.proofs.ResizeLemmas.{resize_still, smaller_no_hand, new_no
 use Rattle.sched_events.specs.Events.{named_by, set_back_by, change_by, load_result, IsInRange}
 use Rattle.sched_events.specs.Causes.{refused}
 use Rattle.sched_events.specs.Steps.{step, steps, named_along, AreAccepted}
-use Rattle.sched_events.specs.SettledAndSound.{IsSoundAndSaid, IsSettled, IsSettledAndSound}
+use Rattle.sched_events.specs.SettledAndSound.{IsSoundAndSaid, IsSettledAndSound}
 use Rattle.sched_events.specs.declared.events.Event.{Event}
 use Rattle.sched_events.specs.declared.events.Event.TheVariants.{Load, Tick, Trigger, Backfill, Clear, Pause, Unpause, Resize, Report, Restart}
 use Rattle.sched_events.proofs.AcceptLemmas.{change_kept, still_new, tick_room, hand_new, hand_room}
@@ -65,9 +65,6 @@ out_graphs a = repeat_keeps (λ (c : Schedule). c.graphs) hand_one hand_graphs (
 -- ---- what is held
 pub without_settled : (a : Schedule) → IsSettledAndSound a → IsSoundAndSaid a
 without_settled a kept = record { sound = kept.sound; said = kept.said }
-
-pub with_settled : (a : Schedule) → IsSoundAndSaid a → IsSettled a → IsSettledAndSound a
-with_settled a kept still = record { sound = kept.sound; said = kept.said; settled = still.settled; handed = still.handed }
 
 -- ---- what follows an own change
 pub step_settled : (e : Event) (a : Schedule) → move (step e a) ≡ None
