@@ -11,7 +11,7 @@ use meta_store::Store;
 use program_parts::{FileSources, run_team};
 use script_reader::{NoProgress, Script, failure_status};
 use session_rounds::ListedClock;
-use sqlite::{Connection, FileStore, Files, Options};
+use sqlite::{Alter, Connection, Files, Options};
 use sqlite_disk::{Disk, Memory};
 use std::alloc::Global;
 use std::io::{self, ErrorKind, Write};
@@ -19,8 +19,6 @@ use std::sync::Wait;
 use std::thread::Threads;
 
 const LANES: u32 = 4;
-
-type FlakyStore = FileStore<Flaky<Memory>>;
 
 /// How many writes of the log pass first, and how many are refused after these.
 #[derive(Clone, Copy, Debug, PartialEq, Eq)]
@@ -55,84 +53,107 @@ pub fn run<T: Threads + Wait + Sync>(
         log: Flaky::new(Memory::new(alloc), writes.passes, writes.refusals),
         db: Flaky::new(Memory::new(alloc), u64::MAX, 0),
     };
+    let mut printed = Vec::new(alloc);
+    let (status, refused) = run_on_files(rt, host, files, team, script, &mut printed);
+    Ok((in_one_line(alloc, printed, status?)?, refused))
+}
+
+// Prints what the script prints over such files: its status, if it was run, and how many writes were refused.
+fn run_on_files<T: Threads + Wait + Sync>(
+    rt: &T,
+    host: &HostRuntime,
+    files: Files<Flaky<Memory>>,
+    team: Vec<Worker>,
+    script: &str,
+    printed: &mut Vec<u8>,
+) -> (io::Result<Option<u8>>, u64)
+    requires workers { length team.items ≤ 16 }
+    requires whole { All (λ w. IsWhole (kind_of (λ _. kinds.Command)) w.0.items) team.items }
+{
     if !files.may_be_used() {
-        return Ok((String::from_str(alloc, "no files")?, 0));
+        return (not_run(printed, "no files"), 0);
     }
-    match Connection::open_files(alloc, files, Options::new(1)) {
-        Ok(conn) => run_on_connection(rt, host, conn, team, script),
-        Err((_, left)) => {
-            let text = String::from_str(alloc, "not opened")?;
-            Ok((text, left.into_files().log.refused()))
+    match Connection::open_files(host.alloc(), files, Options::new(1)) {
+        Ok(conn) => {
+            let (conn, status) = run_on_connection(rt, host, conn, team, script, printed);
+            (status, conn.into_store().close().log.refused())
         }
+        Err((_, left)) => (
+            not_run(printed, "not opened"),
+            left.into_files().log.refused(),
+        ),
     }
 }
 
-// The same over an open connection.
-fn run_on_connection<T: Threads + Wait + Sync>(
+// The same over an open connection, whatever it stands on, which is given back.
+fn run_on_connection<S: Alter + Drop, T: Threads + Wait + Sync>(
     rt: &T,
     host: &HostRuntime,
-    conn: Connection<FlakyStore>,
+    conn: Connection<S>,
     team: Vec<Worker>,
     script: &str,
-) -> io::Result<(String, u64)>
+    printed: &mut Vec<u8>,
+) -> (Connection<S>, io::Result<Option<u8>>)
     requires settled { conn.in_transaction ≡ false }
     requires workers { length team.items ≤ 16 }
     requires whole { All (λ w. IsWhole (kind_of (λ _. kinds.Command)) w.0.items) team.items }
 {
-    let alloc = host.alloc();
-    match Store::create(alloc, conn) {
+    match Store::create(host.alloc(), conn) {
         Ok(record) => {
-            let (printed, record) = run_on_record(rt, host, record, team, script)?;
-            Ok((printed, refused_by(record.release())))
+            let (record, status) = run_on_record(rt, host, record, team, script, printed);
+            (record.release(), status)
         }
-        Err((conn, _)) => Ok((String::from_str(alloc, "no record")?, refused_by(conn))),
+        Err((conn, _)) => (conn, not_run(printed, "no record")),
     }
 }
 
-fn refused_by(conn: Connection<FlakyStore>) -> u64 {
-    conn.into_store().close().log.refused()
-}
-
-// What the script prints, and the record.
-fn run_on_record<T: Threads + Wait + Sync>(
+// The same over a record.
+fn run_on_record<S: Alter + Drop, T: Threads + Wait + Sync>(
     rt: &T,
     host: &HostRuntime,
-    record: Store<FlakyStore>,
+    record: Store<S>,
     team: Vec<Worker>,
     script: &str,
-) -> io::Result<(String, Store<FlakyStore>)>
+    printed: &mut Vec<u8>,
+) -> (Store<S>, io::Result<Option<u8>>)
     requires workers { length team.items ≤ 16 }
     requires whole { All (λ w. IsWhole (kind_of (λ _. kinds.Command)) w.0.items) team.items }
 {
     let alloc = host.alloc();
-    let mut printed = Vec::new(alloc);
     let mut clock = ListedClock::new(alloc, Vec::new(alloc));
     let script = Script {
         input: script.as_bytes(),
-        output: &mut printed,
+        output: &mut *printed,
         sources: FileSources::new(*host, alloc),
         progress: NoProgress,
     };
     match run_team(rt, alloc, record, LANES, team, script, &mut clock) {
-        Ok(ran) => Ok((in_one_line(alloc, printed, ran.status)?, ran.store)),
+        Ok(ran) => (ran.store, Ok(Some(ran.status))),
         Err((record, fault)) => {
-            put(&mut printed, Shown::Failure(&fault))?;
-            let text = in_one_line(alloc, printed, failure_status(&fault))?;
-            Ok((text, record))
+            let status = failure_status(&fault);
+            let put = put(printed, Shown::Failure(&fault));
+            (record, put.map(|()| Some(status)))
         }
     }
 }
 
-fn in_one_line(alloc: Global, printed: Vec<u8>, status: u8) -> io::Result<String> {
+// Prints why the script is not run, which has no status.
+fn not_run(printed: &mut Vec<u8>, why: &str) -> io::Result<Option<u8>> {
+    printed.write_all(why.as_bytes())?;
+    Ok(None)
+}
+
+fn in_one_line(alloc: Global, printed: Vec<u8>, status: Option<u8>) -> io::Result<String> {
     let Ok(text) = String::from_utf8(printed) else {
         return Err(io::Error::from(ErrorKind::InvalidData));
     };
-    let mut line = String::new(alloc);
+    let Some(status) = status else {
+        return Ok(text);
+    };
+    let mut line = Vec::new(alloc);
     for it in text.as_str().lines() {
-        line.push_str(it)?;
-        line.push_str(" / ")?;
+        write!(&mut line, "{it} / ")?;
     }
-    let mut whole = Vec::new(alloc);
-    write!(&mut whole, "{line}status {status}")?;
-    String::from_utf8(whole).map_err(|_| io::Error::from(ErrorKind::InvalidData))
+    write!(&mut line, "status {status}")?;
+    String::from_utf8(line).map_err(|_| io::Error::from(ErrorKind::InvalidData))
 }
