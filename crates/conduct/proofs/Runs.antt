@@ -1,5 +1,5 @@
 -- A session that was served, and one that was not, with the stops sent after it.
-use Rattle.std.proofs.Common.{◌≡◌, ℕ, ◌<◌, Bool, true, false, true≢false, List, [], ◌++◌, length, map, replicate, Option, None, Result, Ok, Err, MatchBool, MatchResult, OnOk, IfErr, refl, sym, ap, ◌∙◌, subst}
+use Rattle.std.proofs.Common.{◌≡◌, ℕ, ◌<◌, Bool, true, false, true≢false, List, ◌++◌, length, map, replicate, Option, None, Result, Ok, Err, MatchBool, MatchResult, OnOk, IfErr, refl, sym, ap, ◌∙◌, subst}
 use Rattle.sqlite.specs.Held.{Held}
 use Rattle.sqlite.specs.State.{State}
 use Rattle.ruled_dispatch.specs.Lanes.{sent_of, heard_of, IsDirectorOf, HasWorkers}
@@ -91,25 +91,6 @@ module _ {S : Type 0} where
     begun = begun;
     idle = idle;
     unstarted = never_unstarted _ outcome failed fault;
-  }
-
-  -- it was not, since a thread was refused
-  pub unserved : {W : Type 0} (look : Held S → State) (lanes : Lanes) (lane_count stops : ℕ) (old : Session S) (pass : DirectorPass) (are_told : List (Event × Answer) → Option Line → Type 0) (untouched : Type 0) (failed : Option LineFault) (is_over : Bool)
-      → old.minutes.items ≡ [] → are_told [] None → untouched → failed ≡ None
-      → sent_of pass ≡ sent_of old.pass ++ replicate stops item.Stop → heard_of pass ≡ heard_of old.pass → IsDirectorOf lanes pass → ((count : ℕ) → HasWorkers old.pass count → HasWorkers pass count)
-      → IsServed {W = W} look lanes lane_count stops old (with_pass old pass) (Err fault.SpawnRefused) are_told untouched failed is_over
-  unserved look lanes lane_count stops old pass are_told untouched failed is_over fresh none same sound sent heard of workers = record {
-    pass = of;
-    workers = workers;
-    opened = refl;
-    followed = record { clean = λ h. h; was_open = λ _ h. h; stored = λ _ _ h. h };
-    run = λ a run. stopped a lane_count stops old pass sent heard run;
-    told = λ a run. (None, subst (λ (es : List Event). are_told (answered es a) None) (sym fresh) none, tt);
-    fault = sound;
-    over = tt;
-    begun = tt;
-    idle = tt;
-    unstarted = λ _. (fresh, same);
   }
 
   pub same_stops : {W : Type 0} {look : Held S → State} {lanes : Lanes} {lane_count : ℕ} {old now : Session S} {outcome : Result W ConductFault} {are_told : List (Event × Answer) → Option Line → Type 0} {untouched : Type 0} {failed : Option LineFault} {is_over : Bool} (n m : ℕ) → n ≡ m

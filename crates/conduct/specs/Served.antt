@@ -54,13 +54,14 @@ pub record IsServed {S W : Type 0} (look : Held S → State) (lanes : Lanes) (la
   pub idle : OnOk outcome (in_flight new.director.schedule.content ≡ 0)
   pub unstarted : IfErr outcome (λ f. is_unstarted f ≡ true → (new.minutes.items ≡ []) × untouched)
 
--- A run may start: the session has stepped nothing, and its pass is the director's; the lines did not fail; and there is a pass, a share
+-- A run may start: the session has stepped nothing, and its pass is the director's; the lines did not fail and do not wait for a drain; and there is a pass, a share
 -- and room for a thread for each crew, whose kits are whole.
-pub record IsReady {S D G O : Type 0} (kind_of : O → Kind) (lanes : Lanes) (lane_count : ℕ) (session : Session S) (posts : Posts D G O) (crews : List (Crew G O)) (failed : Option LineFault) : Type 0 where
+pub record IsReady {S D G O : Type 0} (kind_of : O → Kind) (lanes : Lanes) (lane_count : ℕ) (session : Session S) (posts : Posts D G O) (crews : List (Crew G O)) (failed : Option LineFault) (drains : Bool) : Type 0 where
   pub pass : IsDirectorOf lanes session.pass
   pub fresh : session.minutes.items ≡ []
   pub within : lane_count ≤ session.director.schedule.content.limits.lanes
   pub sound : failed ≡ None
+  pub undrained : drains ≡ false
   pub passes : All (IsWorkerOf lanes) posts.passes.items
   pub kits : All (λ c. IsKit kind_of c.kit) crews
   pub pass_each : length posts.passes.items ≡ length crews

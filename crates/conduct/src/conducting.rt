@@ -1,5 +1,5 @@
 //! A run, from a director to what came of it.
-ghost use Rattle.std.specs.Prelude.{◌≡◌, ◌<◌, ◌≤◌, All, None, length, map};
+ghost use Rattle.std.specs.Prelude.{◌≡◌, ◌<◌, ◌≤◌, All, None, false, length, map};
 ghost use Rattle.sqlite.specs.Held.{state};
 ghost use Rattle.operators.specs.Kits.{IsKit};
 ghost use Rattle.sessions.specs.Told.{AreTold};
@@ -57,6 +57,7 @@ pub fn conduct<
     requires crews { length crews.items ≤ 16 }
     requires kits { All (λ c. IsKit O.kind_of c.kit) crews.items }
     requires sound { L.failed lines.old ≡ None }
+    requires undrained { L.drains lines.old ≡ false }
     ensures { IsConducted (state S.Store) O.runs_of O.taken lane_count (map (λ c. c.kit) crews.items) director result
         (AreTold L.tells C.gives lines.old clock.old lines.new clock.new) ((lines.new ≡ lines.old) × (clock.new ≡ clock.old)) (L.failed lines.new) (L.over lines.new) }
 {
@@ -105,6 +106,7 @@ fn conduct_at<
     requires crews { (0 < length crews.items) × (length crews.items ≤ 16) }
     requires kits { All (λ c. IsKit O.kind_of c.kit) crews.items }
     requires sound { L.failed lines.old ≡ None }
+    requires undrained { L.drains lines.old ≡ false }
     ensures { IsConducted (state S.Store) O.runs_of O.taken lane_count (map (λ c. c.kit) crews.items) director result
         (AreTold L.tells C.gives lines.old clock.old lines.new clock.new) ((lines.new ≡ lines.old) × (clock.new ≡ clock.old)) (L.failed lines.new) (L.over lines.new) }
 {

@@ -1,5 +1,5 @@
 //! A session is served while workers run, and the workers are then stopped.
-ghost use Rattle.std.specs.Prelude.{◌≡◌, ◌≤◌, [], true, None, OnOk};
+ghost use Rattle.std.specs.Prelude.{◌≡◌, ◌≤◌, [], true, false, None, OnOk};
 ghost use Rattle.sqlite.specs.Held.{state};
 ghost use Rattle.ruled_dispatch.specs.Lanes.{IsDirectorOf};
 ghost use Rattle.sessions.specs.Told.{AreTold};
@@ -34,6 +34,7 @@ pub fn serve<S: Alter, L: Lines, C: Clock, R: Wait>(
     requires fresh { session.old.minutes.items ≡ [] }
     requires lanes { lane_count ≤ session.old.director.schedule.content.limits.lanes }
     requires sound { L.failed lines.old ≡ None }
+    requires undrained { L.drains lines.old ≡ false }
     ensures served { IsServed (state S.Store) lanes.now lane_count started.workers session.old session.new result
         (AreTold L.tells C.gives lines.old clock.old lines.new clock.new) ((lines.new ≡ lines.old) × (clock.new ≡ clock.old)) (L.failed lines.new) (L.over lines.new) }
     ensures all { OnOk result (started.are_all ≡ true) }

@@ -1,5 +1,6 @@
 //! Scripts run by teams: for each worker a list of operators, and a gate.
 ghost use Rattle.std.specs.Prelude.{◌≡◌, ◌≤◌, All, IfErr, IfOk, IsTrue, OnErr, length, map};
+ghost use Rattle.std.specs.Io.KnownBytes.{Appends};
 ghost use Rattle.sqlite.specs.Held.{state};
 ghost use Rattle.sqlite.specs.State.{HasCleanDisk};
 ghost use Rattle.operators.specs.Kits.{IsKit};
@@ -40,13 +41,14 @@ pub fn run_team<
     team: Vec<(Vec<O>, G)>,
     script: Script<R, W, F, P>,
     clock: &mut C,
-) -> Result<Ran<S, G, O, F>, (Store<S>, Fault)>
+) -> Result<Ran<S, G, O, F, W>, (Store<S>, Fault)>
     requires lanes { lanes ≤ 64 }
     requires workers { length team.items ≤ 16 }
     requires whole { All (λ w. IsWhole O.kind_of w.0.items) team.items }
     ensures run { IfOk result (λ ran. IsTeamRun (state S.Store) O.kind_of O.runs_of O.taken (R.Read.remaining script.input)
         (λ given. F.gives script.sources given ran.sources) (λ moments. C.gives clock.old moments clock.new)
-        lanes (map (λ w. w.0.items) team.items) (state S.Store store) ran.store ran.minutes.items ran.outcome ran.status) }
+        (λ shown. Appends (W.contents script.output) (W.contents ran.output) shown)
+        ((ran.sources ≡ script.sources) × (clock.new ≡ clock.old)) lanes (map (λ w. w.0.items) team.items) (state S.Store store) ran.store ran.minutes.items ran.outcome ran.status) }
     ensures fault { IfErr result (λ e. HasCleanDisk (state S.Store e.0)
         → IsOpenFault ceilings 0 (state S.Store store).now e.1) }
     ensures kept { IfErr result (λ e. HasCleanDisk (state S.Store e.0)

@@ -1,53 +1,32 @@
 -- What was done of a script, after one command more.
-use Rattle.std.proofs.Common.{◌≡◌, ◌∙◌, ◌⊎◌, inl, inr, ℕ, ◌<◌, ◌==◌, max, Bool, true, false, true≢false, not, ◌&&◌, List, [], ◌∷◌, ◌++◌, length, map, flat_map, Option, Some, None, is_none, Result, Ok, Err, is_err, refl, sym, ap, subst, arith, append_assoc, append-nil}
+use Rattle.std.proofs.Common.{◌≡◌, ◌∙◌, ◌⊎◌, inl, inr, ℕ, max, Bool, true, false, true≢false, List, [], ◌∷◌, ◌++◌, map, flat_map, Option, Some, None, is_none, Result, Ok, Err, is_err, refl, sym, ap, subst, arith, append_assoc, append-nil}
 use Rattle.std.proofs.lemmas.Grind.{flat_map-append}
 use Rattle.std.proofs.lemmas.List.{map-append}
 use Rattle.std.proofs.lemmas.List.Elements.{All-push}
+use Rattle.std.specs.Io.KnownBytes.{Appends}
+use Rattle.sched_model.specs.Schedule.{Schedule}
 use Rattle.sched_events.specs.declared.answers.Answer.{Answer}
 use Rattle.sched_events.specs.declared.events.Event.{Event}
 use Rattle.script_commands.specs.Commands.{Request, IsNext, IsFirst, IsGiven, commands_in}
 use Rattle.word_app.specs.App.{Texts}
 use Rattle.script_commands.specs.declared.commands.ScriptCommand.TheVariants.{Step, LoadFile, TickNow, Drain, List as ListRows, Explain}
-use Rattle.sessions.specs.Lines.{moment_of, opened_by, opens, told_part, ticked, Takes}
+use Rattle.sessions.specs.Lines.{is_drain, moment_of, opened_by, opens, reads_drain, told_part, ticked, Takes}
+use Rattle.sessions.specs.declared.clocks.ClockFault.{ClockFault}
 use Rattle.sessions.specs.declared.line_reading.Line.{Line}
 use Rattle.sessions.specs.declared.line_reading.Line.TheVariants as Says
-use Rattle.sched_events.specs.declared.refusals.Refusal.{Refusal}
-use Rattle.sched_events.specs.declared.refusals.Refusal.TheVariants as refusal
 use Rattle.director.specs.declared.faults.Fault.{Fault}
-use Rattle.director.specs.declared.faults.Fault.TheVariants as failed
-use Rattle.script_reader.specs.Statuses.{refusal_status, failure_status, status_of}
+use Rattle.answer_lines.specs.RunFaults.{clock_text}
+use Rattle.script_reader.specs.Shown.{IsWritten}
+use Rattle.script_reader.specs.Statuses.{shown_for, status_of}
 use Rattle.std.specs.Result.{IsErrAnd}
 use Rattle.script_reader.specs.Commands.{Leaves, Does, is_end, line_of, texts_of}
-use Rattle.script_reader.specs.Done.{FileText, Done, IsDone, IsPerhaps, MayBeDone, IsOpen, HasDone, is_whole}
-
--- ---- statuses
-refuses : (r : Refusal) → 0 < refusal_status r
-refuses refusal.Memory = omega arith
-refuses _ = omega arith
-
-fails : (f : Fault) → 0 < failure_status f
-fails (failed.Refused r) = refuses r
-fails (failed.Store f) = omega arith
-fails failed.Memory = omega arith
-
--- nothing need be done of a command
-untouched : (r : Request) → MayBeDone r [] [] []
-untouched (Ok (Step e)) = (refl, refl, inr refl)
-untouched (Ok (LoadFile path)) = (refl, inl (refl, refl))
-untouched (Ok TickNow) = (refl, inl (refl, refl))
-untouched (Ok Drain) = (refl, refl, refl)
-untouched (Ok (ListRows listing)) = (refl, refl, refl)
-untouched (Ok (Explain question)) = (refl, refl, refl)
-untouched (Err fault) = (refl, refl, refl)
-
--- what is whole as it was given is whole as it is wanted
-whole_given : (wanted given : Request) (es : List Event) → IsGiven wanted given → is_whole given es ≡ true → is_whole wanted es ≡ true
-whole_given wanted given es (inl same) is = ap (λ (r : Request). is_whole r es) (sym same) ∙ is
-whole_given wanted given es (inr (memory, lack)) is = absurd (true≢false (sym is ∙ ap (λ (r : Request). is_whole r es) memory))
+use Rattle.script_reader.specs.Done.{FileText, Done, IsAnswered, IsDone, IsPerhaps, MayBeDone, IsOpen, HasDone}
+use Rattle.script_reader.proofs.ShownLemmas.{drain_text, read_written, written_more}
+use Rattle.script_reader.proofs.StatusLemmas.{at_once, given_done, raised}
 
 -- one command more of which nothing is told
-abbrev pub only_asked : Request → Done
-only_asked r = record { asked = r; texts = []; moments = []; events = [] }
+abbrev pub only_asked : Request → ℕ → List ℕ → Done
+only_asked r status shown = record { asked = r; texts = []; moments = []; told = []; status = status; shown = shown }
 
 abbrev pub texts_in : List Done → List FileText
 texts_in done = flat_map (λ (d : Done). d.texts) done
@@ -55,8 +34,11 @@ texts_in done = flat_map (λ (d : Done). d.texts) done
 abbrev pub asked_in : List Done → List Request
 asked_in done = map (λ (d : Done). d.asked) done
 
-abbrev pub events_in : List Done → List Event
-events_in done = flat_map (λ (d : Done). d.events) done
+abbrev pub told_in : List Done → List (Event × Answer)
+told_in done = flat_map (λ (d : Done). d.told) done
+
+abbrev pub shown_in : List Done → List ℕ
+shown_in done = flat_map (λ (d : Done). d.shown) done
 
 abbrev pub moments_in : List Done → List ℕ
 moments_in done = flat_map (λ (d : Done). d.moments) done
@@ -91,8 +73,9 @@ module _ (names : Texts) where
   pub next_at : {R : Type 0} (remaining : R → Option (List ℕ)) (left : Option (List ℕ)) (given : Request) (a b : R) → b ≡ a → ((known : List ℕ) → left ≡ Some known → IsNext names known (Some given) (remaining a)) → (known : List ℕ) → left ≡ Some known → IsNext names known (Some given) (remaining b)
   next_at remaining left given a b same is known e = subst (λ r. IsNext names known (Some given) (remaining r)) (sym same) (is known e)
 
+module _ (names : Texts) (before : ℕ) where
   -- what is known where no line waits
-  module _ (first : Option (List ℕ)) (gives : List FileText → Type 0) (told : List (Event × Answer)) (ticks : List ℕ) (left : Option (List ℕ)) (status : ℕ) (ended : Bool) (h : HasDone names first gives told ticks None left status false ended) where
+  module _ (first : Option (List ℕ)) (gives : List FileText → Type 0) (shows : List ℕ → Type 0) (told : List (Event × Answer)) (ticks : List ℕ) (left : Option (List ℕ)) (status : ℕ) (ended : Bool) (h : HasDone names before first gives shows told ticks None left status false ended) where
     pub none_open : gives (texts_in h.done)
     none_open = subst gives (ap (λ l. texts_in h.done ++ l) h.opens.1 ∙ append-nil (texts_in h.done)) h.texts
 
@@ -102,23 +85,8 @@ module _ (names : Texts) where
         let b = r.3 refl in
         (b.0, b.1, r.1 ∙ ap (λ l. asked_in h.done ++ (l ++ r.0)) h.opens.0 ∙ ap (λ l. asked_in h.done ++ l) b.2)
 
-    -- it does not matter whether it was said to have ended
-    pub unended : HasDone names first gives told ticks None left status false false
-    unended = record {
-      done = h.done;
-      open_asked = h.open_asked;
-      open_texts = h.open_texts;
-      each = h.each;
-      opens = h.opens;
-      texts = h.texts;
-      events = h.events;
-      moments = h.moments;
-      read = λ known e. let r = h.read known e in (r.0, r.1, (λ no. absurd (true≢false (sym no))), r.3);
-      whole = h.whole;
-    }
-
     -- the script is over
-    pub over : (left' : Option (List ℕ)) → ((known : List ℕ) → left ≡ Some known → (commands_in names known ≡ []) × (left' ≡ Some [])) → HasDone names first gives told ticks None left' status false true
+    pub over : (left' : Option (List ℕ)) → ((known : List ℕ) → left ≡ Some known → (commands_in names known ≡ []) × (left' ≡ Some [])) → HasDone names before first gives shows told ticks None left' status false true
     unfolding commands_in
     over left' is = record {
       done = h.done;
@@ -127,52 +95,57 @@ module _ (names : Texts) where
       each = h.each;
       opens = (refl, refl);
       texts = subst gives (sym (append-nil (texts_in h.done))) none_open;
-      events = h.events;
+      told_are = h.told_are;
       moments = h.moments;
       read = λ known e. let l = none_left known e in let n = is l.0 l.1 in ([], l.2 ∙ ap (λ r. asked_in h.done ++ r) n.0, (λ _. refl), λ _. ([], n.1, refl));
-      whole = h.whole;
+      status_is = h.status_is;
+      output = h.output;
     }
 
     -- it could not be read or answered further, perhaps after a command of which nothing is told
-    pub broken : (gives' : List FileText → Type 0) (left' : Option (List ℕ)) (status' : ℕ) → (gives (texts_in h.done) → gives' (texts_in h.done)) → (status' ≡ 0 → status ≡ 0) → HasDone names first gives' told ticks None left' status' true false
-    broken gives' left' status' to zero = record {
+    pub broken : (gives' : List FileText → Type 0) (shows' : List ℕ → Type 0) (left' : Option (List ℕ)) (status' : ℕ) → (gives (texts_in h.done) → gives' (texts_in h.done)) → status' ≡ status → HasDone names before first gives' shows' told ticks None left' status' true false
+    broken gives' shows' left' status' to same = record {
       done = h.done;
       open_asked = [];
       open_texts = [];
       each = h.each;
       opens = (refl, refl);
       texts = subst gives' (sym (append-nil (texts_in h.done))) (to none_open);
-      events = h.events;
+      told_are = h.told_are;
       moments = h.moments;
       read = λ known e. let l = none_left known e in (commands_in names l.0, l.2, (λ no. absurd (true≢false (sym no))), λ no. absurd (true≢false no));
-      whole = λ z. h.whole (zero z);
+      status_is = same ∙ h.status_is;
+      output = λ no. absurd (true≢false no);
     }
 
     module _ (left' : Option (List ℕ)) (given : Request) (is : (known : List ℕ) → left ≡ Some known → IsNext names known (Some given) left') where
-      pub after : Next first left' (asked_in h.done) given
-      after = next first left left' (asked_in h.done) given none_left is
+      pub after : Next names first left' (asked_in h.done) given
+      after = next names first left left' (asked_in h.done) given none_left is
 
       -- a command of which nothing is told
-      pub answered_more : (gives' : List FileText → Type 0) (status' : ℕ) → (gives (texts_in h.done) → gives' (texts_in h.done)) → (status' ≡ 0 → (status ≡ 0) × (is_whole given [] ≡ true)) → HasDone names first gives' told ticks None left' status' false false
-      answered_more gives' status' to zero =
+      pub answered_more : (gives' : List FileText → Type 0) (shows' : List ℕ → Type 0) (status' own : ℕ) (text : List ℕ) → (gives (texts_in h.done) → gives' (texts_in h.done)) → (shows (shown_in h.done) → shows' (shown_in h.done ++ text)) → status' ≡ max status own → MayBeDone given [] [] [] own text
+          → HasDone names before first gives' shows' told ticks None left' status' false false
+      answered_more gives' shows' status' own text to show more may =
           let n = after in
-          let d : Done = only_asked n.wanted in
+          let d : Done = only_asked n.wanted own text in
           record {
             done = h.done ++ d ∷ [];
             open_asked = [];
             open_texts = [];
-            each = All-push IsDone h.done d h.each (untouched n.wanted);
+            each = All-push IsDone h.done d h.each (given_done n.wanted given own text n.same may);
             opens = (refl, refl);
             texts = subst gives' (sym (append-nil (texts_in (h.done ++ d ∷ [])) ∙ one_more (λ (x : Done). x.texts) h.done d ∙ append-nil (texts_in h.done))) (to none_open);
-            events = h.events ∙ sym (one_more (λ (x : Done). x.events) h.done d ∙ append-nil (events_in h.done));
+            told_are = h.told_are ∙ sym (one_more (λ (x : Done). x.told) h.done d ∙ append-nil (told_in h.done));
             moments = h.moments ∙ sym (one_more (λ (x : Done). x.moments) h.done d ∙ append-nil (moments_in h.done));
             read = λ known e. let r = n.read known e in (commands_in names r.0, r.2 ∙ sym (asked_more h.done d (commands_in names r.0)), (λ no. absurd (true≢false (sym no))), λ _. (r.0, r.1, refl));
-            whole = λ z. All-push (λ (x : Done). is_whole x.asked x.events ≡ true) h.done d (h.whole (zero z).0) (whole_given n.wanted given [] n.same (zero z).1);
+            status_is = raised before status status' h.done d more h.status_is;
+            output = λ _. subst shows' (sym (one_more (λ (x : Done). x.shown) h.done d)) (show (h.output refl));
           }
 
       -- a command that leaves a line to the run
-      pub opened_more : (gives' : List FileText → Type 0) (line : Option Line) (texts : List FileText) → IsOpen line (after.wanted ∷ []) texts → (gives (texts_in h.done) → gives' (texts_in h.done ++ texts)) → HasDone names first gives' told ticks line left' status false false
-      opened_more gives' line texts opens to =
+      pub opened_more : (gives' : List FileText → Type 0) (shows' : List ℕ → Type 0) (line : Option Line) (texts : List FileText) → IsOpen line (after.wanted ∷ []) texts → (gives (texts_in h.done) → gives' (texts_in h.done ++ texts)) → (shows (shown_in h.done) → shows' (shown_in h.done))
+          → HasDone names before first gives' shows' told ticks line left' status false false
+      opened_more gives' shows' line texts opens to show =
           let n = after in
           record {
             done = h.done;
@@ -181,108 +154,106 @@ module _ (names : Texts) where
             each = h.each;
             opens = opens;
             texts = to none_open;
-            events = h.events;
+            told_are = h.told_are;
             moments = h.moments;
             read = λ known e. let r = n.read known e in (commands_in names r.0, r.2, (λ no. absurd (true≢false (sym no))), λ _. (r.0, r.1, refl));
-            whole = h.whole;
+            status_is = h.status_is;
+            output = λ _. show (h.output refl);
           }
 
   -- ---- what a command leaves to the run
-  -- a drain is done when it is read; another waits for its answer
   leaves_given : (wanted given : Request) (line : Line) → IsGiven wanted given → Leaves given line → given ≡ wanted
   leaves_given wanted given line (inl same) l = same
   leaves_given wanted given line (inr (memory, lack)) l = absurd (subst (λ (r : Request). Leaves r line) memory l)
 
+  -- a drain is done when it is read; another waits for its answer
   record IsDrained (r : Request) (line : Line) : Type 0 where
     waits : opens line ≡ None
     texts : texts_of r (Some line) ≡ []
-    whole : is_whole r [] ≡ true
+    done : MayBeDone r [] [] [] 0 (drain_text (is_drain line))
 
-  left_to_run : (r : Request) (line : Line) → Leaves r line → IsDrained r line ⊎ IsOpen (opens line) (r ∷ []) (texts_of r (Some line))
-  left_to_run (Ok (Step e)) line is = inr (subst (λ (l : Line). IsOpen (opens l) (Ok (Step e) ∷ []) (texts_of (Ok (Step e)) (Some l))) (sym is) (inl (refl, refl)))
-  left_to_run (Ok (LoadFile path)) line (text, is) = inr (subst (λ (l : Line). IsOpen (opens l) (Ok (LoadFile path) ∷ []) (texts_of (Ok (LoadFile path)) (Some l))) (sym is) (inr (path, text, refl, refl, refl)))
-  left_to_run (Ok TickNow) line is = inr (subst (λ (l : Line). IsOpen (opens l) (Ok TickNow ∷ []) (texts_of (Ok TickNow) (Some l))) (sym is) (refl, refl))
-  left_to_run (Ok Drain) line is = inl (record { waits = ap opens is; texts = refl; whole = refl })
+  record IsLeft (r : Request) (line : Line) : Type 0 where
+    opens_are : IsOpen (opens line) (r ∷ []) (texts_of r (Some line))
+    silent : drain_text (is_drain line) ≡ []
+
+  left_to_run : (r : Request) (line : Line) → Leaves r line → IsDrained r line ⊎ IsLeft r line
+  left_to_run (Ok (Step e)) line is = inr (subst (λ (l : Line). IsLeft (Ok (Step e)) l) (sym is) (record { opens_are = inl (refl, refl); silent = refl }))
+  left_to_run (Ok (LoadFile path)) line (text, is) = inr (subst (λ (l : Line). IsLeft (Ok (LoadFile path)) l) (sym is) (record { opens_are = inr (path, text, refl, refl, refl); silent = refl }))
+  left_to_run (Ok TickNow) line is = inr (subst (λ (l : Line). IsLeft (Ok TickNow) l) (sym is) (record { opens_are = (refl, refl); silent = refl }))
+  left_to_run (Ok Drain) line is = inl (subst (λ (l : Line). IsDrained (Ok Drain) l) (sym is) (record { waits = refl; texts = refl; done = (refl, refl, refl, refl, refl) }))
   left_to_run (Ok (ListRows listing)) line is = absurd is
   left_to_run (Ok (Explain question)) line is = absurd is
   left_to_run (Err fault) line is = absurd is
 
   -- ---- one command more, whatever is done of it
-  module _ (first : Option (List ℕ)) (gives gives' : List FileText → Type 0) (told : List (Event × Answer)) (ticks : List ℕ) (left left' : Option (List ℕ)) (status status' : ℕ) (ended : Bool) (h : HasDone names first gives told ticks None left status false ended) (given : Request) (is : (known : List ℕ) → left ≡ Some known → IsNext names known (Some given) left') where
+  module _ (first : Option (List ℕ)) (gives gives' : List FileText → Type 0) (shows shows' : List ℕ → Type 0) (told : List (Event × Answer)) (ticks : List ℕ) (left left' : Option (List ℕ)) (status status' : ℕ) (ended : Bool) (h : HasDone names before first gives shows told ticks None left status false ended) (given : Request) (is : (known : List ℕ) → left ≡ Some known → IsNext names known (Some given) left') where
     -- it leaves a line to the run
-    pub line_more : (line : Line) → Leaves given line → status' ≡ status → ((xs : List FileText) → gives xs → gives' (xs ++ texts_of given (Some line))) → HasDone names first gives' told ticks (opens line) left' status' false false
-    line_more line leaves same to =
-        let n = after first gives told ticks left status ended h left' given is in
+    pub line_more : (line : Line) → Leaves given line → status' ≡ status → ((xs : List FileText) → gives xs → gives' (xs ++ texts_of given (Some line))) → ((xs : List ℕ) → shows xs → shows' (xs ++ drain_text (is_drain line)))
+        → HasDone names before first gives' shows' told ticks (opens line) left' status' false false
+    line_more line leaves same to show =
+        let n = after first gives shows told ticks left status ended h left' given is in
         let wanted : given ≡ n.wanted = leaves_given n.wanted given line n.same leaves in
         let xs = texts_in h.done in
-        subst (λ (m : ℕ). HasDone names first gives' told ticks (opens line) left' m false false) (sym same)
+        let ys = shown_in h.done in
+        subst (λ (m : ℕ). HasDone names before first gives' shows' told ticks (opens line) left' m false false) (sym same)
         (elim (left_to_run given line leaves) [
           | inl drained ↦
-              subst (λ (w : Option Line). HasDone names first gives' told ticks w left' status false false) (sym drained.waits)
-              (answered_more first gives told ticks left status ended h left' given is gives' status (λ g. subst gives' (ap (λ l. xs ++ l) drained.texts ∙ append-nil xs) (to xs g)) (λ z. (z, drained.whole)))
+              subst (λ (w : Option Line). HasDone names before first gives' shows' told ticks w left' status false false) (sym drained.waits)
+              (answered_more first gives shows told ticks left status ended h left' given is gives' shows' status 0 (drain_text (is_drain line)) (λ g. subst gives' (ap (λ l. xs ++ l) drained.texts ∙ append-nil xs) (to xs g)) (show ys) (omega arith) drained.done)
           | inr waiting ↦
-              opened_more first gives told ticks left status ended h left' given is gives' (opens line) (texts_of given (Some line))
-              (subst (λ (r : Request). IsOpen (opens line) (r ∷ []) (texts_of given (Some line))) wanted waiting) (to xs)
+              opened_more first gives shows told ticks left status ended h left' given is gives' shows' (opens line) (texts_of given (Some line))
+              (subst (λ (r : Request). IsOpen (opens line) (r ∷ []) (texts_of given (Some line))) wanted waiting.opens_are) (to xs) (λ s. subst shows' (ap (λ l. ys ++ l) waiting.silent ∙ append-nil ys) (show ys s))
         ])
 
     -- it is answered
-    pub none_more : ((xs : List FileText) → gives xs → gives' (xs ++ [])) → (status' ≡ 0 → (status ≡ 0) × (is_whole given [] ≡ true)) → HasDone names first gives' told ticks None left' status' false false
-    none_more to zero =
+    pub none_more : (a : Schedule) (own : ℕ) (text : List ℕ) → ((xs : List FileText) → gives xs → gives' (xs ++ [])) → ((xs : List ℕ) → shows xs → shows' (xs ++ text)) → status' ≡ max status own → IsAnswered a given own text → HasDone names before first gives' shows' told ticks None left' status' false false
+    none_more a own text to show more at =
         let xs = texts_in h.done in
-        answered_more first gives told ticks left status ended h left' given is gives' status' (λ g. subst gives' (append-nil xs) (to xs g)) zero
+        answered_more first gives shows told ticks left status ended h left' given is gives' shows' status' own text (λ g. subst gives' (append-nil xs) (to xs g)) (show (shown_in h.done)) more (at_once a given own text at)
 
     -- it cannot be answered
-    pub fault_more : ((xs : List FileText) → gives xs → gives' (xs ++ [])) → (status' ≡ 0 → status ≡ 0) → HasDone names first gives' told ticks None left' status' true false
-    fault_more to zero =
+    pub fault_more : ((xs : List FileText) → gives xs → gives' (xs ++ [])) → status' ≡ status → HasDone names before first gives' shows' told ticks None left' status' true false
+    fault_more to same =
         let xs = texts_in h.done in
-        broken first gives told ticks left status ended h gives' left' status' (λ g. subst gives' (append-nil xs) (to xs g)) zero
+        broken first gives shows told ticks left status ended h gives' shows' left' status' (λ g. subst gives' (append-nil xs) (to xs g)) same
 
   -- ---- the line that waits is answered
   -- the command that waited, and what may be done of it so
-  pub record IsClosed (asked : List Request) (texts : List FileText) (moments : List ℕ) (es : List Event) : Type 0 where
+  pub record IsClosed (asked : List Request) (texts : List FileText) (moments : List ℕ) (told : List (Event × Answer)) (status : ℕ) (shown : List ℕ) : Type 0 where
     pub one : Request
     pub is : asked ≡ one ∷ []
-    pub done : MayBeDone one texts moments es
-    pub whole : is_whole one es ≡ (length es == 1)
+    pub done : MayBeDone one texts moments told status shown
 
-  abbrev pub told_events : Event → Result Answer Fault → List Event
-  told_events e q = map (λ (p : Event × Answer). p.0) (told_part e q)
+  perhaps : (e : Event) (q : Result Answer Fault) → IsPerhaps e (told_part e q) (status_of q) (shown_for e q)
+  perhaps e q = (q, refl, refl, refl)
 
-  perhaps : (e : Event) (q : Result Answer Fault) → IsPerhaps e (told_events e q)
-  perhaps e (Ok answer) = inl refl
-  perhaps e (Err fault) = inr refl
-
-  pub closed : (line : Line) (asked : List Request) (texts : List FileText) (e : Event) (q : Result Answer Fault) → IsOpen (Some line) asked texts → Takes line e → IsClosed asked texts (ticked line e) (told_events e q)
+  pub closed : (line : Line) (asked : List Request) (texts : List FileText) (e : Event) (q : Result Answer Fault) → IsOpen (Some line) asked texts → Takes line e → IsClosed asked texts (ticked line e) (told_part e q) (status_of q) (shown_for e q)
   closed (Says.Event x) asked texts e q (inl (one, none)) same = record {
     one = Ok (Step x);
     is = one;
-    done = (none, refl, subst (λ (y : Event). IsPerhaps y (told_events e q)) (sym same) (perhaps e q));
-    whole = refl;
+    done = (none, refl, subst (λ (y : Event). IsPerhaps y (told_part e q) (status_of q) (shown_for e q)) (sym same) (perhaps e q));
   }
   closed (Says.Event x) asked texts e q (inr (path, text, one, read, loads)) same = record {
     one = Ok (LoadFile path);
     is = one;
-    done = (refl, inr (text, read, subst (λ (y : Event). IsPerhaps y (told_events e q)) (sym same ∙ loads) (perhaps e q)));
-    whole = refl;
+    done = (refl, inr (text, read, subst (λ (y : Event). IsPerhaps y (told_part e q) (status_of q) (shown_for e q)) (sym same ∙ loads) (perhaps e q)));
   }
   closed Says.TickNow asked texts e q (one, none) (moment, same) = record {
     one = Ok TickNow;
     is = one;
-    done = (none, inr (moment, ap moment_of same, subst (λ (y : Event). IsPerhaps y (told_events e q)) same (perhaps e q)));
-    whole = refl;
+    done = (none, inr (moment, ap moment_of same, subst (λ (y : Event). IsPerhaps y (told_part e q) (status_of q) (shown_for e q)) same (perhaps e q)));
   }
   closed Says.Drain asked texts e q waiting takes = absurd waiting
 
-  pub closed_untold : (asked : List Request) (texts : List FileText) → IsOpen (Some Says.TickNow) asked texts → IsClosed asked texts [] []
-  closed_untold asked texts (one, none) = record { one = Ok TickNow; is = one; done = (none, inl (refl, refl)); whole = refl }
+  pub closed_untold : (asked : List Request) (texts : List FileText) (fault : ClockFault) → IsOpen (Some Says.TickNow) asked texts → IsClosed asked texts [] [] 4 (clock_text fault)
+  closed_untold asked texts fault (one, none) = record { one = Ok TickNow; is = one; done = (none, inl (fault, refl, refl, refl, refl)) }
 
-  module _ (first : Option (List ℕ)) (gives : List FileText → Type 0) (told : List (Event × Answer)) (ticks : List ℕ) (line : Line) (left : Option (List ℕ)) (status : ℕ) (ended : Bool) (h : HasDone names first gives told ticks (Some line) left status false ended) where
-    closed_more : (added : List (Event × Answer)) (moments : List ℕ) (status' : ℕ) (broken : Bool) → IsClosed h.open_asked h.open_texts moments (map (λ (p : Event × Answer). p.0) added)
-        → (status' ≡ 0 → (status ≡ 0) × ((length (map (λ (p : Event × Answer). p.0) added) == 1) ≡ true))
-        → HasDone names first gives (told ++ added) (ticks ++ moments) None left status' broken ended
-    closed_more added moments status' broken c zero =
-        let es : List Event = map (λ (p : Event × Answer). p.0) added in
-        let d : Done = record { asked = c.one; texts = h.open_texts; moments = moments; events = es } in
+  module _ (first : Option (List ℕ)) (gives : List FileText → Type 0) (shows shows' : List ℕ → Type 0) (told : List (Event × Answer)) (ticks : List ℕ) (line : Line) (left : Option (List ℕ)) (status : ℕ) (ended : Bool) (h : HasDone names before first gives shows told ticks (Some line) left status false ended) where
+    closed_more : (added : List (Event × Answer)) (moments : List ℕ) (own status' : ℕ) (text : List ℕ) (broken : Bool) → IsClosed h.open_asked h.open_texts moments added own text
+        → status' ≡ max status own → (broken ≡ false → (xs : List ℕ) → shows xs → shows' (xs ++ text))
+        → HasDone names before first gives shows' (told ++ added) (ticks ++ moments) None left status' broken ended
+    closed_more added moments own status' text broken c more show =
+        let d : Done = record { asked = c.one; texts = h.open_texts; moments = moments; told = added; status = own; shown = text } in
         record {
           done = h.done ++ d ∷ [];
           open_asked = [];
@@ -290,55 +261,55 @@ module _ (names : Texts) where
           each = All-push IsDone h.done d h.each c.done;
           opens = (refl, refl);
           texts = subst gives (sym (append-nil (texts_in (h.done ++ d ∷ [])) ∙ one_more (λ (x : Done). x.texts) h.done d)) h.texts;
-          events = map-append (λ (p : Event × Answer). p.0) told added ∙ ap (λ l. l ++ es) h.events ∙ sym (one_more (λ (x : Done). x.events) h.done d);
+          told_are = ap (λ l. l ++ added) h.told_are ∙ sym (one_more (λ (x : Done). x.told) h.done d);
           moments = ap (λ l. l ++ moments) h.moments ∙ sym (one_more (λ (x : Done). x.moments) h.done d);
           read = λ known e.
               let r = h.read known e in
               (r.0, r.1 ∙ ap (λ l. asked_in h.done ++ (l ++ r.0)) c.is ∙ sym (asked_more h.done d r.0), r.2, λ _. r.3 refl);
-          whole = λ z. All-push (λ (x : Done). is_whole x.asked x.events ≡ true) h.done d (h.whole (zero z).0) (c.whole ∙ (zero z).1);
+          status_is = raised before status status' h.done d more h.status_is;
+          output = λ sound. subst shows' (sym (one_more (λ (x : Done). x.shown) h.done d)) (show sound (shown_in h.done) (h.output refl));
         }
 
-    pub told_more : (e : Event) (q : Result Answer Fault) (status' : ℕ) (broken : Bool) → Takes line e → status' ≡ max status (status_of q) → HasDone names first gives (told ++ told_part e q) (ticks ++ ticked line e) None left status' broken ended
-    told_more e q status' broken takes is = closed_more (told_part e q) (ticked line e) status' broken (closed line h.open_asked h.open_texts e q h.opens takes) (zero q is)
-      where
-        zero : (r : Result Answer Fault) → status' ≡ max status (status_of r) → status' ≡ 0 → (status ≡ 0) × ((length (told_events e r) == 1) ≡ true)
-        zero (Ok answer) is z = (omega arith, refl)
-        zero (Err fault) is z = let some : 0 < failure_status fault = fails fault in absurd (omega arith)
+    pub told_more : (e : Event) (q : Result Answer Fault) (status' : ℕ) (broken : Bool) → Takes line e → status' ≡ max status (status_of q) → (broken ≡ false → (xs : List ℕ) → shows xs → shows' (xs ++ shown_for e q))
+        → HasDone names before first gives shows' (told ++ told_part e q) (ticks ++ ticked line e) None left status' broken ended
+    told_more e q status' broken takes is show = closed_more (told_part e q) (ticked line e) (status_of q) status' (shown_for e q) broken (closed line h.open_asked h.open_texts e q h.opens takes) is show
 
   -- the clock gave no moment
-  pub untold_more : (first : Option (List ℕ)) (gives : List FileText → Type 0) (told : List (Event × Answer)) (ticks : List ℕ) (left : Option (List ℕ)) (status status' : ℕ) (broken ended : Bool)
-      → HasDone names first gives told ticks (Some Says.TickNow) left status false ended → 0 < status' → HasDone names first gives told ticks None left status' broken ended
-  untold_more first gives told ticks left status status' broken ended h some =
-      subst (λ (m : List ℕ). HasDone names first gives told m None left status' broken ended) (append-nil ticks)
-      (subst (λ (t : List (Event × Answer)). HasDone names first gives t (ticks ++ []) None left status' broken ended) (append-nil told)
-      (closed_more first gives told ticks Says.TickNow left status ended h [] [] status' broken (closed_untold h.open_asked h.open_texts h.opens) (λ z. absurd (omega arith))))
+  pub untold_more : (first : Option (List ℕ)) (gives : List FileText → Type 0) (shows shows' : List ℕ → Type 0) (told : List (Event × Answer)) (ticks : List ℕ) (left : Option (List ℕ)) (status status' : ℕ) (fault : ClockFault) (broken ended : Bool)
+      → HasDone names before first gives shows told ticks (Some Says.TickNow) left status false ended → status' ≡ max status 4 → (broken ≡ false → (xs : List ℕ) → shows xs → shows' (xs ++ clock_text fault))
+      → HasDone names before first gives shows' told ticks None left status' broken ended
+  untold_more first gives shows shows' told ticks left status status' fault broken ended h more show =
+      subst (λ (m : List ℕ). HasDone names before first gives shows' told m None left status' broken ended) (append-nil ticks)
+      (subst (λ (t : List (Event × Answer)). HasDone names before first gives shows' t (ticks ++ []) None left status' broken ended) (append-nil told)
+      (closed_more first gives shows shows' told ticks Says.TickNow left status ended h [] [] 4 status' (clock_text fault) broken (closed_untold h.open_asked h.open_texts fault h.opens) more show))
 
-  -- it is not said to have ended where it was not said before
-  pub ended_less : (first : Option (List ℕ)) (gives : List FileText → Type 0) (told : List (Event × Answer)) (ticks : List ℕ) (waits : Option Line) (left : Option (List ℕ)) (status : ℕ) (is_broken ended ended' : Bool) → (ended' ≡ true → ended ≡ true)
-      → HasDone names first gives told ticks waits left status is_broken ended → HasDone names first gives told ticks waits left status is_broken ended'
-  ended_less first gives told ticks waits left status is_broken ended ended' less h = record {
+  -- it is not said to have ended where it was not said before, and what was shown was written
+  pub ended_less : (first : Option (List ℕ)) (gives : List FileText → Type 0) (shows shows' : List ℕ → Type 0) (told : List (Event × Answer)) (ticks : List ℕ) (waits : Option Line) (left : Option (List ℕ)) (status : ℕ) (is_broken ended ended' : Bool) → (ended' ≡ true → ended ≡ true) → (is_broken ≡ false → (xs : List ℕ) → shows xs → shows' xs)
+      → HasDone names before first gives shows told ticks waits left status is_broken ended → HasDone names before first gives shows' told ticks waits left status is_broken ended'
+  ended_less first gives shows shows' told ticks waits left status is_broken ended ended' less show h = record {
     done = h.done;
     open_asked = h.open_asked;
     open_texts = h.open_texts;
     each = h.each;
     opens = h.opens;
     texts = h.texts;
-    events = h.events;
+    told_are = h.told_are;
     moments = h.moments;
     read = λ known e. let r = h.read known e in (r.0, r.1, (λ is. r.2 (less is)), r.3);
-    whole = h.whole;
+    status_is = h.status_is;
+    output = λ sound. show sound (shown_in h.done) (h.output sound);
   }
 
   -- ---- the same of what was read
-  at_err : {E : Type 0} (Q : E → Type 0) (r : Result (Option Line) E) → IsErrAnd r Q → (first : Option (List ℕ)) (gives : List FileText → Type 0) (told : List (Event × Answer)) (ticks : List ℕ) (left : Option (List ℕ)) (status : ℕ)
-      → HasDone names first gives told ticks None left status true false → HasDone names first gives told ticks (opened_by r) left status (is_err r) (is_end r)
-  at_err Q (Ok x) is first gives told ticks left status h = absurd is
-  at_err Q (Err e) is first gives told ticks left status h = h
+  at_err : {E : Type 0} (Q : E → Type 0) (r : Result (Option Line) E) → IsErrAnd r Q → (first : Option (List ℕ)) (gives : List FileText → Type 0) (shows : List ℕ → Type 0) (told : List (Event × Answer)) (ticks : List ℕ) (left : Option (List ℕ)) (status : ℕ)
+      → HasDone names before first gives shows told ticks None left status true false → HasDone names before first gives shows told ticks (opened_by r) left status (is_err r) (is_end r)
+  at_err Q (Ok x) is first gives shows told ticks left status h = absurd is
+  at_err Q (Err e) is first gives shows told ticks left status h = h
 
   -- the script could not be read or answered further
-  pub broken_off : {E : Type 0} (Q : E → Type 0) (r : Result (Option Line) E) → IsErrAnd r Q → (first : Option (List ℕ)) (gives : List FileText → Type 0) (told : List (Event × Answer)) (ticks : List ℕ) (left left' : Option (List ℕ)) (status : ℕ) (ended : Bool)
-      → HasDone names first gives told ticks None left status false ended → HasDone names first gives told ticks (opened_by r) left' status (is_err r) (is_end r)
-  broken_off Q r is first gives told ticks left left' status ended h = at_err Q r is first gives told ticks left' status (broken first gives told ticks left status ended h gives left' status (λ g. g) (λ z. z))
+  pub broken_off : {E : Type 0} (Q : E → Type 0) (r : Result (Option Line) E) → IsErrAnd r Q → (first : Option (List ℕ)) (gives : List FileText → Type 0) (shows shows' : List ℕ → Type 0) (told : List (Event × Answer)) (ticks : List ℕ) (left left' : Option (List ℕ)) (status : ℕ) (ended : Bool)
+      → HasDone names before first gives shows told ticks None left status false ended → HasDone names before first gives shows' told ticks (opened_by r) left' status (is_err r) (is_end r)
+  broken_off Q r is first gives shows shows' told ticks left left' status ended h = at_err Q r is first gives shows' told ticks left' status (broken first gives shows told ticks left status ended h gives shows' left' status (λ g. g) refl)
 
   no_texts : (r : Request) → texts_of r None ≡ []
   no_texts (Ok (Step e)) = refl
@@ -349,29 +320,35 @@ module _ (names : Texts) where
   no_texts (Ok (Explain question)) = refl
   no_texts (Err fault) = refl
 
-  module _ {E : Type 0} (first : Option (List ℕ)) (gives gives' : List FileText → Type 0) (told : List (Event × Answer)) (ticks : List ℕ) (left left' : Option (List ℕ)) (status status' : ℕ) (ended : Bool) (h : HasDone names first gives told ticks None left status false ended)
-      (given : Request) (is : (known : List ℕ) → left ≡ Some known → IsNext names known (Some given) left') (d : Result (Option Line) E) (to : (xs : List FileText) → gives xs → gives' (xs ++ texts_of given (line_of d))) (does : Does given d status status') where
+  module _ {E : Type 0} (drained : Bool) (from was now : Option (List ℕ)) (drains : Bool) (first : Option (List ℕ)) (gives gives' : List FileText → Type 0) (told : List (Event × Answer)) (ticks : List ℕ) (left left' : Option (List ℕ)) (status status' : ℕ) (ended : Bool)
+      (h : HasDone names before first gives (IsWritten drained from was false) told ticks None left status false ended)
+      (given : Request) (is : (known : List ℕ) → left ≡ Some known → IsNext names known (Some given) left') (a : Schedule) (d : Result (Option Line) E) (to : (xs : List FileText) → gives xs → gives' (xs ++ texts_of given (line_of d))) (does : Does a given d status status' was now) (same : drains ≡ reads_drain d) where
     -- a command could not be answered
-    pub unanswered : {A : Type 0} (Q : A → Type 0) (r : Result (Option Line) A) → IsErrAnd r Q → (e : E) → d ≡ Err e → HasDone names first gives' told ticks (opened_by r) left' status' (is_err r) (is_end r)
-    unanswered Q r err e was =
-        at_err Q r err first gives' told ticks left' status'
-        (fault_more first gives gives' told ticks left left' status status' ended h given is
-        (λ xs g. subst (λ l. gives' (xs ++ l)) (no_texts given) (subst (λ (x : Result (Option Line) E). gives' (xs ++ texts_of given (line_of x))) was (to xs g)))
-        (subst (λ (x : Result (Option Line) E). Does given x status status') was does))
+    pub unanswered : {A : Type 0} (Q : A → Type 0) (r : Result (Option Line) A) → IsErrAnd r Q → (e : E) → d ≡ Err e → HasDone names before first gives' (IsWritten drained from now drains) told ticks (opened_by r) left' status' (is_err r) (is_end r)
+    unanswered Q r err e by =
+        at_err Q r err first gives' (IsWritten drained from now drains) told ticks left' status'
+        (fault_more first gives gives' (IsWritten drained from was false) (IsWritten drained from now drains) told ticks left left' status status' ended h given is
+        (λ xs g. subst (λ l. gives' (xs ++ l)) (no_texts given) (subst (λ (x : Result (Option Line) E). gives' (xs ++ texts_of given (line_of x))) by (to xs g)))
+        (subst (λ (x : Result (Option Line) E). Does a given x status status' was now) by does))
 
     -- it left a line to the run
-    pub left_line : (line : Line) → d ≡ Ok (Some line) → HasDone names first gives' told ticks (opens line) left' status' false false
-    left_line line was =
-        let l : Leaves given line × (status' ≡ status) = subst (λ (x : Result (Option Line) E). Does given x status status') was does in
-        line_more first gives gives' told ticks left left' status status' ended h given is line l.0 l.1
-        (λ xs g. subst (λ (x : Result (Option Line) E). gives' (xs ++ texts_of given (line_of x))) was (to xs g))
+    pub left_line : (line : Line) → d ≡ Ok (Some line) → HasDone names before first gives' (IsWritten drained from now drains) told ticks (opens line) left' status' false false
+    left_line line by =
+        let l : Leaves given line × (status' ≡ status) × (now ≡ was) = subst (λ (x : Result (Option Line) E). Does a given x status status' was now) by does in
+        let flag : drains ≡ is_drain line = same ∙ ap (λ (x : Result (Option Line) E). reads_drain x) by in
+        line_more first gives gives' (IsWritten drained from was false) (IsWritten drained from now drains) told ticks left left' status status' ended h given is line l.0 l.1
+        (λ xs g. subst (λ (x : Result (Option Line) E). gives' (xs ++ texts_of given (line_of x))) by (to xs g))
+        (λ xs w.
+        subst (λ n. IsWritten drained from n drains (xs ++ drain_text (is_drain line))) (sym l.2)
+        (subst (λ b. IsWritten drained from was b (xs ++ drain_text (is_drain line))) (sym flag) (read_written drained from was (is_drain line) xs w)))
 
     -- it was answered
-    pub left_none : d ≡ Ok None → HasDone names first gives' told ticks None left' status' false false
-    left_none was =
-        none_more first gives gives' told ticks left left' status status' ended h given is
-        (λ xs g. subst (λ l. gives' (xs ++ l)) (no_texts given) (subst (λ (x : Result (Option Line) E). gives' (xs ++ texts_of given (line_of x))) was (to xs g)))
-        (subst (λ (x : Result (Option Line) E). Does given x status status') was does)
+    pub left_none : d ≡ Ok None → HasDone names before first gives' (IsWritten drained from now false) told ticks None left' status' false false
+    left_none by =
+        let l : (own : ℕ) × (shown : List ℕ) × (status' ≡ max status own) × Appends was now shown × IsAnswered a given own shown = subst (λ (x : Result (Option Line) E). Does a given x status status' was now) by does in
+        none_more first gives gives' (IsWritten drained from was false) (IsWritten drained from now false) told ticks left left' status status' ended h given is a l.0 l.1
+        (λ xs g. subst (λ l. gives' (xs ++ l)) (no_texts given) (subst (λ (x : Result (Option Line) E). gives' (xs ++ texts_of given (line_of x))) by (to xs g)))
+        (λ xs w. written_more drained from was now xs l.1 w l.3) l.2 l.4
 
 -- words that are read in the same way ask for the same
 pub next_named : (names other : Texts) → names ≡ other → (known : List ℕ) (asked : Option Request) (left : Option (List ℕ)) → IsNext other known asked left → IsNext names known asked left

@@ -1,2 +1,4 @@
 pub mod DoneLemmas
 pub mod ReaderLemmas
+pub mod ShownLemmas
+pub mod StatusLemmas

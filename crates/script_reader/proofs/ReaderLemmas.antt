@@ -1,71 +1,113 @@
 -- What was done of a script, told of the states of its reader.
-use Rattle.std.proofs.Common.{◌≡◌, ◌∙◌, ℕ, ◌<◌, max, Bool, true, false, not, ◌&&◌, List, ◌++◌, Option, Some, None, is_some, Result, is_err, refl, sym, subst}
+use Rattle.std.proofs.Common.{◌≡◌, ◌∙◌, ℕ, max, Bool, true, false, true≢false, not, ◌&&◌, List, ◌++◌, Option, Some, None, is_some, Result, Ok, Err, is_err, refl, sym, subst}
+use Rattle.std.specs.Io.KnownBytes.{Appends}
 use Rattle.sched_events.specs.declared.answers.Answer.{Answer}
 use Rattle.sched_events.specs.declared.events.Event.{Event}
 use Rattle.director.specs.declared.faults.Fault.{Fault}
 use Rattle.word_app.specs.App.{Texts}
-use Rattle.sessions.specs.Lines.{opened_by, told_part, ticked, Takes}
+use Rattle.sessions.specs.Lines.{opened_by, reads_drain, told_part, ticked, Takes}
+use Rattle.sessions.specs.declared.clocks.ClockFault.{ClockFault}
 use Rattle.sessions.specs.declared.line_reading.Line.{Line}
 use Rattle.sessions.specs.declared.line_reading.Line.TheVariants as Says
 use Rattle.sessions.specs.declared.line_reading.LineFault.{LineFault}
+use Rattle.answer_lines.specs.RunFaults.{clock_text}
 use Rattle.script_reader.specs.Commands.{is_end}
 use Rattle.script_reader.specs.Done.{FileText, HasDone}
-use Rattle.script_reader.specs.Readers.{Tells}
-use Rattle.script_reader.specs.Statuses.{status_of}
+use Rattle.script_reader.specs.Readers.{IsQuiet, Tells}
+use Rattle.script_reader.specs.Shown.{IsWritten}
+use Rattle.script_reader.specs.Statuses.{shown_for, status_of}
 use Rattle.script_reader.specs.declared.reader.ScriptReader.{ScriptReader}
 use Rattle.script_reader.proofs.DoneLemmas.{ended_less, told_more, untold_more}
+use Rattle.script_reader.proofs.ShownLemmas.{written_more}
 
 first_of : (b c : Bool) → (b && c) ≡ true → b ≡ true
 first_of true c e = refl
 first_of false c e = e
 
 -- ---- the same of readers
-module _ {R W F P : Type 0} (remaining : R → Option (List ℕ)) (gives : F → List FileText → F → Type 0) (s old new : ScriptReader R W F P) where
+module _ {R W F P : Type 0} (remaining : R → Option (List ℕ)) (contents : W → Option (List ℕ)) (gives : F → List FileText → F → Type 0) (s old new : ScriptReader R W F P) where
+  -- the parts of a reader that stay when a line is answered
+  pub record Stays : Type 0 where
+    pub words : new.words.names ≡ old.words.names
+    pub input : new.input ≡ old.input
+    pub sources : new.sources ≡ old.sources
+    pub over : new.is_over ≡ old.is_over
+    pub drains : new.has_drained ≡ old.has_drained
+
+  abbrev written : W → Bool → List ℕ → Type 0
+  written output drains = IsWritten s.has_drained (contents s.output) (contents output) drains
+
+  abbrev given : F → List FileText → Type 0
+  given sources texts = gives s.sources texts sources
+
   -- what was done is said of the reader once it is answered
-  moved : (told : List (Event × Answer)) (ticks : List ℕ) (waits : Option Line) → new.words.names ≡ s.words.names → new.input ≡ old.input → new.sources ≡ old.sources → new.is_over ≡ old.is_over
-      → HasDone s.words.names (remaining s.input) (λ given. gives s.sources given old.sources) told ticks waits (remaining old.input) new.status (is_some new.failed) (old.is_over && not s.is_over)
-      → Tells remaining gives s told ticks waits new
-  moved told ticks waits words input sources over h = (
-    words,
-    subst (λ (b : Bool). HasDone s.words.names (remaining s.input) (λ given. gives s.sources given new.sources) told ticks waits (remaining new.input) new.status (is_some new.failed) (b && not s.is_over)) (sym over)
-        (subst (λ (f : F). HasDone s.words.names (remaining s.input) (λ given. gives s.sources given f) told ticks waits (remaining new.input) new.status (is_some new.failed) (old.is_over && not s.is_over)) (sym sources)
-        (subst (λ (r : R). HasDone s.words.names (remaining s.input) (λ given. gives s.sources given old.sources) told ticks waits (remaining r) new.status (is_some new.failed) (old.is_over && not s.is_over)) (sym input) h)),
+  moved : (told : List (Event × Answer)) (ticks : List ℕ) (stays : Stays) (words : old.words.names ≡ s.words.names) (quiet : old.has_drained ≡ false)
+      → HasDone s.words.names s.status (remaining s.input) (given old.sources) (written new.output false) told ticks None (remaining old.input) new.status (is_some new.failed) (old.is_over && not s.is_over)
+      → Tells remaining contents gives s told ticks None new
+  moved told ticks stays words quiet h = (
+    stays.words ∙ words,
+    subst (λ (d : Bool). HasDone s.words.names s.status (remaining s.input) (given new.sources) (written new.output d) told ticks None (remaining new.input) new.status (is_some new.failed) (new.is_over && not s.is_over)) (sym (stays.drains ∙ quiet))
+        (subst (λ (b : Bool). HasDone s.words.names s.status (remaining s.input) (given new.sources) (written new.output false) told ticks None (remaining new.input) new.status (is_some new.failed) (b && not s.is_over)) (sym stays.over)
+        (subst (λ (f : F). HasDone s.words.names s.status (remaining s.input) (given f) (written new.output false) told ticks None (remaining new.input) new.status (is_some new.failed) (old.is_over && not s.is_over)) (sym stays.sources)
+        (subst (λ (r : R). HasDone s.words.names s.status (remaining s.input) (given old.sources) (written new.output false) told ticks None (remaining r) new.status (is_some new.failed) (old.is_over && not s.is_over)) (sym stays.input) h))),
+    record { waiting = λ no. stays.drains ∙ quiet; over = λ ends. stays.drains ∙ quiet },
   )
 
-  sound : (told : List (Event × Answer)) (ticks : List ℕ) (waits : Option Line) → old.failed ≡ None → Tells remaining gives s told ticks waits old
-      → HasDone s.words.names (remaining s.input) (λ given. gives s.sources given old.sources) told ticks waits (remaining old.input) old.status false (old.is_over && not s.is_over)
-  sound told ticks waits none h =
-      subst (λ (o : Option LineFault). HasDone s.words.names (remaining s.input) (λ given. gives s.sources given old.sources) told ticks waits (remaining old.input) old.status (is_some o) (old.is_over && not s.is_over)) none h.1
+  sound : (told : List (Event × Answer)) (ticks : List ℕ) (line : Line) → old.failed ≡ None → Tells remaining contents gives s told ticks (Some line) old
+      → HasDone s.words.names s.status (remaining s.input) (given old.sources) (written old.output false) told ticks (Some line) (remaining old.input) old.status false (old.is_over && not s.is_over)
+  sound told ticks line none h =
+      subst (λ (d : Bool). HasDone s.words.names s.status (remaining s.input) (given old.sources) (written old.output d) told ticks (Some line) (remaining old.input) old.status false (old.is_over && not s.is_over)) (h.2.waiting refl)
+      (subst (λ (o : Option LineFault). HasDone s.words.names s.status (remaining s.input) (given old.sources) (written old.output old.has_drained) told ticks (Some line) (remaining old.input) old.status (is_some o) (old.is_over && not s.is_over)) none h.1)
 
-  pub answered_tells : (told : List (Event × Answer)) (ticks : List ℕ) (line : Line) (e : Event) (q : Result Answer Fault) → new.words.names ≡ old.words.names → new.input ≡ old.input → new.sources ≡ old.sources → new.is_over ≡ old.is_over
-      → new.status ≡ max old.status (status_of q) → old.failed ≡ None → Takes line e → Tells remaining gives s told ticks (Some line) old → Tells remaining gives s (told ++ told_part e q) (ticks ++ ticked line e) None new
-  answered_tells told ticks line e q words input sources over status none takes h =
-      moved (told ++ told_part e q) (ticks ++ ticked line e) None (words ∙ h.0) input sources over
-      (told_more s.words.names (remaining s.input) (λ given. gives s.sources given old.sources) told ticks line (remaining old.input) old.status (old.is_over && not s.is_over) (sound told ticks (Some line) none h) e q new.status (is_some new.failed) takes status)
+  pub answered_tells : (told : List (Event × Answer)) (ticks : List ℕ) (line : Line) (e : Event) (q : Result Answer Fault) → Stays
+      → new.status ≡ max old.status (status_of q) → (is_some new.failed ≡ false → Appends (contents old.output) (contents new.output) (shown_for e q)) → old.failed ≡ None → Takes line e
+      → Tells remaining contents gives s told ticks (Some line) old → Tells remaining contents gives s (told ++ told_part e q) (ticks ++ ticked line e) None new
+  answered_tells told ticks line e q stays status shown none takes h =
+      moved (told ++ told_part e q) (ticks ++ ticked line e) stays h.0 (h.2.waiting refl)
+      (told_more s.words.names s.status (remaining s.input) (given old.sources) (written old.output false) (written new.output false) told ticks line (remaining old.input) old.status (old.is_over && not s.is_over) (sound told ticks line none h) e q new.status (is_some new.failed) takes status
+      (λ fine xs w. written_more s.has_drained (contents s.output) (contents old.output) (contents new.output) xs (shown_for e q) w (shown fine)))
 
-  pub untold_tells : (told : List (Event × Answer)) (ticks : List ℕ) → new.words.names ≡ old.words.names → new.input ≡ old.input → new.sources ≡ old.sources → new.is_over ≡ old.is_over
-      → 0 < new.status → old.failed ≡ None → Tells remaining gives s told ticks (Some Says.TickNow) old → Tells remaining gives s told ticks None new
-  untold_tells told ticks words input sources over some none h =
-      moved told ticks None (words ∙ h.0) input sources over
-      (untold_more s.words.names (remaining s.input) (λ given. gives s.sources given old.sources) told ticks (remaining old.input) old.status new.status (is_some new.failed) (old.is_over && not s.is_over) (sound told ticks (Some Says.TickNow) none h) some)
+  pub untold_tells : (told : List (Event × Answer)) (ticks : List ℕ) (fault : ClockFault) → Stays
+      → new.status ≡ max old.status 4 → (is_some new.failed ≡ false → Appends (contents old.output) (contents new.output) (clock_text fault)) → old.failed ≡ None
+      → Tells remaining contents gives s told ticks (Some Says.TickNow) old → Tells remaining contents gives s told ticks None new
+  untold_tells told ticks fault stays more shown none h =
+      moved told ticks stays h.0 (h.2.waiting refl)
+      (untold_more s.words.names s.status (remaining s.input) (given old.sources) (written old.output false) (written new.output false) told ticks (remaining old.input) old.status new.status fault (is_some new.failed) (old.is_over && not s.is_over) (sound told ticks Says.TickNow none h) more
+      (λ fine xs w. written_more s.has_drained (contents s.output) (contents old.output) (contents new.output) xs (clock_text fault) w (shown fine)))
 
 -- ---- what the calls of a session see
-module _ {R W F P : Type 0} (remaining : R → Option (List ℕ)) (gives : F → List FileText → F → Type 0) (s old : ScriptReader R W F P) where
+-- no drain waits where a line does, or where the script has ended
+quiet_read : {E : Type 0} (next : Result (Option Line) E) (over was_over drains : Bool) → drains ≡ reads_drain next → over ≡ is_end next → IsQuiet (opened_by next) (over && not was_over) drains
+quiet_read (Ok (Some (Says.Event e))) over was_over drains d o = record { waiting = λ is. d; over = λ ends. d }
+quiet_read (Ok (Some Says.TickNow)) over was_over drains d o = record { waiting = λ is. d; over = λ ends. d }
+quiet_read (Ok (Some Says.Drain)) over was_over drains d o = record {
+  waiting = λ no. absurd (true≢false (sym no));
+  over = λ ends. absurd (true≢false (sym (first_of over (not was_over) ends) ∙ o));
+}
+quiet_read (Ok None) over was_over drains d o = record { waiting = λ no. d; over = λ ends. d }
+quiet_read (Err e) over was_over drains d o = record { waiting = λ no. d; over = λ ends. d }
+
+module _ {R W F P : Type 0} (remaining : R → Option (List ℕ)) (contents : W → Option (List ℕ)) (gives : F → List FileText → F → Type 0) (s old : ScriptReader R W F P) where
   -- what a read does, where words are read in the same way
-  abbrev pub Reads : {E : Type 0} → R → F → ℕ → List (Event × Answer) → List ℕ → Result (Option Line) E → Type 0
-  Reads input sources status told ticks next =
-      (names : Texts) (first : Option (List ℕ)) (f : F) (has_ended : Bool) → names ≡ old.words.names
-      → HasDone names first (λ given. gives f given old.sources) told ticks None (remaining old.input) old.status false has_ended
-      → HasDone names first (λ given. gives f given sources) told ticks (opened_by next) (remaining input) status (is_err next) (is_end next)
+  abbrev pub Reads : {E : Type 0} → R → W → F → ℕ → Bool → List (Event × Answer) → List ℕ → Result (Option Line) E → Type 0
+  Reads input output sources status drains told ticks next =
+      (drained : Bool) (names : Texts) (before : ℕ) (first from : Option (List ℕ)) (f : F) (has_ended : Bool) → names ≡ old.words.names
+      → HasDone names before first (λ given. gives f given old.sources) (IsWritten drained from (contents old.output) old.has_drained) told ticks None (remaining old.input) old.status false has_ended
+      → HasDone names before first (λ given. gives f given sources) (IsWritten drained from (contents output) drains) told ticks (opened_by next) (remaining input) status (is_err next) (is_end next)
 
   -- of a reader that has these parts after a read
-  pub read_tells : {E : Type 0} (input : R) (sources : F) (status : ℕ) (failed : Option LineFault) (over : Bool) (told : List (Event × Answer)) (ticks : List ℕ) (next : Result (Option Line) E) → Reads input sources status told ticks next
-      → old.failed ≡ None → is_some failed ≡ is_err next → over ≡ is_end next
-      → Tells remaining gives s told ticks None old → HasDone s.words.names (remaining s.input) (λ given. gives s.sources given sources) told ticks (opened_by next) (remaining input) status (is_some failed) (over && not s.is_over)
-  read_tells input sources status failed over told ticks next read none broken ended h =
-      let was : HasDone s.words.names (remaining s.input) (λ given. gives s.sources given old.sources) told ticks None (remaining old.input) old.status false (old.is_over && not s.is_over) =
-      subst (λ (o : Option LineFault). HasDone s.words.names (remaining s.input) (λ given. gives s.sources given old.sources) told ticks None (remaining old.input) old.status (is_some o) (old.is_over && not s.is_over)) none h.1 in
-      let now = read s.words.names (remaining s.input) s.sources (old.is_over && not s.is_over) (sym h.0) was in
-      ended_less s.words.names (remaining s.input) (λ given. gives s.sources given sources) told ticks (opened_by next) (remaining input) status (is_some failed) (is_end next) (over && not s.is_over)
-      (λ both. sym ended ∙ first_of over (not s.is_over) both)
-      (subst (λ (b : Bool). HasDone s.words.names (remaining s.input) (λ given. gives s.sources given sources) told ticks (opened_by next) (remaining input) status b (is_end next)) (sym broken) now)
+  pub read_tells : {E : Type 0} (input : R) (output : W) (sources : F) (status : ℕ) (failed : Option LineFault) (over drains : Bool) (told : List (Event × Answer)) (ticks : List ℕ) (next : Result (Option Line) E) → Reads input output sources status drains told ticks next
+      → old.failed ≡ None → is_some failed ≡ is_err next → over ≡ is_end next → drains ≡ reads_drain next
+      → Tells remaining contents gives s told ticks None old
+      → HasDone s.words.names s.status (remaining s.input) (λ given. gives s.sources given sources) (IsWritten s.has_drained (contents s.output) (contents output) drains) told ticks (opened_by next) (remaining input) status (is_some failed) (over && not s.is_over)
+      × IsQuiet (opened_by next) (over && not s.is_over) drains
+  read_tells input output sources status failed over drains told ticks next read none broken ended flag h =
+      let shows : List ℕ → Type 0 = IsWritten s.has_drained (contents s.output) (contents output) drains in
+      let was : HasDone s.words.names s.status (remaining s.input) (λ given. gives s.sources given old.sources) (IsWritten s.has_drained (contents s.output) (contents old.output) old.has_drained) told ticks None (remaining old.input) old.status false (old.is_over && not s.is_over) =
+      subst (λ (o : Option LineFault). HasDone s.words.names s.status (remaining s.input) (λ given. gives s.sources given old.sources) (IsWritten s.has_drained (contents s.output) (contents old.output) old.has_drained) told ticks None (remaining old.input) old.status (is_some o) (old.is_over && not s.is_over)) none h.1 in
+      let now = read s.has_drained s.words.names s.status (remaining s.input) (contents s.output) s.sources (old.is_over && not s.is_over) (sym h.0) was in (
+        ended_less s.words.names s.status (remaining s.input) (λ given. gives s.sources given sources) shows shows told ticks (opened_by next) (remaining input) status (is_some failed) (is_end next) (over && not s.is_over)
+            (λ both. sym ended ∙ first_of over (not s.is_over) both) (λ fine xs w. w)
+            (subst (λ (b : Bool). HasDone s.words.names s.status (remaining s.input) (λ given. gives s.sources given sources) shows told ticks (opened_by next) (remaining input) status b (is_end next)) (sym broken) now),
+        quiet_read next over s.is_over drains flag ended,
+      )

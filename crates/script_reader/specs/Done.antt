@@ -1,57 +1,98 @@
 -- What was done of the commands of a script, and what is left of it.
 use Rattle.std.proofs.Common.{true≢false, refl, sym, arith}
-use Rattle.std.specs.Prelude.{◌≡◌, ◌⊎◌, ◌==◌, ◌&&◌, not, ℕ, Bool, true, false, List, [], ◌∷◌, ◌++◌, length, map, All, Option, Some, None, Ok, Err}
+use Rattle.std.specs.Prelude.{◌≡◌, ◌⊎◌, ◌==◌, ◌&&◌, not, ℕ, max, Bool, true, false, List, [], ◌∷◌, ◌++◌, length, map, All, Option, Some, None, Result, Ok, Err}
 use Rattle.std.specs.List.{flat_map}
+use Rattle.sched_model.specs.Schedule.{Schedule}
 use Rattle.sched_events.specs.declared.answers.Answer.{Answer}
 use Rattle.sched_events.specs.declared.events.Event.{Event}
 use Rattle.sched_events.specs.declared.events.Event.TheVariants.{Load, Tick}
+use Rattle.director.specs.declared.faults.Fault.{Fault}
+use Rattle.explain.specs.Reasons.{IsUnexplained, explained}
+use Rattle.explain.specs.declared.reasons.ExplainFault.{ExplainFault}
+use Rattle.explain.specs.declared.reasons.Reason.{Reason}
 use Rattle.word_app.specs.App.{Texts}
 use Rattle.script_commands.specs.Commands.{Request, commands_in}
-use Rattle.script_commands.specs.declared.commands.ScriptCommand.TheVariants.{Step, LoadFile, TickNow}
+use Rattle.script_commands.specs.declared.commands.ScriptCommand.TheVariants.{Step, LoadFile, TickNow, Drain, List as ListRows, Explain}
+use Rattle.script_commands.specs.declared.commands.SourceFault.{SourceFault}
+use Rattle.sessions.specs.Lines.{told_part}
+use Rattle.sessions.specs.declared.clocks.ClockFault.{ClockFault}
 use Rattle.sessions.specs.declared.line_reading.Line.{Line}
 use Rattle.sessions.specs.declared.line_reading.Line.TheVariants as Says
+use Rattle.answer_lines.specs.CommandFaults.{command_fault_text, source_text}
+use Rattle.answer_lines.specs.Listings.{listing_text}
+use Rattle.answer_lines.specs.Reasons.{explain_fault_text, reasons_text}
+use Rattle.answer_lines.specs.RunFaults.{clock_text}
+use Rattle.answer_lines.specs.Shown.{shown_text}
+use Rattle.answer_lines.specs.declared.shown.Shown.TheVariants.{Done as ShowsDone}
+use Rattle.script_reader.specs.Statuses.{command_status, explain_status, shown_for, status_of}
 
 -- a path, and the text of the file that was read there
 abbrev pub FileText : Type 0
 FileText = List ℕ × List ℕ
 
--- what was done of a command: the file that was read for it, the moment that the clock gave for it, and the event that it names, where that was
--- accepted
+-- What was done of a command: the file that was read for it, the moment that the clock gave for it, the event that it names, with its answer, where that
+-- was accepted, the status of its answer, and the bytes that show it.
 pub record Done : Type 0 where
   pub asked : Request
   pub texts : List FileText
   pub moments : List ℕ
-  pub events : List Event
+  pub told : List (Event × Answer)
+  pub status : ℕ
+  pub shown : List ℕ
 
--- the event was accepted, or it was not
-abbrev pub IsPerhaps : Event → List Event → Type 0
-IsPerhaps e es = (es ≡ e ∷ []) ⊎ (es ≡ [])
+-- an event was answered: it was accepted, or it was not; the status and the text are those of the answer
+abbrev pub IsPerhaps : Event → List (Event × Answer) → ℕ → List ℕ → Type 0
+IsPerhaps e told status shown =
+    (answer : Result Answer Fault) × (told ≡ told_part e answer) × (status ≡ status_of answer) × (shown ≡ shown_for e answer)
 
 -- a file was read, and its load was accepted or not; or it was not read
-abbrev pub IsLoadPerhaps : List ℕ → List FileText → List Event → Type 0
-IsLoadPerhaps path texts es = ((texts ≡ []) × (es ≡ [])) ⊎ ((text : List ℕ) × (texts ≡ (path, text) ∷ []) × IsPerhaps (Load text) es)
+abbrev pub IsLoadPerhaps : List ℕ → List FileText → List (Event × Answer) → ℕ → List ℕ → Type 0
+IsLoadPerhaps path texts told status shown =
+    ((fault : SourceFault) × (texts ≡ []) × (told ≡ []) × (status ≡ 4) × (shown ≡ source_text fault))
+    ⊎ ((text : List ℕ) × (texts ≡ (path, text) ∷ []) × IsPerhaps (Load text) told status shown)
 
 -- the clock gave a moment, and the tick at it was accepted or not; or it gave none
-abbrev pub IsTickPerhaps : List ℕ → List Event → Type 0
-IsTickPerhaps moments es = ((moments ≡ []) × (es ≡ [])) ⊎ ((moment : ℕ) × (moments ≡ moment ∷ []) × IsPerhaps (Tick moment) es)
+abbrev pub IsTickPerhaps : List ℕ → List (Event × Answer) → ℕ → List ℕ → Type 0
+IsTickPerhaps moments told status shown =
+    ((fault : ClockFault) × (moments ≡ []) × (told ≡ []) × (status ≡ 4) × (shown ≡ clock_text fault))
+    ⊎ ((moment : ℕ) × (moments ≡ moment ∷ []) × IsPerhaps (Tick moment) told status shown)
 
--- what may be done of a command
-abbrev pub MayBeDone : Request → List FileText → List ℕ → List Event → Type 0
-MayBeDone (Ok (Step e)) texts moments es = (texts ≡ []) × (moments ≡ []) × IsPerhaps e es
-MayBeDone (Ok (LoadFile path)) texts moments es = (moments ≡ []) × IsLoadPerhaps path texts es
-MayBeDone (Ok TickNow) texts moments es = (texts ≡ []) × IsTickPerhaps moments es
-MayBeDone _ texts moments es = (texts ≡ []) × (moments ≡ []) × (es ≡ [])
+-- The status and the text of a command that is answered when it is read, of this schedule: 0 and the rows for a list; 0 and the reasons for a question
+-- that has an answer, and those of its fault for one that has none; those of the fault of what is no command, and of a file that is not read.
+abbrev pub IsAnswered : Schedule → Request → ℕ → List ℕ → Type 0
+IsAnswered a (Ok (ListRows listing)) status shown = (status ≡ 0) × (shown ≡ listing_text a listing)
+IsAnswered a (Ok (Explain q)) status shown =
+    ((reasons : List Reason) × (explained a q.graph q.logical q.task ≡ Ok reasons) × (status ≡ 0) × (shown ≡ reasons_text reasons))
+    ⊎ ((fault : ExplainFault) × IsUnexplained a q.graph q.logical q.task fault × (status ≡ explain_status fault) × (shown ≡ explain_fault_text fault))
+IsAnswered a (Ok (LoadFile path)) status shown = (fault : SourceFault) × (status ≡ 4) × (shown ≡ source_text fault)
+IsAnswered a (Ok (Step e)) status shown = ⊥
+IsAnswered a (Ok TickNow) status shown = ⊥
+IsAnswered a (Ok Drain) status shown = ⊥
+IsAnswered a (Err fault) status shown = (status ≡ command_status fault) × (shown ≡ command_fault_text fault)
+
+-- what may be done of a command, and the status and the text of that
+abbrev pub MayBeDone : Request → List FileText → List ℕ → List (Event × Answer) → ℕ → List ℕ → Type 0
+MayBeDone (Ok (Step e)) texts moments told status shown = (texts ≡ []) × (moments ≡ []) × IsPerhaps e told status shown
+MayBeDone (Ok (LoadFile path)) texts moments told status shown = (moments ≡ []) × IsLoadPerhaps path texts told status shown
+MayBeDone (Ok TickNow) texts moments told status shown = (texts ≡ []) × IsTickPerhaps moments told status shown
+MayBeDone (Ok Drain) texts moments told status shown = (texts ≡ []) × (moments ≡ []) × (told ≡ []) × (status ≡ 0) × (shown ≡ shown_text ShowsDone)
+MayBeDone asked texts moments told status shown = (texts ≡ []) × (moments ≡ []) × (told ≡ []) × ((a : Schedule) × IsAnswered a asked status shown)
 
 abbrev pub IsDone : Done → Type 0
-IsDone d = MayBeDone d.asked d.texts d.moments d.events
+IsDone d = MayBeDone d.asked d.texts d.moments d.told d.status d.shown
+
+-- the greatest status of what was done, 0 where nothing was
+unfoldable pub greatest_status : List Done → ℕ
+greatest_status [] = 0
+greatest_status (d ∷ ds) = max d.status (greatest_status ds)
 
 -- all is done of a command, where it names an event: the event was accepted; what is no command is not done
-abbrev pub is_whole : Request → List Event → Bool
-is_whole (Ok (Step e)) es = length es == 1
-is_whole (Ok (LoadFile path)) es = length es == 1
-is_whole (Ok TickNow) es = length es == 1
-is_whole (Ok _) es = true
-is_whole (Err fault) es = false
+abbrev pub is_whole : Request → List (Event × Answer) → Bool
+is_whole (Ok (Step e)) told = length told == 1
+is_whole (Ok (LoadFile path)) told = length told == 1
+is_whole (Ok TickNow) told = length told == 1
+is_whole (Ok _) told = true
+is_whole (Err fault) told = false
 
 -- the command that waits for its answer with this line, and the file that was read for it
 abbrev pub IsOpen : Option Line → List Request → List FileText → Type 0
@@ -63,37 +104,41 @@ IsOpen (Some Says.TickNow) asked texts = (asked ≡ Ok TickNow ∷ []) × (texts
 IsOpen (Some Says.Drain) asked texts = ⊥
 
 -- What was done of a script, of whose bytes these were there at first: commands one after another, with the texts that the sources gave, with the
--- events that were told, and with ticks at these moments; this line waits for its answer; and these bytes are left, unless the script could not be
--- read or answered further. Where the script has ended, no command is left; and all was done where the status is 0.
-pub record HasDone (names : Texts) (first : Option (List ℕ)) (gives : List FileText → Type 0) (told : List (Event × Answer)) (ticks : List ℕ) (waits : Option Line) (left : Option (List ℕ)) (status : ℕ) (is_broken has_ended : Bool) : Type 0 where
+-- events and answers that were told, and with ticks at these moments; what was shown of them; this line waits for its answer; and these bytes are left. That
+-- is left and what was shown is not said where the script could not be read or answered further. Where the script has ended, no command is left. The
+-- status is the greatest of what was done and of the one before.
+pub record HasDone (names : Texts) (before : ℕ) (first : Option (List ℕ)) (gives : List FileText → Type 0) (shows : List ℕ → Type 0) (told : List (Event × Answer)) (ticks : List ℕ) (waits : Option Line) (left : Option (List ℕ)) (status : ℕ) (is_broken has_ended : Bool) : Type 0 where
   pub done : List Done
   pub open_asked : List Request
   pub open_texts : List FileText
   pub each : All IsDone done
   pub opens : IsOpen waits open_asked open_texts
   pub texts : gives (flat_map (λ d. d.texts) done ++ open_texts)
-  pub events : map (λ p. p.0) told ≡ flat_map (λ d. d.events) done
+  pub told_are : told ≡ flat_map (λ d. d.told) done
   pub moments : ticks ≡ flat_map (λ d. d.moments) done
   pub read : (known : List ℕ) → first ≡ Some known
       → (rest : List Request) × (commands_in names known ≡ map (λ d. d.asked) done ++ (open_asked ++ rest))
       × (has_ended ≡ true → rest ≡ []) × (is_broken ≡ false → (bytes : List ℕ) × (left ≡ Some bytes) × (rest ≡ commands_in names bytes))
-  pub whole : status ≡ 0 → All (λ d. is_whole d.asked d.events ≡ true) done
+  pub status_is : status ≡ max before (greatest_status done)
+  pub output : is_broken ≡ false → shows (flat_map (λ d. d.shown) done)
 
 -- where nothing was read, nothing was done
-not_both : (b : Bool) → (b && not b) ≡ true → true ≡ false
+pub not_both : (b : Bool) → (b && not b) ≡ true → true ≡ false
 not_both true e = sym e
 not_both false e = sym e
 
-pub begun : (names : Texts) (first : Option (List ℕ)) (gives : List FileText → Type 0) (status : ℕ) (broken was_over : Bool) → gives [] → HasDone names first gives [] [] None first status broken (was_over && not was_over)
-begun names first gives status broken was_over none = record {
+pub begun : (names : Texts) (first : Option (List ℕ)) (gives : List FileText → Type 0) (shows : List ℕ → Type 0) (status : ℕ) (broken was_over : Bool) → gives [] → shows [] → HasDone names status first gives shows [] [] None first status broken (was_over && not was_over)
+unfolding greatest_status
+begun names first gives shows status broken was_over none unshown = record {
   done = [];
   open_asked = [];
   open_texts = [];
   each = λ k d below. absurd (omega arith);
   opens = (refl, refl);
   texts = none;
-  events = refl;
+  told_are = refl;
   moments = refl;
   read = λ known e. (commands_in names known, refl, (λ ends. absurd (true≢false (not_both was_over ends))), λ _. (known, e, refl));
-  whole = λ z k d below. absurd (omega arith);
+  status_is = let none : greatest_status [] ≡ 0 = refl in omega (arith, none);
+  output = λ _. unshown;
 }

@@ -23,6 +23,7 @@ impl<R: Read + Drop, W: Write + Drop, F: Sources, P: Progress> ScriptReader<R, W
         ensures sources { self.new.sources ≡ self.old.sources }
         ensures failed { self.new.failed ≡ self.old.failed }
         ensures over { self.new.is_over ≡ self.old.is_over }
+        ensures drains { self.new.has_drained ≡ self.old.has_drained }
         ensures status { self.new.status ≡ max self.old.status (status_of answer.now) }
         ensures shown { OnOk result (Appends (W.contents self.old.output) (W.contents self.new.output)
             (shown_for event.now answer.now)) }
@@ -43,6 +44,7 @@ impl<R: Read + Drop, W: Write + Drop, F: Sources, P: Progress> ScriptReader<R, W
         ensures sources { self.new.sources ≡ self.old.sources }
         ensures status { self.new.status ≡ self.old.status }
         ensures over { self.new.is_over ≡ self.old.is_over }
+        ensures drains { self.new.has_drained ≡ self.old.has_drained }
         ensures output { self.new.output ≡ self.old.output }
         ensures ended { is_err result ≡ is_err put }
         ensures failed { MatchResult result (λ _. self.new.failed ≡ self.old.failed)
@@ -70,7 +72,7 @@ fn fault_of(error: &io::Error) -> LineFault {
 impl<R: Read + Drop, W: Write + Drop, F: Sources, P: Progress> Lines for ScriptReader<R, W, F, P> {
     ghost use Rattle.script_reader.specs.Readers.{Tells, tells_nothing};
 
-    ghost tells = { Tells R.remaining F.gives };
+    ghost tells = { Tells R.remaining W.contents F.gives };
 
     ghost shows = { λ s event answer t. Appends (W.contents s.output) (W.contents t.output) (shown_for event answer) };
 
@@ -80,7 +82,9 @@ impl<R: Read + Drop, W: Write + Drop, F: Sources, P: Progress> Lines for ScriptR
 
     ghost over = { λ s. s.is_over };
 
-    ghost begins = { tells_nothing R.remaining F.gives F.begins };
+    ghost drains = { λ s. s.has_drained };
+
+    ghost begins = { tells_nothing R.remaining W.contents F.gives F.begins };
 
     fn next(&mut self, schedule: &Schedule) -> Result<Option<Line>, LineFault> {
         match self.read_line(schedule) {
@@ -107,7 +111,7 @@ impl<R: Read + Drop, W: Write + Drop, F: Sources, P: Progress> Lines for ScriptR
     }
 
     fn no_clock(&mut self, fault: ClockFault) -> Result<(), LineFault> {
-        self.status = 4;
+        self.status = self.status.max(4);
         let put = put(&mut self.output, Shown::NoMoment(fault));
         self.end(put)
     }

@@ -1,5 +1,5 @@
 //! The end of a script.
-ghost use Rattle.std.specs.Prelude.{◌≡◌};
+ghost use Rattle.std.specs.Prelude.{◌≡◌, OnOk};
 ghost use Rattle.script_reader.specs.Ends as spec;
 ghost use Rattle.script_reader.specs.Ends.{IsEndStatus};
 
@@ -11,10 +11,11 @@ use sessions::ConductFault;
 use std::io::{self, Read, Write};
 
 impl<R: Read + Drop, W: Write + Drop, F: Sources, P: Progress> ScriptReader<R, W, F, P> {
-    /// Ends a script that was run: its status, and the sources. Where the run ended with a fault, its line is written: `conduct N Name`, or `memory`.
-    pub fn close<T>(self, outcome: &Result<T, ConductFault>) -> (u8, F)
+    /// Ends a script that was run: its status, the sources and the output. Where the run ended with a fault, its line is written: `conduct N Name`, or `memory`.
+    pub fn close<T>(self, outcome: &Result<T, ConductFault>) -> (u8, F, W)
         ensures status { IsEndStatus self.status outcome.now result.0 }
         ensures sources { result.1 ≡ self.sources }
+        ensures output { OnOk outcome.now (result.2 ≡ self.output) }
     {
         let ScriptReader {
             mut output,
@@ -25,10 +26,10 @@ impl<R: Read + Drop, W: Write + Drop, F: Sources, P: Progress> ScriptReader<R, W
         } = self;
         progress.clear();
         match outcome {
-            Ok(_) => (status, sources),
+            Ok(_) => (status, sources, output),
             Err(fault) => {
                 let ended = end_with(&mut output, fault);
-                (status_at(status, fault, ended), sources)
+                (status_at(status, fault, ended), sources, output)
             }
         }
     }

@@ -1,18 +1,18 @@
 //! A script that is read command by command, and answered line by line.
 ghost use Rattle.std.specs.Prelude.{◌≡◌, ◌≤◌, ◌++◌, ℕ, max, List, Bool, true, false, None, Some, Option, Ok, Err, is_err, IfOk, IfSome, MatchOption, MatchResult, OnOk};
 ghost use Rattle.std.specs.Io.KnownBytes.{Appends};
+ghost use Rattle.sched_model.specs.Schedule.{Schedule as ScheduleModel};
 ghost use Rattle.sched_events.specs.declared.answers.Answer.{Answer};
 ghost use Rattle.sched_events.specs.declared.events.Event.{Event};
 ghost use Rattle.script_commands.specs.Commands.{is_asked};
-ghost use Rattle.script_commands.specs.declared.commands.ScriptCommand.TheVariants.{LoadFile};
-ghost use Rattle.script_commands.specs.declared.commands.SourceFault.{SourceFault};
-ghost use Rattle.answer_lines.specs.CommandFaults.{command_fault_text, source_text};
+ghost use Rattle.script_commands.specs.declared.commands.ScriptCommand.TheVariants.{LoadFile, Explain};
+ghost use Rattle.answer_lines.specs.CommandFaults.{command_fault_text};
 ghost use Rattle.command_words.specs.Lines.{IsListed};
 ghost use Rattle.word_app.specs.App.{Texts};
-ghost use Rattle.sessions.specs.Lines.{may_be_read, opened_by};
+ghost use Rattle.sessions.specs.Lines.{may_be_read, opened_by, reads_drain};
 ghost use Rattle.script_reader.specs.Commands.{Does, is_end, line_of, texts_of};
 ghost use Rattle.script_reader.specs.Done.{FileText, HasDone};
-ghost use Rattle.script_reader.specs.Shown.{IsExplained, IsShown};
+ghost use Rattle.script_reader.specs.Shown.{AnswersDrain, IsWritten};
 ghost use Rattle.script_reader.specs.Statuses as spec;
 
 use crate::progress::Progress;
@@ -62,6 +62,7 @@ impl<R: Read + Drop, W: Write + Drop, F: Sources, P: Progress> ScriptReader<R, W
         ensures status { IfOk result (λ reader. reader.status ≡ 0) }
         ensures failed { IfOk result (λ reader. reader.failed ≡ None) }
         ensures over { IfOk result (λ reader. reader.is_over ≡ false) }
+        ensures drains { IfOk result (λ reader. reader.has_drained ≡ false) }
     {
         let lines = LineReader::new(alloc)?;
         let Script {
@@ -88,13 +89,14 @@ impl<R: Read + Drop, W: Write + Drop, F: Sources, P: Progress> ScriptReader<R, W
     // Reads and answers commands, up to one that leaves a line to the run; nothing where the script is over.
     pub(crate) fn read_line(&mut self, schedule: &Schedule) -> io::Result<Option<Line>>
         ensures words { self.new.words ≡ self.old.words }
-        ensures told { (names : Texts) (first : Option (List ℕ)) (s : F) (told : List (Event × Answer)) (ticks : List ℕ) (has_ended : Bool)
+        ensures told { (drained : Bool) (names : Texts) (before : ℕ) (first from : Option (List ℕ)) (s : F) (told : List (Event × Answer)) (ticks : List ℕ) (has_ended : Bool)
             → names ≡ self.old.words.names
-            → HasDone names first (λ given. F.gives s given self.old.sources) told ticks None
-            (R.remaining self.old.input) self.old.status false has_ended
-            → HasDone names first (λ given. F.gives s given self.new.sources) told ticks (opened_by result)
-            (R.remaining self.new.input) self.new.status (is_err result) (is_end result) }
+            → HasDone names before first (λ given. F.gives s given self.old.sources) (IsWritten drained from (W.contents self.old.output) self.old.has_drained)
+            told ticks None (R.remaining self.old.input) self.old.status false has_ended
+            → HasDone names before first (λ given. F.gives s given self.new.sources) (IsWritten drained from (W.contents self.new.output) self.new.has_drained)
+            told ticks (opened_by result) (R.remaining self.new.input) self.new.status (is_err result) (is_end result) }
         ensures failed { self.new.failed ≡ self.old.failed }
+        ensures drains { self.new.has_drained ≡ reads_drain result }
         ensures line { IfOk result (λ next. IfSome next (λ line. may_be_read line ≡ true)) }
     {
         self.progress.clear();
@@ -119,6 +121,8 @@ impl<R: Read + Drop, W: Write + Drop, F: Sources, P: Progress> ScriptReader<R, W
         ensures sources { self.new.sources ≡ self.old.sources }
         ensures status { self.new.status ≡ self.old.status }
         ensures failed { self.new.failed ≡ self.old.failed }
+        ensures drains { self.new.has_drained ≡ false }
+        ensures shown { OnOk result (AnswersDrain self.old.has_drained (W.contents self.old.output) (W.contents self.new.output)) }
     {
         if self.has_drained {
             self.has_drained = false;
@@ -133,17 +137,17 @@ impl<R: Read + Drop, W: Write + Drop, F: Sources, P: Progress> ScriptReader<R, W
         schedule: &Schedule,
         request: Result<ScriptCommand, CommandFault>,
     ) -> io::Result<Option<Line>>
-        requires { is_asked request ≡ true }
-        ensures does { Does request result self.old.status self.new.status }
+        requires asked { is_asked request ≡ true }
+        requires drains { self.old.has_drained ≡ false }
+        ensures does { Does schedule.now.content request result self.old.status self.new.status
+            (W.contents self.old.output) (W.contents self.new.output) }
         ensures texts { (s : F) (given : List FileText) → F.gives s given self.old.sources
             → F.gives s (given ++ texts_of request (line_of result)) self.new.sources }
         ensures input { self.new.input ≡ self.old.input }
         ensures words { self.new.words ≡ self.old.words }
         ensures failed { self.new.failed ≡ self.old.failed }
+        ensures drains { self.new.has_drained ≡ reads_drain result }
         ensures line { IfOk result (λ next. IfSome next (λ line. may_be_read line ≡ true)) }
-        ensures shown { IfOk result (λ next. MatchOption next
-            (IsShown schedule.now.content request (W.contents self.old.output) (W.contents self.new.output))
-            (λ _. W.contents self.new.output ≡ W.contents self.old.output)) }
     {
         match request {
             Ok(ScriptCommand::Step(event)) => Ok(Some(Line::Event(event))),
@@ -154,7 +158,8 @@ impl<R: Read + Drop, W: Write + Drop, F: Sources, P: Progress> ScriptReader<R, W
                 Ok(Some(Line::Drain))
             }
             Ok(ScriptCommand::List(listing)) => {
-                no_line(put_listing(&mut self.output, schedule, listing))
+                let put = put_listing(&mut self.output, schedule, listing);
+                self.count(put, 0)
             }
             Ok(ScriptCommand::Explain(question)) => self.explain(schedule, &question),
             Err(fault) => self.refuse(fault),
@@ -163,16 +168,16 @@ impl<R: Read + Drop, W: Write + Drop, F: Sources, P: Progress> ScriptReader<R, W
 
     // The event that loads the file at this path.
     fn load(&mut self, path: &FilePath) -> io::Result<Option<Line>>
-        ensures does { Does (Ok (LoadFile path.now)) result self.old.status self.new.status }
+        ensures does { (a : ScheduleModel) → Does a (Ok (LoadFile path.now)) result self.old.status self.new.status
+            (W.contents self.old.output) (W.contents self.new.output) }
         ensures texts { (s : F) (given : List FileText) → F.gives s given self.old.sources
             → F.gives s (given ++ texts_of (Ok (LoadFile path.now)) (line_of result)) self.new.sources }
         ensures input { self.new.input ≡ self.old.input }
         ensures words { self.new.words ≡ self.old.words }
         ensures failed { self.new.failed ≡ self.old.failed }
+        ensures drains { self.new.has_drained ≡ self.old.has_drained }
+        ensures event { reads_drain result ≡ false }
         ensures line { IfOk result (λ next. IfSome next (λ line. may_be_read line ≡ true)) }
-        ensures shown { IfOk result (λ next. MatchOption next
-            ((fault : SourceFault) × Appends (W.contents self.old.output) (W.contents self.new.output) (source_text fault))
-            (λ _. W.contents self.new.output ≡ W.contents self.old.output)) }
     {
         match self.sources.text(path.as_str()) {
             Ok(text) => Ok(Some(Line::Event(Event::Load(GraphText::from_string(text))))),
@@ -183,12 +188,13 @@ impl<R: Read + Drop, W: Write + Drop, F: Sources, P: Progress> ScriptReader<R, W
     // Answers why a task instance stands where it does.
     fn explain(&mut self, schedule: &Schedule, question: &Question) -> io::Result<Option<Line>>
         ensures none { IfOk result (λ next. next ≡ None) }
-        ensures status { self.old.status ≤ self.new.status }
+        ensures does { Does schedule.now.content (Ok (Explain question.now)) result self.old.status self.new.status
+            (W.contents self.old.output) (W.contents self.new.output) }
         ensures input { self.new.input ≡ self.old.input }
         ensures words { self.new.words ≡ self.old.words }
         ensures sources { self.new.sources ≡ self.old.sources }
         ensures failed { self.new.failed ≡ self.old.failed }
-        ensures shown { OnOk result (IsExplained schedule.now.content question.now (W.contents self.old.output) (W.contents self.new.output)) }
+        ensures drains { self.new.has_drained ≡ self.old.has_drained }
     {
         let Question {
             graph,
@@ -196,10 +202,13 @@ impl<R: Read + Drop, W: Write + Drop, F: Sources, P: Progress> ScriptReader<R, W
             task,
         } = question;
         match explain(self.alloc, schedule, graph, *logical, task) {
-            Ok(reasons) => no_line(put_reasons(&mut self.output, reasons.as_slice())),
+            Ok(reasons) => {
+                let put = put_reasons(&mut self.output, reasons.as_slice());
+                self.count(put, 0)
+            }
             Err(fault) => {
-                self.status = self.status.max(explain_status(fault));
-                no_line(put(&mut self.output, Shown::Unexplained(fault)))
+                let put = put(&mut self.output, Shown::Unexplained(fault));
+                self.count(put, explain_status(fault))
             }
         }
     }
@@ -207,24 +216,38 @@ impl<R: Read + Drop, W: Write + Drop, F: Sources, P: Progress> ScriptReader<R, W
     // Answers what is no command, or has no text.
     fn refuse(&mut self, fault: CommandFault) -> io::Result<Option<Line>>
         ensures none { IfOk result (λ next. next ≡ None) }
-        ensures status { self.new.status ≡ max self.old.status (spec.command_status fault) }
+        ensures status { MatchResult result (λ _. self.new.status ≡ max self.old.status (spec.command_status fault))
+            (λ _. self.new.status ≡ self.old.status) }
         ensures input { self.new.input ≡ self.old.input }
         ensures words { self.new.words ≡ self.old.words }
         ensures sources { self.new.sources ≡ self.old.sources }
         ensures failed { self.new.failed ≡ self.old.failed }
+        ensures drains { self.new.has_drained ≡ self.old.has_drained }
         ensures shown { OnOk result (Appends (W.contents self.old.output) (W.contents self.new.output) (command_fault_text fault)) }
     {
-        self.status = self.status.max(command_status(fault));
-        no_line(put(&mut self.output, Shown::NoCommand(fault)))
+        let put = put(&mut self.output, Shown::NoCommand(fault));
+        self.count(put, command_status(fault))
     }
-}
 
-// What a command leaves to the run that is answered.
-fn no_line(put: io::Result<()>) -> io::Result<Option<Line>>
-    ensures { MatchResult put (λ _. result ≡ Ok None) (λ error. result ≡ Err error) }
-{
-    match put {
-        Ok(()) => Ok(None),
-        Err(error) => Err(error),
+    // Ends a command that is answered when it is read: its status counts once its answer is written.
+    fn count(&mut self, put: io::Result<()>, status: u8) -> io::Result<Option<Line>>
+        ensures none { IfOk result (λ next. next ≡ None) }
+        ensures status { MatchResult result (λ _. self.new.status ≡ max self.old.status status)
+            (λ _. self.new.status ≡ self.old.status) }
+        ensures ended { is_err result ≡ is_err put }
+        ensures input { self.new.input ≡ self.old.input }
+        ensures output { self.new.output ≡ self.old.output }
+        ensures words { self.new.words ≡ self.old.words }
+        ensures sources { self.new.sources ≡ self.old.sources }
+        ensures failed { self.new.failed ≡ self.old.failed }
+        ensures drains { self.new.has_drained ≡ self.old.has_drained }
+    {
+        match put {
+            Ok(()) => {
+                self.status = self.status.max(status);
+                Ok(None)
+            }
+            Err(error) => Err(error),
+        }
     }
 }

@@ -1,8 +1,6 @@
 -- What the run of a script promises, from what the conductor promises.
-use Rattle.std.proofs.Common.{◌≡◌, ◌∙◌, ℕ, Bool, true, false, not, ◌&&◌, List, [], ◌∷◌, ◌++◌, map, All, Option, Some, None, is_some, Result, Ok, Err, IfOk, refl, sym, ap, subst, inl, inr, arith, append_assoc, append-nil}
-use Rattle.std.proofs.lemmas.Grind.{flat_map-append}
-use Rattle.std.proofs.lemmas.List.{map-append}
-use Rattle.std.proofs.lemmas.List.Elements.{All-append, All-nil, All-push}
+use Rattle.std.proofs.Common.{◌≡◌, ◌∙◌, ℕ, Bool, true, false, true≢false, not, ◌&&◌, List, [], flat_map, Option, None, is_some, Result, Ok, Err, is_ok, MatchResult, IfErr, IfOk, OnOk, refl, sym, ap, subst, inl, inr, arith}
+use Rattle.std.specs.Io.KnownBytes.{Appends}
 use Rattle.sqlite.specs.Held.{Held}
 use Rattle.sqlite.specs.State.{State, HasCleanDisk}
 use Rattle.instance_machine.specs.declared.tries.Outcome.{Outcome}
@@ -13,77 +11,30 @@ use Rattle.sched_model.specs.States.{in_flight}
 use Rattle.sched_events.specs.Steps.{steps}
 use Rattle.sched_events.specs.declared.answers.Answer.{Answer}
 use Rattle.sched_events.specs.declared.events.Event.{Event}
-use Rattle.script_commands.specs.Commands.{Request}
-use Rattle.script_commands.specs.declared.commands.ScriptCommand.TheVariants.{Step, LoadFile, TickNow}
 use Rattle.word_app.specs.App.{Texts}
 use Rattle.command_words.specs.Lines.{IsListed}
 use Rattle.director.specs.Directors.{DirectorValue, Keeps, Opens, RestartsIn}
-use Rattle.minutes.specs.Minutes.{answered, of_lines}
+use Rattle.minutes.specs.Minutes.{answered}
 use Rattle.sessions.specs.declared.faults.ConductFault.{ConductFault}
 use Rattle.sessions.specs.declared.faults.ConductFault.TheVariants as fault
 use Rattle.sessions.specs.declared.line_reading.Line.{Line}
-use Rattle.sessions.specs.declared.line_reading.Line.TheVariants as Says
 use Rattle.sessions.specs.declared.line_reading.LineFault.{LineFault}
-use Rattle.conduct.specs.Faults.{came_to_its_end}
+use Rattle.conduct.specs.Faults.{came_to_its_end, is_unstarted}
 use Rattle.conduct.specs.Run.{IsConducted}
 use Rattle.conduct.specs.declared.conducting.Conducted.{Conducted}
-use Rattle.script_reader.specs.Done.{FileText, Done, IsDone, HasDone, IsOpen, is_whole}
+use Rattle.script_reader.specs.Done.{FileText, Done, HasDone, IsOpen, greatest_status}
 use Rattle.script_reader.specs.Ends.{IsEndStatus}
-use Rattle.script_reader.proofs.DoneLemmas.{texts_in, asked_in, events_in, moments_in}
-use Rattle.minutes.proofs.GrowthLemmas.{answered_lines}
+use Rattle.script_reader.proofs.StatusLemmas.{all_whole}
 use Rattle.sessions.specs.Told.{AreTold}
 use Rattle.crews.specs.declared.settling.Settled.{Settled}
 use Rattle.script_reader.specs.Readers.{Tells}
+use Rattle.script_reader.specs.Shown.{IsWritten}
 use Rattle.script_reader.specs.declared.reader.ScriptReader.{ScriptReader}
 use Rattle.script_runner.specs.Named.{AreNamed}
 use Rattle.script_runner.specs.Runs.{IsRun}
 
--- ---- a line that still waits for its answer is done without an event
-record IsLeft (waits : Option Line) (asked : List Request) (texts : List FileText) : Type 0 where
-  left : List Done
-  each : All IsDone left
-  asks : asked_in left ≡ asked
-  reads : texts_in left ≡ texts
-  events : events_in left ≡ []
-  moments : moments_in left ≡ []
-
-left_open : (waits : Option Line) (asked : List Request) (texts : List FileText) → IsOpen waits asked texts → IsLeft waits asked texts
-left_open None asked texts waiting = record { left = []; each = All-nil IsDone; asks = sym waiting.0; reads = sym waiting.1; events = refl; moments = refl }
-left_open (Some (Says.Event e)) asked texts (inl waiting) = record {
-  left = record { asked = Ok (Step e); texts = []; moments = []; events = [] } ∷ [];
-  each = All-push IsDone [] (record { asked = Ok (Step e); texts = []; moments = []; events = [] }) (All-nil IsDone) (refl, refl, inr refl);
-  asks = sym waiting.0;
-  reads = sym waiting.1;
-  events = refl;
-  moments = refl;
-}
-left_open (Some (Says.Event e)) asked texts (inr (path, text, asks, reads, is)) = record {
-  left = record { asked = Ok (LoadFile path); texts = (path, text) ∷ []; moments = []; events = [] } ∷ [];
-  each = All-push IsDone [] (record { asked = Ok (LoadFile path); texts = (path, text) ∷ []; moments = []; events = [] }) (All-nil IsDone) (refl, inr (text, refl, inr refl));
-  asks = sym asks;
-  reads = sym reads;
-  events = refl;
-  moments = refl;
-}
-left_open (Some Says.TickNow) asked texts waiting = record {
-  left = record { asked = Ok TickNow; texts = []; moments = []; events = [] } ∷ [];
-  each = All-push IsDone [] (record { asked = Ok TickNow; texts = []; moments = []; events = [] }) (All-nil IsDone) (refl, inl (refl, refl));
-  asks = sym waiting.0;
-  reads = sym waiting.1;
-  events = refl;
-  moments = refl;
-}
-left_open (Some Says.Drain) asked texts waiting = absurd waiting
-
-none_left : {waits : Option Line} {asked : List Request} {texts : List FileText} (l : IsLeft waits asked texts) → asked ≡ [] → l.left ≡ []
-none_left l none = empty l.left (l.asks ∙ none)
-  where
-    empty : (ds : List Done) → asked_in ds ≡ [] → ds ≡ []
-    empty [] e = refl
-    empty (d ∷ ds) e = cc
-
 -- ---- the status
-ends_well : {T : Type 0} (answers status : ℕ) (outcome : Result T ConductFault) → IsEndStatus answers outcome status → status ≡ 0 → (came_to_its_end outcome ≡ true) × (answers ≡ 0)
+ends_well : {T : Type 0} (answers status : ℕ) (outcome : Result T ConductFault) → IsEndStatus answers outcome status → status ≡ 0 → (is_ok outcome ≡ true) × (answers ≡ 0)
 ends_well answers status (Ok v) is z = (refl, sym is ∙ z)
 ends_well answers status (Err (fault.StoreThrice e)) (inl is) z = absurd (omega arith)
 ends_well answers status (Err (fault.StoreThrice e)) (inr is) z = absurd (omega arith)
@@ -94,35 +45,36 @@ ends_well answers status (Err fault.Memory) is z = absurd (omega arith)
 ends_well answers status (Err fault.Unequal) is z = absurd (omega arith)
 
 -- ---- the events of the minutes beside the script's lines
-pub named : {T : Type 0} (words : Texts) (first : Option (List ℕ)) (gives : List FileText → Type 0) (clock : List ℕ → Type 0) (told : List (Event × Answer)) (moments : List ℕ) (waits : Option Line) (left : Option (List ℕ)) (answers status : ℕ) (broken over was_over : Bool) (outcome : Result T ConductFault)
-    → IsListed words → HasDone words first gives told moments waits left answers broken (over && not was_over) → clock moments → was_over ≡ false
+pub named : {T : Type 0} (words : Texts) (before : ℕ) (first : Option (List ℕ)) (gives : List FileText → Type 0) (clock : List ℕ → Type 0) (shows output : List ℕ → Type 0) (told : List (Event × Answer)) (moments : List ℕ) (waits : Option Line) (left : Option (List ℕ)) (answers status : ℕ) (broken over was_over : Bool) (outcome : Result T ConductFault)
+    → IsListed words → before ≡ 0 → HasDone words before first gives shows told moments waits left answers broken (over && not was_over) → (is_ok outcome ≡ true → (broken ≡ false) × ((xs : List ℕ) → shows xs → output xs)) → clock moments → was_over ≡ false
     → (came_to_its_end outcome ≡ true → (over ≡ true) × (waits ≡ None)) → IsEndStatus answers outcome status
-    → AreNamed first gives clock (map (λ p. p.0) told) status
-named words first gives clock told moments waits left answers status broken over was_over outcome listed h given fresh whole is =
-    let l = left_open waits h.open_asked h.open_texts h.opens in
-    let ds : List Done = h.done ++ l.left in
+    → AreNamed first gives clock output told outcome status
+named words before first gives clock shows output told moments waits left answers status broken over was_over outcome listed zero h writes given fresh whole is =
+    let greatest : answers ≡ greatest_status h.done = omega (arith, h.status_is, zero) in
     record {
       words = words;
       listed = listed;
-      done = ds;
-      each = All-append IsDone h.done l.left h.each l.each;
-      texts = subst gives (ap (λ x. texts_in h.done ++ x) (sym l.reads) ∙ sym (flat_map-append (λ (d : Done). d.texts) h.done l.left)) h.texts;
-      moments = subst clock (h.moments ∙ sym (append-nil (moments_in h.done)) ∙ ap (λ x. moments_in h.done ++ x) (sym l.moments) ∙ sym (flat_map-append (λ (d : Done). d.moments) h.done l.left)) given;
-      events_are = h.events ∙ sym (append-nil (events_in h.done)) ∙ ap (λ x. events_in h.done ++ x) (sym l.events) ∙ sym (flat_map-append (λ (d : Done). d.events) h.done l.left);
+      done = h.done;
+      each = h.each;
+      waits = waits;
+      open_asked = h.open_asked;
+      open_texts = h.open_texts;
+      opens = h.opens;
+      texts = h.texts;
+      moments = subst clock h.moments given;
+      answers_are = h.told_are;
+      shown = λ well. let fine = writes well in fine.1 (flat_map (λ (d : Done). d.shown) h.done) (h.output fine.0);
       read = λ known e.
           let r = h.read known e in (
             r.0,
-            r.1 ∙ ap (λ x. asked_in h.done ++ (x ++ r.0)) (sym l.asks) ∙ sym (append_assoc (asked_in h.done) (asked_in l.left) r.0) ∙ ap (λ x. x ++ r.0) (sym (map-append (λ (d : Done). d.asked) h.done l.left)),
-            λ z.
-                let end = whole (ends_well answers status outcome is z).0 in
-                r.2 (ap (λ b. b && not was_over) end.0 ∙ ap not fresh),
+            r.1,
+            λ came.
+                let end = whole came in
+                let none : IsOpen None h.open_asked h.open_texts = subst (λ (w : Option Line). IsOpen w h.open_asked h.open_texts) end.1 h.opens in
+                (none.0, r.2 (ap (λ b. b && not was_over) end.0 ∙ ap not fresh)),
           );
-      whole = λ z.
-          let end = ends_well answers status outcome is z in
-          let waiting : IsOpen None h.open_asked h.open_texts = subst (λ (w : Option Line). IsOpen w h.open_asked h.open_texts) (whole end.0).1 h.opens in
-          let none : l.left ≡ [] = none_left l waiting.0 in
-          subst (λ (x : List Done). All (λ (d : Done). is_whole d.asked d.events ≡ true) (h.done ++ x)) (sym none)
-          (subst (λ (x : List Done). All (λ (d : Done). is_whole d.asked d.events ≡ true) x) (sym (append-nil h.done)) (h.whole end.1));
+      ended = subst (λ n. IsEndStatus n outcome status) greatest is;
+      whole = λ z. all_whole h.done h.each (sym greatest ∙ (ends_well answers status outcome is z).1);
     }
 
 -- ---- the whole run
@@ -130,15 +82,19 @@ where_well : {A : Type 0} (P : Type 0) (r : Result A ConductFault) → (came_to_
 where_well P (Ok v) h = h refl
 where_well P (Err f) h = tt
 
+still : {A : Type 0} (none untouched still' : Type 0) (r : Result A ConductFault) → (untouched → still') → IfErr r (λ f. is_unstarted f ≡ true → none × untouched) → IfErr r (λ f. is_unstarted f ≡ true → none × still')
+still none untouched still' (Ok v) to was = tt
+still none untouched still' (Err f) to was = λ is. let both = was is in (both.0, to both.1)
+
 module _ {S G O : Type 0} (look : Held S → State) (runs : O → List (ℕ × Outcome)) (taken : O → Option ℕ) where
-  pub is_run : (bytes : Option (List ℕ)) (gives : List FileText → Type 0) (clock : List ℕ → Type 0) (lanes : ℕ) (kits : List (Kit O)) (before : State) (d : DirectorValue S) (conducted : Conducted S G O) (status : ℕ)
-      (are_told : List (Event × Answer) → Option Line → Type 0) (untouched : Type 0) (failed : Option LineFault) (over : Bool)
-      → IsConducted look runs taken lanes kits d conducted are_told untouched failed over
+  pub is_run : (bytes : Option (List ℕ)) (gives : List FileText → Type 0) (clock : List ℕ → Type 0) (output : List ℕ → Type 0) (lanes : ℕ) (kits : List (Kit O)) (before : State) (d : DirectorValue S) (conducted : Conducted S G O) (status : ℕ)
+      (are_told : List (Event × Answer) → Option Line → Type 0) (untouched quiet : Type 0) (failed : Option LineFault) (over : Bool)
+      → IsConducted look runs taken lanes kits d conducted are_told untouched failed over → (untouched → quiet)
       → (HasCleanDisk (look d.store) → Opens ceilings 0 before.now d.schedule.content d.opened)
       → (HasCleanDisk (look d.store) → RestartsIn ceilings 0 before.now (look d.store).now)
-      → AreNamed bytes gives clock (of_lines conducted.minutes.items) status
-      → IsRun look runs taken bytes gives clock lanes kits before conducted.director.store conducted.minutes.items conducted.outcome status
-  is_run bytes gives clock lanes kits before d conducted status are_told untouched failed over c opened restarted named =
+      → AreNamed bytes gives clock output (answered conducted.minutes.items d.schedule.content) conducted.outcome status
+      → IsRun look runs taken bytes gives clock output quiet lanes kits before conducted.director.store conducted.minutes.items conducted.outcome status
+  is_run bytes gives clock output lanes kits before d conducted status are_told untouched quiet failed over c to opened restarted named =
       let a = d.schedule.content in
       let es = conducted.minutes.items in
       record {
@@ -152,6 +108,11 @@ module _ {S G O : Type 0} (look : Held S → State) (runs : O → List (ℕ × O
             let keeps : Keeps a (look d.store).now = subst (λ (x : Schedule). Keeps x (look d.store).now) (sym (opened first rows stored).stepped.after) (restarted first rows stored) in
             subst (λ (x : Schedule). Keeps x (look conducted.director.store).now) c.stepped (c.followed.stored clean is_open keeps);
         named = named;
+        well = λ z. (ends_well _ status conducted.outcome named.ended z).0;
+        failed = failed;
+        fault = c.fault;
+        workers = c.workers;
+        unstarted = still (es ≡ []) untouched quiet conducted.outcome to c.unstarted;
         idle = where_well (in_flight (steps es a) ≡ 0) conducted.outcome (λ well. ap in_flight (sym c.stepped) ∙ (c.whole well).3);
         ends = c.ends;
         once = c.once;
@@ -161,26 +122,71 @@ module _ {S G O : Type 0} (look : Held S → State) (runs : O → List (ℕ × O
       }
 
 -- ---- the whole run, of the parts that come back
-module _ {S G O R W F P C : Type 0} (look : Held S → State) (runs : O → List (ℕ × Outcome)) (taken : O → Option ℕ) (remaining : R → Option (List ℕ)) (gives : F → List FileText → F → Type 0) (ticks : C → List ℕ → C → Type 0) where
-  pub ran : (lanes : ℕ) (kits : List (Kit O)) (before : State) (d : DirectorValue S) (conducted : Conducted S G O) (first last : ScriptReader R W F P) (clock later : C) (failed : Option LineFault) (untouched : Type 0)
-      → IsConducted look runs taken lanes kits d conducted (AreTold (Tells remaining gives) ticks first clock last later) untouched failed last.is_over
+ok_came : {A : Type 0} (r : Result A ConductFault) → is_ok r ≡ true → came_to_its_end r ≡ true
+ok_came (Ok v) well = refl
+ok_came (Err f) well = absurd (true≢false (sym well))
+
+ok_sound : {A : Type 0} (Q : ConductFault → Type 0) (failed : Option LineFault) (r : Result A ConductFault) → MatchResult r (λ _. failed ≡ None) Q → is_ok r ≡ true → is_some failed ≡ false
+ok_sound Q failed (Ok v) none well = ap is_some none
+ok_sound Q failed (Err f) fault well = absurd (true≢false (sym well))
+
+ok_so : {A : Type 0} (P : Type 0) (r : Result A ConductFault) → OnOk r P → is_ok r ≡ true → P
+ok_so P (Ok v) p well = p
+ok_so P (Err f) p well = absurd (true≢false (sym well))
+
+-- a reader of which nothing is read yet
+pub record IsFresh {R W F P : Type 0} (first : ScriptReader R W F P) : Type 0 where
+  pub over : first.is_over ≡ false
+  pub status : first.status ≡ 0
+  pub drains : first.has_drained ≡ false
+  pub listed : IsListed first.words.names
+
+module _ {S G O R W F P C : Type 0} (look : Held S → State) (runs : O → List (ℕ × Outcome)) (taken : O → Option ℕ) (remaining : R → Option (List ℕ)) (contents : W → Option (List ℕ)) (gives : F → List FileText → F → Type 0) (ticks : C → List ℕ → C → Type 0) where
+  -- what comes back of what was conducted, with the last state of the reader
+  pub record ComesBack (conducted : Conducted S G O) (last : ScriptReader R W F P) (store : Held S) (minutes : List Event) (outcome : Result (Settled G O) ConductFault) (status : ℕ) (sources : F) (output : W) : Type 0 where
+    pub store_is : store ≡ conducted.director.store
+    pub minutes_are : minutes ≡ conducted.minutes.items
+    pub outcome_is : outcome ≡ conducted.outcome
+    pub status_is : IsEndStatus last.status conducted.outcome status
+    pub sources_are : sources ≡ last.sources
+    pub output_is : OnOk conducted.outcome (output ≡ last.output)
+
+  -- what was written, where the run ended well
+  writes : (lanes : ℕ) (kits : List (Kit O)) (d : DirectorValue S) (conducted : Conducted S G O) (first last : ScriptReader R W F P) (clock later : C) (output : W)
+      → IsConducted look runs taken lanes kits d conducted (AreTold (Tells remaining contents gives) ticks first clock last later) ((last ≡ first) × (later ≡ clock)) last.failed last.is_over
+      → IsFresh first → OnOk conducted.outcome (output ≡ last.output) → is_ok conducted.outcome ≡ true
+      → (is_some last.failed ≡ false) × ((xs : List ℕ) → IsWritten first.has_drained (contents first.output) (contents last.output) last.has_drained xs → Appends (contents first.output) (contents output) xs)
+  writes lanes kits d conducted first last clock later output c fresh at well =
+      let end = c.whole (ok_came conducted.outcome well) in
+      let quiet : last.has_drained ≡ false = c.told.told.2.over (ap (λ b. b && not first.is_over) end.0 ∙ ap not fresh.over) in
+      let same : output ≡ last.output = ok_so (output ≡ last.output) conducted.outcome at well in (
+        ok_sound _ last.failed conducted.outcome c.fault well,
+        λ xs w.
+            subst (λ (o : W). Appends (contents first.output) (contents o) xs) (sym same)
+            (subst (λ (b : Bool). IsWritten first.has_drained (contents first.output) (contents last.output) b xs) quiet w fresh.drains),
+      )
+
+  pub ran : (lanes : ℕ) (kits : List (Kit O)) (before : State) (d : DirectorValue S) (conducted : Conducted S G O) (first last : ScriptReader R W F P) (clock later : C)
+      → IsConducted look runs taken lanes kits d conducted (AreTold (Tells remaining contents gives) ticks first clock last later) ((last ≡ first) × (later ≡ clock)) last.failed last.is_over
       → (HasCleanDisk (look d.store) → Opens ceilings 0 before.now d.schedule.content d.opened)
       → (HasCleanDisk (look d.store) → RestartsIn ceilings 0 before.now (look d.store).now)
-      → first.is_over ≡ false → IsListed first.words.names
-      → (store : Held S) (minutes : List Event) (outcome : Result (Settled G O) ConductFault) (status : ℕ) (sources : F)
-      → store ≡ conducted.director.store → minutes ≡ conducted.minutes.items → outcome ≡ conducted.outcome → IsEndStatus last.status conducted.outcome status → sources ≡ last.sources
-      → IsRun look runs taken (remaining first.input) (λ given. gives first.sources given sources) (λ moments. ticks clock moments later) lanes kits before store minutes outcome status
-  ran lanes kits before d conducted first last clock later failed untouched c opened restarted fresh listed store minutes outcome status sources same_store same_minutes same_outcome ends same_sources =
-      let a = d.schedule.content in
+      → IsFresh first
+      → (store : Held S) (minutes : List Event) (outcome : Result (Settled G O) ConductFault) (status : ℕ) (sources : F) (output : W) → ComesBack conducted last store minutes outcome status sources output
+      → IsRun look runs taken (remaining first.input) (λ given. gives first.sources given sources) (λ moments. ticks clock moments later) (λ shown. Appends (contents first.output) (contents output) shown) ((sources ≡ first.sources) × (later ≡ clock)) lanes kits before store minutes outcome status
+  ran lanes kits before d conducted first last clock later c opened restarted fresh store minutes outcome status sources output back =
       let es = conducted.minutes.items in
       let t = c.told in
-      let named_here : AreNamed (remaining first.input) (λ given. gives first.sources given last.sources) (λ moments. ticks clock moments later) (of_lines es) status =
-      subst (λ (l : List Event). AreNamed (remaining first.input) (λ given. gives first.sources given last.sources) (λ moments. ticks clock moments later) l status) (answered_lines es a)
-      (named first.words.names (remaining first.input) (λ given. gives first.sources given last.sources) (λ moments. ticks clock moments later) (answered es a) t.moments c.waits (remaining last.input) last.status status (is_some last.failed) last.is_over first.is_over conducted.outcome
-      listed t.told.1 t.given fresh (λ well. ((c.whole well).0, (c.whole well).1)) ends)
+      let bytes = remaining first.input in
+      let files : List FileText → Type 0 = λ given. gives first.sources given last.sources in
+      let times : List ℕ → Type 0 = λ moments. ticks clock moments later in
+      let text : List ℕ → Type 0 = λ shown. Appends (contents first.output) (contents output) shown in
+      let quiet : Type 0 = (last.sources ≡ first.sources) × (later ≡ clock) in
+      let named_here : AreNamed bytes files times text (answered es d.schedule.content) conducted.outcome status =
+      named first.words.names first.status bytes files times (IsWritten first.has_drained (contents first.output) (contents last.output) last.has_drained) text (answered es d.schedule.content) t.moments c.waits (remaining last.input) last.status status (is_some last.failed) last.is_over first.is_over conducted.outcome
+      fresh.listed fresh.status t.told.1 (writes lanes kits d conducted first last clock later output c fresh back.output_is) t.given fresh.over (λ well. ((c.whole well).0, (c.whole well).1)) back.status_is
       in
-      let here = is_run look runs taken (remaining first.input) (λ given. gives first.sources given last.sources) (λ moments. ticks clock moments later) lanes kits before d conducted status _ untouched failed last.is_over c opened restarted named_here in
-      subst (λ (f : F). IsRun look runs taken (remaining first.input) (λ given. gives first.sources given f) (λ moments. ticks clock moments later) lanes kits before store minutes outcome status) (sym same_sources)
-      (subst (λ (s : Held S). IsRun look runs taken (remaining first.input) (λ given. gives first.sources given last.sources) (λ moments. ticks clock moments later) lanes kits before s minutes outcome status) (sym same_store)
-      (subst (λ (l : List Event). IsRun look runs taken (remaining first.input) (λ given. gives first.sources given last.sources) (λ moments. ticks clock moments later) lanes kits before conducted.director.store l outcome status) (sym same_minutes)
-      (subst (λ (o : Result (Settled G O) ConductFault). IsRun look runs taken (remaining first.input) (λ given. gives first.sources given last.sources) (λ moments. ticks clock moments later) lanes kits before conducted.director.store es o status) (sym same_outcome) here)))
+      let here = is_run look runs taken bytes files times text lanes kits before d conducted status _ ((last ≡ first) × (later ≡ clock)) quiet last.failed last.is_over c (λ same. (ap (λ (r : ScriptReader R W F P). r.sources) same.0, same.1)) opened restarted named_here in
+      subst (λ (f : F). IsRun look runs taken bytes (λ given. gives first.sources given f) times text ((f ≡ first.sources) × (later ≡ clock)) lanes kits before store minutes outcome status) (sym back.sources_are)
+      (subst (λ (s : Held S). IsRun look runs taken bytes files times text quiet lanes kits before s minutes outcome status) (sym back.store_is)
+      (subst (λ (l : List Event). IsRun look runs taken bytes files times text quiet lanes kits before conducted.director.store l outcome status) (sym back.minutes_are)
+      (subst (λ (o : Result (Settled G O) ConductFault). IsRun look runs taken bytes files times text quiet lanes kits before conducted.director.store es o status) (sym back.outcome_is) here)))

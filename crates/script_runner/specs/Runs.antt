@@ -1,5 +1,5 @@
 -- What the run of a script promises.
-use Rattle.std.specs.Prelude.{◌≡◌, ℕ, List, [], length, Option, Result, IfOk, IsTrue}
+use Rattle.std.specs.Prelude.{◌≡◌, ◌==◌, ℕ, ◌<◌, true, List, [], length, Option, None, Result, is_ok, IfErr, IfOk, IsTrue, MatchResult}
 use Rattle.sqlite.specs.Held.{Held}
 use Rattle.sqlite.specs.State.{State, HasCleanDisk}
 use Rattle.instance_machine.specs.declared.tries.Outcome.{Outcome}
@@ -13,17 +13,20 @@ use Rattle.sched_events.specs.Steps.{steps, handed_along, AreAccepted}
 use Rattle.sched_events.specs.declared.answers.Answer.{Answer}
 use Rattle.sched_events.specs.declared.events.Event.{Event}
 use Rattle.director.specs.Directors.{Keeps, Opens}
-use Rattle.minutes.specs.Minutes.{of_lines, BeginWithRestart}
+use Rattle.minutes.specs.Minutes.{answered, BeginWithRestart}
 use Rattle.sessions.specs.declared.faults.ConductFault.{ConductFault}
+use Rattle.sessions.specs.declared.line_reading.LineFault.{LineFault}
 use Rattle.crews.specs.Settled.{AreAccounts}
 use Rattle.crews.specs.declared.settling.Settled.{Settled}
 use Rattle.conduct.specs.Ends.{EachStandsInALog, EachToldItsOwn}
+use Rattle.conduct.specs.Faults.{EndsRun, is_no_worker, is_unstarted}
 use Rattle.script_reader.specs.Done.{FileText}
 use Rattle.script_runner.specs.Named.{AreNamed}
 
 -- A script of these bytes was run with so many lanes and these kits on what a record held before: what the record is now, the minutes, what became of the
--- crews, and the status. The sources and the clock gave what their relations say.
-pub record IsRun {S G O : Type 0} (look : Held S → State) (runs : O → List (ℕ × Outcome)) (taken : O → Option ℕ) (bytes : Option (List ℕ)) (sources : List FileText → Type 0) (clock : List ℕ → Type 0) (lanes : ℕ) (kits : List (Kit O)) (before : State) (store : Held S) (minutes : List Event) (outcome : Result (Settled G O) ConductFault) (status : ℕ) : Type 0 where
+-- crews, and the status. The sources and the clock gave what their relations say, or were asked nothing (untouched); the output has grown as its relation
+-- says.
+pub record IsRun {S G O : Type 0} (look : Held S → State) (runs : O → List (ℕ × Outcome)) (taken : O → Option ℕ) (bytes : Option (List ℕ)) (sources : List FileText → Type 0) (clock : List ℕ → Type 0) (output : List ℕ → Type 0) (untouched : Type 0) (lanes : ℕ) (kits : List (Kit O)) (before : State) (store : Held S) (minutes : List Event) (outcome : Result (Settled G O) ConductFault) (status : ℕ) : Type 0 where
   -- the schedule that was opened, without lanes, and the answer to its restart
   pub first : Schedule
   pub given : Answer
@@ -33,8 +36,17 @@ pub record IsRun {S G O : Type 0} (look : Held S → State) (runs : O → List (
   pub begun : BeginWithRestart lanes minutes
   -- where the record stored rows and is still open, it stores the schedule after them
   pub stored : HasCleanDisk (look store) → IsTrue (look store).is_open → (rows : Rows) → Stores before.now rows → Keeps (steps minutes first) (look store).now
-  -- those that are no report and no restart are named by the script's lines
-  pub named : AreNamed bytes sources clock (of_lines minutes) status
+  -- those that are no report and no restart, with their answers, are what the script's lines name; what is shown is of these; and the status is that of what
+  -- was done and of the end
+  pub named : AreNamed bytes sources clock output (answered minutes first) outcome status
+  -- where the status is 0, the run ended well
+  pub well : status ≡ 0 → is_ok outcome ≡ true
+  -- why it ended otherwise, by what the script failed in, if it did; there is no worker where there is no kit; and where no event was stepped, nothing was
+  -- asked
+  pub failed : Option LineFault
+  pub fault : MatchResult outcome (λ _. failed ≡ None) (λ f. EndsRun f failed)
+  pub workers : MatchResult outcome (λ _. 0 < length kits) (λ f. is_no_worker f ≡ (length kits == 0))
+  pub unstarted : IfErr outcome (λ f. is_unstarted f ≡ true → (minutes ≡ []) × untouched)
   -- where the run ended well: no try is in flight; each try that was handed out stands in the log of one worker, as often as it was handed out, and no
   -- other does; what the minutes report of a worker's jobs is what that worker told, in its order; and its log is an account of its kit
   pub idle : IfOk outcome (λ s. in_flight (steps minutes first) ≡ 0)

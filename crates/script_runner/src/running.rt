@@ -1,5 +1,6 @@
 //! A script that is run on a record, by workers.
-ghost use Rattle.std.specs.Prelude.{◌≡◌, ◌≤◌, All, IfOk, IfErr, IsTrue, OnErr, length, map};
+ghost use Rattle.std.specs.Prelude.{◌≡◌, ◌≤◌, All, IfOk, IfErr, IsTrue, OnErr, OnOk, length, map};
+ghost use Rattle.std.specs.Io.KnownBytes.{Appends};
 ghost use Rattle.sqlite.specs.Held.{state};
 ghost use Rattle.sqlite.specs.State.{HasCleanDisk};
 ghost use Rattle.operators.specs.Kits.{IsKit};
@@ -32,7 +33,7 @@ pub struct RunOptions {
 
 /// What came of a script.
 #[derive(Drop)]
-pub struct Ran<S: Alter, G: Gate, O: Operator, F: Sources> {
+pub struct Ran<S: Alter, G: Gate, O: Operator, F: Sources, W: Write + Drop> {
     /// The record.
     pub store: Store<S>,
     /// How it went: the greatest status of the answers and of the end. 0 where all was accepted, 1 where an event was refused, 2 where a line is no command,
@@ -44,6 +45,8 @@ pub struct Ran<S: Alter, G: Gate, O: Operator, F: Sources> {
     pub outcome: Result<Settled<G, O>, ConductFault>,
     /// Where the texts of `load PATH` came from.
     pub sources: F,
+    /// Where the answers went.
+    pub output: W,
 }
 
 /// Opens a record within the greatest limits, without lanes, and runs a script on it with workers, one for each crew, each on a thread of its own.
@@ -68,13 +71,14 @@ pub fn run_on<
     crews: Vec<Crew<G, O>>,
     script: Script<R, W, F, P>,
     clock: &mut C,
-) -> Result<Ran<S, G, O, F>, (Store<S>, Fault)>
+) -> Result<Ran<S, G, O, F, W>, (Store<S>, Fault)>
     requires lanes { options.lanes ≤ 64 }
     requires crews { length crews.items ≤ 16 }
     requires kits { All (λ c. IsKit O.kind_of c.kit) crews.items }
     ensures run { IfOk result (λ ran. IsRun (state S.Store) O.runs_of O.taken (R.Read.remaining script.input)
         (λ given. F.gives script.sources given ran.sources) (λ moments. C.gives clock.old moments clock.new)
-        options.lanes (map (λ c. c.kit) crews.items) (state S.Store store) ran.store ran.minutes.items ran.outcome ran.status) }
+        (λ shown. Appends (W.contents script.output) (W.contents ran.output) shown)
+        ((ran.sources ≡ script.sources) × (clock.new ≡ clock.old)) options.lanes (map (λ c. c.kit) crews.items) (state S.Store store) ran.store ran.minutes.items ran.outcome ran.status) }
     ensures fault { IfErr result (λ e. HasCleanDisk (state S.Store e.0)
         → IsOpenFault ceilings 0 (state S.Store store).now e.1) }
     ensures kept { IfErr result (λ e. HasCleanDisk (state S.Store e.0)
@@ -112,24 +116,26 @@ fn close<
     W: Write + Drop,
     F: Sources,
     P: Progress,
->(reader: ScriptReader<R, W, F, P>, conducted: Conducted<S, G, O>) -> Ran<S, G, O, F>
+>(reader: ScriptReader<R, W, F, P>, conducted: Conducted<S, G, O>) -> Ran<S, G, O, F, W>
     ensures store { result.store ≡ conducted.director.store }
     ensures status { IsEndStatus reader.status conducted.outcome result.status }
     ensures minutes { result.minutes ≡ conducted.minutes }
     ensures outcome { result.outcome ≡ conducted.outcome }
     ensures sources { result.sources ≡ reader.sources }
+    ensures output { OnOk conducted.outcome (result.output ≡ reader.output) }
 {
     let Conducted {
         director,
         minutes,
         outcome,
     } = conducted;
-    let (status, sources) = reader.close(&outcome);
+    let (status, sources, output) = reader.close(&outcome);
     Ran {
         store: director.close(),
         status,
         minutes,
         outcome,
         sources,
+        output,
     }
 }

@@ -18,7 +18,7 @@ use std::thread::Threads;
 use work::OpenGate;
 
 /// What came of a script.
-pub type RanHere = Ran<MemStore, OpenGate, TaskOperator<Program<HostRuntime>>, NoSources>;
+pub type RanHere<W> = Ran<MemStore, OpenGate, TaskOperator<Program<HostRuntime>>, NoSources, W>;
 
 /// A new record.
 pub fn new_record(alloc: Global) -> Result<Store<MemStore>, Fail> {
@@ -34,7 +34,7 @@ pub fn run_with<T: Threads + Wait + Sync, R: BufRead + Drop, W: Write + Drop>(
     lanes: u32,
     input: R,
     output: W,
-) -> Result<RanHere, Fail>
+) -> Result<RanHere<W>, Fail>
     requires workers { workers ≤ 16 }
     requires lanes { lanes ≤ 64 }
 {

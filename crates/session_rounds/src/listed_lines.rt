@@ -1,6 +1,7 @@
 //! Lines out of a list.
 ghost use Rattle.std.specs.Prelude.{◌≡◌, ◌<◌, [], None, Some, false, IfOk, IfSome, IfNone, OnOk, option_to_list, vec_len, vec_capacity};
 ghost use Rattle.minutes.specs.Minutes as minutes;
+ghost use Rattle.sessions.specs.Lines as spec;
 ghost use Rattle.sessions.specs.Lines.{opens, ticked, told_part};
 ghost use Rattle.sessions.specs.declared.line_reading.Line.{Line};
 ghost use Rattle.session_rounds.specs.Lists.{open_of, ticks_of, told_of};
@@ -23,6 +24,8 @@ pub struct ListedLines {
     open_line: Option<Line>,
     failed: Option<LineFault>,
     is_over: bool,
+    // The last line that was read says to drain.
+    has_drained: bool,
     // How many calls come before the one that fails, and with what.
     failing: Option<(u32, LineFault)>,
 }
@@ -36,6 +39,7 @@ impl ListedLines {
         ensures none { open_of result ≡ None }
         ensures failed { result.failed ≡ None }
         ensures over { result.is_over ≡ false }
+        ensures drains { result.has_drained ≡ false }
     {
         let mut left = lines;
         left.reverse();
@@ -47,6 +51,7 @@ impl ListedLines {
             open_line: None,
             failed: None,
             is_over: false,
+            has_drained: false,
             failing,
         }
     }
@@ -71,6 +76,7 @@ impl ListedLines {
         ensures ticks { ticks_of self.new ≡ ticks_of self.old }
         ensures none { open_of self.new ≡ open_of self.old }
         ensures over { self.new.is_over ≡ self.old.is_over }
+        ensures drains { self.new.has_drained ≡ self.old.has_drained }
         ensures fails { IfSome result (λ fault. self.new.failed ≡ Some fault) }
         ensures goes_on { IfNone result (self.new.failed ≡ self.old.failed) }
     {
@@ -111,6 +117,7 @@ impl ListedLines {
         ensures ticks { ticks_of self.new ≡ ticks_of self.old }
         ensures none { open_of self.new ≡ open_of self.old }
         ensures over { self.new.is_over ≡ self.old.is_over }
+        ensures drains { self.new.has_drained ≡ self.old.has_drained }
         ensures failed { self.new.failed ≡ self.old.failed }
         ensures room { OnOk result ((vec_len self.new.told < vec_capacity self.new.told)
             × (vec_len self.new.ticks < vec_capacity self.new.ticks)) }
@@ -132,6 +139,16 @@ fn is_of_line(event: &Event) -> bool
     match event {
         Event::Report(_, _) | Event::Restart(_) => false,
         _ => true,
+    }
+}
+
+// Whether the line says to drain.
+fn is_drain(line: &Line) -> bool
+    ensures { result ≡ spec.is_drain line.now }
+{
+    match line {
+        Line::Event(_) | Line::TickNow => false,
+        Line::Drain => true,
     }
 }
 
@@ -159,9 +176,12 @@ impl Lines for ListedLines {
 
     ghost over = { λ l. l.is_over };
 
+    ghost drains = { λ l. l.has_drained };
+
     ghost begins = { tells_nothing };
 
     fn next(&mut self, _schedule: &Schedule) -> Result<Option<Line>, LineFault> {
+        self.has_drained = false;
         if let Some(fault) = self.planned_fault() {
             return Err(fault);
         }
@@ -180,6 +200,7 @@ impl Lines for ListedLines {
             return Err(LineFault::Memory);
         };
         self.open_line = open_line;
+        self.has_drained = is_drain(&line);
         Ok(Some(line))
     }
 

@@ -1,5 +1,5 @@
 -- What is true of a session, over a step that was taken and one that was not.
-use Rattle.std.proofs.Common.{◌≡◌, ◌∙◌, ℕ, ◌+◌, ◌<◌, true, false, true≢false, List, [], ◌∷◌, ◌++◌, length, map, None, Result, Ok, Err, refl, sym, ap, subst, arith, append-nil, length-append}
+use Rattle.std.proofs.Common.{◌≡◌, ◌∙◌, ℕ, ◌+◌, ◌<◌, true, false, List, [], ◌∷◌, ◌++◌, length, map, None, Result, Ok, refl, sym, ap, subst, arith, append-nil, length-append}
 use Rattle.std.proofs.lemmas.List.{length-map, map-append}
 use Rattle.sqlite.specs.Held.{Held}
 use Rattle.sqlite.specs.State.{State}
@@ -18,7 +18,6 @@ use Rattle.sched_events.specs.declared.answers.Answer.{Answer}
 use Rattle.sched_events.specs.declared.events.Event.{Event}
 use Rattle.sched_model.specs.Schedule.{Schedule}
 use Rattle.director.specs.Directors.{DirectorValue, Follows}
-use Rattle.director.specs.Faults.{IsFaultOf}
 use Rattle.director.specs.Lists.{IsOutcome}
 use Rattle.director.specs.declared.faults.Fault.{Fault}
 use Rattle.director.proofs.ListLemmas.{follows_itself, follows_then}
@@ -99,36 +98,6 @@ module _ {S : Type 0} where
   unheard later a n s u was same minutes sent missed heard =
       unstepped (heard_of s.pass) later a n s u was same minutes sent (λ none. (sym missed ∙ none, heard)) (λ some. subst (λ (l : List WorkerReport). length (reports_in s.minutes.items) < length l) (sym heard) (was.lacking (sym missed ∙ some)))
 
-  -- a report that was heard is missed
-  pub missed_run : (before later : List WorkerReport) (told : WorkerReport) (a : Schedule) (n : ℕ) (s u : Session S) → IsRunWith before a n s
-      → u.director.schedule.content ≡ s.director.schedule.content
-      → u.minutes.items ≡ s.minutes.items
-      → sent_of u.pass ≡ sent_of s.pass
-      → u.missed ≡ true
-      → later ≡ before ++ told ∷ []
-      → IsRunWith later a n u
-  missed_run before later told a n s u was same minutes sent missed heard =
-      unstepped before later a n s u was same minutes sent (λ none. absurd (true≢false (sym missed ∙ none)))
-      (λ _.
-      let more : length later ≡ length before + 1 = ap length heard ∙ length-append before (told ∷ []) in
-      elim s.missed as (λ b. s.missed ≡ b → length (reports_in s.minutes.items) < length later) [
-        | true ↦ λ e. let less = was.lacking e in omega arith
-        | false ↦ λ e. let all : length before ≡ length (reports_in s.minutes.items) = sym (length-map before (λ (t : WorkerReport). t.report)) ∙ ap length (was.heard e) in omega arith
-      ] refl)
-
-  -- a session of which nothing is stepped yet
-  pub fresh_run : (n : ℕ) (s : Session S) → s.minutes.items ≡ [] → s.missed ≡ false → sent_of s.pass ≡ [] → heard_of s.pass ≡ [] → IsRun s.director.schedule.content n s
-  fresh_run n s empty missed sent heard =
-      let a : Schedule = s.director.schedule.content in
-      record {
-        stepped = ap (λ l. steps l a) (sym empty);
-        accepted = subst (λ l. AreAccepted l a) (sym empty) tt;
-        sent = sent ∙ ap (λ l. as_sent (handed_along l a)) (sym empty);
-        heard = λ none. ap (map (λ (t : WorkerReport). t.report)) heard ∙ ap reports_in (sym empty);
-        lacking = λ some. absurd (true≢false (sym some ∙ missed));
-        begun = subst (BeginWithRestart n) (sym empty) tt;
-      }
-
 module _ {S : Type 0} (look : Held S → State) where
   -- ---- steps that follow each other
   pub goes_then : (lanes : Lanes) (n : ℕ) (s t u : Session S) → GoesOn look lanes n s t → GoesOn look lanes n t u → GoesOn look lanes n s u
@@ -138,15 +107,6 @@ module _ {S : Type 0} (look : Held S → State) where
     opened = two.opened ∙ one.opened;
     followed = follows_then _ _ _ _ _ _ one.followed two.followed;
     run = λ a h. two.run a (one.run a h);
-  }
-
-  pub goes_nowhere : (lanes : Lanes) (n : ℕ) (s : Session S) → IsDirectorOf lanes s.pass → GoesOn look lanes n s s
-  goes_nowhere lanes n s pass = record {
-    pass = pass;
-    workers = λ count h. h;
-    opened = refl;
-    followed = follows_itself s.director.schedule.content (look s.director.store);
-    run = λ a h. h;
   }
 
   -- ---- a step that was answered, and put into the minutes
@@ -185,26 +145,6 @@ module _ {S : Type 0} (look : Held S → State) where
       run = λ a was. accepted_run (heard_of s.pass) (heard_of u.pass) a n was (same_reports (heard_of s.pass) (heard_of u.pass) e accepted_heard none) (begun was.begun);
     }
 
-  -- ---- a step that was not answered
-  pub untaken_same : (e : Event) (s t : Session S) (r : Result Answer Fault) (fault : Fault) → IsTried look e s r t → r ≡ Err fault → t.director.schedule.content ≡ s.director.schedule.content
-  untaken_same e s t r fault tried is =
-      let h : IsOutcome s.director.schedule.content e (Err fault) t.director.schedule.content = subst (λ (x : Result Answer Fault). IsOutcome s.director.schedule.content e x t.director.schedule.content) is tried.outcome in
-      h.1
-
-  pub untaken_fault : (e : Event) (s t : Session S) (r : Result Answer Fault) (fault : Fault) → IsTried look e s r t → r ≡ Err fault → IsFaultOf s.director.schedule.content e fault
-  untaken_fault e s t r fault tried is =
-      let h : IsOutcome s.director.schedule.content e (Err fault) t.director.schedule.content = subst (λ (x : Result Answer Fault). IsOutcome s.director.schedule.content e x t.director.schedule.content) is tried.outcome in
-      h.0
-
-  pub untaken_goes : (lanes : Lanes) (n : ℕ) (e : Event) (s t : Session S) (r : Result Answer Fault) (fault : Fault) → IsTried look e s r t → r ≡ Err fault → IsDirectorOf lanes s.pass → GoesOn look lanes n s t
-  untaken_goes lanes n e s t r fault tried is pass = record {
-    pass = subst (IsDirectorOf lanes) (sym tried.pass) pass;
-    workers = λ count h. subst (λ p. HasWorkers p count) (sym tried.pass) h;
-    opened = tried.opened;
-    followed = tried.followed;
-    run = λ a was. unheard (heard_of t.pass) a n s t was (untaken_same e s t r fault tried is) tried.minutes (ap sent_of tried.pass) tried.missed (ap heard_of tried.pass);
-  }
-
   -- ---- tries that were not answered, and a further one
   -- nothing was stepped, and the record may have been written in vain
   pub record IsUnchanged (s t : Session S) : Type 0 where
@@ -237,16 +177,6 @@ module _ {S : Type 0} (look : Held S → State) where
         opened = h.opened ∙ was.opened;
         followed = follows_then _ _ _ _ _ _ was.followed h.followed;
       }
-
-  pub still_unchanged : (e : Event) (s t u : Session S) (r : Result Answer Fault) (fault : Fault) → IsUnchanged s t → IsTried look e t r u → r ≡ Err fault → IsUnchanged s u
-  still_unchanged e s t u r fault was tried is = record {
-    same = untaken_same e t u r fault tried is ∙ was.same;
-    minutes = tried.minutes ∙ was.minutes;
-    pass = tried.pass ∙ was.pass;
-    missed = tried.missed ∙ was.missed;
-    opened = tried.opened ∙ was.opened;
-    followed = follows_then _ _ _ _ _ _ was.followed tried.followed;
-  }
 
   -- ---- a report that was heard, and what was done with it
   -- the session with another pass

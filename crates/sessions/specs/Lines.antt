@@ -1,5 +1,5 @@
 -- What waits once a line is read, and what is told of its answer.
-use Rattle.std.specs.Prelude.{◌≡◌, ℕ, Bool, true, List, [], ◌∷◌, Option, Some, None, Result, Ok, Err}
+use Rattle.std.specs.Prelude.{◌≡◌, ℕ, Bool, true, false, List, [], ◌∷◌, Option, Some, None, Result, Ok, Err}
 use Rattle.sched_events.specs.declared.answers.Answer.{Answer}
 use Rattle.sched_events.specs.declared.events.Event.{Event}
 use Rattle.sched_events.specs.declared.events.Event.TheVariants.{Tick}
@@ -19,6 +19,18 @@ abbrev pub opened_by : {F : Type 0} → Result (Option Line) F → Option Line
 opened_by (Ok (Some line)) = opens line
 opened_by (Ok None) = None
 opened_by (Err fault) = None
+
+-- a drain is read
+abbrev pub is_drain : Line → Bool
+is_drain (Says.Event e) = false
+is_drain Says.TickNow = false
+is_drain Says.Drain = true
+
+-- what was read is a drain
+abbrev pub reads_drain : {F : Type 0} → Result (Option Line) F → Bool
+reads_drain (Ok (Some line)) = is_drain line
+reads_drain (Ok None) = false
+reads_drain (Err fault) = false
 
 -- what may be read: an event of a line is no report and no restart
 abbrev pub may_be_read : Line → Bool

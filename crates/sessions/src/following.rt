@@ -1,12 +1,12 @@
 //! A session that follows its lines until they are over.
-ghost use Rattle.std.specs.Prelude.{◌≡◌, ◌≤◌, ◌<◌, [], ℕ, length, true, None, Some, MatchResult, OnOk};
+ghost use Rattle.std.specs.Prelude.{◌≡◌, ◌≤◌, ◌<◌, [], ℕ, length, true, false, None, Some, MatchResult, OnOk};
 ghost use Rattle.sqlite.specs.Held.{state};
 ghost use Rattle.ruled_dispatch.specs.Lanes.{IsDirectorOf};
 ghost use Rattle.sched_model.specs.Schedule.{Schedule};
 ghost use Rattle.sched_model.specs.States.{in_flight};
 ghost use Rattle.minutes.specs.Minutes.{answered};
 ghost use Rattle.sessions.specs.Faults.{EndsBy};
-ghost use Rattle.sessions.specs.Lines.{may_be_read, opens};
+ghost use Rattle.sessions.specs.Lines.{is_drain, may_be_read, opens};
 ghost use Rattle.sessions.specs.Runs.{GoesOn, IsRun};
 ghost use Rattle.sessions.specs.Told.{AreTold, AreToldBy};
 ghost use Rattle.sessions.specs.declared.line_reading.Line.TheVariants as Says;
@@ -43,6 +43,7 @@ impl<S: Alter> Session<S> {
             → AreToldBy result (AreTold L.tells C.gives l c lines.new clock.new) (answered self.new.minutes.items a) }
         ensures fault { MatchResult result (λ _. L.failed lines.new ≡ None)
             (λ f. EndsBy f (L.failed lines.new)) }
+        ensures drains { L.drains lines.new ≡ L.drains lines.old }
     {
         if let Err(fault) = self.hear_all(rt, alloc, lanes) {
             return Err(fault);
@@ -73,6 +74,7 @@ impl<S: Alter> Session<S> {
         requires pass { IsDirectorOf lanes.now self.old.pass }
         requires begun { 0 < length self.old.minutes.items }
         requires sound { L.failed lines.old ≡ None }
+        requires undrained { L.drains lines.old ≡ false }
         ensures goes_on { (lane_count : ℕ)
             → GoesOn (state S.Store) lanes.now lane_count self.old self.new }
         ensures told { (a : Schedule) (lane_count : ℕ) (l : L) (c : C) → IsRun a lane_count self.old
@@ -112,6 +114,7 @@ impl<S: Alter> Session<S> {
         requires begun { 0 < length self.old.minutes.items }
         requires line { may_be_read line ≡ true }
         requires sound { L.failed lines.old ≡ None }
+        requires drains { L.drains lines.old ≡ is_drain line }
         ensures goes_on { (lane_count : ℕ)
             → GoesOn (state S.Store) lanes.now lane_count self.old self.new }
         ensures begun { 0 < length self.new.minutes.items }
@@ -120,6 +123,7 @@ impl<S: Alter> Session<S> {
             → AreToldBy result (AreTold L.tells C.gives l c lines.new clock.new) (answered self.new.minutes.items a) }
         ensures fault { MatchResult result (λ _. L.failed lines.new ≡ None)
             (λ f. EndsBy f (L.failed lines.new)) }
+        ensures drained { OnOk result (L.drains lines.new ≡ true → in_flight self.new.director.schedule.content ≡ 0) }
     {
         match line {
             Line::Event(event) => match self.step_line(rt, alloc, lanes, event, lines) {
@@ -145,6 +149,7 @@ impl<S: Alter> Session<S> {
         requires fresh { self.old.minutes.items ≡ [] }
         requires lanes { lane_count ≤ self.old.director.schedule.content.limits.lanes }
         requires sound { L.failed lines.old ≡ None }
+        requires undrained { L.drains lines.old ≡ false }
         ensures goes_on { GoesOn (state S.Store) lanes.now lane_count self.old self.new }
         ensures told { (a : Schedule) → IsRun a lane_count self.old
             → AreToldBy result (AreTold L.tells C.gives lines.old clock.old lines.new clock.new) (answered self.new.minutes.items a) }

@@ -156,6 +156,7 @@ impl<S: Alter> Session<S> {
         ensures told { TellsOn L.tells lines.old lines.new }
         ensures failed { L.failed lines.new ≡ L.failed lines.old }
         ensures over { L.over lines.new ≡ L.over lines.old }
+        ensures drains { L.drains lines.new ≡ L.drains lines.old }
         ensures fault { IfErr result (λ f. EndsBy f None) }
         ensures idle { OnOk result (in_flight self.new.director.schedule.content ≡ 0) }
     {

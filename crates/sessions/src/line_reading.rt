@@ -2,8 +2,9 @@
 ghost use Rattle.std.specs.Prelude.{◌≡◌, ◌++◌, ℕ, List, [], Bool, true, Some, None, Option, Result, IfOk, OnOk, MatchResult, MatchOption};
 ghost use Rattle.sched_events.specs.declared.answers.Answer.{Answer};
 ghost use Rattle.sched_events.specs.declared.events.Event.{Event};
+ghost use Rattle.sched_model.specs.States.{in_flight};
 ghost use Rattle.director.specs.declared.faults.Fault.{Fault};
-ghost use Rattle.sessions.specs.Lines.{may_be_read, opened_by, ticked, told_part, Takes, TellsOn};
+ghost use Rattle.sessions.specs.Lines.{may_be_read, opened_by, reads_drain, ticked, told_part, Takes, TellsOn};
 ghost use Rattle.sessions.specs.declared.clocks.ClockFault.{ClockFault};
 ghost use Rattle.sessions.specs.declared.line_reading.Line.{Line};
 ghost use Rattle.sessions.specs.declared.line_reading.Line.TheVariants as Says;
@@ -56,15 +57,21 @@ pub trait Lines: Drop {
     /// Whether no line is left.
     ghost over: { Self → Bool };
 
-    /// The next line, or none where they are over. They may look at the schedule. No line waits before.
+    /// Whether they said to drain by the last line that was read, and the next is not asked for yet.
+    ghost drains: { Self → Bool };
+
+    /// The next line, or none where they are over. They may look at the schedule. No line waits before; and after a line that says to drain no try is in
+    /// flight.
     fn next(&mut self, schedule: &Schedule) -> Result<Option<Line>, LineFault>
-        requires { failed self.old ≡ None }
+        requires sound { failed self.old ≡ None }
+        requires drained { drains self.old ≡ true → in_flight schedule.now.content ≡ 0 }
         ensures told { (s : Self) (told : List (Event × Answer)) (ticks : List ℕ)
             → tells s told ticks None self.old → tells s told ticks (opened_by result) self.new }
         ensures failed { MatchResult result (λ _. failed self.new ≡ None)
             (λ fault. failed self.new ≡ Some fault) }
         ensures line { IfOk result (λ next. MatchOption next (over self.new ≡ true)
-            (λ line. may_be_read line ≡ true)) };
+            (λ line. may_be_read line ≡ true)) }
+        ensures drains { drains self.new ≡ reads_drain result };
 
     /// Tells the line that waits that its event was accepted, with the answer, or why not. It counts as told even where that fails.
     fn answered(&mut self, event: &Event, answer: &Result<Answer, Fault>) -> Result<(), LineFault>
@@ -75,7 +82,8 @@ pub trait Lines: Drop {
         ensures shown { OnOk result (shows self.old event.now answer.now self.new) }
         ensures failed { MatchResult result (λ _. failed self.new ≡ None)
             (λ fault. failed self.new ≡ Some fault) }
-        ensures over { over self.new ≡ over self.old };
+        ensures over { over self.new ≡ over self.old }
+        ensures drains { drains self.new ≡ drains self.old };
 
     /// Tells the line that waits, which says to tick now, that the clock gave no moment.
     fn no_clock(&mut self, fault: ClockFault) -> Result<(), LineFault>
@@ -85,13 +93,15 @@ pub trait Lines: Drop {
         ensures shown { OnOk result (shows_no_clock self.old fault self.new) }
         ensures failed { MatchResult result (λ _. failed self.new ≡ None)
             (λ fault. failed self.new ≡ Some fault) }
-        ensures over { over self.new ≡ over self.old };
+        ensures over { over self.new ≡ over self.old }
+        ensures drains { drains self.new ≡ drains self.old };
 
     /// In a drain a report is waited for next. They may show how the schedule stands; nothing is told by it.
     fn waits(&mut self, schedule: &Schedule)
         ensures told { TellsOn tells self.old self.new }
         ensures failed { failed self.new ≡ failed self.old }
-        ensures over { over self.new ≡ over self.old };
+        ensures over { over self.new ≡ over self.old }
+        ensures drains { drains self.new ≡ drains self.old };
 
     /// Where nothing is done, nothing was told.
     ghost begins: { (s : Self) → tells s [] [] None s };

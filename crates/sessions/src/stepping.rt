@@ -108,6 +108,7 @@ impl<S: Alter> Session<S> {
         ensures failed { MatchResult result (λ _. L.failed lines.new ≡ None)
             (λ fault. L.failed lines.new ≡ Some fault) }
         ensures over { L.over lines.new ≡ L.over lines.old }
+        ensures drains { L.drains lines.new ≡ L.drains lines.old }
     {
         let result = self.try_step(alloc, &event);
         let told = lines.answered(&event, &result);

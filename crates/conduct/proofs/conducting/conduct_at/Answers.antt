@@ -34,6 +34,7 @@ manage-managed-requires-after_bounds g c κs within =
       fresh = n.minutes;
       within = subst (λ (x : DirectorValue g.row.S.Denot). c.args.lane_count ≤ x.schedule.content.limits.lanes) (sym n.director) c.requires.lanes.1;
       sound = c.requires.sound;
+      undrained = c.requires.undrained;
       passes = e.all.1;
       kits = c.requires.kits;
       pass_each = e.workers.0 ∙ len;

@@ -7,11 +7,15 @@ pub returns-in-Ok-open-clause-run : goal.returns-in-Ok-open-clause-run
 returns-in-Ok-open-clause-run g c =
     let kits = map (λ x. x.kit) (vec_items c.args.crews) in
     let z = c.close.ensures in
+    let r = c.in-Ok.ensures in
     let h =
-    ran (state g.S.Store) g.O.Operator.runs_of g.O.Operator.taken g.R.Read.remaining g.F.Sources.gives g.C.Clock.gives c.args.options.lanes kits (state g.S.Store c.args.store) c.in-Ok-open.director c.conduct-conducted.result c.in-Ok.reader c.conduct-conducted.new.lines
-    c.args.clock.now c.conduct-conducted.new.clock _ _ c.conduct-conducted.ensures (let o = rw c.full.ensures at c.in-Ok-open.ensures.opened in o) (let s = rw c.full.ensures at c.in-Ok-open.ensures.stored in s) c.in-Ok.ensures.over c.in-Ok.ensures.listed
-    c.close.result.store (vec_items c.close.result.minutes) c.close.result.outcome c.close.result.status c.close.result.sources z.store (ap vec_items z.minutes) z.outcome z.status z.sources
+    ran (state g.S.Store) g.O.Operator.runs_of g.O.Operator.taken g.R.Read.remaining g.W.Write.contents g.F.Sources.gives g.C.Clock.gives c.args.options.lanes kits (state g.S.Store c.args.store) c.in-Ok-open.director c.conduct-conducted.result c.in-Ok.reader c.conduct-conducted.new.lines
+    c.args.clock.now c.conduct-conducted.new.clock c.conduct-conducted.ensures (let o = rw c.full.ensures at c.in-Ok-open.ensures.opened in o) (let s = rw c.full.ensures at c.in-Ok-open.ensures.stored in s)
+    (record { over = r.over; status = r.status; drains = r.drains; listed = r.listed })
+    c.close.result.store (vec_items c.close.result.minutes) c.close.result.outcome c.close.result.status c.close.result.sources c.close.result.output
+    (record { store_is = z.store; minutes_are = ap vec_items z.minutes; outcome_is = z.outcome; status_is = z.status; sources_are = z.sources; output_is = z.output })
     in
-    let i = rw c.in-Ok.ensures.input at h in
-    let s = rw c.in-Ok.ensures.sources at i in
-    s
+    let i = rw r.input at h in
+    let s = rw r.sources at i in
+    let o = rw r.output at s in
+    o

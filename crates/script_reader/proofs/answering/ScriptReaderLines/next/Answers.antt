@@ -6,17 +6,19 @@ use Rattle.script_reader.proofs.answering.ScriptReaderLines.next.Goals as goal
 
 pub returns-in-Ok-clause-told : goal.returns-in-Ok-clause-told
 returns-in-Ok-clause-told g c s told ticks h =
-    let none : c.is_none-self.result ≡ is_none c.in-Ok.next = search rules in (
-      ap (λ w. w.names) c.in-Ok.ensures.words ∙ h.0,
-      read_tells g.R.Read.remaining g.F.Sources.gives s c.args.self.now {E = Error} _ _ _ _ _ told ticks (Ok c.in-Ok.next) (λ names first f ended. c.in-Ok.ensures.told names first f told ticks ended) c.requires
-          (ap is_some (c.in-Ok.ensures.failed ∙ c.requires)) (none ∙ is_end_none Error c.in-Ok.next) h,
-    )
+    let none : c.is_none-self.result ≡ is_none c.in-Ok.next = search rules in
+    let r =
+    read_tells g.R.Read.remaining g.W.Write.contents g.F.Sources.gives s c.args.self.now {E = Error} _ _ _ _ _ _ _ told ticks (Ok c.in-Ok.next) (λ drained names before first from f ended. c.in-Ok.ensures.told drained names before first from f told ticks ended) c.requires.sound
+    (ap is_some (c.in-Ok.ensures.failed ∙ c.requires.sound)) (none ∙ is_end_none Error c.in-Ok.next) c.in-Ok.ensures.drains h
+    in
+    (ap (λ w. w.names) c.in-Ok.ensures.words ∙ h.0, r.0, r.1)
 
 pub returns-in-Ok-clause-failed : goal.returns-in-Ok-clause-failed
-returns-in-Ok-clause-failed g c = c.in-Ok.ensures.failed ∙ c.requires
+returns-in-Ok-clause-failed g c = c.in-Ok.ensures.failed ∙ c.requires.sound
 
 pub returns-in-Err-clause-told : goal.returns-in-Err-clause-told
-returns-in-Err-clause-told g c s told ticks h = (
-  ap (λ w. w.names) c.in-Err.ensures.words ∙ h.0,
-  read_tells g.R.Read.remaining g.F.Sources.gives s c.args.self.now {E = Error} _ _ _ (Some c.fault_of-fault.result) _ told ticks (Err c.in-Err.error) (λ names first f ended. c.in-Err.ensures.told names first f told ticks ended) c.requires refl refl h,
-)
+returns-in-Err-clause-told g c s told ticks h =
+    let r =
+    read_tells g.R.Read.remaining g.W.Write.contents g.F.Sources.gives s c.args.self.now {E = Error} _ _ _ _ (Some c.fault_of-fault.result) _ _ told ticks (Err c.in-Err.error) (λ drained names before first from f ended. c.in-Err.ensures.told drained names before first from f told ticks ended) c.requires.sound refl refl c.in-Err.ensures.drains h
+    in
+    (ap (λ w. w.names) c.in-Err.ensures.words ∙ h.0, r.0, r.1)

@@ -17,6 +17,7 @@ loop-preserved g c =
       told = λ s told ticks waits before. c.waits.ensures.told s told ticks waits (was.told s told ticks waits before);
       failed = c.waits.ensures.failed ∙ was.failed;
       over = c.waits.ensures.over ∙ was.over;
+      drains = c.waits.ensures.drains ∙ was.drains;
     }
 
 pub returns-in-Err-clause-goes_on : goal.returns-in-Err-clause-goes_on

@@ -14,4 +14,5 @@ invariant-loop g l = record {
   told : TellsOn g.L.Lines.tells l.initial.lines l.lines;
   failed : g.L.Lines.failed l.lines ≡ g.L.Lines.failed l.initial.lines;
   over : g.L.Lines.over l.lines ≡ g.L.Lines.over l.initial.lines;
+  drains : g.L.Lines.drains l.lines ≡ g.L.Lines.drains l.initial.lines;
 }

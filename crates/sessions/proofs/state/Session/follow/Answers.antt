@@ -47,6 +47,7 @@ loop-preserved g c =
           let after = c.in_default.ensures.told a n l k ((was.goes_on n).run a run) read in
           subst (λ waits. AreTold g.L.Lines.tells g.C.Clock.gives l k c.do_line.new.lines c.do_line.new.clock (answered (vec_items c.do_line.new.self.minutes) a) waits) after.2 after.1;
       failed = c.in_default.ensures.fault;
+      drained = c.in_default.ensures.drained;
     }
 
 pub returns-in-Err-clause-told : goal.returns-in-Err-clause-told

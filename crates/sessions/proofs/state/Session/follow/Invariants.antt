@@ -1,6 +1,7 @@
-use Rattle.std.proofs.Common.{◌≡◌, ◌<◌, ℕ, None, length, vec_items}
+use Rattle.std.proofs.Common.{◌≡◌, ◌<◌, ℕ, true, None, length, vec_items}
 use Rattle.sqlite.specs.Held.{state}
 use Rattle.sched_model.specs.Schedule.{Schedule}
+use Rattle.sched_model.specs.States.{in_flight}
 use Rattle.minutes.specs.Minutes.{answered}
 use Rattle.sessions.specs.Runs.{GoesOn, IsRun}
 use Rattle.sessions.specs.Told.{AreTold}
@@ -14,4 +15,5 @@ invariant-loop g l = record {
       → AreTold g.L.Lines.tells g.C.Clock.gives at from l.initial.lines l.initial.clock (answered (vec_items l.initial.self.minutes) a) None
       → AreTold g.L.Lines.tells g.C.Clock.gives at from l.lines l.clock (answered (vec_items l.self.minutes) a) None;
   failed : g.L.Lines.failed l.lines ≡ None;
+  drained : g.L.Lines.drains l.lines ≡ true → in_flight l.self.director.schedule.content ≡ 0;
 }
