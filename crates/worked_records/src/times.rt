@@ -1,0 +1,35 @@
+//! What a round wrote, and how long that took.
+use crate::graphs::TASKS;
+use crate::rounds::Round;
+use crate::work::{Work, a_second, micros_each};
+use std::io;
+
+/// Prints how many steps and rows a round wrote.
+pub fn put_counts<R: Print>(rt: &R, round: &Round) -> io::Result<()> {
+    put_count(rt, "backfills", &round.backfills)?;
+    put_count(rt, "starts", &round.starts)?;
+    put_count(rt, "ends", &round.ends)
+}
+
+/// The same with times, of a round of so many runs.
+pub fn put_times<R: Print>(rt: &R, runs: u64, round: &Round) -> io::Result<()> {
+    let instances = runs.saturating_mul(TASKS);
+    println!(rt; "{instances} task instances")?;
+    put_time(rt, "backfills", &round.backfills)?;
+    put_time(rt, "starts", &round.starts)?;
+    put_time(rt, "ends", &round.ends)
+}
+
+fn put_count<R: Print>(rt: &R, name: &str, work: &Work) -> io::Result<()> {
+    println!(rt; "{name}: {} steps, {} rows", work.steps, work.rows)
+}
+
+fn put_time<R: Print>(rt: &R, name: &str, work: &Work) -> io::Result<()> {
+    put_count(rt, name, work)?;
+    let planning = micros_each(work.steps, work.planning);
+    let writing = micros_each(work.steps, work.writing);
+    println!(rt; "  {planning} us planned and {writing} us written each")?;
+    let rows = a_second(work.rows, work.writing);
+    let steps = a_second(work.steps, work.writing);
+    println!(rt; "  {rows} rows and {steps} steps a second written")
+}
