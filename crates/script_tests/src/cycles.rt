@@ -1,8 +1,6 @@
 //! Graphs with more than one cycle: which of them is told is open.
-use crate::records::run;
-use std::sync::Wait;
+use crate::records::printed;
 use std::test::Fail;
-use std::thread::Threads;
 
 // a and b wait for one another, and so do c, e and d.
 const TWO_CYCLES: &str = "load inline
@@ -18,16 +16,6 @@ task = [
 ]
 .
 ";
-
-fn printed<T: Threads + Wait + Sync>(
-    rt: &T,
-    host: &HostRuntime,
-    script: &str,
-) -> Result<String, Fail> {
-    let mut output = Vec::new(host.alloc());
-    run(rt, host, 0, script.as_bytes(), &mut output)?;
-    Ok(String::from_utf8(output).map_err(|_| "no text")?)
-}
 
 // A closed walk: each task is an upstream of the next, and the first of them in the file stands first.
 #[test]

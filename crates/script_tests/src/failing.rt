@@ -1,37 +1,75 @@
 //! A reader and a writer that fail.
+use std::alloc::Global;
 use std::io::{self, ErrorKind, Read, Write};
 
-// A reader of a text whose reads fail after so many, and a writer whose writes do.
+// How many reads of a script, and how many writes of its answers, do not fail.
+#[derive(Clone, Copy)]
+pub struct Calls {
+    pub reads: usize,
+    pub writes: usize,
+}
+
+impl Calls {
+    // Nothing fails.
+    pub fn all() -> Calls {
+        Calls {
+            reads: usize::MAX,
+            writes: usize::MAX,
+        }
+    }
+}
+
+fn call(calls: &mut usize) -> io::Result<()> {
+    if *calls == 0 {
+        return Err(io::Error::from(ErrorKind::BrokenPipe));
+    }
+    *calls -= 1;
+    Ok(())
+}
+
+// A reader of a text whose reads fail after so many.
 #[derive(Drop)]
-pub struct Failing<'a> {
+pub struct Source<'a> {
     pub text: &'a [u8],
     pub calls: usize,
 }
 
-impl Failing<'_> {
-    fn call(&mut self) -> io::Result<()> {
-        if self.calls == 0 {
-            return Err(io::Error::from(ErrorKind::BrokenPipe));
-        }
-        self.calls -= 1;
-        Ok(())
-    }
-}
-
-impl Read for Failing<'_> {
+impl Read for Source<'_> {
     fn read(&mut self, buffer: &mut [u8]) -> io::Result<usize> {
-        self.call()?;
+        call(&mut self.calls)?;
         self.text.read(buffer)
     }
 }
 
-impl Write for Failing<'_> {
+// A writer that takes a byte at each write, and keeps it; its writes fail after so many.
+#[derive(Drop)]
+pub struct Sink {
+    pub bytes: Vec<u8>,
+    pub calls: usize,
+}
+
+impl Sink {
+    pub fn new(alloc: Global, calls: usize) -> Sink {
+        Sink {
+            bytes: Vec::new(alloc),
+            calls,
+        }
+    }
+}
+
+impl Write for Sink {
     fn write(&mut self, bytes: &[u8]) -> io::Result<usize> {
-        self.call()?;
-        Ok(bytes.len().min(1))
+        call(&mut self.calls)?;
+        match bytes.first() {
+            Some(byte) => {
+                self.bytes.push(*byte)?;
+                Ok(1)
+            }
+            None => Ok(0),
+        }
     }
 
     fn flush(&mut self) -> io::Result<()> {
-        self.call()
+        call(&mut self.calls)
     }
 }

@@ -1,4 +1,5 @@
 //! Runs with four workers, and with none.
+use crate::failing::Calls;
 use crate::records::{RanHere, run_with};
 use graph_file::Operator as Kind;
 use sessions::ConductFault;
@@ -26,7 +27,7 @@ list runs
 ";
 
 // The serials in the logs of all workers, rising, and how many tries their operators `noop` performed.
-fn performed(alloc: Global, ran: &RanHere<Vec<u8>>) -> Result<(Vec<u64>, usize), Fail> {
+fn performed(alloc: Global, ran: &RanHere) -> Result<(Vec<u64>, usize), Fail> {
     let Ok(settled) = &ran.outcome else {
         return Err(Fail::from("ended with a fault"));
     };
@@ -52,12 +53,12 @@ fn count(text: &str, line: &str, end: &str) -> (usize, usize) {
 #[test]
 fn four_workers_perform_a_hundred_tries_once(rt: HostRuntime) -> Result<(), Fail> {
     let alloc = rt.alloc();
-    let ran = run_with(&rt, &rt, 4, 4, HUNDRED_RUNS.as_bytes(), Vec::new(alloc))?;
+    let ran = run_with(&rt, &rt, 4, 4, HUNDRED_RUNS.as_bytes(), Calls::all())?;
     let (serials, runs) = performed(alloc, &ran)?;
     let wanted = (1..101).collect::<Vec<u64>>(alloc)?;
     assert_eq!(rt; (serials.as_slice(), runs), (wanted.as_slice(), 100));
     let status = ran.status;
-    let text = String::from_utf8(ran.output).map_err(|_| "no text")?;
+    let text = String::from_utf8(ran.output.bytes).map_err(|_| "no text")?;
     assert_eq!(rt;
         (status, count(text.as_str(), "more", " success")),
         (0, (9, 100))
@@ -67,10 +68,12 @@ fn four_workers_perform_a_hundred_tries_once(rt: HostRuntime) -> Result<(), Fail
 
 #[test]
 fn without_workers_nothing_is_read(rt: HostRuntime) -> Result<(), Fail> {
-    let output = Vec::new(rt.alloc());
-    let ran = run_with(&rt, &rt, 0, 4, HUNDRED_RUNS.as_bytes(), output)?;
+    let ran = run_with(&rt, &rt, 0, 4, HUNDRED_RUNS.as_bytes(), Calls::all())?;
     assert!(rt; matches!(ran.outcome, Err(ConductFault::NoWorker)));
     assert_eq!(rt; (ran.status, ran.minutes.len()), (4, 0));
-    assert_eq!(rt; ran.output.as_slice(), b"conduct 1 NoWorker\n".as_slice());
+    assert_eq!(rt;
+        ran.output.bytes.as_slice(),
+        b"conduct 1 NoWorker\n".as_slice()
+    );
     Ok(())
 }

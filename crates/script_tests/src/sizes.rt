@@ -1,5 +1,5 @@
 //! Graphs and schedules of the greatest size.
-use crate::records::run;
+use crate::records::printed;
 use sched_core::{Event, GraphText, Limits, Moment, Outcome, Schedule, Stage};
 use std::alloc::{AllocError, Global};
 use std::sync::Wait;
@@ -34,9 +34,7 @@ fn loaded<T: Threads + Wait + Sync>(
     let alloc = host.alloc();
     let text = file(alloc, tasks, true)?;
     let script = format!(in alloc; "load inline\n{text}.\n")?;
-    let mut output = Vec::new(alloc);
-    run(rt, host, 0, script.as_bytes(), &mut output)?;
-    Ok(String::from_utf8(output).map_err(|_| "no text")?)
+    printed(rt, host, script.as_str())
 }
 
 #[test]

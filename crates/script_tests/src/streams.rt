@@ -1,5 +1,5 @@
 //! Scripts whose input or output fails.
-use crate::failing::Failing;
+use crate::failing::{Calls, Sink, Source};
 use crate::records::run;
 use answer_lines::{Shown, put};
 use command_words::CommandReader;
@@ -9,7 +9,7 @@ use graph_file::GraphFault;
 use sched_core::{Moment, Refusal};
 use script_commands::next_command;
 use script_lines::LineReader;
-use std::io::{BufReader, ErrorKind};
+use std::io::ErrorKind;
 use std::sync::Wait;
 use std::test::Fail;
 use std::thread::Threads;
@@ -22,18 +22,12 @@ fn read_in<T: Threads + Wait + Sync>(
     host: &HostRuntime,
     calls: usize,
 ) -> Result<(u8, bool, bool), Fail> {
-    let script = TICKS.as_slice();
-    let input = BufReader::with_capacity(
-        host.alloc(),
-        1,
-        Failing {
-            text: script,
-            calls,
-        },
-    )?;
-    let mut output = Vec::new(host.alloc());
-    let (schedule, status) = run(rt, host, 0, input, &mut output)?;
-    let text = output.as_slice();
+    let calls = Calls {
+        reads: calls,
+        ..Calls::all()
+    };
+    let (schedule, status, output) = run(rt, host, 0, TICKS.as_slice(), calls)?;
+    let text = output.bytes.as_slice();
     if !text.ends_with(b"conduct 4 ReadFault\n") {
         return Err(Fail::from("no last line"));
     }
@@ -57,9 +51,12 @@ fn written_in<T: Threads + Wait + Sync>(
     host: &HostRuntime,
     calls: usize,
 ) -> Result<(u8, Moment, usize), Fail> {
-    let mut writer = Failing { text: b"", calls };
-    let (schedule, status) = run(rt, host, 0, TICKS.as_slice(), &mut writer)?;
-    Ok((status, schedule.now(), writer.calls))
+    let calls = Calls {
+        writes: calls,
+        ..Calls::all()
+    };
+    let (schedule, status, output) = run(rt, host, 0, TICKS.as_slice(), calls)?;
+    Ok((status, schedule.now(), output.calls))
 }
 
 #[test]
@@ -79,12 +76,7 @@ fn a_failed_read_is_no_command(rt: HostRuntime) -> Result<(), Fail> {
     let reader = CommandReader::new();
     for calls in 0..16 {
         let mut lines = LineReader::new(rt.alloc())?;
-        let read = next_command(
-            rt.alloc(),
-            &reader,
-            &mut lines,
-            &mut Failing { text, calls },
-        );
+        let read = next_command(rt.alloc(), &reader, &mut lines, &mut Source { text, calls });
         let kind = read.err().ok_or("read")?.kind();
         assert_eq!(rt; kind, ErrorKind::BrokenPipe, "after {calls} reads");
     }
@@ -96,16 +88,10 @@ fn a_failed_read_is_no_command(rt: HostRuntime) -> Result<(), Fail> {
 fn a_failed_write_is_an_error(rt: HostRuntime) -> Result<(), Fail> {
     let fault = Fault::Refused(Refusal::GraphFault(GraphFault::Cron(CronFault::NeverFires)));
     for calls in 0..41 {
-        let ended = put(&mut Failing { text: b"", calls }, Shown::Failure(&fault));
+        let ended = put(&mut Sink::new(rt.alloc(), calls), Shown::Failure(&fault));
         let kind = ended.err().ok_or("written")?.kind();
         assert_eq!(rt; kind, ErrorKind::BrokenPipe, "at {calls}");
     }
-    put(
-        &mut Failing {
-            text: b"",
-            calls: 41,
-        },
-        Shown::Failure(&fault),
-    )?;
+    put(&mut Sink::new(rt.alloc(), 41), Shown::Failure(&fault))?;
     Ok(())
 }

@@ -1,4 +1,5 @@
 //! What is asked of a schedule that has it not.
+use crate::failing::Calls;
 use crate::records::run;
 use sched_core::{Moment, Name, Schedule};
 use std::alloc::Global;
@@ -21,8 +22,7 @@ fn name(alloc: Global, text: &str) -> Result<Name, Fail> {
 
 // The schedule of the script, with one lane.
 fn schedule<T: Threads + Wait + Sync>(rt: &T, host: &HostRuntime) -> Result<Schedule, Fail> {
-    let mut output = Vec::new(host.alloc());
-    let (schedule, _status) = run(rt, host, 1, SCRIPT.as_bytes(), &mut output)?;
+    let (schedule, _status, _output) = run(rt, host, 1, SCRIPT.as_bytes(), Calls::all())?;
     Ok(schedule)
 }
 
