@@ -9,6 +9,7 @@
 mod causes;
 mod clearing;
 mod codes;
+mod finding;
 mod handing;
 mod listing;
 mod naming;
