@@ -1,6 +1,9 @@
 //! What is found in a schedule, and what is said of a graph that it has not.
-ghost use Rattle.std.specs.Prelude.{◌≡◌, ◌+◌, [], ◌∷◌, codes, true, false};
+ghost use Rattle.std.specs.Prelude.{◌≡◌, ◌+◌, [], ◌∷◌, codes, true, false, nat_le, nat_lt};
+ghost use Rattle.sched_state.specs.declared.runs.RunKind.TheVariants.{Scheduled};
 ghost use Rattle.sched_state.specs.declared.runs.RunPhase.TheVariants as phase;
+ghost use Rattle.sched_model.specs.Lists.{all_pairs, rises};
+ghost use Rattle.sched_model.specs.NamedRuns.{is_for, run_from};
 ghost use Rattle.sched_model.specs.Rows.{a_day};
 ghost use Rattle.sched_model.specs.Schedule.{dag_named, dates_of, has_run_at, has_runs, is_ended, is_paused, is_queued, is_running, max_active_runs_of};
 ghost use Rattle.sched_rows.specs.Days.{a_and_c, three_days_done, two_days_on};
@@ -13,6 +16,26 @@ pub fn runs_are_found_by_graph_and_date()
     ensures has { has_runs three_days_done (codes "h") ≡ true }
     ensures has_not { has_runs three_days_done (codes "x") ≡ false }
     ensures dates { dates_of three_days_done (codes "h") ≡ 0 ∷ a_day ∷ two_days_on ∷ [] }
+{}
+
+/// The logical date of a run is the start of its interval; it is named by its graph and that date, both of them.
+pub fn a_run_is_of_the_start_of_its_interval()
+    ensures date { (run_from Scheduled (codes "g") (record { start = 0; end = a_day })).logical ≡ 0 }
+    ensures end { (run_from Scheduled (codes "g") (record { start = 0; end = a_day })).interval.end ≡ a_day }
+    ensures named { is_for (codes "g") 0 (run_from Scheduled (codes "g") (record { start = 0; end = a_day })) ≡ true }
+    ensures another_date { is_for (codes "g") a_day (run_from Scheduled (codes "g") (record { start = 0; end = a_day })) ≡ false }
+    ensures another_graph { is_for (codes "x") 0 (run_from Scheduled (codes "g") (record { start = 0; end = a_day })) ≡ false }
+{}
+
+/// Lists are compared element by element, and are of one length; a list rises where each element stands before all after it.
+pub fn lists_are_compared_element_by_element()
+    ensures same { all_pairs nat_le (1 ∷ 2 ∷ []) (1 ∷ 2 ∷ []) ≡ true }
+    ensures first { all_pairs nat_le (3 ∷ 2 ∷ []) (1 ∷ 2 ∷ []) ≡ false }
+    ensures longer { all_pairs nat_le (1 ∷ 2 ∷ []) (1 ∷ []) ≡ false }
+    ensures shorter { all_pairs nat_le (1 ∷ []) (1 ∷ 2 ∷ []) ≡ false }
+    ensures rising { rises nat_lt (1 ∷ 2 ∷ 3 ∷ []) ≡ true }
+    ensures not_at_the_end { rises nat_lt (1 ∷ 3 ∷ 2 ∷ []) ≡ false }
+    ensures not_at_first { rises nat_lt (3 ∷ 1 ∷ 2 ∷ []) ≡ false }
 {}
 
 /// A graph that is not there is not paused, may have no run running, and has no task.
