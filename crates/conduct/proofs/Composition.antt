@@ -8,11 +8,11 @@ use Rattle.instance_machine.specs.declared.tries.Outcome.{Outcome}
 use Rattle.operators.specs.declared.kits.Kit.{Kit}
 use Rattle.ruled_dispatch.specs.declared.lanes.Lanes.{Lanes}
 use Rattle.sched_events.specs.Steps.{steps, handed_along, AreAccepted}
-use Rattle.sched_events.specs.declared.answers.Answer.{Answer}
 use Rattle.sched_events.specs.declared.events.Event.{Event}
+use Rattle.sched_model.specs.Schedule.{Schedule}
 use Rattle.sched_model.specs.States.{in_flight}
 use Rattle.director.specs.Directors.{DirectorValue, Follows}
-use Rattle.minutes.specs.Minutes.{answered, BeginWithRestart}
+use Rattle.minutes.specs.Minutes.{BeginWithRestart}
 use Rattle.sessions.specs.Runs.{IsRun}
 use Rattle.sessions.specs.declared.faults.ConductFault.{ConductFault}
 use Rattle.sessions.specs.declared.faults.ConductFault.TheVariants as fault
@@ -104,8 +104,8 @@ empty_list (x ∷ xs) le = absurd (omega arith)
 
 module _ {S G O : Type 0} where
   -- nothing was stepped, and no thread was started
-  pub unstarted_run : (look : Held S → State) (runs : O → List (ℕ × Outcome)) (taken : O → Option ℕ) (lane_count : ℕ) (kits : List (Kit O)) (old : DirectorValue S) (run : Conducted S G O) (are_told : List (Event × Answer) → Option Line → Type 0) (untouched : Type 0) (failed : Option LineFault) (is_over : Bool) (f : ConductFault)
-      → run.director ≡ old → run.minutes.items ≡ [] → run.outcome ≡ Err f → are_told [] None → untouched
+  pub unstarted_run : (look : Held S → State) (runs : O → List (ℕ × Outcome)) (taken : O → Option ℕ) (lane_count : ℕ) (kits : List (Kit O)) (old : DirectorValue S) (run : Conducted S G O) (are_told : Schedule → List Event → Option Line → Type 0) (untouched : Type 0) (failed : Option LineFault) (is_over : Bool) (f : ConductFault)
+      → run.director ≡ old → run.minutes.items ≡ [] → run.outcome ≡ Err f → are_told old.schedule.content [] None → untouched
       → came_to_its_end run.outcome ≡ false → EndsRun f failed → is_no_worker f ≡ (length kits == 0)
       → IsConducted look runs taken lane_count kits old run are_told untouched failed is_over
   unstarted_run look runs taken lane_count kits old run are_told untouched failed is_over f d e o nothing same short ends none =
@@ -117,7 +117,7 @@ module _ {S G O : Type 0} where
         opened = ap (λ (x : DirectorValue S). x.opened) d;
         begun = subst (λ (l : List Event). BeginWithRestart lane_count l) (sym e) tt;
         waits = None;
-        told = subst (λ (l : List Event). are_told (answered l a) None) (sym e) nothing;
+        told = subst (λ (l : List Event). are_told a l None) (sym e) nothing;
         whole = λ is. absurd (true≢false (sym is ∙ short));
         fault = subst (λ r. MatchResult r (λ _. failed ≡ None) (λ g. EndsRun g failed)) (sym o) ends;
         workers = subst (λ r. MatchResult r (λ _. 0 < length kits) (λ g. is_no_worker g ≡ (length kits == 0))) (sym o) none;
@@ -131,7 +131,7 @@ module _ {S G O : Type 0} where
 
   -- a session was served while the workers ran, and what the workers did was settled
   pub conducted : {W R : Type 0} (look : Held S → State) (runs : O → List (ℕ × Outcome)) (taken : O → Option ℕ) (lanes : Lanes) (lane_count stops : ℕ) (kits : List (Kit O)) (old : DirectorValue S) (fresh now : Session S) (outcome : Result W ConductFault)
-      (results : List R) (end_of : R → WorkerEnd G O) (run : Conducted S G O) (are_told : List (Event × Answer) → Option Line → Type 0) (untouched : Type 0) (failed : Option LineFault) (is_over : Bool)
+      (results : List R) (end_of : R → WorkerEnd G O) (run : Conducted S G O) (are_told : Schedule → List Event → Option Line → Type 0) (untouched : Type 0) (failed : Option LineFault) (is_over : Bool)
       → 0 < length kits
       → fresh.director ≡ old → IsRun old.schedule.content lane_count fresh
       → IsServed look lanes lane_count stops fresh now outcome are_told untouched failed is_over
@@ -157,7 +157,7 @@ module _ {S G O : Type 0} where
         opened = ap (λ (x : DirectorValue S). x.opened) dir ∙ served.opened ∙ ap (λ (x : DirectorValue S). x.opened) of_old;
         begun = subst (λ (l : List Event). BeginWithRestart lane_count l) (sym min) stop.begun;
         waits = what.0;
-        told = subst (λ (l : List Event). are_told (answered l a) what.0) (sym min) what.1;
+        told = subst (λ (l : List Event). are_told a l what.0) (sym min) what.1;
         whole = λ is. (
           whole_by _ run.outcome outcome failed ok pass served.fault served.over is,
           whole_by _ run.outcome outcome failed ok pass served.fault what.2 is,

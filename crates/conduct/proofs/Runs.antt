@@ -7,11 +7,9 @@ use Rattle.ruled_dispatch.specs.declared.items.JobOrStop.TheVariants as item
 use Rattle.ruled_dispatch.specs.declared.items.WorkerReport.{WorkerReport}
 use Rattle.ruled_dispatch.specs.declared.lanes.Lanes.{Lanes}
 use Rattle.ruled_dispatch.specs.declared.passes.DirectorPass.{DirectorPass}
-use Rattle.sched_events.specs.declared.answers.Answer.{Answer}
 use Rattle.sched_events.specs.declared.events.Event.{Event}
 use Rattle.sched_model.specs.Schedule.{Schedule}
 use Rattle.sched_model.specs.States.{in_flight}
-use Rattle.minutes.specs.Minutes.{answered}
 use Rattle.sessions.specs.Faults.{EndsBy}
 use Rattle.sessions.specs.Runs.{GoesOn, IsRun}
 use Rattle.sessions.specs.Told.{AreToldBy}
@@ -59,7 +57,7 @@ module _ {S : Type 0} where
   abbrev pub with_pass : Session S → DirectorPass → Session S
   with_pass s pass = record { director = s.director; minutes = s.minutes; pass = pass; missed = s.missed }
 
-  stopped : (a : Schedule) (lane_count stops : ℕ) (s : Session S) (pass : DirectorPass) → sent_of pass ≡ sent_of s.pass ++ replicate stops item.Stop → heard_of pass ≡ heard_of s.pass
+  pub stopped : (a : Schedule) (lane_count stops : ℕ) (s : Session S) (pass : DirectorPass) → sent_of pass ≡ sent_of s.pass ++ replicate stops item.Stop → heard_of pass ≡ heard_of s.pass
       → IsRun a lane_count s → IsStopped a lane_count stops (with_pass s pass)
   stopped a lane_count stops s pass sent heard run = record {
     stepped = run.stepped;
@@ -70,9 +68,9 @@ module _ {S : Type 0} where
   }
 
   -- it was served
-  pub served : {W : Type 0} (look : Held S → State) (lanes : Lanes) (lane_count stops : ℕ) (old now : Session S) (pass : DirectorPass) (outcome : Result W ConductFault) (are_told : List (Event × Answer) → Option Line → Type 0) (untouched : Type 0) (failed : Option LineFault) (is_over : Bool)
+  pub served : {W : Type 0} (look : Held S → State) (lanes : Lanes) (lane_count stops : ℕ) (old now : Session S) (pass : DirectorPass) (outcome : Result W ConductFault) (are_told : Schedule → List Event → Option Line → Type 0) (untouched : Type 0) (failed : Option LineFault) (is_over : Bool)
       → GoesOn look lanes lane_count old now
-      → ((a : Schedule) → IsRun a lane_count old → AreToldBy outcome are_told (answered now.minutes.items a))
+      → ((a : Schedule) → IsRun a lane_count old → AreToldBy outcome (are_told a) now.minutes.items)
       → MatchResult outcome (λ _. failed ≡ None) (λ f. EndsBy f failed)
       → OnOk outcome (is_over ≡ true)
       → OnOk outcome (0 < length now.minutes.items)
@@ -93,7 +91,7 @@ module _ {S : Type 0} where
     unstarted = never_unstarted _ outcome failed fault;
   }
 
-  pub same_stops : {W : Type 0} {look : Held S → State} {lanes : Lanes} {lane_count : ℕ} {old now : Session S} {outcome : Result W ConductFault} {are_told : List (Event × Answer) → Option Line → Type 0} {untouched : Type 0} {failed : Option LineFault} {is_over : Bool} (n m : ℕ) → n ≡ m
+  pub same_stops : {W : Type 0} {look : Held S → State} {lanes : Lanes} {lane_count : ℕ} {old now : Session S} {outcome : Result W ConductFault} {are_told : Schedule → List Event → Option Line → Type 0} {untouched : Type 0} {failed : Option LineFault} {is_over : Bool} (n m : ℕ) → n ≡ m
       → IsServed look lanes lane_count n old now outcome are_told untouched failed is_over → IsServed look lanes lane_count m old now outcome are_told untouched failed is_over
   same_stops {W} {look} {lanes} {lane_count} {old} {now} {outcome} {are_told} {untouched} {failed} {is_over} n m same = subst (λ k. IsServed look lanes lane_count k old now outcome are_told untouched failed is_over) same
 

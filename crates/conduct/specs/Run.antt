@@ -6,20 +6,21 @@ use Rattle.instance_machine.specs.declared.tries.Outcome.{Outcome}
 use Rattle.operators.specs.declared.kits.Kit.{Kit}
 use Rattle.crews.specs.Settled.{AreAccounts}
 use Rattle.sched_events.specs.Steps.{steps, handed_along, AreAccepted}
-use Rattle.sched_events.specs.declared.answers.Answer.{Answer}
 use Rattle.sched_events.specs.declared.events.Event.{Event}
+use Rattle.sched_model.specs.Schedule.{Schedule}
 use Rattle.sched_model.specs.States.{in_flight}
 use Rattle.director.specs.Directors.{DirectorValue, Follows}
-use Rattle.minutes.specs.Minutes.{answered, BeginWithRestart}
+use Rattle.minutes.specs.Minutes.{BeginWithRestart}
 use Rattle.sessions.specs.declared.line_reading.Line.{Line}
 use Rattle.sessions.specs.declared.line_reading.LineFault.{LineFault}
 use Rattle.conduct.specs.declared.conducting.Conducted.{Conducted}
 use Rattle.conduct.specs.Ends.{EachStandsInALog, EachToldItsOwn}
 use Rattle.conduct.specs.Faults.{EndsRun, came_to_its_end, is_no_worker, is_unstarted}
 
--- What came of a run: from a director, with so many lanes, and with these kits, one of each crew. Of the lines and the clock: what they came from their
--- first states to their last ones by (are_told), or that they are as they were (untouched); what the lines failed in, and whether they are over.
-pub record IsConducted {S G O : Type 0} (look : Held S → State) (runs : O → List (ℕ × Outcome)) (taken : O → Option ℕ) (lane_count : ℕ) (kits : List (Kit O)) (old : DirectorValue S) (run : Conducted S G O) (are_told : List (Event × Answer) → Option Line → Type 0) (untouched : Type 0) (failed : Option LineFault) (is_over : Bool) : Type 0 where
+-- What came of a run: from a director, with so many lanes, and with these kits, one of each crew. Of the lines and the clock: how they came from their
+-- first states to their last ones while minutes were made from a schedule on (are_told), or that they are as they were (untouched); what the lines failed
+-- in, and whether they are over.
+pub record IsConducted {S G O : Type 0} (look : Held S → State) (runs : O → List (ℕ × Outcome)) (taken : O → Option ℕ) (lane_count : ℕ) (kits : List (Kit O)) (old : DirectorValue S) (run : Conducted S G O) (are_told : Schedule → List Event → Option Line → Type 0) (untouched : Type 0) (failed : Option LineFault) (is_over : Bool) : Type 0 where
   -- with a fault too: the schedule is that of the minutes, each of which was accepted, and the record follows it
   pub stepped : run.director.schedule.content ≡ steps run.minutes.items old.schedule.content
   pub accepted : AreAccepted run.minutes.items old.schedule.content
@@ -27,10 +28,10 @@ pub record IsConducted {S G O : Type 0} (look : Held S → State) (runs : O → 
   pub opened : run.director.opened ≡ old.opened
   -- the minutes begin with the restart, and have no other
   pub begun : BeginWithRestart lane_count run.minutes.items
-  -- with a fault too: the lines were told the events that they name, each with its answer, in order, and their ticks are at the clock's moments; and
-  -- this line waits for its answer
+  -- with a fault too: the lines were told the events that they name, each with its answer, in order, and looked at schedules of the minutes so far; their
+  -- ticks are at the clock's moments; and this line waits for its answer
   pub waits : Option Line
-  pub told : are_told (answered run.minutes.items old.schedule.content) waits
+  pub told : are_told old.schedule.content run.minutes.items waits
   -- where the lines were followed to their end, they are over, none waits for its answer, and no try is in flight
   pub whole : came_to_its_end run.outcome ≡ true
       → (is_over ≡ true) × (waits ≡ None) × (0 < length run.minutes.items) × (in_flight run.director.schedule.content ≡ 0)

@@ -6,12 +6,11 @@ use Rattle.ruled_dispatch.specs.Lanes.{sent_of, heard_of, IsDirectorOf, IsWorker
 use Rattle.ruled_dispatch.specs.declared.items.JobOrStop.TheVariants as item
 use Rattle.ruled_dispatch.specs.declared.lanes.Lanes.{Lanes}
 use Rattle.sched_events.specs.Steps.{steps, handed_along, AreAccepted}
-use Rattle.sched_events.specs.declared.answers.Answer.{Answer}
 use Rattle.sched_events.specs.declared.events.Event.{Event}
 use Rattle.sched_model.specs.Schedule.{Schedule}
 use Rattle.sched_model.specs.States.{in_flight}
 use Rattle.director.specs.Directors.{Follows}
-use Rattle.minutes.specs.Minutes.{answered, reports_in, BeginWithRestart}
+use Rattle.minutes.specs.Minutes.{reports_in, BeginWithRestart}
 use Rattle.sessions.specs.Runs.{IsRun}
 use Rattle.sessions.specs.Told.{AreToldBy}
 use Rattle.sessions.specs.declared.faults.ConductFault.{ConductFault}
@@ -39,15 +38,15 @@ pub record IsStopped {S : Type 0} (a : Schedule) (lane_count stops : ℕ) (s : S
   pub begun : BeginWithRestart lane_count s.minutes.items
 
 -- A session that had stepped nothing yet was served with so many lanes, and then so many stops were sent: what is left of it, and how it ended. Of the
--- lines and the clock: what they came from their first states to their last ones by (are_told), or that they are as they were (untouched); what the
--- lines failed in, and whether they are over.
-pub record IsServed {S W : Type 0} (look : Held S → State) (lanes : Lanes) (lane_count stops : ℕ) (old new : Session S) (outcome : Result W ConductFault) (are_told : List (Event × Answer) → Option Line → Type 0) (untouched : Type 0) (failed : Option LineFault) (is_over : Bool) : Type 0 where
+-- lines and the clock: how they came from their first states to their last ones while minutes were made from a schedule on (are_told), or that they are as
+-- they were (untouched); what the lines failed in, and whether they are over.
+pub record IsServed {S W : Type 0} (look : Held S → State) (lanes : Lanes) (lane_count stops : ℕ) (old new : Session S) (outcome : Result W ConductFault) (are_told : Schedule → List Event → Option Line → Type 0) (untouched : Type 0) (failed : Option LineFault) (is_over : Bool) : Type 0 where
   pub pass : IsDirectorOf lanes new.pass
   pub workers : (count : ℕ) → HasWorkers old.pass count → HasWorkers new.pass count
   pub opened : new.director.opened ≡ old.director.opened
   pub followed : Follows old.director.schedule.content (look old.director.store) new.director.schedule.content (look new.director.store)
   pub run : (a : Schedule) → IsRun a lane_count old → IsStopped a lane_count stops new
-  pub told : (a : Schedule) → IsRun a lane_count old → AreToldBy outcome are_told (answered new.minutes.items a)
+  pub told : (a : Schedule) → IsRun a lane_count old → AreToldBy outcome (are_told a) new.minutes.items
   pub fault : MatchResult outcome (λ _. failed ≡ None) (λ f. EndsInside f failed)
   pub over : OnOk outcome (is_over ≡ true)
   pub begun : OnOk outcome (0 < length new.minutes.items)
@@ -73,7 +72,7 @@ pub record IsReady {S D G O : Type 0} (kind_of : O → Kind) (lanes : Lanes) (la
 -- are all.
 pub record IsManaged {S D G O W : Type 0} (look : Held S → State) (kind_of : O → Kind) (runs : O → List (ℕ × Outcome)) (taken : O → Option ℕ) (lanes : Lanes) (lane_count : ℕ)
     (old : Session S) (posts : Posts D G O) (crews : List (Crew G O)) (new : Session S) (outcome : Result W ConductFault) (results : List (WorkerEnd G O × WorkerPass × List Hold))
-    (are_told : List (Event × Answer) → Option Line → Type 0) (untouched : Type 0) (failed : Option LineFault) (is_over : Bool) : Type 0 where
+    (are_told : Schedule → List Event → Option Line → Type 0) (untouched : Type 0) (failed : Option LineFault) (is_over : Bool) : Type 0 where
   pub served : IsServed look lanes lane_count (length results) old new outcome are_told untouched failed is_over
   pub worked : HaveWorked kind_of runs taken (take (length results) posts.passes.items) (take (length results) posts.shares.items) (take (length results) (map (λ c. c.kit) crews)) results
   pub all : OnOk outcome (length results ≡ length crews)

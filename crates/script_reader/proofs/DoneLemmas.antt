@@ -1,7 +1,7 @@
 -- What was done of a script, after one command more.
-use Rattle.std.proofs.Common.{◌≡◌, ◌∙◌, ◌⊎◌, inl, inr, ℕ, max, Bool, true, false, true≢false, List, [], ◌∷◌, ◌++◌, map, flat_map, Option, Some, None, is_none, Result, Ok, Err, is_err, refl, sym, ap, subst, arith, append_assoc, append-nil}
+use Rattle.std.proofs.Common.{◌≡◌, ◌∙◌, ◌⊎◌, inl, inr, ℕ, ◌+◌, max, Bool, true, false, true≢false, List, [], ◌∷◌, ◌++◌, map, flat_map, Option, Some, None, is_none, Result, Ok, Err, is_err, refl, sym, ap, subst, arith, append_assoc, append-nil}
 use Rattle.std.proofs.lemmas.Grind.{flat_map-append}
-use Rattle.std.proofs.lemmas.List.{map-append}
+use Rattle.std.proofs.lemmas.List.{map-append, replicate_more}
 use Rattle.std.proofs.lemmas.List.Elements.{All-push}
 use Rattle.std.specs.Io.KnownBytes.{Appends}
 use Rattle.sched_model.specs.Schedule.{Schedule}
@@ -10,7 +10,9 @@ use Rattle.sched_events.specs.declared.events.Event.{Event}
 use Rattle.script_commands.specs.Commands.{Request, IsNext, IsFirst, IsGiven, commands_in}
 use Rattle.word_app.specs.App.{Texts}
 use Rattle.script_commands.specs.declared.commands.ScriptCommand.TheVariants.{Step, LoadFile, TickNow, Drain, List as ListRows, Explain}
-use Rattle.sessions.specs.Lines.{is_drain, moment_of, opened_by, opens, reads_drain, told_part, ticked, Takes}
+use Rattle.sessions.specs.Exchanges.{looks, tellings, Exchange}
+use Rattle.sessions.specs.Readings.{Reading}
+use Rattle.sessions.specs.Lines.{is_drain, opened_by, opens, reading_of, reads_drain, told_part, ticked, Takes}
 use Rattle.sessions.specs.declared.clocks.ClockFault.{ClockFault}
 use Rattle.sessions.specs.declared.line_reading.Line.{Line}
 use Rattle.sessions.specs.declared.line_reading.Line.TheVariants as Says
@@ -19,14 +21,15 @@ use Rattle.answer_lines.specs.RunFaults.{clock_text}
 use Rattle.script_reader.specs.Shown.{IsWritten}
 use Rattle.script_reader.specs.Statuses.{shown_for, status_of}
 use Rattle.std.specs.Result.{IsErrAnd}
+use Rattle.sessions.proofs.ExchangeLemmas.{told_of_tellings}
 use Rattle.script_reader.specs.Commands.{Leaves, Does, is_end, line_of, texts_of}
 use Rattle.script_reader.specs.Done.{FileText, Done, IsAnswered, IsDone, IsPerhaps, MayBeDone, IsOpen, HasDone}
 use Rattle.script_reader.proofs.ShownLemmas.{drain_text, read_written, written_more}
 use Rattle.script_reader.proofs.StatusLemmas.{at_once, given_done, raised}
 
--- one command more of which nothing is told
-abbrev pub only_asked : Request → ℕ → List ℕ → Done
-only_asked r status shown = record { asked = r; texts = []; moments = []; told = []; status = status; shown = shown }
+-- one command more that is answered when it is read
+abbrev pub only_asked : Request → List Exchange → ℕ → List ℕ → Done
+only_asked r exchanges status shown = record { asked = r; texts = []; readings = []; exchanges = exchanges; status = status; shown = shown }
 
 abbrev pub texts_in : List Done → List FileText
 texts_in done = flat_map (λ (d : Done). d.texts) done
@@ -34,14 +37,14 @@ texts_in done = flat_map (λ (d : Done). d.texts) done
 abbrev pub asked_in : List Done → List Request
 asked_in done = map (λ (d : Done). d.asked) done
 
-abbrev pub told_in : List Done → List (Event × Answer)
-told_in done = flat_map (λ (d : Done). d.told) done
+abbrev pub exchanged_in : List Done → List Exchange
+exchanged_in done = flat_map (λ (d : Done). d.exchanges) done
 
 abbrev pub shown_in : List Done → List ℕ
 shown_in done = flat_map (λ (d : Done). d.shown) done
 
-abbrev pub moments_in : List Done → List ℕ
-moments_in done = flat_map (λ (d : Done). d.moments) done
+abbrev pub readings_in : List Done → List Reading
+readings_in done = flat_map (λ (d : Done). d.readings) done
 
 one_more : {X A : Type 0} (f : X → List A) (xs : List X) (x : X) → flat_map f (xs ++ x ∷ []) ≡ flat_map f xs ++ f x
 one_more f xs x = flat_map-append f xs (x ∷ []) ∙ ap (λ l. flat_map f xs ++ l) (append-nil (f x))
@@ -75,7 +78,7 @@ module _ (names : Texts) where
 
 module _ (names : Texts) (before : ℕ) where
   -- what is known where no line waits
-  module _ (first : Option (List ℕ)) (gives : List FileText → Type 0) (shows : List ℕ → Type 0) (told : List (Event × Answer)) (ticks : List ℕ) (left : Option (List ℕ)) (status : ℕ) (ended : Bool) (h : HasDone names before first gives shows told ticks None left status false ended) where
+  module _ (first : Option (List ℕ)) (gives : List FileText → Type 0) (shows : List ℕ → Type 0) (told : List Exchange) (ticks : List Reading) (left : Option (List ℕ)) (status : ℕ) (ended : Bool) (h : HasDone names before first gives shows told ticks None left status false ended) where
     pub none_open : gives (texts_in h.done)
     none_open = subst gives (ap (λ l. texts_in h.done ++ l) h.opens.1 ∙ append-nil (texts_in h.done)) h.texts
 
@@ -95,14 +98,14 @@ module _ (names : Texts) (before : ℕ) where
       each = h.each;
       opens = (refl, refl);
       texts = subst gives (sym (append-nil (texts_in h.done))) none_open;
-      told_are = h.told_are;
-      moments = h.moments;
+      exchanged = h.exchanged;
+      read_of = h.read_of;
       read = λ known e. let l = none_left known e in let n = is l.0 l.1 in ([], l.2 ∙ ap (λ r. asked_in h.done ++ r) n.0, (λ _. refl), λ _. ([], n.1, refl));
       status_is = h.status_is;
       output = h.output;
     }
 
-    -- it could not be read or answered further, perhaps after a command of which nothing is told
+    -- it could not be read or answered further, perhaps after a command that was not answered
     pub broken : (gives' : List FileText → Type 0) (shows' : List ℕ → Type 0) (left' : Option (List ℕ)) (status' : ℕ) → (gives (texts_in h.done) → gives' (texts_in h.done)) → status' ≡ status → HasDone names before first gives' shows' told ticks None left' status' true false
     broken gives' shows' left' status' to same = record {
       done = h.done;
@@ -111,8 +114,8 @@ module _ (names : Texts) (before : ℕ) where
       each = h.each;
       opens = (refl, refl);
       texts = subst gives' (sym (append-nil (texts_in h.done))) (to none_open);
-      told_are = h.told_are;
-      moments = h.moments;
+      exchanged = h.exchanged;
+      read_of = h.read_of;
       read = λ known e. let l = none_left known e in (commands_in names l.0, l.2, (λ no. absurd (true≢false (sym no))), λ no. absurd (true≢false no));
       status_is = same ∙ h.status_is;
       output = λ no. absurd (true≢false no);
@@ -122,21 +125,21 @@ module _ (names : Texts) (before : ℕ) where
       pub after : Next names first left' (asked_in h.done) given
       after = next names first left left' (asked_in h.done) given none_left is
 
-      -- a command of which nothing is told
-      pub answered_more : (gives' : List FileText → Type 0) (shows' : List ℕ → Type 0) (status' own : ℕ) (text : List ℕ) → (gives (texts_in h.done) → gives' (texts_in h.done)) → (shows (shown_in h.done) → shows' (shown_in h.done ++ text)) → status' ≡ max status own → MayBeDone given [] [] [] own text
-          → HasDone names before first gives' shows' told ticks None left' status' false false
-      answered_more gives' shows' status' own text to show more may =
+      -- a command that is answered when it is read
+      pub answered_more : (gives' : List FileText → Type 0) (shows' : List ℕ → Type 0) (seen : List Exchange) (status' own : ℕ) (text : List ℕ) → (gives (texts_in h.done) → gives' (texts_in h.done)) → (shows (shown_in h.done) → shows' (shown_in h.done ++ text)) → status' ≡ max status own → MayBeDone given [] [] seen own text
+          → HasDone names before first gives' shows' (told ++ seen) ticks None left' status' false false
+      answered_more gives' shows' seen status' own text to show more may =
           let n = after in
-          let d : Done = only_asked n.wanted own text in
+          let d : Done = only_asked n.wanted seen own text in
           record {
             done = h.done ++ d ∷ [];
             open_asked = [];
             open_texts = [];
-            each = All-push IsDone h.done d h.each (given_done n.wanted given own text n.same may);
+            each = All-push IsDone h.done d h.each (given_done n.wanted given seen own text n.same may);
             opens = (refl, refl);
             texts = subst gives' (sym (append-nil (texts_in (h.done ++ d ∷ [])) ∙ one_more (λ (x : Done). x.texts) h.done d ∙ append-nil (texts_in h.done))) (to none_open);
-            told_are = h.told_are ∙ sym (one_more (λ (x : Done). x.told) h.done d ∙ append-nil (told_in h.done));
-            moments = h.moments ∙ sym (one_more (λ (x : Done). x.moments) h.done d ∙ append-nil (moments_in h.done));
+            exchanged = ap (λ l. l ++ seen) h.exchanged ∙ sym (one_more (λ (x : Done). x.exchanges) h.done d);
+            read_of = h.read_of ∙ sym (one_more (λ (x : Done). x.readings) h.done d ∙ append-nil (readings_in h.done));
             read = λ known e. let r = n.read known e in (commands_in names r.0, r.2 ∙ sym (asked_more h.done d (commands_in names r.0)), (λ no. absurd (true≢false (sym no))), λ _. (r.0, r.1, refl));
             status_is = raised before status status' h.done d more h.status_is;
             output = λ _. subst shows' (sym (one_more (λ (x : Done). x.shown) h.done d)) (show (h.output refl));
@@ -154,8 +157,8 @@ module _ (names : Texts) (before : ℕ) where
             each = h.each;
             opens = opens;
             texts = to none_open;
-            told_are = h.told_are;
-            moments = h.moments;
+            exchanged = h.exchanged;
+            read_of = h.read_of;
             read = λ known e. let r = n.read known e in (commands_in names r.0, r.2, (λ no. absurd (true≢false (sym no))), λ _. (r.0, r.1, refl));
             status_is = h.status_is;
             output = λ _. show (h.output refl);
@@ -186,7 +189,7 @@ module _ (names : Texts) (before : ℕ) where
   left_to_run (Err fault) line is = absurd is
 
   -- ---- one command more, whatever is done of it
-  module _ (first : Option (List ℕ)) (gives gives' : List FileText → Type 0) (shows shows' : List ℕ → Type 0) (told : List (Event × Answer)) (ticks : List ℕ) (left left' : Option (List ℕ)) (status status' : ℕ) (ended : Bool) (h : HasDone names before first gives shows told ticks None left status false ended) (given : Request) (is : (known : List ℕ) → left ≡ Some known → IsNext names known (Some given) left') where
+  module _ (first : Option (List ℕ)) (gives gives' : List FileText → Type 0) (shows shows' : List ℕ → Type 0) (told : List Exchange) (ticks : List Reading) (left left' : Option (List ℕ)) (status status' : ℕ) (ended : Bool) (h : HasDone names before first gives shows told ticks None left status false ended) (given : Request) (is : (known : List ℕ) → left ≡ Some known → IsNext names known (Some given) left') where
     -- it leaves a line to the run
     pub line_more : (line : Line) → Leaves given line → status' ≡ status → ((xs : List FileText) → gives xs → gives' (xs ++ texts_of given (Some line))) → ((xs : List ℕ) → shows xs → shows' (xs ++ drain_text (is_drain line)))
         → HasDone names before first gives' shows' told ticks (opens line) left' status' false false
@@ -199,17 +202,18 @@ module _ (names : Texts) (before : ℕ) where
         (elim (left_to_run given line leaves) [
           | inl drained ↦
               subst (λ (w : Option Line). HasDone names before first gives' shows' told ticks w left' status false false) (sym drained.waits)
-              (answered_more first gives shows told ticks left status ended h left' given is gives' shows' status 0 (drain_text (is_drain line)) (λ g. subst gives' (ap (λ l. xs ++ l) drained.texts ∙ append-nil xs) (to xs g)) (show ys) (omega arith) drained.done)
+              (subst (λ (t : List Exchange). HasDone names before first gives' shows' t ticks None left' status false false) (append-nil told)
+              (answered_more first gives shows told ticks left status ended h left' given is gives' shows' [] status 0 (drain_text (is_drain line)) (λ g. subst gives' (ap (λ l. xs ++ l) drained.texts ∙ append-nil xs) (to xs g)) (show ys) (omega arith) drained.done))
           | inr waiting ↦
               opened_more first gives shows told ticks left status ended h left' given is gives' shows' (opens line) (texts_of given (Some line))
               (subst (λ (r : Request). IsOpen (opens line) (r ∷ []) (texts_of given (Some line))) wanted waiting.opens_are) (to xs) (λ s. subst shows' (ap (λ l. ys ++ l) waiting.silent ∙ append-nil ys) (show ys s))
         ])
 
     -- it is answered
-    pub none_more : (a : Schedule) (own : ℕ) (text : List ℕ) → ((xs : List FileText) → gives xs → gives' (xs ++ [])) → ((xs : List ℕ) → shows xs → shows' (xs ++ text)) → status' ≡ max status own → IsAnswered a given own text → HasDone names before first gives' shows' told ticks None left' status' false false
+    pub none_more : (a : Schedule) (own : ℕ) (text : List ℕ) → ((xs : List FileText) → gives xs → gives' (xs ++ [])) → ((xs : List ℕ) → shows xs → shows' (xs ++ text)) → status' ≡ max status own → IsAnswered a given own text → HasDone names before first gives' shows' (told ++ looks 1 a) ticks None left' status' false false
     none_more a own text to show more at =
         let xs = texts_in h.done in
-        answered_more first gives shows told ticks left status ended h left' given is gives' shows' status' own text (λ g. subst gives' (append-nil xs) (to xs g)) (show (shown_in h.done)) more (at_once a given own text at)
+        answered_more first gives shows told ticks left status ended h left' given is gives' shows' (looks 1 a) status' own text (λ g. subst gives' (append-nil xs) (to xs g)) (show (shown_in h.done)) more (at_once a given own text at)
 
     -- it cannot be answered
     pub fault_more : ((xs : List FileText) → gives xs → gives' (xs ++ [])) → status' ≡ status → HasDone names before first gives' shows' told ticks None left' status' true false
@@ -219,41 +223,41 @@ module _ (names : Texts) (before : ℕ) where
 
   -- ---- the line that waits is answered
   -- the command that waited, and what may be done of it so
-  pub record IsClosed (asked : List Request) (texts : List FileText) (moments : List ℕ) (told : List (Event × Answer)) (status : ℕ) (shown : List ℕ) : Type 0 where
+  pub record IsClosed (asked : List Request) (texts : List FileText) (moments : List Reading) (told : List Exchange) (status : ℕ) (shown : List ℕ) : Type 0 where
     pub one : Request
     pub is : asked ≡ one ∷ []
     pub done : MayBeDone one texts moments told status shown
 
-  perhaps : (e : Event) (q : Result Answer Fault) → IsPerhaps e (told_part e q) (status_of q) (shown_for e q)
-  perhaps e q = (q, refl, refl, refl)
+  perhaps : (e : Event) (q : Result Answer Fault) → IsPerhaps e (tellings (told_part e q)) (status_of q) (shown_for e q)
+  perhaps e q = (q, told_of_tellings (told_part e q), refl, refl)
 
-  pub closed : (line : Line) (asked : List Request) (texts : List FileText) (e : Event) (q : Result Answer Fault) → IsOpen (Some line) asked texts → Takes line e → IsClosed asked texts (ticked line e) (told_part e q) (status_of q) (shown_for e q)
+  pub closed : (line : Line) (asked : List Request) (texts : List FileText) (e : Event) (q : Result Answer Fault) → IsOpen (Some line) asked texts → Takes line e → IsClosed asked texts (ticked line e) (tellings (told_part e q)) (status_of q) (shown_for e q)
   closed (Says.Event x) asked texts e q (inl (one, none)) same = record {
     one = Ok (Step x);
     is = one;
-    done = (none, refl, subst (λ (y : Event). IsPerhaps y (told_part e q) (status_of q) (shown_for e q)) (sym same) (perhaps e q));
+    done = (none, refl, subst (λ (y : Event). IsPerhaps y (tellings (told_part e q)) (status_of q) (shown_for e q)) (sym same) (perhaps e q));
   }
   closed (Says.Event x) asked texts e q (inr (path, text, one, read, loads)) same = record {
     one = Ok (LoadFile path);
     is = one;
-    done = (refl, inr (text, read, subst (λ (y : Event). IsPerhaps y (told_part e q) (status_of q) (shown_for e q)) (sym same ∙ loads) (perhaps e q)));
+    done = (refl, inr (text, read, subst (λ (y : Event). IsPerhaps y (tellings (told_part e q)) (status_of q) (shown_for e q)) (sym same ∙ loads) (perhaps e q)));
   }
   closed Says.TickNow asked texts e q (one, none) (moment, same) = record {
     one = Ok TickNow;
     is = one;
-    done = (none, inr (moment, ap moment_of same, subst (λ (y : Event). IsPerhaps y (told_part e q) (status_of q) (shown_for e q)) same (perhaps e q)));
+    done = (none, inr (moment, ap reading_of same, subst (λ (y : Event). IsPerhaps y (tellings (told_part e q)) (status_of q) (shown_for e q)) same (perhaps e q)));
   }
   closed Says.Drain asked texts e q waiting takes = absurd waiting
 
-  pub closed_untold : (asked : List Request) (texts : List FileText) (fault : ClockFault) → IsOpen (Some Says.TickNow) asked texts → IsClosed asked texts [] [] 4 (clock_text fault)
+  pub closed_untold : (asked : List Request) (texts : List FileText) (fault : ClockFault) → IsOpen (Some Says.TickNow) asked texts → IsClosed asked texts (Err fault ∷ []) [] 4 (clock_text fault)
   closed_untold asked texts fault (one, none) = record { one = Ok TickNow; is = one; done = (none, inl (fault, refl, refl, refl, refl)) }
 
-  module _ (first : Option (List ℕ)) (gives : List FileText → Type 0) (shows shows' : List ℕ → Type 0) (told : List (Event × Answer)) (ticks : List ℕ) (line : Line) (left : Option (List ℕ)) (status : ℕ) (ended : Bool) (h : HasDone names before first gives shows told ticks (Some line) left status false ended) where
-    closed_more : (added : List (Event × Answer)) (moments : List ℕ) (own status' : ℕ) (text : List ℕ) (broken : Bool) → IsClosed h.open_asked h.open_texts moments added own text
+  module _ (first : Option (List ℕ)) (gives : List FileText → Type 0) (shows shows' : List ℕ → Type 0) (told : List Exchange) (ticks : List Reading) (line : Line) (left : Option (List ℕ)) (status : ℕ) (ended : Bool) (h : HasDone names before first gives shows told ticks (Some line) left status false ended) where
+    closed_more : (added : List Exchange) (moments : List Reading) (own status' : ℕ) (text : List ℕ) (broken : Bool) → IsClosed h.open_asked h.open_texts moments added own text
         → status' ≡ max status own → (broken ≡ false → (xs : List ℕ) → shows xs → shows' (xs ++ text))
         → HasDone names before first gives shows' (told ++ added) (ticks ++ moments) None left status' broken ended
     closed_more added moments own status' text broken c more show =
-        let d : Done = record { asked = c.one; texts = h.open_texts; moments = moments; told = added; status = own; shown = text } in
+        let d : Done = record { asked = c.one; texts = h.open_texts; readings = moments; exchanges = added; status = own; shown = text } in
         record {
           done = h.done ++ d ∷ [];
           open_asked = [];
@@ -261,8 +265,8 @@ module _ (names : Texts) (before : ℕ) where
           each = All-push IsDone h.done d h.each c.done;
           opens = (refl, refl);
           texts = subst gives (sym (append-nil (texts_in (h.done ++ d ∷ [])) ∙ one_more (λ (x : Done). x.texts) h.done d)) h.texts;
-          told_are = ap (λ l. l ++ added) h.told_are ∙ sym (one_more (λ (x : Done). x.told) h.done d);
-          moments = ap (λ l. l ++ moments) h.moments ∙ sym (one_more (λ (x : Done). x.moments) h.done d);
+          exchanged = ap (λ l. l ++ added) h.exchanged ∙ sym (one_more (λ (x : Done). x.exchanges) h.done d);
+          read_of = ap (λ l. l ++ moments) h.read_of ∙ sym (one_more (λ (x : Done). x.readings) h.done d);
           read = λ known e.
               let r = h.read known e in
               (r.0, r.1 ∙ ap (λ l. asked_in h.done ++ (l ++ r.0)) c.is ∙ sym (asked_more h.done d r.0), r.2, λ _. r.3 refl);
@@ -271,20 +275,19 @@ module _ (names : Texts) (before : ℕ) where
         }
 
     pub told_more : (e : Event) (q : Result Answer Fault) (status' : ℕ) (broken : Bool) → Takes line e → status' ≡ max status (status_of q) → (broken ≡ false → (xs : List ℕ) → shows xs → shows' (xs ++ shown_for e q))
-        → HasDone names before first gives shows' (told ++ told_part e q) (ticks ++ ticked line e) None left status' broken ended
-    told_more e q status' broken takes is show = closed_more (told_part e q) (ticked line e) (status_of q) status' (shown_for e q) broken (closed line h.open_asked h.open_texts e q h.opens takes) is show
+        → HasDone names before first gives shows' (told ++ tellings (told_part e q)) (ticks ++ ticked line e) None left status' broken ended
+    told_more e q status' broken takes is show = closed_more (tellings (told_part e q)) (ticked line e) (status_of q) status' (shown_for e q) broken (closed line h.open_asked h.open_texts e q h.opens takes) is show
 
   -- the clock gave no moment
-  pub untold_more : (first : Option (List ℕ)) (gives : List FileText → Type 0) (shows shows' : List ℕ → Type 0) (told : List (Event × Answer)) (ticks : List ℕ) (left : Option (List ℕ)) (status status' : ℕ) (fault : ClockFault) (broken ended : Bool)
+  pub untold_more : (first : Option (List ℕ)) (gives : List FileText → Type 0) (shows shows' : List ℕ → Type 0) (told : List Exchange) (ticks : List Reading) (left : Option (List ℕ)) (status status' : ℕ) (fault : ClockFault) (broken ended : Bool)
       → HasDone names before first gives shows told ticks (Some Says.TickNow) left status false ended → status' ≡ max status 4 → (broken ≡ false → (xs : List ℕ) → shows xs → shows' (xs ++ clock_text fault))
-      → HasDone names before first gives shows' told ticks None left status' broken ended
+      → HasDone names before first gives shows' told (ticks ++ Err fault ∷ []) None left status' broken ended
   untold_more first gives shows shows' told ticks left status status' fault broken ended h more show =
-      subst (λ (m : List ℕ). HasDone names before first gives shows' told m None left status' broken ended) (append-nil ticks)
-      (subst (λ (t : List (Event × Answer)). HasDone names before first gives shows' t (ticks ++ []) None left status' broken ended) (append-nil told)
-      (closed_more first gives shows shows' told ticks Says.TickNow left status ended h [] [] 4 status' (clock_text fault) broken (closed_untold h.open_asked h.open_texts fault h.opens) more show))
+      subst (λ (t : List Exchange). HasDone names before first gives shows' t (ticks ++ Err fault ∷ []) None left status' broken ended) (append-nil told)
+      (closed_more first gives shows shows' told ticks Says.TickNow left status ended h [] (Err fault ∷ []) 4 status' (clock_text fault) broken (closed_untold h.open_asked h.open_texts fault h.opens) more show)
 
   -- it is not said to have ended where it was not said before, and what was shown was written
-  pub ended_less : (first : Option (List ℕ)) (gives : List FileText → Type 0) (shows shows' : List ℕ → Type 0) (told : List (Event × Answer)) (ticks : List ℕ) (waits : Option Line) (left : Option (List ℕ)) (status : ℕ) (is_broken ended ended' : Bool) → (ended' ≡ true → ended ≡ true) → (is_broken ≡ false → (xs : List ℕ) → shows xs → shows' xs)
+  pub ended_less : (first : Option (List ℕ)) (gives : List FileText → Type 0) (shows shows' : List ℕ → Type 0) (told : List Exchange) (ticks : List Reading) (waits : Option Line) (left : Option (List ℕ)) (status : ℕ) (is_broken ended ended' : Bool) → (ended' ≡ true → ended ≡ true) → (is_broken ≡ false → (xs : List ℕ) → shows xs → shows' xs)
       → HasDone names before first gives shows told ticks waits left status is_broken ended → HasDone names before first gives shows' told ticks waits left status is_broken ended'
   ended_less first gives shows shows' told ticks waits left status is_broken ended ended' less show h = record {
     done = h.done;
@@ -293,21 +296,21 @@ module _ (names : Texts) (before : ℕ) where
     each = h.each;
     opens = h.opens;
     texts = h.texts;
-    told_are = h.told_are;
-    moments = h.moments;
+    exchanged = h.exchanged;
+    read_of = h.read_of;
     read = λ known e. let r = h.read known e in (r.0, r.1, (λ is. r.2 (less is)), r.3);
     status_is = h.status_is;
     output = λ sound. show sound (shown_in h.done) (h.output sound);
   }
 
   -- ---- the same of what was read
-  at_err : {E : Type 0} (Q : E → Type 0) (r : Result (Option Line) E) → IsErrAnd r Q → (first : Option (List ℕ)) (gives : List FileText → Type 0) (shows : List ℕ → Type 0) (told : List (Event × Answer)) (ticks : List ℕ) (left : Option (List ℕ)) (status : ℕ)
+  at_err : {E : Type 0} (Q : E → Type 0) (r : Result (Option Line) E) → IsErrAnd r Q → (first : Option (List ℕ)) (gives : List FileText → Type 0) (shows : List ℕ → Type 0) (told : List Exchange) (ticks : List Reading) (left : Option (List ℕ)) (status : ℕ)
       → HasDone names before first gives shows told ticks None left status true false → HasDone names before first gives shows told ticks (opened_by r) left status (is_err r) (is_end r)
   at_err Q (Ok x) is first gives shows told ticks left status h = absurd is
   at_err Q (Err e) is first gives shows told ticks left status h = h
 
   -- the script could not be read or answered further
-  pub broken_off : {E : Type 0} (Q : E → Type 0) (r : Result (Option Line) E) → IsErrAnd r Q → (first : Option (List ℕ)) (gives : List FileText → Type 0) (shows shows' : List ℕ → Type 0) (told : List (Event × Answer)) (ticks : List ℕ) (left left' : Option (List ℕ)) (status : ℕ) (ended : Bool)
+  pub broken_off : {E : Type 0} (Q : E → Type 0) (r : Result (Option Line) E) → IsErrAnd r Q → (first : Option (List ℕ)) (gives : List FileText → Type 0) (shows shows' : List ℕ → Type 0) (told : List Exchange) (ticks : List Reading) (left left' : Option (List ℕ)) (status : ℕ) (ended : Bool)
       → HasDone names before first gives shows told ticks None left status false ended → HasDone names before first gives shows' told ticks (opened_by r) left' status (is_err r) (is_end r)
   broken_off Q r is first gives shows shows' told ticks left left' status ended h = at_err Q r is first gives shows' told ticks left' status (broken first gives shows told ticks left status ended h gives shows' left' status (λ g. g) refl)
 
@@ -320,7 +323,7 @@ module _ (names : Texts) (before : ℕ) where
   no_texts (Ok (Explain question)) = refl
   no_texts (Err fault) = refl
 
-  module _ {E : Type 0} (drained : Bool) (from was now : Option (List ℕ)) (drains : Bool) (first : Option (List ℕ)) (gives gives' : List FileText → Type 0) (told : List (Event × Answer)) (ticks : List ℕ) (left left' : Option (List ℕ)) (status status' : ℕ) (ended : Bool)
+  module _ {E : Type 0} (drained : Bool) (from was now : Option (List ℕ)) (drains : Bool) (first : Option (List ℕ)) (gives gives' : List FileText → Type 0) (told : List Exchange) (ticks : List Reading) (left left' : Option (List ℕ)) (status status' : ℕ) (ended : Bool)
       (h : HasDone names before first gives (IsWritten drained from was false) told ticks None left status false ended)
       (given : Request) (is : (known : List ℕ) → left ≡ Some known → IsNext names known (Some given) left') (a : Schedule) (d : Result (Option Line) E) (to : (xs : List FileText) → gives xs → gives' (xs ++ texts_of given (line_of d))) (does : Does a given d status status' was now) (same : drains ≡ reads_drain d) where
     -- a command could not be answered
@@ -343,7 +346,7 @@ module _ (names : Texts) (before : ℕ) where
         (subst (λ b. IsWritten drained from was b (xs ++ drain_text (is_drain line))) (sym flag) (read_written drained from was (is_drain line) xs w)))
 
     -- it was answered
-    pub left_none : d ≡ Ok None → HasDone names before first gives' (IsWritten drained from now false) told ticks None left' status' false false
+    pub left_none : d ≡ Ok None → HasDone names before first gives' (IsWritten drained from now false) (told ++ looks 1 a) ticks None left' status' false false
     left_none by =
         let l : (own : ℕ) × (shown : List ℕ) × (status' ≡ max status own) × Appends was now shown × IsAnswered a given own shown = subst (λ (x : Result (Option Line) E). Does a given x status status' was now) by does in
         none_more first gives gives' (IsWritten drained from was false) (IsWritten drained from now false) told ticks left left' status status' ended h given is a l.0 l.1
@@ -360,3 +363,7 @@ is_end_none E (Some line) = refl
 
 pub as_ok : (E : Type 0) (a b : Option Line) → a ≡ b → ◌≡◌ {A = Result (Option Line) E} (Ok a) (Ok b)
 as_ok E a b e = ap (λ (x : Option Line). let r : Result (Option Line) E = Ok x in r) e
+
+-- the schedule is looked at once more
+pub one_look_more : (told : List Exchange) (times : ℕ) (a : Schedule) → (told ++ looks times a) ++ looks 1 a ≡ told ++ looks (times + 1) a
+one_look_more told times a = append_assoc told (looks times a) (looks 1 a) ∙ ap (λ l. told ++ l) (replicate_more times (inl a))

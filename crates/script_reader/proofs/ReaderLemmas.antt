@@ -1,10 +1,13 @@
 -- What was done of a script, told of the states of its reader.
-use Rattle.std.proofs.Common.{◌≡◌, ◌∙◌, ℕ, max, Bool, true, false, true≢false, not, ◌&&◌, List, ◌++◌, Option, Some, None, is_some, Result, Ok, Err, is_err, refl, sym, subst}
+use Rattle.std.proofs.Common.{◌≡◌, ◌∙◌, ℕ, max, Bool, true, false, true≢false, not, ◌&&◌, List, [], ◌∷◌, ◌++◌, Option, Some, None, is_some, Result, Ok, Err, is_err, refl, sym, subst}
 use Rattle.std.specs.Io.KnownBytes.{Appends}
 use Rattle.sched_events.specs.declared.answers.Answer.{Answer}
 use Rattle.sched_events.specs.declared.events.Event.{Event}
 use Rattle.director.specs.declared.faults.Fault.{Fault}
 use Rattle.word_app.specs.App.{Texts}
+use Rattle.sched_model.specs.Schedule.{Schedule}
+use Rattle.sessions.specs.Exchanges.{looks, tellings, Exchange}
+use Rattle.sessions.specs.Readings.{Reading}
 use Rattle.sessions.specs.Lines.{opened_by, reads_drain, told_part, ticked, Takes}
 use Rattle.sessions.specs.declared.clocks.ClockFault.{ClockFault}
 use Rattle.sessions.specs.declared.line_reading.Line.{Line}
@@ -41,7 +44,7 @@ module _ {R W F P : Type 0} (remaining : R → Option (List ℕ)) (contents : W 
   given sources texts = gives s.sources texts sources
 
   -- what was done is said of the reader once it is answered
-  moved : (told : List (Event × Answer)) (ticks : List ℕ) (stays : Stays) (words : old.words.names ≡ s.words.names) (quiet : old.has_drained ≡ false)
+  moved : (told : List Exchange) (ticks : List Reading) (stays : Stays) (words : old.words.names ≡ s.words.names) (quiet : old.has_drained ≡ false)
       → HasDone s.words.names s.status (remaining s.input) (given old.sources) (written new.output false) told ticks None (remaining old.input) new.status (is_some new.failed) (old.is_over && not s.is_over)
       → Tells remaining contents gives s told ticks None new
   moved told ticks stays words quiet h = (
@@ -53,25 +56,25 @@ module _ {R W F P : Type 0} (remaining : R → Option (List ℕ)) (contents : W 
     record { waiting = λ no. stays.drains ∙ quiet; over = λ ends. stays.drains ∙ quiet },
   )
 
-  sound : (told : List (Event × Answer)) (ticks : List ℕ) (line : Line) → old.failed ≡ None → Tells remaining contents gives s told ticks (Some line) old
+  sound : (told : List Exchange) (ticks : List Reading) (line : Line) → old.failed ≡ None → Tells remaining contents gives s told ticks (Some line) old
       → HasDone s.words.names s.status (remaining s.input) (given old.sources) (written old.output false) told ticks (Some line) (remaining old.input) old.status false (old.is_over && not s.is_over)
   sound told ticks line none h =
       subst (λ (d : Bool). HasDone s.words.names s.status (remaining s.input) (given old.sources) (written old.output d) told ticks (Some line) (remaining old.input) old.status false (old.is_over && not s.is_over)) (h.2.waiting refl)
       (subst (λ (o : Option LineFault). HasDone s.words.names s.status (remaining s.input) (given old.sources) (written old.output old.has_drained) told ticks (Some line) (remaining old.input) old.status (is_some o) (old.is_over && not s.is_over)) none h.1)
 
-  pub answered_tells : (told : List (Event × Answer)) (ticks : List ℕ) (line : Line) (e : Event) (q : Result Answer Fault) → Stays
+  pub answered_tells : (told : List Exchange) (ticks : List Reading) (line : Line) (e : Event) (q : Result Answer Fault) → Stays
       → new.status ≡ max old.status (status_of q) → (is_some new.failed ≡ false → Appends (contents old.output) (contents new.output) (shown_for e q)) → old.failed ≡ None → Takes line e
-      → Tells remaining contents gives s told ticks (Some line) old → Tells remaining contents gives s (told ++ told_part e q) (ticks ++ ticked line e) None new
+      → Tells remaining contents gives s told ticks (Some line) old → Tells remaining contents gives s (told ++ tellings (told_part e q)) (ticks ++ ticked line e) None new
   answered_tells told ticks line e q stays status shown none takes h =
-      moved (told ++ told_part e q) (ticks ++ ticked line e) stays h.0 (h.2.waiting refl)
+      moved (told ++ tellings (told_part e q)) (ticks ++ ticked line e) stays h.0 (h.2.waiting refl)
       (told_more s.words.names s.status (remaining s.input) (given old.sources) (written old.output false) (written new.output false) told ticks line (remaining old.input) old.status (old.is_over && not s.is_over) (sound told ticks line none h) e q new.status (is_some new.failed) takes status
       (λ fine xs w. written_more s.has_drained (contents s.output) (contents old.output) (contents new.output) xs (shown_for e q) w (shown fine)))
 
-  pub untold_tells : (told : List (Event × Answer)) (ticks : List ℕ) (fault : ClockFault) → Stays
+  pub untold_tells : (told : List Exchange) (ticks : List Reading) (fault : ClockFault) → Stays
       → new.status ≡ max old.status 4 → (is_some new.failed ≡ false → Appends (contents old.output) (contents new.output) (clock_text fault)) → old.failed ≡ None
-      → Tells remaining contents gives s told ticks (Some Says.TickNow) old → Tells remaining contents gives s told ticks None new
+      → Tells remaining contents gives s told ticks (Some Says.TickNow) old → Tells remaining contents gives s told (ticks ++ Err fault ∷ []) None new
   untold_tells told ticks fault stays more shown none h =
-      moved told ticks stays h.0 (h.2.waiting refl)
+      moved told (ticks ++ Err fault ∷ []) stays h.0 (h.2.waiting refl)
       (untold_more s.words.names s.status (remaining s.input) (given old.sources) (written old.output false) (written new.output false) told ticks (remaining old.input) old.status new.status fault (is_some new.failed) (old.is_over && not s.is_over) (sound told ticks Says.TickNow none h) more
       (λ fine xs w. written_more s.has_drained (contents s.output) (contents old.output) (contents new.output) xs (clock_text fault) w (shown fine)))
 
@@ -88,26 +91,28 @@ quiet_read (Ok None) over was_over drains d o = record { waiting = λ no. d; ove
 quiet_read (Err e) over was_over drains d o = record { waiting = λ no. d; over = λ ends. d }
 
 module _ {R W F P : Type 0} (remaining : R → Option (List ℕ)) (contents : W → Option (List ℕ)) (gives : F → List FileText → F → Type 0) (s old : ScriptReader R W F P) where
-  -- what a read does, where words are read in the same way
-  abbrev pub Reads : {E : Type 0} → R → W → F → ℕ → Bool → List (Event × Answer) → List ℕ → Result (Option Line) E → Type 0
-  Reads input output sources status drains told ticks next =
+  -- what a read does, where words are read in the same way, and this schedule is looked at
+  abbrev pub Reads : {E : Type 0} → R → W → F → ℕ → Bool → Schedule → List Exchange → List Reading → Result (Option Line) E → Type 0
+  Reads input output sources status drains seen told ticks next =
       (drained : Bool) (names : Texts) (before : ℕ) (first from : Option (List ℕ)) (f : F) (has_ended : Bool) → names ≡ old.words.names
       → HasDone names before first (λ given. gives f given old.sources) (IsWritten drained from (contents old.output) old.has_drained) told ticks None (remaining old.input) old.status false has_ended
-      → HasDone names before first (λ given. gives f given sources) (IsWritten drained from (contents output) drains) told ticks (opened_by next) (remaining input) status (is_err next) (is_end next)
+      → (times : ℕ) × HasDone names before first (λ given. gives f given sources) (IsWritten drained from (contents output) drains) (told ++ looks times seen) ticks (opened_by next) (remaining input) status (is_err next) (is_end next)
 
   -- of a reader that has these parts after a read
-  pub read_tells : {E : Type 0} (input : R) (output : W) (sources : F) (status : ℕ) (failed : Option LineFault) (over drains : Bool) (told : List (Event × Answer)) (ticks : List ℕ) (next : Result (Option Line) E) → Reads input output sources status drains told ticks next
+  pub read_tells : {E : Type 0} (input : R) (output : W) (sources : F) (status : ℕ) (failed : Option LineFault) (over drains : Bool) (seen : Schedule) (told : List Exchange) (ticks : List Reading) (next : Result (Option Line) E) → Reads input output sources status drains seen told ticks next
       → old.failed ≡ None → is_some failed ≡ is_err next → over ≡ is_end next → drains ≡ reads_drain next
       → Tells remaining contents gives s told ticks None old
-      → HasDone s.words.names s.status (remaining s.input) (λ given. gives s.sources given sources) (IsWritten s.has_drained (contents s.output) (contents output) drains) told ticks (opened_by next) (remaining input) status (is_some failed) (over && not s.is_over)
+      → (times : ℕ) × HasDone s.words.names s.status (remaining s.input) (λ given. gives s.sources given sources) (IsWritten s.has_drained (contents s.output) (contents output) drains) (told ++ looks times seen) ticks (opened_by next) (remaining input) status (is_some failed) (over && not s.is_over)
       × IsQuiet (opened_by next) (over && not s.is_over) drains
-  read_tells input output sources status failed over drains told ticks next read none broken ended flag h =
+  read_tells input output sources status failed over drains seen told ticks next read none broken ended flag h =
       let shows : List ℕ → Type 0 = IsWritten s.has_drained (contents s.output) (contents output) drains in
       let was : HasDone s.words.names s.status (remaining s.input) (λ given. gives s.sources given old.sources) (IsWritten s.has_drained (contents s.output) (contents old.output) old.has_drained) told ticks None (remaining old.input) old.status false (old.is_over && not s.is_over) =
       subst (λ (o : Option LineFault). HasDone s.words.names s.status (remaining s.input) (λ given. gives s.sources given old.sources) (IsWritten s.has_drained (contents s.output) (contents old.output) old.has_drained) told ticks None (remaining old.input) old.status (is_some o) (old.is_over && not s.is_over)) none h.1 in
-      let now = read s.has_drained s.words.names s.status (remaining s.input) (contents s.output) s.sources (old.is_over && not s.is_over) (sym h.0) was in (
-        ended_less s.words.names s.status (remaining s.input) (λ given. gives s.sources given sources) shows shows told ticks (opened_by next) (remaining input) status (is_some failed) (is_end next) (over && not s.is_over)
+      let now = read s.has_drained s.words.names s.status (remaining s.input) (contents s.output) s.sources (old.is_over && not s.is_over) (sym h.0) was in
+      let all : List Exchange = told ++ looks now.0 seen in (
+        now.0,
+        ended_less s.words.names s.status (remaining s.input) (λ given. gives s.sources given sources) shows shows all ticks (opened_by next) (remaining input) status (is_some failed) (is_end next) (over && not s.is_over)
             (λ both. sym ended ∙ first_of over (not s.is_over) both) (λ fine xs w. w)
-            (subst (λ (b : Bool). HasDone s.words.names s.status (remaining s.input) (λ given. gives s.sources given sources) shows told ticks (opened_by next) (remaining input) status b (is_end next)) (sym broken) now),
+            (subst (λ (b : Bool). HasDone s.words.names s.status (remaining s.input) (λ given. gives s.sources given sources) shows all ticks (opened_by next) (remaining input) status b (is_end next)) (sym broken) now.1),
         quiet_read next over s.is_over drains flag ended,
       )

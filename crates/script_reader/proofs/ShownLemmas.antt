@@ -41,13 +41,6 @@ module _ (drained : Bool) (from : Option (List ℕ)) where
       let before = w o in
       subst (Appends from now) (sym before.1) (appends_then from was now before.0 (shown_text ShowsDone) before.2 more)
 
--- what is said of what was put is said of the command that it answers
-pub put_so : {A B E F : Type 0} (P : Type 0) (put : Result A E) (r : Result B F) → is_err r ≡ is_err put → OnOk put P → OnOk r P
-put_so P (Ok u) (Ok v) same p = p
-put_so P (Ok u) (Err f) same p = tt
-put_so P (Err e) (Ok v) same p = absurd (true≢false (sym same))
-put_so P (Err e) (Err f) same p = tt
-
 -- where nothing has failed, what was put was written
 pub put_sound : {A E F : Type 0} (P : Type 0) (put : Result A E) (r : Result A F) (was now : Option F) → is_err r ≡ is_err put → MatchResult r (λ _. now ≡ was) (λ f. now ≡ Some f) → OnOk put P → is_some now ≡ false → P
 put_sound P (Ok u) r was now same failed p sound = p

@@ -1,6 +1,5 @@
 -- The statuses of what was done.
-use Rattle.std.proofs.Common.{◌≡◌, ◌==◌, ◌<◌, inl, inr, ℕ, max, All, true, List, [], ◌∷◌, ◌++◌, length, Option, Some, None, Result, Ok, Err, IfOk, OnOk, MatchResult, refl, sym, ap, subst, arith}
-use Rattle.std.specs.Io.KnownBytes.{Appends}
+use Rattle.std.proofs.Common.{◌≡◌, ◌==◌, ◌<◌, inl, inr, ℕ, max, All, true, List, [], ◌∷◌, ◌++◌, length, Ok, Err, refl, sym, ap, subst, arith}
 use Rattle.std.proofs.lemmas.List.Elements.{All-cons, All-head, All-nil, All-tail}
 use Rattle.sched_model.specs.Schedule.{Schedule}
 use Rattle.sched_events.specs.declared.answers.Answer.{Answer}
@@ -17,9 +16,9 @@ use Rattle.script_commands.specs.declared.commands.CommandFault.{CommandFault}
 use Rattle.script_commands.specs.declared.commands.CommandFault.TheVariants.{Usage, Source}
 use Rattle.script_commands.specs.declared.commands.SourceFault.TheVariants as source
 use Rattle.script_commands.specs.declared.commands.ScriptCommand.TheVariants.{Step, LoadFile, TickNow, Drain, List as ListRows, Explain}
-use Rattle.sessions.specs.declared.line_reading.Line.{Line}
+use Rattle.sessions.specs.Exchanges.{looks, told_in, Exchange}
+use Rattle.sessions.specs.Readings.{Reading}
 use Rattle.answer_lines.specs.CommandFaults.{source_text}
-use Rattle.script_reader.specs.Commands.{Does}
 use Rattle.script_reader.specs.Statuses.{command_status, failure_status, refusal_status, usage_status}
 use Rattle.script_reader.specs.Done.{FileText, Done, IsAnswered, IsDone, IsPerhaps, MayBeDone, greatest_status, is_whole}
 
@@ -42,56 +41,49 @@ is_no_command (Usage f) = is_used f
 is_no_command (Source f) = omega arith
 
 -- ---- what was done with the status 0 is whole
-accepted : (e : Event) (told : List (Event × Answer)) (status : ℕ) (shown : List ℕ) → IsPerhaps e told status shown → status ≡ 0 → (length told == 1) ≡ true
-accepted e told status shown (Ok answer, is, zero, text) z = ap (λ (l : List (Event × Answer)). length l == 1) is
-accepted e told status shown (Err fault, is, own, text) z = let some : 0 < failure_status fault = fails fault in absurd (omega arith)
+accepted : (e : Event) (exchanges : List Exchange) (status : ℕ) (shown : List ℕ) → IsPerhaps e exchanges status shown → status ≡ 0 → (length (told_in exchanges) == 1) ≡ true
+accepted e exchanges status shown (Ok answer, is, zero, text) z = ap (λ (l : List (Event × Answer)). length l == 1) is
+accepted e exchanges status shown (Err fault, is, own, text) z = let some : 0 < failure_status fault = fails fault in absurd (omega arith)
 
-done_whole : (r : Request) (texts : List FileText) (moments : List ℕ) (told : List (Event × Answer)) (status : ℕ) (shown : List ℕ) → MayBeDone r texts moments told status shown → status ≡ 0 → is_whole r told ≡ true
-done_whole (Ok (Step e)) texts moments told status shown (none, untold, may) z = accepted e told status shown may z
-done_whole (Ok (LoadFile path)) texts moments told status shown (untold, inl (fault, none, nothing, four, text)) z = absurd (omega arith)
-done_whole (Ok (LoadFile path)) texts moments told status shown (untold, inr (text, read, may)) z = accepted (Load text) told status shown may z
-done_whole (Ok TickNow) texts moments told status shown (none, inl (fault, untold, nothing, four, text)) z = absurd (omega arith)
-done_whole (Ok TickNow) texts moments told status shown (none, inr (moment, is, may)) z = accepted (Tick moment) told status shown may z
-done_whole (Ok Drain) texts moments told status shown may z = refl
-done_whole (Ok (ListRows listing)) texts moments told status shown may z = refl
-done_whole (Ok (Explain question)) texts moments told status shown may z = refl
-done_whole (Err fault) texts moments told status shown (none, untold, nothing, (a, at)) z = let some : 0 < command_status fault = is_no_command fault in let own : status ≡ command_status fault = at.0 in absurd (omega (arith, some, own, z))
+done_whole : (r : Request) (texts : List FileText) (readings : List Reading) (exchanges : List Exchange) (status : ℕ) (shown : List ℕ) → MayBeDone r texts readings exchanges status shown → status ≡ 0 → is_whole r exchanges ≡ true
+done_whole (Ok (Step e)) texts readings exchanges status shown (none, untold, may) z = accepted e exchanges status shown may z
+done_whole (Ok (LoadFile path)) texts readings exchanges status shown (untold, inl (fault, none, nothing, four, text)) z = absurd (omega arith)
+done_whole (Ok (LoadFile path)) texts readings exchanges status shown (untold, inr (text, read, may)) z = accepted (Load text) exchanges status shown may z
+done_whole (Ok TickNow) texts readings exchanges status shown (none, inl (fault, untold, nothing, four, text)) z = absurd (omega arith)
+done_whole (Ok TickNow) texts readings exchanges status shown (none, inr (moment, is, may)) z = accepted (Tick moment) exchanges status shown may z
+done_whole (Ok Drain) texts readings exchanges status shown may z = refl
+done_whole (Ok (ListRows listing)) texts readings exchanges status shown may z = refl
+done_whole (Ok (Explain question)) texts readings exchanges status shown may z = refl
+done_whole (Err fault) texts readings exchanges status shown (none, untold, (a, seen, at)) z = let some : 0 < command_status fault = is_no_command fault in let own : status ≡ command_status fault = at.0 in absurd (omega (arith, some, own, z))
 
-pub all_whole : (ds : List Done) → All IsDone ds → greatest_status ds ≡ 0 → All (λ d. is_whole d.asked d.told ≡ true) ds
+pub all_whole : (ds : List Done) → All IsDone ds → greatest_status ds ≡ 0 → All (λ d. is_whole d.asked d.exchanges ≡ true) ds
 unfolding greatest_status
-all_whole [] each z = All-nil (λ (d : Done). is_whole d.asked d.told ≡ true)
+all_whole [] each z = All-nil (λ (d : Done). is_whole d.asked d.exchanges ≡ true)
 all_whole (d ∷ ds) each z =
     let is : greatest_status (d ∷ ds) ≡ max d.status (greatest_status ds) = refl in
-    All-cons (λ (x : Done). is_whole x.asked x.told ≡ true) d ds (done_whole d.asked d.texts d.moments d.told d.status d.shown (All-head IsDone d ds each) (omega (arith, is, z)))
+    All-cons (λ (x : Done). is_whole x.asked x.exchanges ≡ true) d ds (done_whole d.asked d.texts d.readings d.exchanges d.status d.shown (All-head IsDone d ds each) (omega (arith, is, z)))
     (all_whole ds (All-tail IsDone d ds each) (omega (arith, is, z)))
 
 -- ---- a command that is answered when it is read is done so
-pub at_once : (a : Schedule) (r : Request) (status : ℕ) (shown : List ℕ) → IsAnswered a r status shown → MayBeDone r [] [] [] status shown
+pub at_once : (a : Schedule) (r : Request) (status : ℕ) (shown : List ℕ) → IsAnswered a r status shown → MayBeDone r [] [] (looks 1 a) status shown
 at_once a (Ok (Step e)) status shown is = absurd is
 at_once a (Ok (LoadFile path)) status shown (fault, four, text) = (refl, inl (fault, refl, refl, four, text))
 at_once a (Ok TickNow) status shown is = absurd is
 at_once a (Ok Drain) status shown is = absurd is
-at_once a (Ok (ListRows listing)) status shown is = (refl, refl, refl, (a, is))
-at_once a (Ok (Explain question)) status shown is = (refl, refl, refl, (a, is))
-at_once a (Err fault) status shown is = (refl, refl, refl, (a, is))
-
--- of what a command shows that is answered when it is read
-pub answered_does : {E : Type 0} (a : Schedule) (asked : Request) (r : Result (Option Line) E) (old new own : ℕ) (was now : Option (List ℕ)) (text : List ℕ) → IfOk r (λ next. next ≡ None) → MatchResult r (λ _. new ≡ max old own) (λ _. new ≡ old) → OnOk r (Appends was now text) → IsAnswered a asked own text
-    → Does a asked r old new was now
-answered_does a asked (Ok None) old new own was now text none status shown is = (own, text, status, shown, is)
-answered_does a asked (Ok (Some line)) old new own was now text none status shown is = absurd (cc)
-answered_does a asked (Err e) old new own was now text none status shown is = status
+at_once a (Ok (ListRows listing)) status shown is = (refl, refl, (a, refl, is))
+at_once a (Ok (Explain question)) status shown is = (refl, refl, (a, refl, is))
+at_once a (Err fault) status shown is = (refl, refl, (a, refl, is))
 
 -- a text that could not be had, for want of memory
-unhad : (status : ℕ) (shown : List ℕ) → MayBeDone (Err (Source source.Memory)) [] [] [] status shown → (status ≡ 4) × (shown ≡ source_text source.Memory)
-unhad status shown (none, untold, nothing, (a, at)) = at
+unhad : (exchanges : List Exchange) (status : ℕ) (shown : List ℕ) → MayBeDone (Err (Source source.Memory)) [] [] exchanges status shown → (told_in exchanges ≡ []) × (status ≡ 4) × (shown ≡ source_text source.Memory)
+unhad exchanges status shown (none, unmoved, (a, seen, at)) = (ap told_in seen, at.0, at.1)
 
 -- what is done as it was given is done as it is wanted
-pub given_done : (wanted given : Request) (status : ℕ) (shown : List ℕ) → IsGiven wanted given → MayBeDone given [] [] [] status shown → MayBeDone wanted [] [] [] status shown
-given_done wanted given status shown (inl same) may = subst (λ (r : Request). MayBeDone r [] [] [] status shown) same may
-given_done wanted given status shown (inr (memory, (text, loads))) may =
-    let lack = unhad status shown (subst (λ (r : Request). MayBeDone r [] [] [] status shown) memory may) in
-    subst (λ (r : Request). MayBeDone r [] [] [] status shown) (sym loads) (refl, refl, (Err failed.Memory, refl, lack.0, lack.1))
+pub given_done : (wanted given : Request) (exchanges : List Exchange) (status : ℕ) (shown : List ℕ) → IsGiven wanted given → MayBeDone given [] [] exchanges status shown → MayBeDone wanted [] [] exchanges status shown
+given_done wanted given exchanges status shown (inl same) may = subst (λ (r : Request). MayBeDone r [] [] exchanges status shown) same may
+given_done wanted given exchanges status shown (inr (memory, (text, loads))) may =
+    let lack = unhad exchanges status shown (subst (λ (r : Request). MayBeDone r [] [] exchanges status shown) memory may) in
+    subst (λ (r : Request). MayBeDone r [] [] exchanges status shown) (sym loads) (refl, refl, (Err failed.Memory, lack.0, lack.1, lack.2))
 
 -- ---- the greatest status of one command more
 grown : (ds : List Done) (d : Done) → greatest_status (ds ++ d ∷ []) ≡ max (greatest_status ds) d.status

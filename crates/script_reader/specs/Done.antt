@@ -14,7 +14,9 @@ use Rattle.word_app.specs.App.{Texts}
 use Rattle.script_commands.specs.Commands.{Request, commands_in}
 use Rattle.script_commands.specs.declared.commands.ScriptCommand.TheVariants.{Step, LoadFile, TickNow, Drain, List as ListRows, Explain}
 use Rattle.script_commands.specs.declared.commands.SourceFault.{SourceFault}
+use Rattle.sessions.specs.Exchanges.{looks, told_in, Exchange}
 use Rattle.sessions.specs.Lines.{told_part}
+use Rattle.sessions.specs.Readings.{Reading}
 use Rattle.sessions.specs.declared.clocks.ClockFault.{ClockFault}
 use Rattle.sessions.specs.declared.line_reading.Line.{Line}
 use Rattle.sessions.specs.declared.line_reading.Line.TheVariants as Says
@@ -30,32 +32,32 @@ use Rattle.script_reader.specs.Statuses.{command_status, explain_status, shown_f
 abbrev pub FileText : Type 0
 FileText = List ℕ × List ℕ
 
--- What was done of a command: the file that was read for it, the moment that the clock gave for it, the event that it names, with its answer, where that
--- was accepted, the status of its answer, and the bytes that show it.
+-- What was done of a command: the file that was read for it, what the clock gave for it, what passed between it and the run, which is the
+-- schedule that it looked at, or the event that it names, with its answer, where that was accepted; the status of its answer, and the bytes that show it.
 pub record Done : Type 0 where
   pub asked : Request
   pub texts : List FileText
-  pub moments : List ℕ
-  pub told : List (Event × Answer)
+  pub readings : List Reading
+  pub exchanges : List Exchange
   pub status : ℕ
   pub shown : List ℕ
 
 -- an event was answered: it was accepted, or it was not; the status and the text are those of the answer
-abbrev pub IsPerhaps : Event → List (Event × Answer) → ℕ → List ℕ → Type 0
-IsPerhaps e told status shown =
-    (answer : Result Answer Fault) × (told ≡ told_part e answer) × (status ≡ status_of answer) × (shown ≡ shown_for e answer)
+abbrev pub IsPerhaps : Event → List Exchange → ℕ → List ℕ → Type 0
+IsPerhaps e exchanges status shown =
+    (answer : Result Answer Fault) × (told_in exchanges ≡ told_part e answer) × (status ≡ status_of answer) × (shown ≡ shown_for e answer)
 
 -- a file was read, and its load was accepted or not; or it was not read
-abbrev pub IsLoadPerhaps : List ℕ → List FileText → List (Event × Answer) → ℕ → List ℕ → Type 0
-IsLoadPerhaps path texts told status shown =
-    ((fault : SourceFault) × (texts ≡ []) × (told ≡ []) × (status ≡ 4) × (shown ≡ source_text fault))
-    ⊎ ((text : List ℕ) × (texts ≡ (path, text) ∷ []) × IsPerhaps (Load text) told status shown)
+abbrev pub IsLoadPerhaps : List ℕ → List FileText → List Exchange → ℕ → List ℕ → Type 0
+IsLoadPerhaps path texts exchanges status shown =
+    ((fault : SourceFault) × (texts ≡ []) × (told_in exchanges ≡ []) × (status ≡ 4) × (shown ≡ source_text fault))
+    ⊎ ((text : List ℕ) × (texts ≡ (path, text) ∷ []) × IsPerhaps (Load text) exchanges status shown)
 
 -- the clock gave a moment, and the tick at it was accepted or not; or it gave none
-abbrev pub IsTickPerhaps : List ℕ → List (Event × Answer) → ℕ → List ℕ → Type 0
-IsTickPerhaps moments told status shown =
-    ((fault : ClockFault) × (moments ≡ []) × (told ≡ []) × (status ≡ 4) × (shown ≡ clock_text fault))
-    ⊎ ((moment : ℕ) × (moments ≡ moment ∷ []) × IsPerhaps (Tick moment) told status shown)
+abbrev pub IsTickPerhaps : List Reading → List Exchange → ℕ → List ℕ → Type 0
+IsTickPerhaps readings exchanges status shown =
+    ((fault : ClockFault) × (readings ≡ Err fault ∷ []) × (told_in exchanges ≡ []) × (status ≡ 4) × (shown ≡ clock_text fault))
+    ⊎ ((moment : ℕ) × (readings ≡ Ok moment ∷ []) × IsPerhaps (Tick moment) exchanges status shown)
 
 -- The status and the text of a command that is answered when it is read, of this schedule: 0 and the rows for a list; 0 and the reasons for a question
 -- that has an answer, and those of its fault for one that has none; those of the fault of what is no command, and of a file that is not read.
@@ -70,16 +72,17 @@ IsAnswered a (Ok TickNow) status shown = ⊥
 IsAnswered a (Ok Drain) status shown = ⊥
 IsAnswered a (Err fault) status shown = (status ≡ command_status fault) × (shown ≡ command_fault_text fault)
 
--- what may be done of a command, and the status and the text of that
-abbrev pub MayBeDone : Request → List FileText → List ℕ → List (Event × Answer) → ℕ → List ℕ → Type 0
-MayBeDone (Ok (Step e)) texts moments told status shown = (texts ≡ []) × (moments ≡ []) × IsPerhaps e told status shown
-MayBeDone (Ok (LoadFile path)) texts moments told status shown = (moments ≡ []) × IsLoadPerhaps path texts told status shown
-MayBeDone (Ok TickNow) texts moments told status shown = (texts ≡ []) × IsTickPerhaps moments told status shown
-MayBeDone (Ok Drain) texts moments told status shown = (texts ≡ []) × (moments ≡ []) × (told ≡ []) × (status ≡ 0) × (shown ≡ shown_text ShowsDone)
-MayBeDone asked texts moments told status shown = (texts ≡ []) × (moments ≡ []) × (told ≡ []) × ((a : Schedule) × IsAnswered a asked status shown)
+-- What may be done of a command, and the status and the text of that. A command that is answered when it is read is answered of the schedule that it
+-- looked at.
+abbrev pub MayBeDone : Request → List FileText → List Reading → List Exchange → ℕ → List ℕ → Type 0
+MayBeDone (Ok (Step e)) texts readings exchanges status shown = (texts ≡ []) × (readings ≡ []) × IsPerhaps e exchanges status shown
+MayBeDone (Ok (LoadFile path)) texts readings exchanges status shown = (readings ≡ []) × IsLoadPerhaps path texts exchanges status shown
+MayBeDone (Ok TickNow) texts readings exchanges status shown = (texts ≡ []) × IsTickPerhaps readings exchanges status shown
+MayBeDone (Ok Drain) texts readings exchanges status shown = (texts ≡ []) × (readings ≡ []) × (told_in exchanges ≡ []) × (status ≡ 0) × (shown ≡ shown_text ShowsDone)
+MayBeDone asked texts readings exchanges status shown = (texts ≡ []) × (readings ≡ []) × ((a : Schedule) × (exchanges ≡ looks 1 a) × IsAnswered a asked status shown)
 
 abbrev pub IsDone : Done → Type 0
-IsDone d = MayBeDone d.asked d.texts d.moments d.told d.status d.shown
+IsDone d = MayBeDone d.asked d.texts d.readings d.exchanges d.status d.shown
 
 -- the greatest status of what was done, 0 where nothing was
 unfoldable pub greatest_status : List Done → ℕ
@@ -87,12 +90,12 @@ greatest_status [] = 0
 greatest_status (d ∷ ds) = max d.status (greatest_status ds)
 
 -- all is done of a command, where it names an event: the event was accepted; what is no command is not done
-abbrev pub is_whole : Request → List (Event × Answer) → Bool
-is_whole (Ok (Step e)) told = length told == 1
-is_whole (Ok (LoadFile path)) told = length told == 1
-is_whole (Ok TickNow) told = length told == 1
-is_whole (Ok _) told = true
-is_whole (Err fault) told = false
+abbrev pub is_whole : Request → List Exchange → Bool
+is_whole (Ok (Step e)) exchanges = length (told_in exchanges) == 1
+is_whole (Ok (LoadFile path)) exchanges = length (told_in exchanges) == 1
+is_whole (Ok TickNow) exchanges = length (told_in exchanges) == 1
+is_whole (Ok _) exchanges = true
+is_whole (Err fault) exchanges = false
 
 -- the command that waits for its answer with this line, and the file that was read for it
 abbrev pub IsOpen : Option Line → List Request → List FileText → Type 0
@@ -103,19 +106,19 @@ IsOpen (Some (Says.Event e)) asked texts =
 IsOpen (Some Says.TickNow) asked texts = (asked ≡ Ok TickNow ∷ []) × (texts ≡ [])
 IsOpen (Some Says.Drain) asked texts = ⊥
 
--- What was done of a script, of whose bytes these were there at first: commands one after another, with the texts that the sources gave, with the
--- events and answers that were told, and with ticks at these moments; what was shown of them; this line waits for its answer; and these bytes are left. That
+-- What was done of a script, of whose bytes these were there at first: commands one after another, with the texts that the sources gave, with these
+-- exchanges, and with these readings of the clock; what was shown of them; this line waits for its answer; and these bytes are left. That
 -- is left and what was shown is not said where the script could not be read or answered further. Where the script has ended, no command is left. The
 -- status is the greatest of what was done and of the one before.
-pub record HasDone (names : Texts) (before : ℕ) (first : Option (List ℕ)) (gives : List FileText → Type 0) (shows : List ℕ → Type 0) (told : List (Event × Answer)) (ticks : List ℕ) (waits : Option Line) (left : Option (List ℕ)) (status : ℕ) (is_broken has_ended : Bool) : Type 0 where
+pub record HasDone (names : Texts) (before : ℕ) (first : Option (List ℕ)) (gives : List FileText → Type 0) (shows : List ℕ → Type 0) (exchanges : List Exchange) (readings : List Reading) (waits : Option Line) (left : Option (List ℕ)) (status : ℕ) (is_broken has_ended : Bool) : Type 0 where
   pub done : List Done
   pub open_asked : List Request
   pub open_texts : List FileText
   pub each : All IsDone done
   pub opens : IsOpen waits open_asked open_texts
   pub texts : gives (flat_map (λ d. d.texts) done ++ open_texts)
-  pub told_are : told ≡ flat_map (λ d. d.told) done
-  pub moments : ticks ≡ flat_map (λ d. d.moments) done
+  pub exchanged : exchanges ≡ flat_map (λ d. d.exchanges) done
+  pub read_of : readings ≡ flat_map (λ d. d.readings) done
   pub read : (known : List ℕ) → first ≡ Some known
       → (rest : List Request) × (commands_in names known ≡ map (λ d. d.asked) done ++ (open_asked ++ rest))
       × (has_ended ≡ true → rest ≡ []) × (is_broken ≡ false → (bytes : List ℕ) × (left ≡ Some bytes) × (rest ≡ commands_in names bytes))
@@ -136,8 +139,8 @@ begun names first gives shows status broken was_over none unshown = record {
   each = λ k d below. absurd (omega arith);
   opens = (refl, refl);
   texts = none;
-  told_are = refl;
-  moments = refl;
+  exchanged = refl;
+  read_of = refl;
   read = λ known e. (commands_in names known, refl, (λ ends. absurd (true≢false (not_both was_over ends))), λ _. (known, e, refl));
   status_is = let none : greatest_status [] ≡ 0 = refl in omega (arith, none);
   output = λ _. unshown;

@@ -1,8 +1,8 @@
 -- What a reader of scripts was told, between two of its states.
 use Rattle.std.specs.Prelude.{◌≡◌, ℕ, Bool, true, false, ◌&&◌, not, is_some, refl, List, [], Option, None}
 use Rattle.std.proofs.Common.{true≢false, sym}
-use Rattle.sched_events.specs.declared.answers.Answer.{Answer}
-use Rattle.sched_events.specs.declared.events.Event.{Event}
+use Rattle.sessions.specs.Exchanges.{Exchange}
+use Rattle.sessions.specs.Readings.{Reading}
 use Rattle.sessions.specs.declared.line_reading.Line.{Line}
 use Rattle.script_reader.specs.Done.{FileText, HasDone, begun, not_both}
 use Rattle.script_reader.specs.Shown.{IsWritten, nothing_written}
@@ -14,13 +14,13 @@ pub record IsQuiet (waits : Option Line) (has_ended drains : Bool) : Type 0 wher
   pub over : has_ended ≡ true → drains ≡ false
 
 module _ {R W F P : Type 0} (remaining : R → Option (List ℕ)) (contents : W → Option (List ℕ)) (gives : F → List FileText → F → Type 0) where
-  -- from one state to another words are read in the same way, and the commands of the script were done, of which this was told, with what the sources gave;
+  -- from one state to another words are read in the same way, and the commands of the script were done, with these exchanges and readings of the clock, with what the sources gave;
   -- and where no drain waited for its answer at first, what is shown of them was written
-  abbrev pub Tells : ScriptReader R W F P → List (Event × Answer) → List ℕ → Option Line → ScriptReader R W F P → Type 0
-  Tells s told ticks waits t =
+  abbrev pub Tells : ScriptReader R W F P → List Exchange → List Reading → Option Line → ScriptReader R W F P → Type 0
+  Tells s exchanges readings waits t =
       (t.words.names ≡ s.words.names)
       × HasDone s.words.names s.status (remaining s.input) (λ given. gives s.sources given t.sources)
-      (IsWritten s.has_drained (contents s.output) (contents t.output) t.has_drained) told ticks waits (remaining t.input) t.status (is_some t.failed) (t.is_over && not s.is_over)
+      (IsWritten s.has_drained (contents s.output) (contents t.output) t.has_drained) exchanges readings waits (remaining t.input) t.status (is_some t.failed) (t.is_over && not s.is_over)
       × IsQuiet waits (t.is_over && not s.is_over) t.has_drained
 
   pub tells_nothing : ((f : F) → gives f [] f) → (s : ScriptReader R W F P) → Tells s [] [] None s

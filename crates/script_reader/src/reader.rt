@@ -1,14 +1,14 @@
 //! A script that is read command by command, and answered line by line.
-ghost use Rattle.std.specs.Prelude.{◌≡◌, ◌≤◌, ◌++◌, ℕ, max, List, Bool, true, false, None, Some, Option, Ok, Err, is_err, IfOk, IfSome, MatchOption, MatchResult, OnOk};
+ghost use Rattle.std.specs.Prelude.{◌≡◌, ◌++◌, ℕ, max, List, Bool, true, false, None, Some, Option, Ok, Err, is_err, IfOk, IfSome, MatchResult, OnOk};
 ghost use Rattle.std.specs.Io.KnownBytes.{Appends};
 ghost use Rattle.sched_model.specs.Schedule.{Schedule as ScheduleModel};
-ghost use Rattle.sched_events.specs.declared.answers.Answer.{Answer};
-ghost use Rattle.sched_events.specs.declared.events.Event.{Event};
 ghost use Rattle.script_commands.specs.Commands.{is_asked};
 ghost use Rattle.script_commands.specs.declared.commands.ScriptCommand.TheVariants.{LoadFile, Explain};
 ghost use Rattle.answer_lines.specs.CommandFaults.{command_fault_text};
 ghost use Rattle.command_words.specs.Lines.{IsListed};
 ghost use Rattle.word_app.specs.App.{Texts};
+ghost use Rattle.sessions.specs.Exchanges.{looks, Exchange};
+ghost use Rattle.sessions.specs.Readings.{Reading};
 ghost use Rattle.sessions.specs.Lines.{may_be_read, opened_by, reads_drain};
 ghost use Rattle.script_reader.specs.Commands.{Does, is_end, line_of, texts_of};
 ghost use Rattle.script_reader.specs.Done.{FileText, HasDone};
@@ -89,12 +89,12 @@ impl<R: Read + Drop, W: Write + Drop, F: Sources, P: Progress> ScriptReader<R, W
     // Reads and answers commands, up to one that leaves a line to the run; nothing where the script is over.
     pub(crate) fn read_line(&mut self, schedule: &Schedule) -> io::Result<Option<Line>>
         ensures words { self.new.words ≡ self.old.words }
-        ensures told { (drained : Bool) (names : Texts) (before : ℕ) (first from : Option (List ℕ)) (s : F) (told : List (Event × Answer)) (ticks : List ℕ) (has_ended : Bool)
+        ensures told { (drained : Bool) (names : Texts) (before : ℕ) (first from : Option (List ℕ)) (s : F) (exchanges : List Exchange) (readings : List Reading) (has_ended : Bool)
             → names ≡ self.old.words.names
             → HasDone names before first (λ given. F.gives s given self.old.sources) (IsWritten drained from (W.contents self.old.output) self.old.has_drained)
-            told ticks None (R.remaining self.old.input) self.old.status false has_ended
-            → HasDone names before first (λ given. F.gives s given self.new.sources) (IsWritten drained from (W.contents self.new.output) self.new.has_drained)
-            told ticks (opened_by result) (R.remaining self.new.input) self.new.status (is_err result) (is_end result) }
+            exchanges readings None (R.remaining self.old.input) self.old.status false has_ended
+            → (times : ℕ) × HasDone names before first (λ given. F.gives s given self.new.sources) (IsWritten drained from (W.contents self.new.output) self.new.has_drained)
+            (exchanges ++ looks times schedule.now.content) readings (opened_by result) (R.remaining self.new.input) self.new.status (is_err result) (is_end result) }
         ensures failed { self.new.failed ≡ self.old.failed }
         ensures drains { self.new.has_drained ≡ reads_drain result }
         ensures line { IfOk result (λ next. IfSome next (λ line. may_be_read line ≡ true)) }

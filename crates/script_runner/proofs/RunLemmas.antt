@@ -9,12 +9,13 @@ use Rattle.sched_state.specs.Limits.{ceilings}
 use Rattle.sched_model.specs.Schedule.{Schedule}
 use Rattle.sched_model.specs.States.{in_flight}
 use Rattle.sched_events.specs.Steps.{steps}
-use Rattle.sched_events.specs.declared.answers.Answer.{Answer}
 use Rattle.sched_events.specs.declared.events.Event.{Event}
 use Rattle.word_app.specs.App.{Texts}
 use Rattle.command_words.specs.Lines.{IsListed}
 use Rattle.director.specs.Directors.{DirectorValue, Keeps, Opens, RestartsIn}
-use Rattle.minutes.specs.Minutes.{answered}
+use Rattle.sessions.specs.Exchanges.{Exchange, told_in, TookPlace}
+use Rattle.sessions.specs.Readings.{Reading}
+use Rattle.sessions.proofs.ExchangeLemmas.{told_are_answered, told_of_each}
 use Rattle.sessions.specs.declared.faults.ConductFault.{ConductFault}
 use Rattle.sessions.specs.declared.faults.ConductFault.TheVariants as fault
 use Rattle.sessions.specs.declared.line_reading.Line.{Line}
@@ -45,11 +46,11 @@ ends_well answers status (Err fault.Memory) is z = absurd (omega arith)
 ends_well answers status (Err fault.Unequal) is z = absurd (omega arith)
 
 -- ---- the events of the minutes beside the script's lines
-pub named : {T : Type 0} (words : Texts) (before : ℕ) (first : Option (List ℕ)) (gives : List FileText → Type 0) (clock : List ℕ → Type 0) (shows output : List ℕ → Type 0) (told : List (Event × Answer)) (moments : List ℕ) (waits : Option Line) (left : Option (List ℕ)) (answers status : ℕ) (broken over was_over : Bool) (outcome : Result T ConductFault)
-    → IsListed words → before ≡ 0 → HasDone words before first gives shows told moments waits left answers broken (over && not was_over) → (is_ok outcome ≡ true → (broken ≡ false) × ((xs : List ℕ) → shows xs → output xs)) → clock moments → was_over ≡ false
+pub named : {T : Type 0} (words : Texts) (before : ℕ) (first : Option (List ℕ)) (gives : List FileText → Type 0) (clock : List Reading → Type 0) (shows output : List ℕ → Type 0) (told : List Exchange) (start : Schedule) (minutes : List Event) (moments : List Reading) (waits : Option Line) (left : Option (List ℕ)) (answers status : ℕ) (broken over was_over : Bool) (outcome : Result T ConductFault)
+    → IsListed words → before ≡ 0 → HasDone words before first gives shows told moments waits left answers broken (over && not was_over) → (is_ok outcome ≡ true → (broken ≡ false) × ((xs : List ℕ) → shows xs → output xs)) → TookPlace told minutes start → clock moments → was_over ≡ false
     → (came_to_its_end outcome ≡ true → (over ≡ true) × (waits ≡ None)) → IsEndStatus answers outcome status
-    → AreNamed first gives clock output told outcome status
-named words before first gives clock shows output told moments waits left answers status broken over was_over outcome listed zero h writes given fresh whole is =
+    → AreNamed first gives clock output start minutes outcome status
+named words before first gives clock shows output told start minutes moments waits left answers status broken over was_over outcome listed zero h writes took given fresh whole is =
     let greatest : answers ≡ greatest_status h.done = omega (arith, h.status_is, zero) in
     record {
       words = words;
@@ -61,8 +62,9 @@ named words before first gives clock shows output told moments waits left answer
       open_texts = h.open_texts;
       opens = h.opens;
       texts = h.texts;
-      moments = subst clock h.moments given;
-      answers_are = h.told_are;
+      readings = subst clock h.read_of given;
+      took_place = subst (λ (xs : List Exchange). TookPlace xs minutes start) h.exchanged took;
+      answers_are = told_are_answered told minutes start took ∙ ap told_in h.exchanged ∙ told_of_each (λ (d : Done). d.exchanges) h.done;
       shown = λ well. let fine = writes well in fine.1 (flat_map (λ (d : Done). d.shown) h.done) (h.output fine.0);
       read = λ known e.
           let r = h.read known e in (
@@ -87,12 +89,12 @@ still none untouched still' (Ok v) to was = tt
 still none untouched still' (Err f) to was = λ is. let both = was is in (both.0, to both.1)
 
 module _ {S G O : Type 0} (look : Held S → State) (runs : O → List (ℕ × Outcome)) (taken : O → Option ℕ) where
-  pub is_run : (bytes : Option (List ℕ)) (gives : List FileText → Type 0) (clock : List ℕ → Type 0) (output : List ℕ → Type 0) (lanes : ℕ) (kits : List (Kit O)) (before : State) (d : DirectorValue S) (conducted : Conducted S G O) (status : ℕ)
-      (are_told : List (Event × Answer) → Option Line → Type 0) (untouched quiet : Type 0) (failed : Option LineFault) (over : Bool)
+  pub is_run : (bytes : Option (List ℕ)) (gives : List FileText → Type 0) (clock : List Reading → Type 0) (output : List ℕ → Type 0) (lanes : ℕ) (kits : List (Kit O)) (before : State) (d : DirectorValue S) (conducted : Conducted S G O) (status : ℕ)
+      (are_told : Schedule → List Event → Option Line → Type 0) (untouched quiet : Type 0) (failed : Option LineFault) (over : Bool)
       → IsConducted look runs taken lanes kits d conducted are_told untouched failed over → (untouched → quiet)
       → (HasCleanDisk (look d.store) → Opens ceilings 0 before.now d.schedule.content d.opened)
       → (HasCleanDisk (look d.store) → RestartsIn ceilings 0 before.now (look d.store).now)
-      → AreNamed bytes gives clock output (answered conducted.minutes.items d.schedule.content) conducted.outcome status
+      → AreNamed bytes gives clock output d.schedule.content conducted.minutes.items conducted.outcome status
       → IsRun look runs taken bytes gives clock output quiet lanes kits before conducted.director.store conducted.minutes.items conducted.outcome status
   is_run bytes gives clock output lanes kits before d conducted status are_told untouched quiet failed over c to opened restarted named =
       let a = d.schedule.content in
@@ -141,7 +143,7 @@ pub record IsFresh {R W F P : Type 0} (first : ScriptReader R W F P) : Type 0 wh
   pub drains : first.has_drained ≡ false
   pub listed : IsListed first.words.names
 
-module _ {S G O R W F P C : Type 0} (look : Held S → State) (runs : O → List (ℕ × Outcome)) (taken : O → Option ℕ) (remaining : R → Option (List ℕ)) (contents : W → Option (List ℕ)) (gives : F → List FileText → F → Type 0) (ticks : C → List ℕ → C → Type 0) where
+module _ {S G O R W F P C : Type 0} (look : Held S → State) (runs : O → List (ℕ × Outcome)) (taken : O → Option ℕ) (remaining : R → Option (List ℕ)) (contents : W → Option (List ℕ)) (gives : F → List FileText → F → Type 0) (ticks : C → List Reading → C → Type 0) where
   -- what comes back of what was conducted, with the last state of the reader
   pub record ComesBack (conducted : Conducted S G O) (last : ScriptReader R W F P) (store : Held S) (minutes : List Event) (outcome : Result (Settled G O) ConductFault) (status : ℕ) (sources : F) (output : W) : Type 0 where
     pub store_is : store ≡ conducted.director.store
@@ -178,12 +180,12 @@ module _ {S G O R W F P C : Type 0} (look : Held S → State) (runs : O → List
       let t = c.told in
       let bytes = remaining first.input in
       let files : List FileText → Type 0 = λ given. gives first.sources given last.sources in
-      let times : List ℕ → Type 0 = λ moments. ticks clock moments later in
+      let times : List Reading → Type 0 = λ moments. ticks clock moments later in
       let text : List ℕ → Type 0 = λ shown. Appends (contents first.output) (contents output) shown in
       let quiet : Type 0 = (last.sources ≡ first.sources) × (later ≡ clock) in
-      let named_here : AreNamed bytes files times text (answered es d.schedule.content) conducted.outcome status =
-      named first.words.names first.status bytes files times (IsWritten first.has_drained (contents first.output) (contents last.output) last.has_drained) text (answered es d.schedule.content) t.moments c.waits (remaining last.input) last.status status (is_some last.failed) last.is_over first.is_over conducted.outcome
-      fresh.listed fresh.status t.told.1 (writes lanes kits d conducted first last clock later output c fresh back.output_is) t.given fresh.over (λ well. ((c.whole well).0, (c.whole well).1)) back.status_is
+      let named_here : AreNamed bytes files times text d.schedule.content es conducted.outcome status =
+      named first.words.names first.status bytes files times (IsWritten first.has_drained (contents first.output) (contents last.output) last.has_drained) text t.exchanges d.schedule.content es t.readings c.waits (remaining last.input) last.status status (is_some last.failed) last.is_over first.is_over conducted.outcome
+      fresh.listed fresh.status t.told.1 (writes lanes kits d conducted first last clock later output c fresh back.output_is) t.took_place t.given fresh.over (λ well. ((c.whole well).0, (c.whole well).1)) back.status_is
       in
       let here = is_run look runs taken bytes files times text lanes kits before d conducted status _ ((last ≡ first) × (later ≡ clock)) quiet last.failed last.is_over c (λ same. (ap (λ (r : ScriptReader R W F P). r.sources) same.0, same.1)) opened restarted named_here in
       subst (λ (f : F). IsRun look runs taken bytes (λ given. gives first.sources given f) times text ((f ≡ first.sources) × (later ≡ clock)) lanes kits before store minutes outcome status) (sym back.sources_are)

@@ -13,7 +13,8 @@ use Rattle.sched_events.specs.Steps.{steps, handed_along, AreAccepted}
 use Rattle.sched_events.specs.declared.answers.Answer.{Answer}
 use Rattle.sched_events.specs.declared.events.Event.{Event}
 use Rattle.director.specs.Directors.{Keeps, Opens}
-use Rattle.minutes.specs.Minutes.{answered, BeginWithRestart}
+use Rattle.minutes.specs.Minutes.{BeginWithRestart}
+use Rattle.sessions.specs.Readings.{Reading}
 use Rattle.sessions.specs.declared.faults.ConductFault.{ConductFault}
 use Rattle.sessions.specs.declared.line_reading.LineFault.{LineFault}
 use Rattle.crews.specs.Settled.{AreAccounts}
@@ -26,7 +27,7 @@ use Rattle.script_runner.specs.Named.{AreNamed}
 -- A script of these bytes was run with so many lanes and these kits on what a record held before: what the record is now, the minutes, what became of the
 -- crews, and the status. The sources and the clock gave what their relations say, or were asked nothing (untouched); the output has grown as its relation
 -- says.
-pub record IsRun {S G O : Type 0} (look : Held S → State) (runs : O → List (ℕ × Outcome)) (taken : O → Option ℕ) (bytes : Option (List ℕ)) (sources : List FileText → Type 0) (clock : List ℕ → Type 0) (output : List ℕ → Type 0) (untouched : Type 0) (lanes : ℕ) (kits : List (Kit O)) (before : State) (store : Held S) (minutes : List Event) (outcome : Result (Settled G O) ConductFault) (status : ℕ) : Type 0 where
+pub record IsRun {S G O : Type 0} (look : Held S → State) (runs : O → List (ℕ × Outcome)) (taken : O → Option ℕ) (bytes : Option (List ℕ)) (sources : List FileText → Type 0) (clock : List Reading → Type 0) (output : List ℕ → Type 0) (untouched : Type 0) (lanes : ℕ) (kits : List (Kit O)) (before : State) (store : Held S) (minutes : List Event) (outcome : Result (Settled G O) ConductFault) (status : ℕ) : Type 0 where
   -- the schedule that was opened, without lanes, and the answer to its restart
   pub first : Schedule
   pub given : Answer
@@ -38,7 +39,7 @@ pub record IsRun {S G O : Type 0} (look : Held S → State) (runs : O → List (
   pub stored : HasCleanDisk (look store) → IsTrue (look store).is_open → (rows : Rows) → Stores before.now rows → Keeps (steps minutes first) (look store).now
   -- those that are no report and no restart, with their answers, are what the script's lines name; what is shown is of these; and the status is that of what
   -- was done and of the end
-  pub named : AreNamed bytes sources clock output (answered minutes first) outcome status
+  pub named : AreNamed bytes sources clock output first minutes outcome status
   -- where the status is 0, the run ended well
   pub well : status ≡ 0 → is_ok outcome ≡ true
   -- why it ended otherwise, by what the script failed in, if it did; there is no worker where there is no kit; and where no event was stepped, nothing was

@@ -3,6 +3,7 @@ ghost use Rattle.std.specs.Prelude.{◌≡◌, ◌<◌, [], None, Some, false, I
 ghost use Rattle.minutes.specs.Minutes as minutes;
 ghost use Rattle.sessions.specs.Lines as spec;
 ghost use Rattle.sessions.specs.Lines.{opens, ticked, told_part};
+ghost use Rattle.sessions.specs.Readings.{moments_in};
 ghost use Rattle.sessions.specs.declared.line_reading.Line.{Line};
 ghost use Rattle.session_rounds.specs.Lists.{open_of, ticks_of, told_of};
 
@@ -96,7 +97,7 @@ impl ListedLines {
     // The moment that is kept of an answer: that of a tick, where the line says to tick now.
     fn tick_of(&self, event: &Event) -> Option<Moment>
         ensures { (line : Line) → open_of self.now ≡ Some line
-            → option_to_list result ≡ ticked line event.now }
+            → option_to_list result ≡ moments_in (ticked line event.now) }
     {
         match &self.open_line {
             Some(Line::TickNow) => match event {

@@ -1,2 +1,3 @@
 pub mod RunLemmas
+pub mod ExchangeLemmas
 pub mod LineLemmas

@@ -1,3 +1,5 @@
+pub mod Exchanges
+pub mod Readings
 pub mod Lines
 pub mod Told
 pub mod Faults

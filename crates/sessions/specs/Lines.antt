@@ -5,6 +5,8 @@ use Rattle.sched_events.specs.declared.events.Event.{Event}
 use Rattle.sched_events.specs.declared.events.Event.TheVariants.{Tick}
 use Rattle.director.specs.declared.faults.Fault.{Fault}
 use Rattle.minutes.specs.Minutes.{is_of_line}
+use Rattle.sessions.specs.Exchanges.{Exchange}
+use Rattle.sessions.specs.Readings.{Reading}
 use Rattle.sessions.specs.declared.line_reading.Line.{Line}
 use Rattle.sessions.specs.declared.line_reading.Line.TheVariants as Says
 
@@ -44,15 +46,15 @@ Takes (Says.Event x) e = x ≡ e
 Takes Says.TickNow e = (moment : ℕ) × (e ≡ Tick moment)
 Takes Says.Drain e = ⊥
 
--- the moment of a tick
-abbrev pub moment_of : Event → List ℕ
-moment_of (Tick moment) = moment ∷ []
-moment_of _ = []
+-- the reading of the clock at whose moment a tick is
+abbrev pub reading_of : Event → List Reading
+reading_of (Tick moment) = Ok moment ∷ []
+reading_of _ = []
 
--- the moment of a tick for a line that says to tick now
-abbrev pub ticked : Line → Event → List ℕ
+-- the same of a tick for a line that says to tick now
+abbrev pub ticked : Line → Event → List Reading
 ticked (Says.Event x) e = []
-ticked Says.TickNow e = moment_of e
+ticked Says.TickNow e = reading_of e
 ticked Says.Drain e = []
 
 -- an event with its answer, where it was accepted
@@ -60,6 +62,6 @@ abbrev pub told_part : Event → Result Answer Fault → List (Event × Answer)
 told_part e (Ok answer) = (e, answer) ∷ []
 told_part e (Err fault) = []
 
--- from one state of lines to another nothing more was told, and what waits is the same
-abbrev pub TellsOn : {L : Type 0} → (L → List (Event × Answer) → List ℕ → Option Line → L → Type 0) → L → L → Type 0
-TellsOn {L} tells l later = (s : L) (told : List (Event × Answer)) (ticks : List ℕ) (waits : Option Line) → tells s told ticks waits l → tells s told ticks waits later
+-- from one state of lines to another there was no exchange more, and what waits is the same
+abbrev pub TellsOn : {L : Type 0} → (L → List Exchange → List Reading → Option Line → L → Type 0) → L → L → Type 0
+TellsOn {L} tells l later = (s : L) (exchanges : List Exchange) (readings : List Reading) (waits : Option Line) → tells s exchanges readings waits l → tells s exchanges readings waits later

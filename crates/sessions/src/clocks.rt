@@ -1,5 +1,6 @@
 //! Where the moments come from at which `tick now` ticks.
-ghost use Rattle.std.specs.Prelude.{ℕ, List, ◌++◌, ◌∷◌, [], MatchResult};
+ghost use Rattle.std.specs.Prelude.{List, ◌++◌, ◌∷◌, []};
+ghost use Rattle.sessions.specs.Readings.{Reading};
 
 use moment_core::Moment;
 use thiserror::Error;
@@ -20,15 +21,13 @@ pub enum ClockFault {
 
 /// A clock. What it gave is a relation between two of its states, so who implements it need not keep it.
 pub trait Clock: Drop {
-    /// From one state to another it gave these moments, in order.
-    ghost gives: { Self → List ℕ → Self → Type 0 };
+    /// From one state to another it gave these readings, in order: moments, or why there was none.
+    ghost gives: { Self → List Reading → Self → Type 0 };
 
     /// The moment that it is.
     fn now(&mut self) -> Result<Moment, ClockFault>
-        ensures { MatchResult result
-            (λ moment. (c : Self) (given : List ℕ)
-            → gives c given self.old → gives c (given ++ moment ∷ []) self.new)
-            (λ _. (c : Self) (given : List ℕ) → gives c given self.old → gives c given self.new) };
+        ensures { (c : Self) (given : List Reading) → gives c given self.old
+            → gives c (given ++ result ∷ []) self.new };
 
     /// Where nothing is done, it gave none.
     ghost begins: { (c : Self) → gives c [] c };

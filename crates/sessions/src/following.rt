@@ -4,7 +4,6 @@ ghost use Rattle.sqlite.specs.Held.{state};
 ghost use Rattle.ruled_dispatch.specs.Lanes.{IsDirectorOf};
 ghost use Rattle.sched_model.specs.Schedule.{Schedule};
 ghost use Rattle.sched_model.specs.States.{in_flight};
-ghost use Rattle.minutes.specs.Minutes.{answered};
 ghost use Rattle.sessions.specs.Faults.{EndsBy};
 ghost use Rattle.sessions.specs.Lines.{is_drain, may_be_read, opens};
 ghost use Rattle.sessions.specs.Runs.{GoesOn, IsRun};
@@ -39,8 +38,8 @@ impl<S: Alter> Session<S> {
             → GoesOn (state S.Store) lanes.now lane_count self.old self.new }
         ensures begun { 0 < length self.new.minutes.items }
         ensures told { (a : Schedule) (lane_count : ℕ) (l : L) (c : C) → IsRun a lane_count self.old
-            → AreTold L.tells C.gives l c lines.old clock.old (answered self.old.minutes.items a) (Some Says.TickNow)
-            → AreToldBy result (AreTold L.tells C.gives l c lines.new clock.new) (answered self.new.minutes.items a) }
+            → AreTold L.tells C.gives l c lines.old clock.old a self.old.minutes.items (Some Says.TickNow)
+            → AreToldBy result (AreTold L.tells C.gives l c lines.new clock.new a) self.new.minutes.items }
         ensures fault { MatchResult result (λ _. L.failed lines.new ≡ None)
             (λ f. EndsBy f (L.failed lines.new)) }
         ensures drains { L.drains lines.new ≡ L.drains lines.old }
@@ -78,8 +77,8 @@ impl<S: Alter> Session<S> {
         ensures goes_on { (lane_count : ℕ)
             → GoesOn (state S.Store) lanes.now lane_count self.old self.new }
         ensures told { (a : Schedule) (lane_count : ℕ) (l : L) (c : C) → IsRun a lane_count self.old
-            → AreTold L.tells C.gives l c lines.old clock.old (answered self.old.minutes.items a) None
-            → AreToldBy result (AreTold L.tells C.gives l c lines.new clock.new) (answered self.new.minutes.items a) }
+            → AreTold L.tells C.gives l c lines.old clock.old a self.old.minutes.items None
+            → AreToldBy result (AreTold L.tells C.gives l c lines.new clock.new a) self.new.minutes.items }
         ensures fault { MatchResult result (λ _. L.failed lines.new ≡ None)
             (λ f. EndsBy f (L.failed lines.new)) }
         ensures over { OnOk result (L.over lines.new ≡ true) }
@@ -119,8 +118,8 @@ impl<S: Alter> Session<S> {
             → GoesOn (state S.Store) lanes.now lane_count self.old self.new }
         ensures begun { 0 < length self.new.minutes.items }
         ensures told { (a : Schedule) (lane_count : ℕ) (l : L) (c : C) → IsRun a lane_count self.old
-            → AreTold L.tells C.gives l c lines.old clock.old (answered self.old.minutes.items a) (opens line)
-            → AreToldBy result (AreTold L.tells C.gives l c lines.new clock.new) (answered self.new.minutes.items a) }
+            → AreTold L.tells C.gives l c lines.old clock.old a self.old.minutes.items (opens line)
+            → AreToldBy result (AreTold L.tells C.gives l c lines.new clock.new a) self.new.minutes.items }
         ensures fault { MatchResult result (λ _. L.failed lines.new ≡ None)
             (λ f. EndsBy f (L.failed lines.new)) }
         ensures drained { OnOk result (L.drains lines.new ≡ true → in_flight self.new.director.schedule.content ≡ 0) }
@@ -152,7 +151,7 @@ impl<S: Alter> Session<S> {
         requires undrained { L.drains lines.old ≡ false }
         ensures goes_on { GoesOn (state S.Store) lanes.now lane_count self.old self.new }
         ensures told { (a : Schedule) → IsRun a lane_count self.old
-            → AreToldBy result (AreTold L.tells C.gives lines.old clock.old lines.new clock.new) (answered self.new.minutes.items a) }
+            → AreToldBy result (AreTold L.tells C.gives lines.old clock.old lines.new clock.new a) self.new.minutes.items }
         ensures fault { MatchResult result (λ _. L.failed lines.new ≡ None)
             (λ f. EndsBy f (L.failed lines.new)) }
         ensures over { OnOk result (L.over lines.new ≡ true) }

@@ -6,7 +6,7 @@ ghost use Rattle.ruled_dispatch.specs.declared.items.WorkerReport.{WorkerReport}
 ghost use Rattle.sched_model.specs.Schedule.{Schedule};
 ghost use Rattle.sched_model.specs.States.{in_flight};
 ghost use Rattle.director.specs.Directors.{Follows};
-ghost use Rattle.minutes.specs.Minutes.{answered};
+ghost use Rattle.sessions.specs.Exchanges.{StillTookPlace};
 ghost use Rattle.sessions.specs.Faults.{EndsBy};
 ghost use Rattle.sessions.specs.Lines.{TellsOn};
 ghost use Rattle.sessions.specs.Runs.{GoesOn, IsRun, IsRunWith};
@@ -44,8 +44,7 @@ impl<S: Alter> Session<S> {
             → IsRunWith before a lane_count self.old → IsRun a lane_count self.new }
         ensures heard { heard_of self.new.pass ≡ heard_of self.old.pass }
         ensures begun { 0 < length self.new.minutes.items }
-        ensures told { (a : Schedule)
-            → answered self.new.minutes.items a ≡ answered self.old.minutes.items a }
+        ensures told { StillTookPlace self.old.minutes.items self.new.minutes.items }
         ensures fault { IfErr result (λ f. EndsBy f None) }
     {
         let event = Event::Report(told.report.serial, told.report.stage);
@@ -79,8 +78,7 @@ impl<S: Alter> Session<S> {
         ensures begun { 0 < length self.new.minutes.items }
         ensures heard { IfOk result (λ there. length (heard_of self.new.pass)
             ≡ length (heard_of self.old.pass) + (if there then 1 else 0)) }
-        ensures told { (a : Schedule)
-            → answered self.new.minutes.items a ≡ answered self.old.minutes.items a }
+        ensures told { StillTookPlace self.old.minutes.items self.new.minutes.items }
         ensures fault { IfErr result (λ f. EndsBy f None) }
     {
         match lanes.hear(rt, &mut self.pass) {
@@ -104,8 +102,7 @@ impl<S: Alter> Session<S> {
         ensures goes_on { (lane_count : ℕ)
             → GoesOn (state S.Store) lanes.now lane_count self.old self.new }
         ensures begun { 0 < length self.new.minutes.items }
-        ensures told { (a : Schedule)
-            → answered self.new.minutes.items a ≡ answered self.old.minutes.items a }
+        ensures told { StillTookPlace self.old.minutes.items self.new.minutes.items }
         ensures fault { IfErr result (λ f. EndsBy f None) }
     {
         let told = lanes.wait_to_hear(rt, &mut self.pass);
@@ -124,8 +121,7 @@ impl<S: Alter> Session<S> {
         ensures goes_on { (lane_count : ℕ)
             → GoesOn (state S.Store) lanes.now lane_count self.old self.new }
         ensures begun { 0 < length self.new.minutes.items }
-        ensures told { (a : Schedule)
-            → answered self.new.minutes.items a ≡ answered self.old.minutes.items a }
+        ensures told { StillTookPlace self.old.minutes.items self.new.minutes.items }
         ensures fault { IfErr result (λ f. EndsBy f None) }
     {
         for _ in rt.forever() {
@@ -151,8 +147,7 @@ impl<S: Alter> Session<S> {
         ensures goes_on { (lane_count : ℕ)
             → GoesOn (state S.Store) lanes.now lane_count self.old self.new }
         ensures begun { 0 < length self.new.minutes.items }
-        ensures answered { (a : Schedule)
-            → answered self.new.minutes.items a ≡ answered self.old.minutes.items a }
+        ensures kept { StillTookPlace self.old.minutes.items self.new.minutes.items }
         ensures told { TellsOn L.tells lines.old lines.new }
         ensures failed { L.failed lines.new ≡ L.failed lines.old }
         ensures over { L.over lines.new ≡ L.over lines.old }

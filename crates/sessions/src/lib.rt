@@ -16,6 +16,7 @@ mod clocks;
 mod faults;
 mod following;
 mod hearing;
+mod laws;
 mod line_reading;
 mod sending;
 mod state;
@@ -23,5 +24,6 @@ mod stepping;
 
 pub use clocks::{Clock, ClockFault};
 pub use faults::ConductFault;
+pub use laws::what_took_place_is_of_the_minutes;
 pub use line_reading::{Line, LineFault, Lines};
 pub use state::Session;

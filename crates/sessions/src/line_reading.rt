@@ -1,9 +1,11 @@
 //! Where the lines come from, and where their answers go.
-ghost use Rattle.std.specs.Prelude.{◌≡◌, ◌++◌, ℕ, List, [], Bool, true, Some, None, Option, Result, IfOk, OnOk, MatchResult, MatchOption};
+ghost use Rattle.std.specs.Prelude.{◌≡◌, ◌++◌, ◌∷◌, ℕ, List, [], Bool, true, Some, None, Err, Option, Result, IfOk, OnOk, MatchResult, MatchOption};
 ghost use Rattle.sched_events.specs.declared.answers.Answer.{Answer};
 ghost use Rattle.sched_events.specs.declared.events.Event.{Event};
 ghost use Rattle.sched_model.specs.States.{in_flight};
 ghost use Rattle.director.specs.declared.faults.Fault.{Fault};
+ghost use Rattle.sessions.specs.Exchanges.{looks, tellings, Exchange};
+ghost use Rattle.sessions.specs.Readings.{Reading};
 ghost use Rattle.sessions.specs.Lines.{may_be_read, opened_by, reads_drain, ticked, told_part, Takes, TellsOn};
 ghost use Rattle.sessions.specs.declared.clocks.ClockFault.{ClockFault};
 ghost use Rattle.sessions.specs.declared.line_reading.Line.{Line};
@@ -41,9 +43,9 @@ pub enum LineFault {
 /// Lines that are read one by one, each answered before the next. What they were told is a relation between two of their states, so who
 /// implements it need not keep it.
 pub trait Lines: Drop {
-    /// From one state to another they were told these events, each with its answer, and of ticks at these moments for lines that say to tick
-    /// now; and this line waits for its answer then.
-    ghost tells: { Self → List (Event × Answer) → List ℕ → Option Line → Self → Type 0 };
+    /// From one state to another these exchanges took place: they looked at schedules, and were told events, each with its answer; of each line
+    /// that says to tick now they were told this of the clock, the moment of the tick or why there is none; and this line waits for its answer then.
+    ghost tells: { Self → List Exchange → List Reading → Option Line → Self → Type 0 };
 
     /// What they show of an answer, from the state before it to the state after it.
     ghost shows: { Self → Event → Result Answer Fault → Self → Type 0 };
@@ -60,13 +62,13 @@ pub trait Lines: Drop {
     /// Whether they said to drain by the last line that was read, and the next is not asked for yet.
     ghost drains: { Self → Bool };
 
-    /// The next line, or none where they are over. They may look at the schedule. No line waits before; and after a line that says to drain no try is in
-    /// flight.
+    /// The next line, or none where they are over. They may look at the schedule, more than once. No line waits before; and after a line that says
+    /// to drain no try is in flight.
     fn next(&mut self, schedule: &Schedule) -> Result<Option<Line>, LineFault>
         requires sound { failed self.old ≡ None }
         requires drained { drains self.old ≡ true → in_flight schedule.now.content ≡ 0 }
-        ensures told { (s : Self) (told : List (Event × Answer)) (ticks : List ℕ)
-            → tells s told ticks None self.old → tells s told ticks (opened_by result) self.new }
+        ensures told { (s : Self) (exchanges : List Exchange) (readings : List Reading) → tells s exchanges readings None self.old
+            → (times : ℕ) × tells s (exchanges ++ looks times schedule.now.content) readings (opened_by result) self.new }
         ensures failed { MatchResult result (λ _. failed self.new ≡ None)
             (λ fault. failed self.new ≡ Some fault) }
         ensures line { IfOk result (λ next. MatchOption next (over self.new ≡ true)
@@ -76,9 +78,9 @@ pub trait Lines: Drop {
     /// Tells the line that waits that its event was accepted, with the answer, or why not. It counts as told even where that fails.
     fn answered(&mut self, event: &Event, answer: &Result<Answer, Fault>) -> Result<(), LineFault>
         requires { failed self.old ≡ None }
-        ensures told { (s : Self) (told : List (Event × Answer)) (ticks : List ℕ) (line : Line)
-            → Takes line event.now → tells s told ticks (Some line) self.old
-            → tells s (told ++ told_part event.now answer.now) (ticks ++ ticked line event.now) None self.new }
+        ensures told { (s : Self) (exchanges : List Exchange) (readings : List Reading) (line : Line)
+            → Takes line event.now → tells s exchanges readings (Some line) self.old
+            → tells s (exchanges ++ tellings (told_part event.now answer.now)) (readings ++ ticked line event.now) None self.new }
         ensures shown { OnOk result (shows self.old event.now answer.now self.new) }
         ensures failed { MatchResult result (λ _. failed self.new ≡ None)
             (λ fault. failed self.new ≡ Some fault) }
@@ -88,8 +90,9 @@ pub trait Lines: Drop {
     /// Tells the line that waits, which says to tick now, that the clock gave no moment.
     fn no_clock(&mut self, fault: ClockFault) -> Result<(), LineFault>
         requires { failed self.old ≡ None }
-        ensures told { (s : Self) (told : List (Event × Answer)) (ticks : List ℕ)
-            → tells s told ticks (Some Says.TickNow) self.old → tells s told ticks None self.new }
+        ensures told { (s : Self) (exchanges : List Exchange) (readings : List Reading)
+            → tells s exchanges readings (Some Says.TickNow) self.old
+            → tells s exchanges (readings ++ Err fault ∷ []) None self.new }
         ensures shown { OnOk result (shows_no_clock self.old fault self.new) }
         ensures failed { MatchResult result (λ _. failed self.new ≡ None)
             (λ fault. failed self.new ≡ Some fault) }
@@ -103,6 +106,6 @@ pub trait Lines: Drop {
         ensures over { over self.new ≡ over self.old }
         ensures drains { drains self.new ≡ drains self.old };
 
-    /// Where nothing is done, nothing was told.
+    /// Where nothing is done, nothing took place.
     ghost begins: { (s : Self) → tells s [] [] None s };
 }

@@ -6,9 +6,11 @@ ghost use Rattle.sched_events.specs.declared.answers.Answer.{Answer};
 ghost use Rattle.sched_events.specs.declared.events.Event.{Event};
 ghost use Rattle.sched_events.specs.declared.events.Event.TheVariants.{Restart};
 ghost use Rattle.sched_model.specs.Schedule.{Schedule};
-ghost use Rattle.minutes.specs.Minutes.{answered, is_of_line};
+ghost use Rattle.minutes.specs.Minutes.{is_of_line};
+ghost use Rattle.sessions.specs.Exchanges.{Exchange, TookPlace};
 ghost use Rattle.sessions.specs.Faults.{EndsBy};
 ghost use Rattle.sessions.specs.Lines.{ticked, Takes};
+ghost use Rattle.sessions.specs.Readings.{Reading};
 ghost use Rattle.sessions.specs.Runs.{GoesOn, IsAccepted, IsRun, IsTried};
 ghost use Rattle.sessions.specs.declared.line_reading.Line.{Line};
 
@@ -70,7 +72,7 @@ impl<S: Alter> Session<S> {
         requires fresh { self.old.minutes.items ≡ [] }
         requires lanes { lane_count ≤ self.old.director.schedule.content.limits.lanes }
         ensures goes_on { GoesOn (state S.Store) lanes.now lane_count self.old self.new }
-        ensures told { (a : Schedule) → answered self.new.minutes.items a ≡ [] }
+        ensures told { (a : Schedule) → TookPlace [] self.new.minutes.items a }
         ensures begun { OnOk result (self.new.minutes.items ≡ Restart lane_count ∷ []) }
         ensures unbegun { OnErr result (self.new.minutes.items ≡ []) }
         ensures fault { IfErr result (λ f. EndsBy f None) }
@@ -101,10 +103,11 @@ impl<S: Alter> Session<S> {
         ensures goes_on { (lane_count : ℕ)
             → GoesOn (state S.Store) lanes.now lane_count self.old self.new }
         ensures begun { 0 < length self.new.minutes.items }
-        ensures told { (a : Schedule) (lane_count : ℕ) (l : L) (moments : List ℕ) (line : Line)
-            → IsRun a lane_count self.old → Takes line event
-            → L.tells l (answered self.old.minutes.items a) moments (Some line) lines.old
-            → L.tells l (answered self.new.minutes.items a) (moments ++ ticked line event) None lines.new }
+        ensures told { (a : Schedule) (lane_count : ℕ) (l : L) (exchanges : List Exchange) (readings : List Reading) (line : Line)
+            → IsRun a lane_count self.old → Takes line event → TookPlace exchanges self.old.minutes.items a
+            → L.tells l exchanges readings (Some line) lines.old
+            → (now : List Exchange) × TookPlace now self.new.minutes.items a
+            × L.tells l now (readings ++ ticked line event) None lines.new }
         ensures failed { MatchResult result (λ _. L.failed lines.new ≡ None)
             (λ fault. L.failed lines.new ≡ Some fault) }
         ensures over { L.over lines.new ≡ L.over lines.old }

@@ -21,7 +21,7 @@ returns-in_default g c =
     let some : 0 < length kits = subst (λ n. 0 < n) (sym (length-map crews (λ x. x.kit))) c.requires.crews.0 in
     let none : false ≡ (length kits == 0) = sym (ne_eqb (length kits) 0 (λ e. absurd (omega arith))) in
     unstarted_run (state g.S.Store) g.O.Operator.runs_of g.O.Operator.taken c.args.lane_count kits c.args.director _ (AreTold g.L.Lines.tells g.C.Clock.gives c.args.lines.now c.args.clock.now c.args.lines.now c.args.clock.now) ((c.args.lines.now ≡ c.args.lines.now) × (c.args.clock.now ≡ c.args.clock.now)) _ _ fault.Memory refl c.new.ensures.items refl
-    (record { moments = []; told = g.met.L.Lines.begins c.args.lines.now; given = g.met.C.Clock.begins c.args.clock.now }) (refl, refl) refl (inl c.requires.sound) none
+    (record { exchanges = []; took_place = refl; readings = []; told = g.met.L.Lines.begins c.args.lines.now; given = g.met.C.Clock.begins c.args.clock.now }) (refl, refl) refl (inl c.requires.sound) none
 
 pub manage-managed-requires-after_bounds : goal.manage-managed-requires-after_bounds
 manage-managed-requires-after_bounds g c κs within =

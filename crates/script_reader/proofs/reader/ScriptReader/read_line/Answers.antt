@@ -1,7 +1,9 @@
-use Rattle.std.proofs.Common.{rules, false, Some, None, Ok, Err, refl, sym, ap, subst, ◌∙◌}
+use Rattle.std.proofs.Common.{rules, ◌+◌, ◌++◌, List, false, Some, None, Ok, Err, refl, sym, ap, subst, ◌∙◌, append-nil}
 use Rattle.std.specs.declared.io.Error.{Error}
+use Rattle.sessions.specs.Exchanges.{looks, Exchange}
+use Rattle.script_reader.specs.Done.{HasDone}
 use Rattle.script_reader.specs.Shown.{IsWritten}
-use Rattle.script_reader.proofs.DoneLemmas.{as_ok, broken, broken_off, ended_less, left_line, left_none, next_at, next_named, over, unanswered}
+use Rattle.script_reader.proofs.DoneLemmas.{as_ok, broken, broken_off, ended_less, left_line, left_none, next_at, next_named, one_look_more, over, unanswered}
 use Rattle.script_reader.proofs.ShownLemmas.{drain_written, written_on}
 use Rattle.script_reader.proofs.reader.ScriptReader.read_line.Goals as goal
 
@@ -21,39 +23,51 @@ loop-command-init g c =
           let at = rw (sym a.sources) at done in
           let on = rw (sym a.input) at at in
           let by = rw (sym a.status) at on in
-          by;
+          let at_first = rw (sym (append-nil told)) at by in
+          (0, at_first);
     }
 
 pub returns-in_err-flush-clause-told : goal.returns-in_err-flush-clause-told
 returns-in_err-flush-clause-told g c = λ drained names before first from s told ticks ended e h.
-    broken_off names before _ _ c.from_residual-in_err-flush.ensures.1 first (λ given. g.F.Sources.gives s given c.loop-command.self.sources) _ _ told ticks _ _ _ false (c.loop-command.invariant.told drained names before first from s told ticks ended e h)
+    let was = c.loop-command.invariant.told drained names before first from s told ticks ended e h in
+    (was.0, broken_off names before _ _ c.from_residual-in_err-flush.ensures.1 first (λ given. g.F.Sources.gives s given c.loop-command.self.sources) _ _ (told ++ looks was.0 c.args.schedule.now.content) ticks _ _ _ false was.1)
 
 pub returns-in_err-next_command-clause-told : goal.returns-in_err-next_command-clause-told
 returns-in_err-next_command-clause-told g c = λ drained names before first from s told ticks ended e h.
-    broken_off names before _ _ c.from_residual-in_err-next_command.ensures.1 first (λ given. g.F.Sources.gives s given c.loop-command.self.sources) _ _ told ticks _ _ _ false (c.loop-command.invariant.told drained names before first from s told ticks ended e h)
+    let was = c.loop-command.invariant.told drained names before first from s told ticks ended e h in
+    (was.0, broken_off names before _ _ c.from_residual-in_err-next_command.ensures.1 first (λ given. g.F.Sources.gives s given c.loop-command.self.sources) _ _ (told ++ looks was.0 c.args.schedule.now.content) ticks _ _ _ false was.1)
 
 pub returns-in-None-clause-told : goal.returns-in-None-clause-told
 returns-in-None-clause-told g c = λ drained names before first from s told ticks ended e h.
-    over names before first (λ given. g.F.Sources.gives s given c.loop-command.self.sources) _ told ticks _ _ false
-    (ended_less names before first (λ given. g.F.Sources.gives s given c.loop-command.self.sources) (IsWritten drained from (g.W.Write.contents c.loop-command.self.output) false) (IsWritten drained from (g.W.Write.contents c.flush.new.self) c.loop-command.self.has_drained) told ticks None (g.R.Read.remaining c.loop-command.self.input) c.loop-command.self.status false false false (λ no. no)
-    (λ fine xs w. subst (λ b. IsWritten drained from (g.W.Write.contents c.flush.new.self) b xs) (sym c.loop-command.invariant.drains) (written_on drained from (g.W.Write.contents c.loop-command.self.output) (g.W.Write.contents c.flush.new.self) xs w c.in_ok-flush.ensures.bytes)) (c.loop-command.invariant.told drained names before first from s told ticks ended e h)) _
-    (λ known k. next_named names c.loop-command.self.words.names (e ∙ sym (ap (λ w. w.names) c.loop-command.invariant.words)) known None (g.R.Read.remaining c.next_command.new.input) (let next = rw c.in-None.is at (c.in_ok-next_command.ensures.next known k) in next))
+    let was = c.loop-command.invariant.told drained names before first from s told ticks ended e h in (
+      was.0,
+      over names before first (λ given. g.F.Sources.gives s given c.loop-command.self.sources) _ (told ++ looks was.0 c.args.schedule.now.content) ticks _ _ false
+          (ended_less names before first (λ given. g.F.Sources.gives s given c.loop-command.self.sources) (IsWritten drained from (g.W.Write.contents c.loop-command.self.output) false) (IsWritten drained from (g.W.Write.contents c.flush.new.self) c.loop-command.self.has_drained) (told ++ looks was.0 c.args.schedule.now.content) ticks None (g.R.Read.remaining c.loop-command.self.input) c.loop-command.self.status false false false (λ no. no)
+          (λ fine xs w. subst (λ b. IsWritten drained from (g.W.Write.contents c.flush.new.self) b xs) (sym c.loop-command.invariant.drains) (written_on drained from (g.W.Write.contents c.loop-command.self.output) (g.W.Write.contents c.flush.new.self) xs w c.in_ok-flush.ensures.bytes)) was.1) _
+          (λ known k. next_named names c.loop-command.self.words.names (e ∙ sym (ap (λ w. w.names) c.loop-command.invariant.words)) known None (g.R.Read.remaining c.next_command.new.input) (let next = rw c.in-None.is at (c.in_ok-next_command.ensures.next known k) in next)),
+    )
 
 pub returns-in_err-do_command-in-Some-clause-told : goal.returns-in_err-do_command-in-Some-clause-told
 returns-in_err-do_command-in-Some-clause-told g c = λ drained names before first from s told ticks ended e h.
-    unanswered names before {E = Error} drained from _ _ _ first (λ given. g.F.Sources.gives s given c.loop-command.self.sources) (λ given. g.F.Sources.gives s given c.do_command.new.self.sources) told ticks _ _ _ _ false
-    (ended_less names before first (λ given. g.F.Sources.gives s given c.loop-command.self.sources) (IsWritten drained from (g.W.Write.contents c.loop-command.self.output) false) (IsWritten drained from (g.W.Write.contents c.flush.new.self) false) told ticks None (g.R.Read.remaining c.loop-command.self.input) c.loop-command.self.status false false false (λ no. no)
-    (λ fine xs w. written_on drained from _ _ xs w c.in_ok-flush.ensures.bytes) (c.loop-command.invariant.told drained names before first from s told ticks ended e h))
-    c.in-Some.request (next_at names g.R.Read.remaining _ c.in-Some.request c.next_command.new.input c.do_command.new.self.input c.in_err-do_command-in-Some.ensures.input (λ known k. next_named names c.loop-command.self.words.names (e ∙ sym (ap (λ w. w.names) c.loop-command.invariant.words)) known (Some c.in-Some.request) (g.R.Read.remaining c.next_command.new.input) (let next = rw c.in-Some.is at (c.in_ok-next_command.ensures.next known k) in next))) c.args.schedule.now.content (Err c.in_err-do_command-in-Some.field-0.0) (c.in_err-do_command-in-Some.ensures.texts s) c.in_err-do_command-in-Some.ensures.does c.in_err-do_command-in-Some.ensures.drains
-    _ _ c.from_residual-in_err-do_command-in-Some.ensures.1 _ refl
+    let was = c.loop-command.invariant.told drained names before first from s told ticks ended e h in (
+      was.0,
+      unanswered names before {E = Error} drained from _ _ _ first (λ given. g.F.Sources.gives s given c.loop-command.self.sources) (λ given. g.F.Sources.gives s given c.do_command.new.self.sources) (told ++ looks was.0 c.args.schedule.now.content) ticks _ _ _ _ false
+          (ended_less names before first (λ given. g.F.Sources.gives s given c.loop-command.self.sources) (IsWritten drained from (g.W.Write.contents c.loop-command.self.output) false) (IsWritten drained from (g.W.Write.contents c.flush.new.self) false) (told ++ looks was.0 c.args.schedule.now.content) ticks None (g.R.Read.remaining c.loop-command.self.input) c.loop-command.self.status false false false (λ no. no)
+          (λ fine xs w. written_on drained from _ _ xs w c.in_ok-flush.ensures.bytes) was.1)
+          c.in-Some.request (next_at names g.R.Read.remaining _ c.in-Some.request c.next_command.new.input c.do_command.new.self.input c.in_err-do_command-in-Some.ensures.input (λ known k. next_named names c.loop-command.self.words.names (e ∙ sym (ap (λ w. w.names) c.loop-command.invariant.words)) known (Some c.in-Some.request) (g.R.Read.remaining c.next_command.new.input) (let next = rw c.in-Some.is at (c.in_ok-next_command.ensures.next known k) in next))) c.args.schedule.now.content (Err c.in_err-do_command-in-Some.field-0.0) (c.in_err-do_command-in-Some.ensures.texts s) c.in_err-do_command-in-Some.ensures.does c.in_err-do_command-in-Some.ensures.drains
+          _ _ c.from_residual-in_err-do_command-in-Some.ensures.1 _ refl,
+    )
 
 pub returns-in-Some-2-clause-told : goal.returns-in-Some-2-clause-told
 returns-in-Some-2-clause-told g c = λ drained names before first from s told ticks ended e h.
-    left_line names before {E = Error} drained from _ _ _ first (λ given. g.F.Sources.gives s given c.loop-command.self.sources) (λ given. g.F.Sources.gives s given c.do_command.new.self.sources) told ticks _ _ _ _ false
-    (ended_less names before first (λ given. g.F.Sources.gives s given c.loop-command.self.sources) (IsWritten drained from (g.W.Write.contents c.loop-command.self.output) false) (IsWritten drained from (g.W.Write.contents c.flush.new.self) false) told ticks None (g.R.Read.remaining c.loop-command.self.input) c.loop-command.self.status false false false (λ no. no)
-    (λ fine xs w. written_on drained from _ _ xs w c.in_ok-flush.ensures.bytes) (c.loop-command.invariant.told drained names before first from s told ticks ended e h))
-    c.in-Some.request (next_at names g.R.Read.remaining _ c.in-Some.request c.next_command.new.input c.do_command.new.self.input c.in_ok-do_command-in-Some.ensures.input (λ known k. next_named names c.loop-command.self.words.names (e ∙ sym (ap (λ w. w.names) c.loop-command.invariant.words)) known (Some c.in-Some.request) (g.R.Read.remaining c.next_command.new.input) (let next = rw c.in-Some.is at (c.in_ok-next_command.ensures.next known k) in next))) c.args.schedule.now.content (Ok c.in_ok-do_command-in-Some.field-0) (c.in_ok-do_command-in-Some.ensures.texts s) c.in_ok-do_command-in-Some.ensures.does c.in_ok-do_command-in-Some.ensures.drains
-    _ (as_ok Error _ _ c.in-Some-2.is)
+    let was = c.loop-command.invariant.told drained names before first from s told ticks ended e h in (
+      was.0,
+      left_line names before {E = Error} drained from _ _ _ first (λ given. g.F.Sources.gives s given c.loop-command.self.sources) (λ given. g.F.Sources.gives s given c.do_command.new.self.sources) (told ++ looks was.0 c.args.schedule.now.content) ticks _ _ _ _ false
+          (ended_less names before first (λ given. g.F.Sources.gives s given c.loop-command.self.sources) (IsWritten drained from (g.W.Write.contents c.loop-command.self.output) false) (IsWritten drained from (g.W.Write.contents c.flush.new.self) false) (told ++ looks was.0 c.args.schedule.now.content) ticks None (g.R.Read.remaining c.loop-command.self.input) c.loop-command.self.status false false false (λ no. no)
+          (λ fine xs w. written_on drained from _ _ xs w c.in_ok-flush.ensures.bytes) was.1)
+          c.in-Some.request (next_at names g.R.Read.remaining _ c.in-Some.request c.next_command.new.input c.do_command.new.self.input c.in_ok-do_command-in-Some.ensures.input (λ known k. next_named names c.loop-command.self.words.names (e ∙ sym (ap (λ w. w.names) c.loop-command.invariant.words)) known (Some c.in-Some.request) (g.R.Read.remaining c.next_command.new.input) (let next = rw c.in-Some.is at (c.in_ok-next_command.ensures.next known k) in next))) c.args.schedule.now.content (Ok c.in_ok-do_command-in-Some.field-0) (c.in_ok-do_command-in-Some.ensures.texts s) c.in_ok-do_command-in-Some.ensures.does c.in_ok-do_command-in-Some.ensures.drains
+          _ (as_ok Error _ _ c.in-Some-2.is),
+    )
 
 pub loop-command-preserved : goal.loop-command-preserved
 loop-command-preserved g c = record {
@@ -61,12 +75,15 @@ loop-command-preserved g c = record {
   failed = c.in_ok-do_command-in-Some.ensures.failed ∙ c.loop-command.invariant.failed;
   drains = (search rules);
   told = λ drained names before first from s told ticks ended e h.
-      left_none names before {E = Error} drained from _ _ _ first (λ given. g.F.Sources.gives s given c.loop-command.self.sources) (λ given. g.F.Sources.gives s given c.do_command.new.self.sources) told ticks _ _ _ _ false
-      (ended_less names before first (λ given. g.F.Sources.gives s given c.loop-command.self.sources) (IsWritten drained from (g.W.Write.contents c.loop-command.self.output) false) (IsWritten drained from (g.W.Write.contents c.flush.new.self) false) told ticks None (g.R.Read.remaining c.loop-command.self.input) c.loop-command.self.status false false false (λ no. no)
-      (λ fine xs w. written_on drained from _ _ xs w c.in_ok-flush.ensures.bytes) (c.loop-command.invariant.told drained names before first from s told ticks ended e h))
-      c.in-Some.request (next_at names g.R.Read.remaining _ c.in-Some.request c.next_command.new.input c.do_command.new.self.input c.in_ok-do_command-in-Some.ensures.input (λ known k. next_named names c.loop-command.self.words.names (e ∙ sym (ap (λ w. w.names) c.loop-command.invariant.words)) known (Some c.in-Some.request) (g.R.Read.remaining c.next_command.new.input) (let next = rw c.in-Some.is at (c.in_ok-next_command.ensures.next known k) in next))) c.args.schedule.now.content (Ok c.in_ok-do_command-in-Some.field-0) (c.in_ok-do_command-in-Some.ensures.texts s) c.in_ok-do_command-in-Some.ensures.does c.in_ok-do_command-in-Some.ensures.drains (as_ok Error _ _ c.in-None-2.is);
+      let was = c.loop-command.invariant.told drained names before first from s told ticks ended e h in
+      let now = left_none names before {E = Error} drained from _ _ _ first (λ given. g.F.Sources.gives s given c.loop-command.self.sources) (λ given. g.F.Sources.gives s given c.do_command.new.self.sources) (told ++ looks was.0 c.args.schedule.now.content) ticks _ _ _ _ false
+      (ended_less names before first (λ given. g.F.Sources.gives s given c.loop-command.self.sources) (IsWritten drained from (g.W.Write.contents c.loop-command.self.output) false) (IsWritten drained from (g.W.Write.contents c.flush.new.self) false) (told ++ looks was.0 c.args.schedule.now.content) ticks None (g.R.Read.remaining c.loop-command.self.input) c.loop-command.self.status false false false (λ no. no)
+      (λ fine xs w. written_on drained from _ _ xs w c.in_ok-flush.ensures.bytes) was.1)
+      c.in-Some.request (next_at names g.R.Read.remaining _ c.in-Some.request c.next_command.new.input c.do_command.new.self.input c.in_ok-do_command-in-Some.ensures.input (λ known k. next_named names c.loop-command.self.words.names (e ∙ sym (ap (λ w. w.names) c.loop-command.invariant.words)) known (Some c.in-Some.request) (g.R.Read.remaining c.next_command.new.input) (let next = rw c.in-Some.is at (c.in_ok-next_command.ensures.next known k) in next))) c.args.schedule.now.content (Ok c.in_ok-do_command-in-Some.field-0) (c.in_ok-do_command-in-Some.ensures.texts s) c.in_ok-do_command-in-Some.ensures.does c.in_ok-do_command-in-Some.ensures.drains (as_ok Error _ _ c.in-None-2.is) in
+      (was.0 + 1, subst (λ (t : List Exchange). HasDone names before first (λ given. g.F.Sources.gives s given c.do_command.new.self.sources) (IsWritten drained from (g.W.Write.contents c.do_command.new.self.output) false) t ticks None (g.R.Read.remaining c.do_command.new.self.input) c.do_command.new.self.status false false) (one_look_more told was.0 c.args.schedule.now.content) now);
 }
 
 pub returns-clause-told : goal.returns-clause-told
 returns-clause-told g c = λ drained names before first from s told ticks ended e h.
-    broken names before first (λ given. g.F.Sources.gives s given c.loop-command.self.sources) _ told ticks _ _ false (c.loop-command.invariant.told drained names before first from s told ticks ended e h) (λ given. g.F.Sources.gives s given c.loop-command.self.sources) _ _ _ (λ x. x) refl
+    let was = c.loop-command.invariant.told drained names before first from s told ticks ended e h in
+    (was.0, broken names before first (λ given. g.F.Sources.gives s given c.loop-command.self.sources) _ (told ++ looks was.0 c.args.schedule.now.content) ticks _ _ false was.1 (λ given. g.F.Sources.gives s given c.loop-command.self.sources) _ _ _ (λ x. x) refl)

@@ -1,19 +1,19 @@
-use Rattle.std.proofs.Common.{◌≡◌, ℕ, List, Bool, false, Option, None}
-use Rattle.sched_events.specs.declared.answers.Answer.{Answer}
-use Rattle.sched_events.specs.declared.events.Event.{Event}
+use Rattle.std.proofs.Common.{◌≡◌, ◌++◌, ℕ, List, Bool, false, Option, None}
 use Rattle.word_app.specs.App.{Texts}
+use Rattle.sessions.specs.Exchanges.{looks, Exchange}
+use Rattle.sessions.specs.Readings.{Reading}
 use Rattle.script_reader.specs.Done.{HasDone}
 use Rattle.script_reader.specs.Shown.{IsWritten}
 use Rattle.script_reader.proofs.reader.ScriptReader.read_line.Given as goal
 
--- what was done before is still done, and more of which nothing is told
+-- what was done before is still done, and more that was answered of the schedule
 abbrev pub invariant-loop-command : goal.invariant-loop-command
 invariant-loop-command g l = record {
   words : l.self.words ≡ l.fn.self.words;
   failed : l.self.failed ≡ l.fn.self.failed;
   drains : l.self.has_drained ≡ false;
-  told : (drained : Bool) (names : Texts) (before : ℕ) (first from : Option (List ℕ)) (s : g.row.F.Denot) (told : List (Event × Answer)) (ticks : List ℕ) (has_ended : Bool)
+  told : (drained : Bool) (names : Texts) (before : ℕ) (first from : Option (List ℕ)) (s : g.row.F.Denot) (told : List Exchange) (ticks : List Reading) (has_ended : Bool)
       → names ≡ l.fn.self.words.names
       → HasDone names before first (λ given. g.F.Sources.gives s given l.fn.self.sources) (IsWritten drained from (g.W.Write.contents l.fn.self.output) l.fn.self.has_drained) told ticks None (g.R.Read.remaining l.fn.self.input) l.fn.self.status false has_ended
-      → HasDone names before first (λ given. g.F.Sources.gives s given l.self.sources) (IsWritten drained from (g.W.Write.contents l.self.output) false) told ticks None (g.R.Read.remaining l.self.input) l.self.status false false;
+      → (times : ℕ) × HasDone names before first (λ given. g.F.Sources.gives s given l.self.sources) (IsWritten drained from (g.W.Write.contents l.self.output) false) (told ++ looks times l.fn.schedule.content) ticks None (g.R.Read.remaining l.self.input) l.self.status false false;
 }

@@ -13,8 +13,8 @@ loop-preserved g c =
     record {
       goes_on = λ n. goes_then (state g.S.Store) c.args.lanes.now n c.args.self.now c.loop.self c.await_one.new.self (was.goes_on n) (done.goes_on n);
       begun = done.begun;
-      answered = λ a. done.told a ∙ was.answered a;
-      told = λ s told ticks waits before. c.waits.ensures.told s told ticks waits (was.told s told ticks waits before);
+      kept = λ a exchanges took. done.told a exchanges (was.kept a exchanges took);
+      told = λ s exchanges readings waits before. c.waits.ensures.told s exchanges readings waits (was.told s exchanges readings waits before);
       failed = c.waits.ensures.failed ∙ was.failed;
       over = c.waits.ensures.over ∙ was.over;
       drains = c.waits.ensures.drains ∙ was.drains;

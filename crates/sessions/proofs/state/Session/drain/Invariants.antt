@@ -1,7 +1,6 @@
 use Rattle.std.proofs.Common.{◌≡◌, ◌<◌, ℕ, length, vec_items}
 use Rattle.sqlite.specs.Held.{state}
-use Rattle.minutes.specs.Minutes as minutes
-use Rattle.sched_model.specs.Schedule.{Schedule}
+use Rattle.sessions.specs.Exchanges.{StillTookPlace}
 use Rattle.sessions.specs.Lines.{TellsOn}
 use Rattle.sessions.specs.Runs.{GoesOn}
 use Rattle.sessions.proofs.state.Session.drain.Given as goal
@@ -10,7 +9,7 @@ abbrev pub invariant-loop : goal.invariant-loop
 invariant-loop g l = record {
   goes_on : (lane_count : ℕ) → GoesOn (state g.S.Store) l.lanes lane_count l.initial.self l.self;
   begun : 0 < length (vec_items l.self.minutes);
-  answered : (a : Schedule) → minutes.answered (vec_items l.self.minutes) a ≡ minutes.answered (vec_items l.initial.self.minutes) a;
+  kept : StillTookPlace (vec_items l.initial.self.minutes) (vec_items l.self.minutes);
   told : TellsOn g.L.Lines.tells l.initial.lines l.lines;
   failed : g.L.Lines.failed l.lines ≡ g.L.Lines.failed l.initial.lines;
   over : g.L.Lines.over l.lines ≡ g.L.Lines.over l.initial.lines;

@@ -1,4 +1,3 @@
-use Rattle.std.proofs.Common.{◌∙◌}
 use Rattle.sqlite.specs.Held.{state}
 use Rattle.sessions.proofs.RunLemmas.{goes_then}
 use Rattle.sessions.proofs.state.Session.hear_all.Goals as goal
@@ -13,7 +12,7 @@ loop-preserved g c =
     record {
       goes_on = λ n. goes_then (state g.S.Store) c.args.lanes.now n c.args.self.now c.loop.self c.hear_one.new.self (was.goes_on n) (done.goes_on n);
       begun = done.begun;
-      told = λ a. done.told a ∙ was.told a;
+      told = λ a exchanges took. done.told a exchanges (was.told a exchanges took);
     }
 
 pub returns-in-Ok-false-clause-goes_on : goal.returns-in-Ok-false-clause-goes_on

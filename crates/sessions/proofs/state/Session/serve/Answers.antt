@@ -1,4 +1,4 @@
-use Rattle.std.proofs.Common.{[], None, sym, subst}
+use Rattle.std.proofs.Common.{[], None}
 use Rattle.sqlite.specs.Held.{state}
 use Rattle.sessions.proofs.RunLemmas.{goes_then}
 use Rattle.sessions.proofs.state.Session.serve.Goals as goal
@@ -11,7 +11,22 @@ pub returns-in-Ok-clause-told : goal.returns-in-Ok-clause-told
 returns-in-Ok-clause-told g c a was =
     c.follow.ensures.told a c.args.lane_count c.args.lines.now c.args.clock.now (c.restart.ensures.goes_on.run a was)
     (record {
-      moments = [];
-      told = subst (λ answers. g.L.Lines.tells c.args.lines.now answers [] None c.args.lines.now) (sym (c.restart.ensures.told a)) (g.met.L.Lines.begins c.args.lines.now);
+      exchanges = [];
+      took_place = c.restart.ensures.told a;
+      readings = [];
+      told = g.met.L.Lines.begins c.args.lines.now;
       given = g.met.C.Clock.begins c.args.clock.now;
     })
+
+pub returns-in-Err-clause-told : goal.returns-in-Err-clause-told
+returns-in-Err-clause-told g c a was = (
+  None,
+  record {
+    exchanges = [];
+    took_place = c.restart.ensures.told a;
+    readings = [];
+    told = g.met.L.Lines.begins c.args.lines.now;
+    given = g.met.C.Clock.begins c.args.clock.now;
+  },
+  tt,
+)

@@ -4,9 +4,8 @@ use Rattle.sqlite.specs.Held.{state}
 use Rattle.ruled_dispatch.specs.Lanes.{heard_of}
 use Rattle.ruled_dispatch.specs.declared.items.WorkerReport.{WorkerReport}
 use Rattle.sched_events.specs.declared.events.Event.TheVariants.{Report}
-use Rattle.minutes.specs.Minutes.{answered}
 use Rattle.minutes.proofs.GrowthLemmas.{begun_more}
-use Rattle.sessions.proofs.LineLemmas.{own_untold}
+use Rattle.sessions.proofs.LineLemmas.{own_told}
 use Rattle.sessions.proofs.RunLemmas.{accepted_heard, accepted_minutes, accepted_run}
 use Rattle.sessions.proofs.state.Session.step_report.Goals as goal
 
@@ -24,7 +23,7 @@ returns-in-Ok-clause-run g c a n before last was =
     (begun_more n s.minutes.items e c.requires.begun refl was.begun)
 
 pub returns-in-Ok-clause-told : goal.returns-in-Ok-clause-told
-returns-in-Ok-clause-told g c a =
+returns-in-Ok-clause-told g c =
     let e = Report c.args.told.report.serial c.args.told.report.stage in
-    ap (λ l. answered l a) (accepted_minutes (state g.S.Store) e c.args.self.now c.try_thrice.new.self c.accept.new.self c.try_thrice.result c.in-Ok.answer c.args.lanes.now c.try_thrice.ensures c.in-Ok.is c.accept.ensures)
-    ∙ own_untold c.args.self.now.minutes.items e a refl
+    own_told c.args.self.now c.accept.new.self e refl
+    (accepted_minutes (state g.S.Store) e c.args.self.now c.try_thrice.new.self c.accept.new.self c.try_thrice.result c.in-Ok.answer c.args.lanes.now c.try_thrice.ensures c.in-Ok.is c.accept.ensures)

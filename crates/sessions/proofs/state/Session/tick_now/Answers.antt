@@ -1,4 +1,4 @@
-use Rattle.std.proofs.Common.{[], ◌∷◌, ◌++◌, Some, None, refl, sym, subst}
+use Rattle.std.proofs.Common.{[], ◌∷◌, ◌++◌, Ok, None, refl}
 use Rattle.sqlite.specs.Held.{state}
 use Rattle.sessions.specs.declared.line_reading.Line.TheVariants as Says
 use Rattle.sessions.proofs.RunLemmas.{goes_then}
@@ -15,27 +15,15 @@ returns-in-Err-step_line-clause-goes_on g c n = goes_then (state g.S.Store) c.ar
 
 -- the moment that the clock gave is the tick's
 pub returns-in-Ok-step_line-clause-told : goal.returns-in-Ok-step_line-clause-told
-returns-in-Ok-step_line-clause-told g c a n l k was told = (
-  None,
-  record {
-    moments = told.moments ++ c.in-Ok.moment ∷ [];
-    told =
-        c.step_line.ensures.told a n l told.moments Says.TickNow ((c.hear_all.ensures.goes_on n).run a was) (c.in-Ok.moment, refl)
-        (subst (λ answers. g.L.Lines.tells l answers told.moments (Some Says.TickNow) c.args.lines.now) (sym (c.hear_all.ensures.told a)) told.told);
-    given = c.in-Ok.ensures k told.moments told.given;
-  },
-  refl,
-)
+returns-in-Ok-step_line-clause-told g c a n l k was told =
+    let took = c.hear_all.ensures.told a told.exchanges told.took_place in
+    let after = c.step_line.ensures.told a n l told.exchanges told.readings Says.TickNow ((c.hear_all.ensures.goes_on n).run a was) (c.in-Ok.moment, refl) took told.told in
+    let given = rw c.in-Ok.is at (c.now.ensures k told.readings told.given) in
+    (None, record { exchanges = after.0; took_place = after.1; readings = told.readings ++ Ok c.in-Ok.moment ∷ []; told = after.2; given = given }, refl)
 
 pub returns-in-Err-step_line-clause-told : goal.returns-in-Err-step_line-clause-told
-returns-in-Err-step_line-clause-told g c a n l k was told = (
-  None,
-  record {
-    moments = told.moments ++ c.in-Ok.moment ∷ [];
-    told =
-        c.step_line.ensures.told a n l told.moments Says.TickNow ((c.hear_all.ensures.goes_on n).run a was) (c.in-Ok.moment, refl)
-        (subst (λ answers. g.L.Lines.tells l answers told.moments (Some Says.TickNow) c.args.lines.now) (sym (c.hear_all.ensures.told a)) told.told);
-    given = c.in-Ok.ensures k told.moments told.given;
-  },
-  tt,
-)
+returns-in-Err-step_line-clause-told g c a n l k was told =
+    let took = c.hear_all.ensures.told a told.exchanges told.took_place in
+    let after = c.step_line.ensures.told a n l told.exchanges told.readings Says.TickNow ((c.hear_all.ensures.goes_on n).run a was) (c.in-Ok.moment, refl) took told.told in
+    let given = rw c.in-Ok.is at (c.now.ensures k told.readings told.given) in
+    (None, record { exchanges = after.0; took_place = after.1; readings = told.readings ++ Ok c.in-Ok.moment ∷ []; told = after.2; given = given }, tt)
