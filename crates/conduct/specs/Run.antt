@@ -28,8 +28,8 @@ pub record IsConducted {S G O : Type 0} (look : Held S → State) (runs : O → 
   pub opened : run.director.opened ≡ old.opened
   -- the minutes begin with the restart, and have no other
   pub begun : BeginWithRestart lane_count run.minutes.items
-  -- with a fault too: the lines were told the events that they name, each with its answer, in order, and looked at schedules of the minutes so far; their
-  -- ticks are at the clock's moments; and this line waits for its answer
+  -- with a fault too: the lines were told the events that they name, each with its answer, in order, and of each other event its cause in the schedule of
+  -- the minutes so far, at which they also looked; their ticks are at the clock's moments; and this line waits for its answer
   pub waits : Option Line
   pub told : are_told old.schedule.content run.minutes.items waits
   -- where the lines were followed to their end, they are over, none waits for its answer, and no try is in flight

@@ -10,9 +10,9 @@ use Rattle.sched_events.specs.declared.events.Event.{Event}
 use Rattle.script_commands.specs.Commands.{Request, IsNext, IsFirst, IsGiven, commands_in}
 use Rattle.word_app.specs.App.{Texts}
 use Rattle.script_commands.specs.declared.commands.ScriptCommand.TheVariants.{Step, LoadFile, TickNow, Drain, List as ListRows, Explain}
-use Rattle.sessions.specs.Exchanges.{looks, tellings, Exchange}
+use Rattle.sessions.specs.Exchanges.{looks, Exchange}
 use Rattle.sessions.specs.Readings.{Reading}
-use Rattle.sessions.specs.Lines.{is_drain, opened_by, opens, reading_of, reads_drain, told_part, ticked, Takes}
+use Rattle.sessions.specs.Lines.{is_drain, opened_by, opens, reading_of, reads_drain, ticked, Takes}
 use Rattle.sessions.specs.declared.clocks.ClockFault.{ClockFault}
 use Rattle.sessions.specs.declared.line_reading.Line.{Line}
 use Rattle.sessions.specs.declared.line_reading.Line.TheVariants as Says
@@ -21,7 +21,6 @@ use Rattle.answer_lines.specs.RunFaults.{clock_text}
 use Rattle.script_reader.specs.Shown.{IsWritten}
 use Rattle.script_reader.specs.Statuses.{shown_for, status_of}
 use Rattle.std.specs.Result.{IsErrAnd}
-use Rattle.sessions.proofs.ExchangeLemmas.{told_of_tellings}
 use Rattle.script_reader.specs.Commands.{Leaves, Does, is_end, line_of, texts_of}
 use Rattle.script_reader.specs.Done.{FileText, Done, IsAnswered, IsDone, IsPerhaps, MayBeDone, IsOpen, HasDone}
 use Rattle.script_reader.proofs.ShownLemmas.{drain_text, read_written, written_more}
@@ -228,24 +227,24 @@ module _ (names : Texts) (before : ℕ) where
     pub is : asked ≡ one ∷ []
     pub done : MayBeDone one texts moments told status shown
 
-  perhaps : (e : Event) (q : Result Answer Fault) → IsPerhaps e (tellings (told_part e q)) (status_of q) (shown_for e q)
-  perhaps e q = (q, told_of_tellings (told_part e q), refl, refl)
+  perhaps : (e : Event) (q : Result Answer Fault) → IsPerhaps e (inr (e, q) ∷ []) (status_of q) (shown_for e q)
+  perhaps e q = (q, inl refl, refl, refl)
 
-  pub closed : (line : Line) (asked : List Request) (texts : List FileText) (e : Event) (q : Result Answer Fault) → IsOpen (Some line) asked texts → Takes line e → IsClosed asked texts (ticked line e) (tellings (told_part e q)) (status_of q) (shown_for e q)
+  pub closed : (line : Line) (asked : List Request) (texts : List FileText) (e : Event) (q : Result Answer Fault) → IsOpen (Some line) asked texts → Takes line e → IsClosed asked texts (ticked line e) (inr (e, q) ∷ []) (status_of q) (shown_for e q)
   closed (Says.Event x) asked texts e q (inl (one, none)) same = record {
     one = Ok (Step x);
     is = one;
-    done = (none, refl, subst (λ (y : Event). IsPerhaps y (tellings (told_part e q)) (status_of q) (shown_for e q)) (sym same) (perhaps e q));
+    done = (none, refl, subst (λ (y : Event). IsPerhaps y (inr (e, q) ∷ []) (status_of q) (shown_for e q)) (sym same) (perhaps e q));
   }
   closed (Says.Event x) asked texts e q (inr (path, text, one, read, loads)) same = record {
     one = Ok (LoadFile path);
     is = one;
-    done = (refl, inr (text, read, subst (λ (y : Event). IsPerhaps y (tellings (told_part e q)) (status_of q) (shown_for e q)) (sym same ∙ loads) (perhaps e q)));
+    done = (refl, inr (text, read, subst (λ (y : Event). IsPerhaps y (inr (e, q) ∷ []) (status_of q) (shown_for e q)) (sym same ∙ loads) (perhaps e q)));
   }
   closed Says.TickNow asked texts e q (one, none) (moment, same) = record {
     one = Ok TickNow;
     is = one;
-    done = (none, inr (moment, ap reading_of same, subst (λ (y : Event). IsPerhaps y (tellings (told_part e q)) (status_of q) (shown_for e q)) same (perhaps e q)));
+    done = (none, inr (moment, ap reading_of same, subst (λ (y : Event). IsPerhaps y (inr (e, q) ∷ []) (status_of q) (shown_for e q)) same (perhaps e q)));
   }
   closed Says.Drain asked texts e q waiting takes = absurd waiting
 
@@ -275,8 +274,8 @@ module _ (names : Texts) (before : ℕ) where
         }
 
     pub told_more : (e : Event) (q : Result Answer Fault) (status' : ℕ) (broken : Bool) → Takes line e → status' ≡ max status (status_of q) → (broken ≡ false → (xs : List ℕ) → shows xs → shows' (xs ++ shown_for e q))
-        → HasDone names before first gives shows' (told ++ tellings (told_part e q)) (ticks ++ ticked line e) None left status' broken ended
-    told_more e q status' broken takes is show = closed_more (tellings (told_part e q)) (ticked line e) (status_of q) status' (shown_for e q) broken (closed line h.open_asked h.open_texts e q h.opens takes) is show
+        → HasDone names before first gives shows' (told ++ inr (e, q) ∷ []) (ticks ++ ticked line e) None left status' broken ended
+    told_more e q status' broken takes is show = closed_more (inr (e, q) ∷ []) (ticked line e) (status_of q) status' (shown_for e q) broken (closed line h.open_asked h.open_texts e q h.opens takes) is show
 
   -- the clock gave no moment
   pub untold_more : (first : Option (List ℕ)) (gives : List FileText → Type 0) (shows shows' : List ℕ → Type 0) (told : List Exchange) (ticks : List Reading) (left : Option (List ℕ)) (status status' : ℕ) (fault : ClockFault) (broken ended : Bool)

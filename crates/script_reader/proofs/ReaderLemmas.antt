@@ -1,14 +1,14 @@
 -- What was done of a script, told of the states of its reader.
-use Rattle.std.proofs.Common.{◌≡◌, ◌∙◌, ℕ, max, Bool, true, false, true≢false, not, ◌&&◌, List, [], ◌∷◌, ◌++◌, Option, Some, None, is_some, Result, Ok, Err, is_err, refl, sym, subst}
+use Rattle.std.proofs.Common.{inr, ◌≡◌, ◌∙◌, ℕ, max, Bool, true, false, true≢false, not, ◌&&◌, List, [], ◌∷◌, ◌++◌, Option, Some, None, is_some, Result, Ok, Err, is_err, refl, sym, subst}
 use Rattle.std.specs.Io.KnownBytes.{Appends}
 use Rattle.sched_events.specs.declared.answers.Answer.{Answer}
 use Rattle.sched_events.specs.declared.events.Event.{Event}
 use Rattle.director.specs.declared.faults.Fault.{Fault}
 use Rattle.word_app.specs.App.{Texts}
 use Rattle.sched_model.specs.Schedule.{Schedule}
-use Rattle.sessions.specs.Exchanges.{looks, tellings, Exchange}
+use Rattle.sessions.specs.Exchanges.{looks, Exchange}
 use Rattle.sessions.specs.Readings.{Reading}
-use Rattle.sessions.specs.Lines.{opened_by, reads_drain, told_part, ticked, Takes}
+use Rattle.sessions.specs.Lines.{opened_by, reads_drain, ticked, Takes}
 use Rattle.sessions.specs.declared.clocks.ClockFault.{ClockFault}
 use Rattle.sessions.specs.declared.line_reading.Line.{Line}
 use Rattle.sessions.specs.declared.line_reading.Line.TheVariants as Says
@@ -64,9 +64,9 @@ module _ {R W F P : Type 0} (remaining : R → Option (List ℕ)) (contents : W 
 
   pub answered_tells : (told : List Exchange) (ticks : List Reading) (line : Line) (e : Event) (q : Result Answer Fault) → Stays
       → new.status ≡ max old.status (status_of q) → (is_some new.failed ≡ false → Appends (contents old.output) (contents new.output) (shown_for e q)) → old.failed ≡ None → Takes line e
-      → Tells remaining contents gives s told ticks (Some line) old → Tells remaining contents gives s (told ++ tellings (told_part e q)) (ticks ++ ticked line e) None new
+      → Tells remaining contents gives s told ticks (Some line) old → Tells remaining contents gives s (told ++ inr (e, q) ∷ []) (ticks ++ ticked line e) None new
   answered_tells told ticks line e q stays status shown none takes h =
-      moved (told ++ tellings (told_part e q)) (ticks ++ ticked line e) stays h.0 (h.2.waiting refl)
+      moved (told ++ inr (e, q) ∷ []) (ticks ++ ticked line e) stays h.0 (h.2.waiting refl)
       (told_more s.words.names s.status (remaining s.input) (given old.sources) (written old.output false) (written new.output false) told ticks line (remaining old.input) old.status (old.is_over && not s.is_over) (sound told ticks line none h) e q new.status (is_some new.failed) takes status
       (λ fine xs w. written_more s.has_drained (contents s.output) (contents old.output) (contents new.output) xs (shown_for e q) w (shown fine)))
 

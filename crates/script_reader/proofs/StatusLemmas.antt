@@ -2,7 +2,6 @@
 use Rattle.std.proofs.Common.{◌≡◌, ◌==◌, ◌<◌, inl, inr, ℕ, max, All, true, List, [], ◌∷◌, ◌++◌, length, Ok, Err, refl, sym, ap, subst, arith}
 use Rattle.std.proofs.lemmas.List.Elements.{All-cons, All-head, All-nil, All-tail}
 use Rattle.sched_model.specs.Schedule.{Schedule}
-use Rattle.sched_events.specs.declared.answers.Answer.{Answer}
 use Rattle.sched_events.specs.declared.events.Event.{Event}
 use Rattle.sched_events.specs.declared.events.Event.TheVariants.{Load, Tick}
 use Rattle.sched_events.specs.declared.refusals.Refusal.{Refusal}
@@ -42,7 +41,8 @@ is_no_command (Source f) = omega arith
 
 -- ---- what was done with the status 0 is whole
 accepted : (e : Event) (exchanges : List Exchange) (status : ℕ) (shown : List ℕ) → IsPerhaps e exchanges status shown → status ≡ 0 → (length (told_in exchanges) == 1) ≡ true
-accepted e exchanges status shown (Ok answer, is, zero, text) z = ap (λ (l : List (Event × Answer)). length l == 1) is
+accepted e exchanges status shown (Ok answer, inl is, zero, text) z = ap (λ (xs : List Exchange). length (told_in xs) == 1) is
+accepted e exchanges status shown (Ok answer, inr (memory, none), zero, text) z = absurd (cc)
 accepted e exchanges status shown (Err fault, is, own, text) z = let some : 0 < failure_status fault = fails fault in absurd (omega arith)
 
 done_whole : (r : Request) (texts : List FileText) (readings : List Reading) (exchanges : List Exchange) (status : ℕ) (shown : List ℕ) → MayBeDone r texts readings exchanges status shown → status ≡ 0 → is_whole r exchanges ≡ true
@@ -83,7 +83,7 @@ pub given_done : (wanted given : Request) (exchanges : List Exchange) (status : 
 given_done wanted given exchanges status shown (inl same) may = subst (λ (r : Request). MayBeDone r [] [] exchanges status shown) same may
 given_done wanted given exchanges status shown (inr (memory, (text, loads))) may =
     let lack = unhad exchanges status shown (subst (λ (r : Request). MayBeDone r [] [] exchanges status shown) memory may) in
-    subst (λ (r : Request). MayBeDone r [] [] exchanges status shown) (sym loads) (refl, refl, (Err failed.Memory, lack.0, lack.1, lack.2))
+    subst (λ (r : Request). MayBeDone r [] [] exchanges status shown) (sym loads) (refl, refl, (Err failed.Memory, inr (refl, lack.0), lack.1, lack.2))
 
 -- ---- the greatest status of one command more
 grown : (ds : List Done) (d : Done) → greatest_status (ds ++ d ∷ []) ≡ max (greatest_status ds) d.status

@@ -1,5 +1,5 @@
 -- What was done of the commands of a script, and what is left of it.
-use Rattle.std.proofs.Common.{true≢false, refl, sym, arith}
+use Rattle.std.proofs.Common.{inr, true≢false, refl, sym, arith}
 use Rattle.std.specs.Prelude.{◌≡◌, ◌⊎◌, ◌==◌, ◌&&◌, not, ℕ, max, Bool, true, false, List, [], ◌∷◌, ◌++◌, length, map, All, Option, Some, None, Result, Ok, Err}
 use Rattle.std.specs.List.{flat_map}
 use Rattle.sched_model.specs.Schedule.{Schedule}
@@ -7,6 +7,7 @@ use Rattle.sched_events.specs.declared.answers.Answer.{Answer}
 use Rattle.sched_events.specs.declared.events.Event.{Event}
 use Rattle.sched_events.specs.declared.events.Event.TheVariants.{Load, Tick}
 use Rattle.director.specs.declared.faults.Fault.{Fault}
+use Rattle.director.specs.declared.faults.Fault.TheVariants.{Memory}
 use Rattle.explain.specs.Reasons.{IsUnexplained, explained}
 use Rattle.explain.specs.declared.reasons.ExplainFault.{ExplainFault}
 use Rattle.explain.specs.declared.reasons.Reason.{Reason}
@@ -15,7 +16,6 @@ use Rattle.script_commands.specs.Commands.{Request, commands_in}
 use Rattle.script_commands.specs.declared.commands.ScriptCommand.TheVariants.{Step, LoadFile, TickNow, Drain, List as ListRows, Explain}
 use Rattle.script_commands.specs.declared.commands.SourceFault.{SourceFault}
 use Rattle.sessions.specs.Exchanges.{looks, told_in, Exchange}
-use Rattle.sessions.specs.Lines.{told_part}
 use Rattle.sessions.specs.Readings.{Reading}
 use Rattle.sessions.specs.declared.clocks.ClockFault.{ClockFault}
 use Rattle.sessions.specs.declared.line_reading.Line.{Line}
@@ -33,7 +33,7 @@ abbrev pub FileText : Type 0
 FileText = List ℕ × List ℕ
 
 -- What was done of a command: the file that was read for it, what the clock gave for it, what passed between it and the run, which is the
--- schedule that it looked at, or the event that it names, with its answer, where that was accepted; the status of its answer, and the bytes that show it.
+-- schedule that it looked at, or the event that it names, with what came of it; the status of its answer, and the bytes that show it.
 pub record Done : Type 0 where
   pub asked : Request
   pub texts : List FileText
@@ -42,10 +42,14 @@ pub record Done : Type 0 where
   pub status : ℕ
   pub shown : List ℕ
 
+-- what was told of an event is this answer; or memory ran out before it was a command
+abbrev pub IsToldOf : Event → Result Answer Fault → List Exchange → Type 0
+IsToldOf e answer exchanges = (exchanges ≡ inr (e, answer) ∷ []) ⊎ ((answer ≡ Err Memory) × (told_in exchanges ≡ []))
+
 -- an event was answered: it was accepted, or it was not; the status and the text are those of the answer
 abbrev pub IsPerhaps : Event → List Exchange → ℕ → List ℕ → Type 0
 IsPerhaps e exchanges status shown =
-    (answer : Result Answer Fault) × (told_in exchanges ≡ told_part e answer) × (status ≡ status_of answer) × (shown ≡ shown_for e answer)
+    (answer : Result Answer Fault) × IsToldOf e answer exchanges × (status ≡ status_of answer) × (shown ≡ shown_for e answer)
 
 -- a file was read, and its load was accepted or not; or it was not read
 abbrev pub IsLoadPerhaps : List ℕ → List FileText → List Exchange → ℕ → List ℕ → Type 0

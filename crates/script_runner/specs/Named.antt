@@ -15,10 +15,11 @@ use Rattle.script_reader.specs.Done.{FileText, Done, IsDone, IsOpen, greatest_st
 use Rattle.script_reader.specs.Ends.{IsEndStatus}
 
 -- The events that are answered in these minutes, from this schedule on, are, in order, those that the commands of a script name, of these bytes, where they
--- are known, by the words that `list` takes; and a command that is answered when it is read is answered of the schedule of the minutes up to it. A text of `load PATH` is the next that the sources gave, for its path, and a moment of `tick now` the next that the clock gave. Where the run came to
--- its end, all commands are done; where it did not, one that was read may still wait for its answer. Where it ended well, the output has grown by what
--- shows each command, in their order. The status is the greatest of what was done, where the run ended well, and that of its fault otherwise; where it is
--- 0, the event of each command is there.
+-- are known, by the words that `list` takes. A command that is answered when it is read is answered of the schedule of the minutes up to it, and an event
+-- that was not accepted has its cause there. A text of `load PATH` is the next that the sources gave, for its path, and a moment of `tick now` the next
+-- that the clock gave. Where the run came to its end, all commands are done; where it did not, one that was read may still wait for its answer. Where it
+-- ended well, the output has grown by what shows each command, in their order. The status is the greatest of what was done, where the run ended well, and
+-- that of its fault otherwise; where it is 0, the event of each command is there.
 pub record AreNamed {T : Type 0} (bytes : Option (List ℕ)) (sources : List FileText → Type 0) (clock : List Reading → Type 0) (output : List ℕ → Type 0) (first : Schedule) (minutes : List Event) (outcome : Result T ConductFault) (status : ℕ) : Type 0 where
   pub words : Texts
   pub listed : IsListed words
@@ -31,8 +32,8 @@ pub record AreNamed {T : Type 0} (bytes : Option (List ℕ)) (sources : List Fil
   pub opens : IsOpen waits open_asked open_texts
   pub texts : sources (flat_map (λ d. d.texts) done ++ open_texts)
   pub readings : clock (flat_map (λ d. d.readings) done)
-  -- what passed between the commands and the run, one after another, took place while the minutes were made; so the events that were told are those that the
-  -- minutes answer
+  -- what passed between the commands and the run, one after another, took place while the minutes were made; so the events that were told as accepted are
+  -- those that the minutes answer
   pub took_place : TookPlace (flat_map (λ d. d.exchanges) done) minutes first
   pub answers_are : answered minutes first ≡ flat_map (λ d. told_in d.exchanges) done
   pub shown : is_ok outcome ≡ true → output (flat_map (λ d. d.shown) done)

@@ -2,7 +2,8 @@
 ghost use Rattle.std.specs.Prelude.{◌≡◌, ◌<◌, [], None, Some, false, IfOk, IfSome, IfNone, OnOk, option_to_list, vec_len, vec_capacity};
 ghost use Rattle.minutes.specs.Minutes as minutes;
 ghost use Rattle.sessions.specs.Lines as spec;
-ghost use Rattle.sessions.specs.Lines.{opens, ticked, told_part};
+ghost use Rattle.sessions.specs.Exchanges.{told_part};
+ghost use Rattle.sessions.specs.Lines.{opens, ticked};
 ghost use Rattle.sessions.specs.Readings.{moments_in};
 ghost use Rattle.sessions.specs.declared.line_reading.Line.{Line};
 ghost use Rattle.session_rounds.specs.Lists.{open_of, ticks_of, told_of};

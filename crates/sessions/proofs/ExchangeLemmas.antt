@@ -1,5 +1,5 @@
 -- What took place between a session and its lines, while the minutes grow.
-use Rattle.std.proofs.Common.{◌≡◌, ◌∙◌, ℕ, zero, suc, inl, inr, true, false, cond, List, [], ◌∷◌, ◌++◌, flat_map, refl, sym, ap, subst, append_assoc, append-nil}
+use Rattle.std.proofs.Common.{◌≡◌, ◌∙◌, ℕ, zero, suc, inl, inr, true, false, cond, List, [], ◌∷◌, ◌++◌, flat_map, Ok, Err, refl, sym, ap, subst, append_assoc, append-nil}
 use Rattle.std.proofs.lemmas.Grind.{flat_map-append}
 use Rattle.sched_events.specs.Steps.{steps, step, answer_to}
 use Rattle.sched_events.specs.declared.answers.Answer.{Answer}
@@ -8,7 +8,9 @@ use Rattle.sched_events.proofs.StepLemmas.{steps_parts}
 use Rattle.sched_model.specs.Schedule.{Schedule}
 use Rattle.minutes.specs.Minutes.{along, answered, answered_part, is_of_line}
 use Rattle.minutes.proofs.GrowthLemmas.{along_more}
-use Rattle.sessions.specs.Exchanges.{Exchange, looks, tellings, told_by, told_in, TookPlace}
+use Rattle.director.specs.Faults.{IsFaultOf}
+use Rattle.director.specs.declared.faults.Fault.{Fault}
+use Rattle.sessions.specs.Exchanges.{Exchange, looks, told_by, told_in, IsOf, TookPlace}
 
 -- ---- one event more
 -- an event that no line names is not answered
@@ -24,8 +26,8 @@ own_later [] es e a is none = own_unanswered es e a is ∙ none
 own_later (x ∷ xs) es e a is (before, after, whole, told, shown, rest) =
     (before, after ++ e ∷ [], ap (λ l. l ++ e ∷ []) whole ∙ append_assoc before after (e ∷ []), told, shown, own_later xs after e (steps before a) is rest)
 
--- an event of a line is told
-pub told_later : (xs : List Exchange) (es : List Event) (e : Event) (a : Schedule) → is_of_line e ≡ true → TookPlace xs es a → TookPlace (xs ++ inr (e, answer_to e (steps es a)) ∷ []) (es ++ e ∷ []) a
+-- an event of a line is told as accepted
+pub told_later : (xs : List Exchange) (es : List Event) (e : Event) (a : Schedule) → is_of_line e ≡ true → TookPlace xs es a → TookPlace (xs ++ inr (e, Ok (answer_to e (steps es a))) ∷ []) (es ++ e ∷ []) a
 told_later [] es e a is none = (es ++ e ∷ [], [], sym (append-nil (es ++ e ∷ [])), line_answered es e a is ∙ ap (λ l. l ++ (e, answer_to e (steps es a)) ∷ []) none, tt, refl)
 told_later (x ∷ xs) es e a is (before, after, whole, told, shown, rest) =
     let same : steps es a ≡ steps after (steps before a) = ap (λ l. steps l a) whole ∙ steps_parts before after a in (
@@ -34,8 +36,15 @@ told_later (x ∷ xs) es e a is (before, after, whole, told, shown, rest) =
       ap (λ l. l ++ e ∷ []) whole ∙ append_assoc before after (e ∷ []),
       told,
       shown,
-      subst (λ (b : Schedule). TookPlace (xs ++ inr (e, answer_to e b) ∷ []) (after ++ e ∷ []) (steps before a)) (sym same) (told_later xs after e (steps before a) is rest),
+      subst (λ (b : Schedule). TookPlace (xs ++ inr (e, Ok (answer_to e b)) ∷ []) (after ++ e ∷ []) (steps before a)) (sym same) (told_later xs after e (steps before a) is rest),
     )
+
+-- ---- an event is not accepted
+pub refused_later : (xs : List Exchange) (es : List Event) (e : Event) (fault : Fault) (a : Schedule) → IsFaultOf (steps es a) e fault → TookPlace xs es a → TookPlace (xs ++ inr (e, Err fault) ∷ []) es a
+refused_later [] es e fault a stands none = (es, [], sym (append-nil es), none, stands, refl)
+refused_later (x ∷ xs) es e fault a stands (before, after, whole, told, shown, rest) =
+    let same : steps es a ≡ steps after (steps before a) = ap (λ l. steps l a) whole ∙ steps_parts before after a in
+    (before, after, whole, told, shown, refused_later xs after e fault (steps before a) (subst (λ (b : Schedule). IsFaultOf b e fault) same stands) rest)
 
 -- ---- the schedule is looked at
 look_later : (xs : List Exchange) (es : List Event) (a : Schedule) → TookPlace xs es a → TookPlace (xs ++ inl (steps es a) ∷ []) es a
@@ -54,14 +63,6 @@ looks_later (suc n) xs es a b is took =
 pub told_append : (xs ys : List Exchange) → told_in (xs ++ ys) ≡ told_in xs ++ told_in ys
 told_append xs ys = flat_map-append told_by xs ys
 
-pub told_of_looks : (times : ℕ) (b : Schedule) → told_in (looks times b) ≡ []
-told_of_looks zero b = refl
-told_of_looks (suc n) b = told_of_looks n b
-
-pub told_of_tellings : (told : List (Event × Answer)) → told_in (tellings told) ≡ told
-told_of_tellings [] = refl
-told_of_tellings (p ∷ ps) = ap (λ l. p ∷ l) (told_of_tellings ps)
-
 pub told_of_each : {D : Type 0} (f : D → List Exchange) (ds : List D) → told_in (flat_map f ds) ≡ flat_map (λ d. told_in (f d)) ds
 told_of_each f [] = refl
 told_of_each f (d ∷ ds) = told_append (f d) (flat_map f ds) ∙ ap (λ l. told_in (f d) ++ l) (told_of_each f ds)
@@ -77,15 +78,15 @@ told_are_answered (x ∷ xs) es a (before, after, whole, told, shown, rest) =
     ap (λ l. answered l a) whole ∙ along_parts answered_part before after a ∙ ap (λ l. l ++ answered after (steps before a)) told
     ∙ ap (λ l. told_by x ++ l) (told_are_answered xs after (steps before a) rest)
 
--- a schedule that was looked at is that of the minutes up to then
-pub looked_at_before : (xs ys : List Exchange) (b : Schedule) (es : List Event) (a : Schedule) → TookPlace (xs ++ inl b ∷ ys) es a
-    → (first rest : List Event) × (es ≡ first ++ rest) × (answered first a ≡ told_in xs) × (b ≡ steps first a)
-looked_at_before [] ys b es a (before, after, whole, told, shown, rest) = (before, after, whole, told, shown)
-looked_at_before (x ∷ xs) ys b es a (before, after, whole, told, shown, rest) =
-    let r = looked_at_before xs ys b after (steps before a) rest in (
+-- each exchange is of the schedule of the minutes up to it
+pub each_is_of : (xs ys : List Exchange) (x : Exchange) (es : List Event) (a : Schedule) → TookPlace (xs ++ x ∷ ys) es a
+    → (first rest : List Event) × (es ≡ first ++ rest) × (answered first a ≡ told_in xs ++ told_by x) × IsOf x (steps first a)
+each_is_of [] ys x es a (before, after, whole, told, shown, rest) = (before, after, whole, told, shown)
+each_is_of (y ∷ xs) ys x es a (before, after, whole, told, shown, rest) =
+    let r = each_is_of xs ys x after (steps before a) rest in (
       before ++ r.0,
       r.1,
       whole ∙ ap (λ l. before ++ l) r.2 ∙ sym (append_assoc before r.0 r.1),
-      along_parts answered_part before r.0 a ∙ ap (λ l. l ++ answered r.0 (steps before a)) told ∙ ap (λ l. told_by x ++ l) r.3,
-      r.4 ∙ sym (steps_parts before r.0 a),
+      along_parts answered_part before r.0 a ∙ ap (λ l. l ++ answered r.0 (steps before a)) told ∙ ap (λ l. told_by y ++ l) r.3 ∙ sym (append_assoc (told_by y) (told_in xs) (told_by x)),
+      subst (IsOf x) (sym (steps_parts before r.0 a)) r.4,
     )

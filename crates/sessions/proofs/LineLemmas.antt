@@ -1,20 +1,22 @@
 -- An event of a line, and what the lines are told of it.
-use Rattle.std.proofs.Common.{◌≡◌, ◌∙◌, ℕ, inr, true, false, true≢false, List, [], ◌∷◌, ◌++◌, Option, None, Result, Ok, Err, OnOk, refl, sym, ap, subst, append-nil}
+use Rattle.std.proofs.Common.{◌≡◌, ◌∙◌, ℕ, inr, true, false, true≢false, List, [], ◌∷◌, ◌++◌, Option, None, Result, Ok, Err, OnOk, refl, sym, ap, subst}
 use Rattle.sched_events.specs.Steps.{steps, answer_to}
 use Rattle.sched_events.specs.declared.answers.Answer.{Answer}
 use Rattle.sched_events.specs.declared.events.Event.{Event}
 use Rattle.sched_events.specs.declared.events.Event.TheVariants.{Report, Restart}
 use Rattle.sched_model.specs.Schedule.{Schedule}
+use Rattle.director.specs.Faults.{IsFaultOf}
+use Rattle.director.specs.Lists.{IsOutcome}
 use Rattle.director.specs.declared.faults.Fault.{Fault}
 use Rattle.minutes.specs.Minutes.{is_of_line, is_restart, report_part}
-use Rattle.sessions.specs.Exchanges.{Exchange, looks, tellings, StillTookPlace, TookPlace}
-use Rattle.sessions.specs.Lines.{opened_by, told_part, TellsOn}
+use Rattle.sessions.specs.Exchanges.{Exchange, looks, StillTookPlace, TookPlace}
+use Rattle.sessions.specs.Lines.{opened_by, TellsOn}
 use Rattle.sessions.specs.Readings.{Reading}
 use Rattle.sessions.specs.Told.{AreTold}
 use Rattle.sessions.specs.declared.line_reading.Line.{Line}
 use Rattle.sessions.specs.declared.line_reading.LineFault.{LineFault}
 use Rattle.sessions.specs.declared.state.Session.{Session}
-use Rattle.sessions.proofs.ExchangeLemmas.{looks_later, own_later, told_later}
+use Rattle.sessions.proofs.ExchangeLemmas.{looks_later, own_later, refused_later, told_later}
 
 -- ---- an event of a line
 pub line_reports : (e : Event) → is_of_line e ≡ true → report_part e ≡ []
@@ -27,24 +29,25 @@ line_later _ is = refl
 
 -- ---- what is told
 module _ {S : Type 0} where
-  -- an event that was stepped is told
+  -- an event that was stepped is told as accepted
   pub line_told : (a : Schedule) (s u : Session S) (e : Event) (q : Result Answer Fault) (answer : Answer) (xs : List Exchange)
       → is_of_line e ≡ true → s.director.schedule.content ≡ steps s.minutes.items a → q ≡ Ok answer → answer ≡ answer_to e s.director.schedule.content → u.minutes.items ≡ s.minutes.items ++ e ∷ []
-      → TookPlace xs s.minutes.items a → TookPlace (xs ++ tellings (told_part e q)) u.minutes.items a
+      → TookPlace xs s.minutes.items a → TookPlace (xs ++ inr (e, q) ∷ []) u.minutes.items a
   line_told a s u e q answer xs is stepped ok was minutes took =
       let es : List Event = s.minutes.items in
-      subst (λ (l : List Event). TookPlace (xs ++ tellings (told_part e q)) l a) (sym minutes)
-      (subst (λ (r : Result Answer Fault). TookPlace (xs ++ tellings (told_part e r)) (es ++ e ∷ []) a) (sym ok)
-      (subst (λ (b : Answer). TookPlace (xs ++ inr (e, b) ∷ []) (es ++ e ∷ []) a) (sym (was ∙ ap (answer_to e) stepped)) (told_later xs es e a is took)))
+      subst (λ (l : List Event). TookPlace (xs ++ inr (e, q) ∷ []) l a) (sym minutes)
+      (subst (λ (r : Result Answer Fault). TookPlace (xs ++ inr (e, r) ∷ []) (es ++ e ∷ []) a) (sym ok)
+      (subst (λ (b : Answer). TookPlace (xs ++ inr (e, Ok b) ∷ []) (es ++ e ∷ []) a) (sym (was ∙ ap (answer_to e) stepped)) (told_later xs es e a is took)))
 
-  -- one that was not stepped is not
-  pub fault_told : (a : Schedule) (s u : Session S) (e : Event) (q : Result Answer Fault) (fault : Fault) (xs : List Exchange)
-      → q ≡ Err fault → u.minutes.items ≡ s.minutes.items
-      → TookPlace xs s.minutes.items a → TookPlace (xs ++ tellings (told_part e q)) u.minutes.items a
-  fault_told a s u e q fault xs err minutes took =
-      subst (λ (l : List Event). TookPlace (xs ++ tellings (told_part e q)) l a) (sym minutes)
-      (subst (λ (r : Result Answer Fault). TookPlace (xs ++ tellings (told_part e r)) s.minutes.items a) (sym err)
-      (subst (λ (l : List Exchange). TookPlace l s.minutes.items a) (sym (append-nil xs)) took))
+  -- one that was not is told with its cause
+  pub fault_told : (a : Schedule) (s u : Session S) (e : Event) (q : Result Answer Fault) (fault : Fault) (after : Schedule) (xs : List Exchange)
+      → s.director.schedule.content ≡ steps s.minutes.items a → IsOutcome s.director.schedule.content e q after → q ≡ Err fault → u.minutes.items ≡ s.minutes.items
+      → TookPlace xs s.minutes.items a → TookPlace (xs ++ inr (e, q) ∷ []) u.minutes.items a
+  fault_told a s u e q fault after xs stepped outcome err minutes took =
+      let was : IsOutcome s.director.schedule.content e (Err fault) after = subst (λ (r : Result Answer Fault). IsOutcome s.director.schedule.content e r after) err outcome in
+      let stands : IsFaultOf (steps s.minutes.items a) e fault = subst (λ (b : Schedule). IsFaultOf b e fault) stepped was.0 in
+      subst (λ (l : List Event). TookPlace (xs ++ inr (e, q) ∷ []) l a) (sym minutes)
+      (subst (λ (r : Result Answer Fault). TookPlace (xs ++ inr (e, r) ∷ []) s.minutes.items a) (sym err) (refused_later xs s.minutes.items e fault a stands took))
 
   -- one of the run's own is not told
   pub own_told : (s u : Session S) (e : Event) → is_of_line e ≡ false → u.minutes.items ≡ s.minutes.items ++ e ∷ [] → StillTookPlace s.minutes.items u.minutes.items

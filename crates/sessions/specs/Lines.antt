@@ -1,9 +1,7 @@
 -- What waits once a line is read, and what is told of its answer.
 use Rattle.std.specs.Prelude.{◌≡◌, ℕ, Bool, true, false, List, [], ◌∷◌, Option, Some, None, Result, Ok, Err}
-use Rattle.sched_events.specs.declared.answers.Answer.{Answer}
 use Rattle.sched_events.specs.declared.events.Event.{Event}
 use Rattle.sched_events.specs.declared.events.Event.TheVariants.{Tick}
-use Rattle.director.specs.declared.faults.Fault.{Fault}
 use Rattle.minutes.specs.Minutes.{is_of_line}
 use Rattle.sessions.specs.Exchanges.{Exchange}
 use Rattle.sessions.specs.Readings.{Reading}
@@ -56,11 +54,6 @@ abbrev pub ticked : Line → Event → List Reading
 ticked (Says.Event x) e = []
 ticked Says.TickNow e = reading_of e
 ticked Says.Drain e = []
-
--- an event with its answer, where it was accepted
-abbrev pub told_part : Event → Result Answer Fault → List (Event × Answer)
-told_part e (Ok answer) = (e, answer) ∷ []
-told_part e (Err fault) = []
 
 -- from one state of lines to another there was no exchange more, and what waits is the same
 abbrev pub TellsOn : {L : Type 0} → (L → List Exchange → List Reading → Option Line → L → Type 0) → L → L → Type 0

@@ -1,12 +1,13 @@
 //! Where the lines come from, and where their answers go.
 ghost use Rattle.std.specs.Prelude.{◌≡◌, ◌++◌, ◌∷◌, ℕ, List, [], Bool, true, Some, None, Err, Option, Result, IfOk, OnOk, MatchResult, MatchOption};
+ghost use Rattle.std.proofs.Common.{inr};
 ghost use Rattle.sched_events.specs.declared.answers.Answer.{Answer};
 ghost use Rattle.sched_events.specs.declared.events.Event.{Event};
 ghost use Rattle.sched_model.specs.States.{in_flight};
 ghost use Rattle.director.specs.declared.faults.Fault.{Fault};
-ghost use Rattle.sessions.specs.Exchanges.{looks, tellings, Exchange};
+ghost use Rattle.sessions.specs.Exchanges.{looks, Exchange};
 ghost use Rattle.sessions.specs.Readings.{Reading};
-ghost use Rattle.sessions.specs.Lines.{may_be_read, opened_by, reads_drain, ticked, told_part, Takes, TellsOn};
+ghost use Rattle.sessions.specs.Lines.{may_be_read, opened_by, reads_drain, ticked, Takes, TellsOn};
 ghost use Rattle.sessions.specs.declared.clocks.ClockFault.{ClockFault};
 ghost use Rattle.sessions.specs.declared.line_reading.Line.{Line};
 ghost use Rattle.sessions.specs.declared.line_reading.Line.TheVariants as Says;
@@ -43,7 +44,7 @@ pub enum LineFault {
 /// Lines that are read one by one, each answered before the next. What they were told is a relation between two of their states, so who
 /// implements it need not keep it.
 pub trait Lines: Drop {
-    /// From one state to another these exchanges took place: they looked at schedules, and were told events, each with its answer; of each line
+    /// From one state to another these exchanges took place: they looked at schedules, and were told of events what came of them; of each line
     /// that says to tick now they were told this of the clock, the moment of the tick or why there is none; and this line waits for its answer then.
     ghost tells: { Self → List Exchange → List Reading → Option Line → Self → Type 0 };
 
@@ -80,7 +81,7 @@ pub trait Lines: Drop {
         requires { failed self.old ≡ None }
         ensures told { (s : Self) (exchanges : List Exchange) (readings : List Reading) (line : Line)
             → Takes line event.now → tells s exchanges readings (Some line) self.old
-            → tells s (exchanges ++ tellings (told_part event.now answer.now)) (readings ++ ticked line event.now) None self.new }
+            → tells s (exchanges ++ inr (event.now, answer.now) ∷ []) (readings ++ ticked line event.now) None self.new }
         ensures shown { OnOk result (shows self.old event.now answer.now self.new) }
         ensures failed { MatchResult result (λ _. failed self.new ≡ None)
             (λ fault. failed self.new ≡ Some fault) }
