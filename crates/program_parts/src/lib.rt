@@ -6,7 +6,8 @@
 //! let ran = run_team(rt, alloc, store, 4, team, script, &mut SystemClock::new(*rt))?;
 //! ```
 //!
-//! What the system's clock says and what stands in a file is the system's: nothing is proved of it but that each answer is a moment, a text or a fault.
+//! What the system's clock says and what stands in a file is the system's: nothing is proved of it but that a reading of the clock becomes the second in
+//! which it lies, or is out of range, and that each answer is a moment, a text or a fault.
 #![tactic(auto)]
 
 mod file_sources;

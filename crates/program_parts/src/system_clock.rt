@@ -1,7 +1,12 @@
 //! The system's clock.
+ghost use Rattle.std.specs.Prelude.{◌≡◌, ◌≤◌, ◌/◌, IfErr, IfOk};
+ghost use Rattle.std.specs.Time.{system_time_nanos};
+ghost use Rattle.moment_core.specs.Moments.{seconds_end};
+ghost use Rattle.sessions.specs.declared.clocks.ClockFault.TheVariants.{OutOfRange};
+
 use moment_core::Moment;
 use sessions::{Clock, ClockFault};
-use std::io::ErrorKind;
+use std::io::{self, ErrorKind};
 use std::rt;
 use std::time::SystemTime;
 
@@ -26,17 +31,30 @@ impl<R: rt::Clock + Drop> Clock for SystemClock<R> {
     fn now(&mut self) -> Result<Moment, ClockFault> {
         match SystemTime::now(&self.rt) {
             Ok(now) => moment_of(now),
-            Err(error) if error.kind() == ErrorKind::OutOfMemory => Err(ClockFault::Memory),
-            Err(_) => Err(ClockFault::NoClock),
+            Err(error) => Err(fault_of(&error)),
         }
     }
 }
 
 // The second in which a reading of the clock lies.
-fn moment_of(now: SystemTime) -> Result<Moment, ClockFault> {
-    now.duration_since(SystemTime::UNIX_EPOCH)
-        .ok()
-        .and_then(|since| i64::try_from(since.as_secs()).ok())
-        .and_then(Moment::from_secs)
-        .ok_or(ClockFault::OutOfRange)
+fn moment_of(now: SystemTime) -> Result<Moment, ClockFault>
+    ensures moment { IfOk result (λ m. m ≡ system_time_nanos now / 1_000_000_000) }
+    ensures fault { IfErr result (λ f. (f ≡ OutOfRange) × (seconds_end ≤ system_time_nanos now / 1_000_000_000)) }
+{
+    let Ok(since) = now.duration_since(SystemTime::UNIX_EPOCH) else {
+        return Err(ClockFault::OutOfRange);
+    };
+    let Ok(seconds) = i64::try_from(since.as_secs()) else {
+        return Err(ClockFault::OutOfRange);
+    };
+    Moment::from_secs(seconds).ok_or(ClockFault::OutOfRange)
+}
+
+// Why the clock gave no reading. A time before 1970, or past the end of the clock, is invalid data to the standard library.
+fn fault_of(error: &io::Error) -> ClockFault {
+    match error.kind() {
+        ErrorKind::OutOfMemory => ClockFault::Memory,
+        ErrorKind::InvalidData => ClockFault::OutOfRange,
+        _ => ClockFault::NoClock,
+    }
 }

@@ -228,13 +228,13 @@ module _ (names : Texts) (before : ℕ) where
     pub done : MayBeDone one texts moments told status shown
 
   perhaps : (e : Event) (q : Result Answer Fault) → IsPerhaps e (inr (e, q) ∷ []) (status_of q) (shown_for e q)
-  perhaps e q = (q, inl refl, refl, refl)
+  perhaps e q = (q, refl, refl, refl)
 
   pub closed : (line : Line) (asked : List Request) (texts : List FileText) (e : Event) (q : Result Answer Fault) → IsOpen (Some line) asked texts → Takes line e → IsClosed asked texts (ticked line e) (inr (e, q) ∷ []) (status_of q) (shown_for e q)
   closed (Says.Event x) asked texts e q (inl (one, none)) same = record {
     one = Ok (Step x);
     is = one;
-    done = (none, refl, subst (λ (y : Event). IsPerhaps y (inr (e, q) ∷ []) (status_of q) (shown_for e q)) (sym same) (perhaps e q));
+    done = (none, refl, inl (subst (λ (y : Event). IsPerhaps y (inr (e, q) ∷ []) (status_of q) (shown_for e q)) (sym same) (perhaps e q)));
   }
   closed (Says.Event x) asked texts e q (inr (path, text, one, read, loads)) same = record {
     one = Ok (LoadFile path);

@@ -41,12 +41,12 @@ is_no_command (Source f) = omega arith
 
 -- ---- what was done with the status 0 is whole
 accepted : (e : Event) (exchanges : List Exchange) (status : ℕ) (shown : List ℕ) → IsPerhaps e exchanges status shown → status ≡ 0 → (length (told_in exchanges) == 1) ≡ true
-accepted e exchanges status shown (Ok answer, inl is, zero, text) z = ap (λ (xs : List Exchange). length (told_in xs) == 1) is
-accepted e exchanges status shown (Ok answer, inr (memory, none), zero, text) z = absurd (cc)
+accepted e exchanges status shown (Ok answer, is, zero, text) z = ap (λ (xs : List Exchange). length (told_in xs) == 1) is
 accepted e exchanges status shown (Err fault, is, own, text) z = let some : 0 < failure_status fault = fails fault in absurd (omega arith)
 
 done_whole : (r : Request) (texts : List FileText) (readings : List Reading) (exchanges : List Exchange) (status : ℕ) (shown : List ℕ) → MayBeDone r texts readings exchanges status shown → status ≡ 0 → is_whole r exchanges ≡ true
-done_whole (Ok (Step e)) texts readings exchanges status shown (none, untold, may) z = accepted e exchanges status shown may z
+done_whole (Ok (Step e)) texts readings exchanges status shown (none, untold, inl may) z = accepted e exchanges status shown may z
+done_whole (Ok (Step e)) texts readings exchanges status shown (none, untold, inr (text, loads, seen, four, said)) z = absurd (omega arith)
 done_whole (Ok (LoadFile path)) texts readings exchanges status shown (untold, inl (fault, none, nothing, four, text)) z = absurd (omega arith)
 done_whole (Ok (LoadFile path)) texts readings exchanges status shown (untold, inr (text, read, may)) z = accepted (Load text) exchanges status shown may z
 done_whole (Ok TickNow) texts readings exchanges status shown (none, inl (fault, untold, nothing, four, text)) z = absurd (omega arith)
@@ -67,7 +67,7 @@ all_whole (d ∷ ds) each z =
 -- ---- a command that is answered when it is read is done so
 pub at_once : (a : Schedule) (r : Request) (status : ℕ) (shown : List ℕ) → IsAnswered a r status shown → MayBeDone r [] [] (looks 1 a) status shown
 at_once a (Ok (Step e)) status shown is = absurd is
-at_once a (Ok (LoadFile path)) status shown (fault, four, text) = (refl, inl (fault, refl, refl, four, text))
+at_once a (Ok (LoadFile path)) status shown (fault, four, text) = (refl, inl (fault, refl, (a, refl), four, text))
 at_once a (Ok TickNow) status shown is = absurd is
 at_once a (Ok Drain) status shown is = absurd is
 at_once a (Ok (ListRows listing)) status shown is = (refl, refl, (a, refl, is))
@@ -75,15 +75,15 @@ at_once a (Ok (Explain question)) status shown is = (refl, refl, (a, refl, is))
 at_once a (Err fault) status shown is = (refl, refl, (a, refl, is))
 
 -- a text that could not be had, for want of memory
-unhad : (exchanges : List Exchange) (status : ℕ) (shown : List ℕ) → MayBeDone (Err (Source source.Memory)) [] [] exchanges status shown → (told_in exchanges ≡ []) × (status ≡ 4) × (shown ≡ source_text source.Memory)
-unhad exchanges status shown (none, unmoved, (a, seen, at)) = (ap told_in seen, at.0, at.1)
+unhad : (exchanges : List Exchange) (status : ℕ) (shown : List ℕ) → MayBeDone (Err (Source source.Memory)) [] [] exchanges status shown → ((a : Schedule) × (exchanges ≡ looks 1 a)) × (status ≡ 4) × (shown ≡ source_text source.Memory)
+unhad exchanges status shown (none, unmoved, (a, seen, at)) = ((a, seen), at.0, at.1)
 
 -- what is done as it was given is done as it is wanted
 pub given_done : (wanted given : Request) (exchanges : List Exchange) (status : ℕ) (shown : List ℕ) → IsGiven wanted given → MayBeDone given [] [] exchanges status shown → MayBeDone wanted [] [] exchanges status shown
 given_done wanted given exchanges status shown (inl same) may = subst (λ (r : Request). MayBeDone r [] [] exchanges status shown) same may
 given_done wanted given exchanges status shown (inr (memory, (text, loads))) may =
     let lack = unhad exchanges status shown (subst (λ (r : Request). MayBeDone r [] [] exchanges status shown) memory may) in
-    subst (λ (r : Request). MayBeDone r [] [] exchanges status shown) (sym loads) (refl, refl, (Err failed.Memory, inr (refl, lack.0), lack.1, lack.2))
+    subst (λ (r : Request). MayBeDone r [] [] exchanges status shown) (sym loads) (refl, refl, inr (text, refl, lack.0, lack.1, lack.2))
 
 -- ---- the greatest status of one command more
 grown : (ds : List Done) (d : Done) → greatest_status (ds ++ d ∷ []) ≡ max (greatest_status ds) d.status

@@ -7,7 +7,6 @@ use Rattle.sched_events.specs.declared.answers.Answer.{Answer}
 use Rattle.sched_events.specs.declared.events.Event.{Event}
 use Rattle.sched_events.specs.declared.events.Event.TheVariants.{Load, Tick}
 use Rattle.director.specs.declared.faults.Fault.{Fault}
-use Rattle.director.specs.declared.faults.Fault.TheVariants.{Memory}
 use Rattle.explain.specs.Reasons.{IsUnexplained, explained}
 use Rattle.explain.specs.declared.reasons.ExplainFault.{ExplainFault}
 use Rattle.explain.specs.declared.reasons.Reason.{Reason}
@@ -15,6 +14,7 @@ use Rattle.word_app.specs.App.{Texts}
 use Rattle.script_commands.specs.Commands.{Request, commands_in}
 use Rattle.script_commands.specs.declared.commands.ScriptCommand.TheVariants.{Step, LoadFile, TickNow, Drain, List as ListRows, Explain}
 use Rattle.script_commands.specs.declared.commands.SourceFault.{SourceFault}
+use Rattle.script_commands.specs.declared.commands.SourceFault.TheVariants.{Memory as NoMemory}
 use Rattle.sessions.specs.Exchanges.{looks, told_in, Exchange}
 use Rattle.sessions.specs.Readings.{Reading}
 use Rattle.sessions.specs.declared.clocks.ClockFault.{ClockFault}
@@ -42,25 +42,26 @@ pub record Done : Type 0 where
   pub status : ℕ
   pub shown : List ℕ
 
--- what was told of an event is this answer; or memory ran out before it was a command
-abbrev pub IsToldOf : Event → Result Answer Fault → List Exchange → Type 0
-IsToldOf e answer exchanges = (exchanges ≡ inr (e, answer) ∷ []) ⊎ ((answer ≡ Err Memory) × (told_in exchanges ≡ []))
-
 -- an event was answered: it was accepted, or it was not; the status and the text are those of the answer
 abbrev pub IsPerhaps : Event → List Exchange → ℕ → List ℕ → Type 0
 IsPerhaps e exchanges status shown =
-    (answer : Result Answer Fault) × IsToldOf e answer exchanges × (status ≡ status_of answer) × (shown ≡ shown_for e answer)
+    (answer : Result Answer Fault) × (exchanges ≡ inr (e, answer) ∷ []) × (status ≡ status_of answer) × (shown ≡ shown_for e answer)
 
--- a file was read, and its load was accepted or not; or it was not read
+-- the text that a line loads could not be had, for want of memory, so the line was answered when it was read
+abbrev pub IsUnhad : Event → List Exchange → ℕ → List ℕ → Type 0
+IsUnhad e exchanges status shown =
+    (text : List ℕ) × (e ≡ Load text) × ((a : Schedule) × (exchanges ≡ looks 1 a)) × (status ≡ 4) × (shown ≡ source_text NoMemory)
+
+-- a file was read, and its load was accepted or not; or it was not read, and the command was answered when it was read
 abbrev pub IsLoadPerhaps : List ℕ → List FileText → List Exchange → ℕ → List ℕ → Type 0
 IsLoadPerhaps path texts exchanges status shown =
-    ((fault : SourceFault) × (texts ≡ []) × (told_in exchanges ≡ []) × (status ≡ 4) × (shown ≡ source_text fault))
+    ((fault : SourceFault) × (texts ≡ []) × ((a : Schedule) × (exchanges ≡ looks 1 a)) × (status ≡ 4) × (shown ≡ source_text fault))
     ⊎ ((text : List ℕ) × (texts ≡ (path, text) ∷ []) × IsPerhaps (Load text) exchanges status shown)
 
 -- the clock gave a moment, and the tick at it was accepted or not; or it gave none
 abbrev pub IsTickPerhaps : List Reading → List Exchange → ℕ → List ℕ → Type 0
 IsTickPerhaps readings exchanges status shown =
-    ((fault : ClockFault) × (readings ≡ Err fault ∷ []) × (told_in exchanges ≡ []) × (status ≡ 4) × (shown ≡ clock_text fault))
+    ((fault : ClockFault) × (readings ≡ Err fault ∷ []) × (exchanges ≡ []) × (status ≡ 4) × (shown ≡ clock_text fault))
     ⊎ ((moment : ℕ) × (readings ≡ Ok moment ∷ []) × IsPerhaps (Tick moment) exchanges status shown)
 
 -- The status and the text of a command that is answered when it is read, of this schedule: 0 and the rows for a list; 0 and the reasons for a question
@@ -79,10 +80,10 @@ IsAnswered a (Err fault) status shown = (status ≡ command_status fault) × (sh
 -- What may be done of a command, and the status and the text of that. A command that is answered when it is read is answered of the schedule that it
 -- looked at.
 abbrev pub MayBeDone : Request → List FileText → List Reading → List Exchange → ℕ → List ℕ → Type 0
-MayBeDone (Ok (Step e)) texts readings exchanges status shown = (texts ≡ []) × (readings ≡ []) × IsPerhaps e exchanges status shown
+MayBeDone (Ok (Step e)) texts readings exchanges status shown = (texts ≡ []) × (readings ≡ []) × (IsPerhaps e exchanges status shown ⊎ IsUnhad e exchanges status shown)
 MayBeDone (Ok (LoadFile path)) texts readings exchanges status shown = (readings ≡ []) × IsLoadPerhaps path texts exchanges status shown
 MayBeDone (Ok TickNow) texts readings exchanges status shown = (texts ≡ []) × IsTickPerhaps readings exchanges status shown
-MayBeDone (Ok Drain) texts readings exchanges status shown = (texts ≡ []) × (readings ≡ []) × (told_in exchanges ≡ []) × (status ≡ 0) × (shown ≡ shown_text ShowsDone)
+MayBeDone (Ok Drain) texts readings exchanges status shown = (texts ≡ []) × (readings ≡ []) × (exchanges ≡ []) × (status ≡ 0) × (shown ≡ shown_text ShowsDone)
 MayBeDone asked texts readings exchanges status shown = (texts ≡ []) × (readings ≡ []) × ((a : Schedule) × (exchanges ≡ looks 1 a) × IsAnswered a asked status shown)
 
 abbrev pub IsDone : Done → Type 0

@@ -6,9 +6,10 @@ use Rattle.sessions.specs.Exchanges.{Exchange, TookPlace}
 use Rattle.sessions.specs.Readings.{Reading}
 use Rattle.sessions.specs.declared.line_reading.Line.{Line}
 
--- From these states of the lines and of the clock to those after, while these minutes were made from this schedule on: the lines were told the events that
--- lines name, with their answers, and what they looked at were schedules of the minutes so far; of each line that says to tick
--- now they were told what the clock gave for it, the moment of the tick, or why there is none; and this line waits for its answer.
+-- From these states of the lines and of the clock to those after, while these minutes were made from this schedule on: of each event that a line names the
+-- lines were told its answer, or why it was not accepted, by a cause that the schedule of the minutes so far has; what they looked at were schedules of the
+-- minutes so far; of each line that says to tick now they were told what the clock gave for it, the moment of the tick, or why there is none; and this line
+-- waits for its answer.
 pub record AreTold {L C : Type 0} (tells : L → List Exchange → List Reading → Option Line → L → Type 0) (gives : C → List Reading → C → Type 0) (l : L) (c : C) (later : L) (then : C) (a : Schedule) (minutes : List Event) (waits : Option Line) : Type 0 where
   pub exchanges : List Exchange
   pub took_place : TookPlace exchanges minutes a
