@@ -9,7 +9,7 @@ use director::Fault;
 use meta_store::{Store, StoreFault};
 use script_reader::failure_status;
 use sqlite::{Alter, Connection, Error, ErrorCode};
-use std::io::{self, ErrorKind};
+use std::io::{self, BufWriter, ErrorKind, Write};
 use std::sync::Wait;
 use std::thread::Threads;
 
@@ -76,9 +76,23 @@ fn on_store<S: Alter + Drop, T: Threads + Wait + Sync>(
 ) -> io::Result<(Connection<S>, u8)> {
     let (store, status) = match command {
         Command::Run(options) => run_script(threads, rt, store, options)?,
-        _ => run_command(rt.alloc(), store, command, &mut rt.stdout()),
+        _ => run_single(rt, store, command)?,
     };
     Ok((store.release(), status))
+}
+
+// Does one command outside of a script, and writes out its answer.
+fn run_single<S: Alter + Drop>(
+    rt: &HostRuntime,
+    store: Store<S>,
+    command: &Command,
+) -> io::Result<(Store<S>, u8)> {
+    let mut output = BufWriter::new(rt.alloc(), rt.stdout())?;
+    let (store, status) = run_command(rt.alloc(), store, command, &mut output);
+    match output.flush() {
+        Ok(()) => Ok((store, status)),
+        Err(_) => Ok((store, 4)),
+    }
 }
 
 /// Prints why a record is not opened; the status.
