@@ -1,5 +1,6 @@
 """Reads a record of dagsched for `grid` and `gantt`, and leaves it as it is."""
 import collections
+import pathlib
 import sqlite3
 import sys
 import time
@@ -20,7 +21,7 @@ class Record:
 
     def __init__(self, path):
         try:
-            self.rows = sqlite3.connect(f"file:{path}?mode=ro", uri=True)
+            self.rows = sqlite3.connect(f"{pathlib.Path(path).resolve().as_uri()}?mode=ro", uri=True)
             self.now = self.rows.execute("SELECT now FROM meta").fetchone()[0]
         except sqlite3.Error as error:
             sys.exit(f"{path}: no record that can be read: {error}. While dagsched has it open, look at a copy")

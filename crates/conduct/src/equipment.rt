@@ -1,6 +1,6 @@
 //! What a run is equipped with before it starts: all the memory that its threads and their ends take.
-ghost use Rattle.std.specs.Prelude.{◌≡◌, ◌<◌, ◌≤◌, [], All, IfOk, length, vec_capacity};
-ghost use Rattle.ruled_dispatch.specs.Lanes.{sent_of, heard_of, taken_of, told_of, AreAllOf, AreNumbered};
+ghost use Rattle.std.specs.Prelude.{◌≡◌, ◌+◌, ◌*◌, ◌<◌, ◌≤◌, max, [], All, IfOk, length, vec_capacity};
+ghost use Rattle.ruled_dispatch.specs.Lanes.{sent_of, heard_of, taken_of, told_of, job_capacity_of, report_capacity_of, AreAllOf, AreNumbered};
 
 use crews::{Handle, Room};
 use operators::Operator;
@@ -39,6 +39,7 @@ pub fn equip<D: Ledger, G: Gate, O: Operator>(
     requires workers { (0 < workers) × (workers ≤ 16) }
     requires name { blank.name ≡ D.name }
     requires parts { (blank.parts ≡ D.parts) × (blank.parts ≡ workers) }
+    ensures queues { IfOk result (λ q. (job_capacity_of q.lanes ≡ lane_count + workers) × (report_capacity_of q.lanes ≡ max 1 (2 * lane_count))) }
     ensures all { IfOk result (λ q. AreAllOf q.lanes q.pass q.posts.passes.items) }
     ensures numbers { IfOk result (λ q. AreNumbered q.posts.passes.items) }
     ensures workers { IfOk result (λ q. (length q.posts.passes.items ≡ workers) × (length q.posts.shares.items ≡ workers)) }

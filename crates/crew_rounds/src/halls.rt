@@ -1,6 +1,6 @@
 //! All that a round needs, made before its first thread starts.
-ghost use Rattle.std.specs.Prelude.{◌≡◌, ◌<◌, ◌≤◌, [], All, IfOk, length, vec_capacity};
-ghost use Rattle.ruled_dispatch.specs.Lanes.{sent_of, heard_of, taken_of, told_of, AreAllOf, AreNumbered};
+ghost use Rattle.std.specs.Prelude.{◌≡◌, ◌+◌, ◌*◌, ◌<◌, ◌≤◌, max, [], All, IfOk, length, vec_capacity};
+ghost use Rattle.ruled_dispatch.specs.Lanes.{sent_of, heard_of, taken_of, told_of, job_capacity_of, report_capacity_of, AreAllOf, AreNumbered};
 
 use crate::feeds::Feed;
 use crate::managing::Staff;
@@ -33,6 +33,7 @@ pub fn open_hall<L: Ledger, G: Gate, O: Operator>(
     requires parts { (blank.parts ≡ L.parts) × (blank.parts ≡ length crews.items) }
     requires lanes { lanes ≤ 64 }
     requires crews { (0 < length crews.items) × (length crews.items ≤ 16) }
+    ensures queues { IfOk result (λ h. (job_capacity_of h.lanes ≡ lanes + length crews.items) × (report_capacity_of h.lanes ≡ max 1 (2 * lanes))) }
     ensures all { IfOk result (λ h. AreAllOf h.lanes h.feed.pass h.staff.passes.items) }
     ensures numbers { IfOk result (λ h. AreNumbered h.staff.passes.items) }
     ensures passes { IfOk result (λ h. length h.staff.passes.items ≡ length crews.items) }

@@ -42,14 +42,26 @@ fn out_of_memory(rt: &HostRuntime) -> u8 {
 }
 
 fn run_words<T: Threads + Wait + Sync>(threads: &T, rt: &HostRuntime) -> io::Result<u8> {
-    let mut words = env::args(rt)?;
-    let _program = words.next();
-    let words = words.collect::<Vec<String>>(rt.alloc())?;
+    let words = match own_words(rt) {
+        Ok(words) => words,
+        // a word that is not UTF-8
+        Err(error) if error.kind() == ErrorKind::InvalidData => {
+            return put_usage(rt, UsageFault::Words, &[]);
+        }
+        Err(error) => return Err(error),
+    };
     match read_command(rt.alloc(), words.as_slice()) {
         Ok(line) => do_line(threads, rt, line),
         Err(UsageFault::Memory) => Err(io::Error::from(ErrorKind::OutOfMemory)),
         Err(fault) => put_usage(rt, fault, words.as_slice()),
     }
+}
+
+// The words after the program's name.
+fn own_words(rt: &HostRuntime) -> io::Result<Vec<String>> {
+    let mut words = env::args(rt)?;
+    let _program = words.next();
+    Ok(words.collect::<Vec<String>>(rt.alloc())?)
 }
 
 // Does the command, if it has its place here.

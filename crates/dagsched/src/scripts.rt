@@ -6,7 +6,7 @@ use program_parts::{FileSources, SystemClock, TerminalProgress, operators_for, r
 use script_reader::Script;
 use sqlite::Alter;
 use std::fs;
-use std::io::{self, BufReader, BufWriter};
+use std::io::{self, BufReader, BufWriter, ErrorKind};
 use std::sync::Wait;
 use std::thread::Threads;
 
@@ -19,8 +19,7 @@ pub fn run_script<S: Alter + Drop, T: Threads + Wait + Sync>(
 ) -> io::Result<(Store<S>, u8)> {
     let alloc = rt.alloc();
     let scratch = options.scratch.as_str();
-    // one that is there is taken, and without one each try of a command fails
-    let _ = fs::create_dir(rt, scratch);
+    make_scratch(rt, scratch);
     let team = operators_for(*rt, alloc, options.workers.get(), scratch)?;
     let script = Script {
         input: BufReader::new(alloc, rt.stdin())?,
@@ -43,5 +42,17 @@ pub fn run_script<S: Alter + Drop, T: Threads + Wait + Sync>(
             let status = put_failure(rt, &fault)?;
             Ok((store, status))
         }
+    }
+}
+
+// Makes the folder under which each try of a command has one of its own. One that is there is taken; without one each such try fails, which is said.
+fn make_scratch(rt: &HostRuntime, folder: &str) {
+    match fs::create_dir(rt, folder) {
+        Err(error) if error.kind() != ErrorKind::AlreadyExists => {
+            let _ = eprintln!(rt;
+                "dagsched: the folder {folder} cannot be made, so tries of commands will fail"
+            );
+        }
+        Ok(()) | Err(_) => {}
     }
 }

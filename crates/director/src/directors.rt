@@ -75,6 +75,8 @@ impl<S: Alter> Director<S> {
             × ((state S.Store e.0).committed ≡ (state S.Store store).committed)) }
         ensures err_crash { IfErr result (λ e. Survives (state S.Store store) (state S.Store e.0)
             (CommitsBy (RestartsIn limits lanes) (state S.Store store))) }
+        ensures refused_crash { IfErr result (λ e. IsRefused e.1
+            → Survives (state S.Store store) (state S.Store e.0) (λ _. ⊥)) }
     {
         let mut store = store;
         match restart(alloc, &mut store, lanes, limits) {
@@ -115,6 +117,8 @@ impl<S: Alter> Director<S> {
         ensures err_crash { IfErr result (λ e. Survives (state S.Store self.store)
             (state S.Store e.0) (CommitsBy (RestartsIn self.schedule.content.limits lanes)
             (state S.Store self.store))) }
+        ensures refused_crash { IfErr result (λ e. IsRefused e.1
+            → Survives (state S.Store self.store) (state S.Store e.0) (λ _. ⊥)) }
     {
         let limits = self.schedule().limits();
         Director::open(alloc, self.close(), lanes, limits)

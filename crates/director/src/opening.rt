@@ -7,7 +7,7 @@ ghost use Rattle.record_load.specs.Ours.{is_ours};
 ghost use Rattle.meta_store.specs.Stores.{CommitsBy};
 ghost use Rattle.meta_store.specs.declared.faults.StoreFault.TheVariants as store_fault;
 ghost use Rattle.director.specs.Directors.{Opens, RestartsIn};
-ghost use Rattle.director.specs.Faults.{IsOpenFault};
+ghost use Rattle.director.specs.Faults.{IsOpenFault, IsRefused};
 ghost use Rattle.director.specs.declared.faults.Fault.TheVariants as fault;
 
 use crate::faults::Fault;
@@ -45,6 +45,8 @@ pub fn restart<S: Alter>(
         (IsTrue (state S.Store store.new).is_open) }
     ensures crash { Survives (state S.Store store.old) (state S.Store store.new)
         (CommitsBy (RestartsIn limits lanes) (state S.Store store.old)) }
+    ensures refused_crash { IfErr result (λ f. IsRefused f
+        → Survives (state S.Store store.old) (state S.Store store.new) (λ _. ⊥)) }
 {
     let mut schedule = store.load(alloc, limits)?;
     match step(alloc, store, &mut schedule, &Event::Restart(lanes)) {

@@ -69,8 +69,12 @@ impl<C: Clock + Drop, W: Write + Drop> Progress for TerminalProgress<C, W> {
         if self.stands_on(now) {
             return;
         }
-        self.written = Some(now);
         let _ = self.put(schedule);
+        // from the end of the work on, of which a great schedule asks much
+        self.written = match Instant::now(&self.clock) {
+            Ok(later) => Some(later),
+            Err(_) => Some(now),
+        };
     }
 
     fn clear(&mut self) {

@@ -1,5 +1,5 @@
 //! How far the task instances of a schedule are.
-use sched_core::Schedule;
+use sched_core::{LoadedGraph, Run, Schedule};
 use trigger_rules::State;
 
 // How many task instances are how far.
@@ -16,7 +16,7 @@ pub(crate) struct Totals {
 }
 
 impl Totals {
-    // Goes over all task instances.
+    // Goes over all task instances, once.
     pub(crate) fn of(schedule: &Schedule) -> Totals {
         let mut totals = Totals {
             in_flight: 0,
@@ -24,10 +24,21 @@ impl Totals {
             failed: 0,
             waiting: 0,
         };
-        for row in schedule.instances() {
-            totals.add(row.state);
+        for run in schedule.runs() {
+            if let Some(graph) = schedule.graph_of(&run.graph) {
+                totals.add_run(graph, run);
+            }
         }
         totals
+    }
+
+    // Adds those of a run of the graph.
+    fn add_run(&mut self, graph: &LoadedGraph, run: &Run) {
+        for (place, instance) in run.instances.as_slice().iter().enumerate() {
+            if place < graph.dag.len() {
+                self.add(instance.state(graph.dag.task(place)));
+            }
+        }
     }
 
     fn add(&mut self, state: State) {

@@ -105,6 +105,7 @@ module _ {S G O : Type 0} (look : Held S → State) (runs : O → List (ℕ × O
         opened = λ clean. opened (c.followed.clean clean);
         accepted = c.accepted;
         begun = c.begun;
+        started = λ came. (c.whole came).2;
         stored = λ clean is_open rows stored.
             let first = c.followed.clean clean in
             let keeps : Keeps a (look d.store).now = subst (λ (x : Schedule). Keeps x (look d.store).now) (sym (opened first rows stored).stepped.after) (restarted first rows stored) in

@@ -20,7 +20,7 @@ use Rattle.sessions.specs.declared.line_reading.LineFault.{LineFault}
 use Rattle.crews.specs.Settled.{AreAccounts}
 use Rattle.crews.specs.declared.settling.Settled.{Settled}
 use Rattle.conduct.specs.Ends.{EachStandsInALog, EachToldItsOwn}
-use Rattle.conduct.specs.Faults.{EndsRun, is_no_worker, is_unstarted}
+use Rattle.conduct.specs.Faults.{EndsRun, came_to_its_end, is_no_worker, is_unstarted}
 use Rattle.script_reader.specs.Done.{FileText}
 use Rattle.script_runner.specs.Named.{AreNamed}
 
@@ -32,9 +32,10 @@ pub record IsRun {S G O : Type 0} (look : Held S → State) (runs : O → List (
   pub first : Schedule
   pub given : Answer
   pub opened : HasCleanDisk (look store) → Opens ceilings 0 before.now first given
-  -- each of the minutes was accepted, one after another; they begin with the restart, and have no other
+  -- each of the minutes was accepted, one after another; they begin with the restart, and have no other. With a fault they may be none
   pub accepted : AreAccepted minutes first
   pub begun : BeginWithRestart lanes minutes
+  pub started : came_to_its_end outcome ≡ true → 0 < length minutes
   -- where the record stored rows and is still open, it stores the schedule after them
   pub stored : HasCleanDisk (look store) → IsTrue (look store).is_open → (rows : Rows) → Stores before.now rows → Keeps (steps minutes first) (look store).now
   -- those that are no report and no restart, with their answers, are what the script's lines name; what is shown is of these; and the status is that of what

@@ -15,6 +15,9 @@ returns-in-Err-clause-crash g c =
     restarts_survive c.args.limits c.args.lanes (state g.S.Store c.args.store.now) (state g.S.Store c.load.new.self) (state g.S.Store c.step.new.store) c.in_ok-schedule.schedule.content c.in_ok-schedule.ensures.schedule c.load.ensures.kept
     c.load.ensures.was_open c.load.ensures.crash c.step.ensures.crash
 
+pub returns-in-Err-clause-refused_crash : goal.returns-in-Err-clause-refused_crash
+returns-in-Err-clause-refused_crash g c refused = rw (c.in-Err.ensures.untouched refused) c.load.ensures.crash
+
 pub returns-in-Ok-clause-opened : goal.returns-in-Ok-clause-opened
 returns-in-Ok-clause-opened g c =
     opens_told c.args.limits c.args.lanes (state g.S.Store c.load.new.self) (state g.S.Store c.step.new.store) (state g.S.Store c.args.store.now).now c.in_ok-schedule.schedule.content c.step.new.schedule.content c.in-Ok.answer c.step.ensures.crash
