@@ -1,5 +1,7 @@
 //! Cron expressions: what a text is read as, and the ticks and intervals of a timetable.
 use crate::moments::write_moment;
+use crate::rows::Direction;
+use crate::searches::write_found;
 use cron_timetable::{Cron, Interval, Timetable};
 use moment_core::Moment;
 use std::io;
@@ -12,6 +14,8 @@ pub fn write_answer(rt: &HostRuntime, word: &str, rest: &str) -> io::Result<()> 
         "ticks" => write_asked_ticks(rt, rest),
         "beside" => write_beside(rt, rest),
         "interval" => write_intervals(rt, rest),
+        "forwards" => write_found(rt, Direction::Forwards, rest),
+        "backwards" => write_found(rt, Direction::Backwards, rest),
         _ => rt.print("no such word"),
     }
 }

@@ -1,23 +1,12 @@
 //! What words ask for, in one plain line.
 use crate::events::write_event;
-use crate::faults::write_fault;
 use command_words::{
-    Command, CommandLine, GraphSource, Listing, Question, ScriptOptions, TickTime, UsageFault,
+    Command, CommandLine, GraphSource, Listing, Question, ScriptOptions, TickTime,
 };
 use std::io;
 
-/// Writes what was read.
-pub(crate) fn write_answer(
-    rt: &HostRuntime,
-    read: Result<CommandLine, UsageFault>,
-) -> io::Result<()> {
-    match read {
-        Ok(line) => write_command_line(rt, line),
-        Err(fault) => write_fault(rt, fault),
-    }
-}
-
-fn write_command_line(rt: &HostRuntime, line: CommandLine) -> io::Result<()> {
+/// Writes a command, and the path of its record before it.
+pub fn write_command_line(rt: &HostRuntime, line: CommandLine) -> io::Result<()> {
     let CommandLine {
         record_path,
         command,
