@@ -1,10 +1,10 @@
-//! What a line is: a title, a remark, limits, an event that no script has words for, or a line of a script.
+//! What a line is: a title, a remark, limits, an event that no script has words for, SQL, or a line of a script.
 use sched_core::{Event, Limits, Outcome, Stage};
 use std::str;
 
 /// What a line is.
 #[derive(Drop)]
-pub enum Line {
+pub enum Line<'a> {
     /// `== TITLE`: a new record begins, within the greatest limits.
     Title,
     /// A comment, or a line without a byte.
@@ -13,13 +13,15 @@ pub enum Line {
     Limits(Option<Limits>),
     /// `restart LANES`, or `report SERIAL STAGE`, where the stage is `started` or how the try ended.
     Event(Event),
+    /// `sql STATEMENTS`: a record that the same events have made is changed by SQL, and loaded.
+    Sql(&'a str),
     /// A line of a script.
     Script,
 }
 
-impl Line {
+impl Line<'_> {
     /// What this line is, which has no newline.
-    pub fn of(line: &[u8]) -> Line {
+    pub fn of(line: &[u8]) -> Line<'_> {
         match str::from_utf8(line) {
             Ok(text) => of_text(text),
             Err(_) => Line::Script,
@@ -27,7 +29,7 @@ impl Line {
     }
 }
 
-fn of_text(text: &str) -> Line {
+fn of_text(text: &str) -> Line<'_> {
     if text.is_empty() || text.starts_with("#") {
         return Line::Remark;
     }
@@ -36,6 +38,7 @@ fn of_text(text: &str) -> Line {
     }
     match text.split_once(' ') {
         Some(("limits", rest)) => Line::Limits(limits_of(rest)),
+        Some(("sql", rest)) => Line::Sql(rest),
         Some((name, rest)) => match event_of(name, rest) {
             Some(event) => Line::Event(event),
             None => Line::Script,

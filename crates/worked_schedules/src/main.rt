@@ -6,6 +6,7 @@
 //! Standard input has titles, each of which begins a new record, and below a title the events that come to it: the lines of a script,
 //! and the words for what no script says (`lines`). Standard output has the same lines
 //! again, with `> ` before each, and after each what it answers, as a script prints it, and what it leaves (`leaving`). So the output reads as one page.
+//! A line `sql STATEMENTS` changes a record that the same events have made, and says what that one is loaded as (`changing`).
 //!
 //! ```text
 //! == a lane takes one try
@@ -16,6 +17,7 @@
 #![tactic(auto)]
 
 mod answering;
+mod changing;
 mod explaining;
 mod leaving;
 mod lines;

@@ -1,5 +1,6 @@
 //! The lines of a text, one after another.
 use crate::answering::answer;
+use crate::changing::load_changed;
 use crate::lines::Line;
 use crate::records::{Played, Records};
 use crate::stepping::step;
@@ -52,6 +53,10 @@ fn play_line<'a, W: Write>(
         Line::Event(event) => {
             echo(line, output)?;
             step(alloc, &mut records.played, &event, output)?;
+        }
+        Line::Sql(statements) => {
+            echo(line, output)?;
+            load_changed(alloc, &records.played, statements, output)?;
         }
         Line::Script => {
             return play_script(alloc, &mut records.played, lines, text, output);

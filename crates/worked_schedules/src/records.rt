@@ -32,6 +32,24 @@ impl Played {
         self.director.schedule()
     }
 
+    /// The limits within which it began.
+    pub fn limits(&self) -> Limits {
+        self.limits
+    }
+
+    /// A record of its own that the same events have made.
+    pub fn record(&self, alloc: Global) -> Result<Store<MemStore>, AllocError> {
+        let mut events = Vec::new(alloc);
+        for event in &self.events {
+            events.push(event.copy(alloc)?)?;
+        }
+        let mut director = new_director(alloc, self.limits)?;
+        match director.run_list(alloc, events) {
+            Ok(_answers) => Ok(director.close()),
+            Err(_) => Err(AllocError),
+        }
+    }
+
     /// Does an event, and keeps a copy of it.
     pub fn step(&mut self, alloc: Global, event: &Event) -> Result<Answer, Fault> {
         self.events

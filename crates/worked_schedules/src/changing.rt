@@ -1,0 +1,76 @@
+//! Records that were changed by SQL, and what they are loaded as.
+use crate::records::Played;
+use meta_store::{Store, StoreFault};
+use record_rows::Table;
+use sched_core::Schedule;
+use sqlite::{Error, ErrorCode};
+use std::alloc::{AllocError, Global};
+use std::io::{self, Write};
+
+// What comes of a record that was changed.
+#[derive(Drop)]
+enum Loaded {
+    Sound(Schedule),
+    Faulty(StoreFault),
+    // SQLite did not do all of the statements.
+    Unchanged,
+}
+
+/// Does these statements to a record that the same events have made, loads it, and writes what it is loaded as. This is done again where memory ran out.
+pub fn load_changed<W: Write>(
+    alloc: Global,
+    played: &Played,
+    sql: &str,
+    output: &mut W,
+) -> io::Result<()> {
+    let loaded = load_after(alloc, played, sql).or_else(|_| load_after(alloc, played, sql))?;
+    match loaded {
+        Loaded::Sound(schedule) => {
+            let runs = schedule.runs().len();
+            let in_flight = schedule.in_flight();
+            writeln!(output, "loaded: {runs} runs, {in_flight} tries in flight")
+        }
+        Loaded::Faulty(fault) => put_fault(&fault, output),
+        Loaded::Unchanged => output.write_all(b"refused by SQLite\n"),
+    }
+}
+
+fn load_after(alloc: Global, played: &Played, sql: &str) -> Result<Loaded, AllocError> {
+    let mut conn = played.record(alloc)?.release();
+    match conn.execute_batch(sql) {
+        Ok(()) => {}
+        Err(Error::SqliteFailure(ErrorCode::OutOfMemory)) => return Err(AllocError),
+        Err(_) => return Ok(Loaded::Unchanged),
+    }
+    if !conn.is_autocommit() {
+        return Ok(Loaded::Unchanged);
+    }
+    match Store::adopt(conn).load(alloc, played.limits()) {
+        Ok(schedule) => Ok(Loaded::Sound(schedule)),
+        Err(StoreFault::Memory) => Err(AllocError),
+        Err(fault) => Ok(Loaded::Faulty(fault)),
+    }
+}
+
+fn put_fault<W: Write>(fault: &StoreFault, output: &mut W) -> io::Result<()> {
+    match fault {
+        StoreFault::Refused(_) => output.write_all(b"refused\n"),
+        StoreFault::NotOurs => output.write_all(b"not ours\n"),
+        StoreFault::Inconsistent(table, row) => {
+            let name = table_name(*table);
+            writeln!(output, "inconsistent {name} {row}")
+        }
+        StoreFault::Memory => output.write_all(b"memory\n"),
+    }
+}
+
+fn table_name(table: Table) -> &'static str {
+    match table {
+        Table::Meta => "meta",
+        Table::Pool => "pool",
+        Table::Dag => "dag",
+        Table::Run => "run",
+        Table::Instance => "instance",
+        Table::Attempt => "attempt",
+    }
+}
