@@ -1,5 +1,0 @@
-use Rattle.ruled_dispatch.specs.Lanes.{IsDirectorOf}
-use Rattle.queue_rounds.proofs.rounds.send.Given as goal
-
-abbrev pub invariant-loop : goal.invariant-loop
-invariant-loop g l = IsDirectorOf l.lanes l.director

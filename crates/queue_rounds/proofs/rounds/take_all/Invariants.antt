@@ -1,5 +1,0 @@
-use Rattle.ruled_dispatch.specs.Lanes.{IsWorkerOf}
-use Rattle.queue_rounds.proofs.rounds.take_all.Given as goal
-
-abbrev pub invariant-loop : goal.invariant-loop
-invariant-loop g l = IsWorkerOf l.lanes l.pass

@@ -1,6 +1,0 @@
-use Rattle.std.proofs.Common.{◌≡◌, ◌+◌, vec_len, length}
-use Rattle.std.specs.Vec.Iter.{into_iter_items}
-use Rattle.worked_desk.proofs.rounds.ended.Given as goal
-
-abbrev pub invariant-loop-visitor : goal.invariant-loop-visitor
-invariant-loop-visitor g l = vec_len l.shares + length (into_iter_items l.visitor-iterator) ≡ vec_len l.fn.visitors

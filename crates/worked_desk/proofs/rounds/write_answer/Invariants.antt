@@ -1,4 +1,0 @@
-use Rattle.worked_desk.proofs.rounds.write_answer.Given as goal
-
-abbrev pub ghosts-write_round : goal.ghosts-write_round
-ghosts-write_round g a = record { name = a.blank.name; parts = a.blank.parts }

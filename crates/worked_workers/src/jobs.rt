@@ -1,0 +1,58 @@
+//! Jobs.
+ghost use Rattle.std.specs.Prelude.{◌≡◌, ◌+◌, ◌<◌, ℕ, IfOk, vec_len, slice_index_or};
+
+use graph_file::{Action, Bounded, Name, Operator, Sequence};
+use moment_core::Moment;
+use sched_state::Job;
+use std::alloc::{AllocError, Global};
+
+/// A first try of a task that does nothing, with this serial.
+pub fn numbered_job(alloc: Global, serial: u64) -> Result<Job, AllocError>
+    ensures { IfOk result (λ job. job.serial ≡ serial) }
+{
+    let action = Action::new(Operator::Noop, Sequence::new(Vec::new(alloc)));
+    job_of(alloc, serial, 1, &action)
+}
+
+/// So many jobs, with the serials from 1.
+pub fn numbered_jobs(alloc: Global, count: u64) -> Result<Vec<Job>, AllocError>
+    ensures count { IfOk result (λ v. vec_len v ≡ count) }
+    ensures serials { IfOk result (λ v. (k : ℕ) (d : _) → k < count → (slice_index_or v.items k d).serial ≡ k + 1) }
+{
+    let mut jobs = Vec::new(alloc);
+    for before in 0..count {
+        jobs.push(numbered_job(alloc, before + 1)?)?;
+    }
+    Ok(jobs)
+}
+
+/// A job with this serial: the try with this number of a task with this action.
+pub fn job_of(
+    alloc: Global,
+    serial: u64,
+    try_number: usize,
+    action: &Action,
+) -> Result<Job, AllocError>
+    ensures serial { IfOk result (λ job. job.serial ≡ serial) }
+    ensures number { IfOk result (λ job. job.try_number ≡ try_number) }
+    ensures action { IfOk result (λ job. job.action ≡ action.now) }
+{
+    Ok(Job {
+        serial,
+        graph: name(alloc, "page")?,
+        logical: Moment::at(0),
+        task: name(alloc, "line")?,
+        try_number,
+        action: action.copy(alloc)?,
+        pool: name(alloc, "default_pool")?,
+        slots: Bounded::new(1),
+    })
+}
+
+// The name of a text that is one.
+fn name(alloc: Global, text: &str) -> Result<Name, AllocError> {
+    match Name::read(alloc, text) {
+        Ok(name) => Ok(name),
+        Err(_) => Err(AllocError),
+    }
+}
