@@ -1,12 +1,15 @@
-//! The two files of a database in memory, of which one or both fail every call after the first so many.
+//! The two files of a database in memory: one or both may fail every call after the first so many, and of the log some writes in a row may be
+//! refused.
 ghost use Rattle.std.specs.Prelude.{◌≡◌, false, IfOk};
 
+use crate::flaky::Flaky;
 use sqlite::{Connection, FileStore, Files, Options};
 use sqlite_disk::{Crash, Disk, Fuse, Memory};
 use std::alloc::Global;
 use std::io;
 
-pub type Stopping = Fuse<Memory>;
+/// A file in memory that may fail. All records here lie in such files.
+pub type Faulty = Fuse<Flaky<Memory>>;
 
 /// Which of the files fail.
 #[derive(Clone, Copy)]
@@ -16,36 +19,66 @@ pub enum Failing {
     Both,
 }
 
+/// How many writes of the log pass first, and how many are refused after these.
+#[derive(Clone, Copy, Debug, PartialEq, Eq)]
+pub struct Writes {
+    pub passes: u64,
+    pub refusals: u64,
+}
+
+impl Writes {
+    /// Nothing is refused.
+    pub fn all_pass() -> Writes {
+        Writes {
+            passes: u64::MAX,
+            refusals: 0,
+        }
+    }
+}
+
+fn file(memory: Memory, writes: Writes, calls: u64) -> Faulty {
+    let Writes { passes, refusals } = writes;
+    Fuse::new(Flaky::new(memory, passes, refusals), calls)
+}
+
 /// Empty files, of which those that fail do so after so many calls each.
-pub fn empty_files(alloc: Global, failing: Failing, calls: u64) -> Files<Stopping> {
+pub fn empty_files(alloc: Global, failing: Failing, calls: u64) -> Files<Faulty> {
     let (log, db) = match failing {
         Failing::Log => (calls, u64::MAX),
         Failing::Database => (u64::MAX, calls),
         Failing::Both => (calls, calls),
     };
     Files {
-        log: Fuse::new(Memory::new(alloc), log),
-        db: Fuse::new(Memory::new(alloc), db),
+        log: file(Memory::new(alloc), Writes::all_pass(), log),
+        db: file(Memory::new(alloc), Writes::all_pass(), db),
+    }
+}
+
+/// Empty files, of which the log refuses some writes.
+pub fn flaky_files(alloc: Global, writes: Writes) -> Files<Faulty> {
+    Files {
+        log: file(Memory::new(alloc), writes, u64::MAX),
+        db: file(Memory::new(alloc), Writes::all_pass(), u64::MAX),
     }
 }
 
 /// Files with the same bytes, which fail no call.
-pub fn as_written(alloc: Global, files: &Files<Stopping>) -> io::Result<Files<Stopping>> {
+pub fn as_written(alloc: Global, files: &Files<Faulty>) -> io::Result<Files<Faulty>> {
     Ok(Files {
         log: file_as_written(alloc, &files.log)?,
         db: file_as_written(alloc, &files.db)?,
     })
 }
 
-fn file_as_written(alloc: Global, file: &Stopping) -> io::Result<Stopping> {
+fn file_as_written(alloc: Global, written: &Faulty) -> io::Result<Faulty> {
     let mut copy = Memory::new(alloc);
-    copy.write_at(0, file.inner().bytes())?;
+    copy.write_at(0, written.inner().inner().bytes())?;
     copy.sync()?;
-    Ok(Fuse::new(copy, u64::MAX))
+    Ok(file(copy, Writes::all_pass(), u64::MAX))
 }
 
 /// The machine is stopped and comes back: what was not synced is lost, and no call fails any more.
-pub fn crash(files: &mut Files<Stopping>) {
+pub fn crash(files: &mut Files<Faulty>) {
     files.log.crash();
     files.db.crash();
 }
@@ -53,8 +86,8 @@ pub fn crash(files: &mut Files<Stopping>) {
 /// The database in these files, or what is left of them.
 pub fn open(
     alloc: Global,
-    files: Files<Stopping>,
-) -> Result<Connection<FileStore<Stopping>>, Files<Stopping>>
+    files: Files<Faulty>,
+) -> Result<Connection<FileStore<Faulty>>, Files<Faulty>>
     ensures { IfOk result (λ conn. conn.in_transaction ≡ false) }
 {
     if !files.may_be_used() {

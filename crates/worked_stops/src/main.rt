@@ -1,101 +1,62 @@
-//! Stops a round at each call of the disk in turn, and compares what the record holds then with what it held before and after the step
-//! that was stopped.
+//! Records on disks that fail: what they hold then, and what a script says of it.
 //!
-//! A round makes a record in two files in memory, opens a director on it, steps four events, opens the record anew and closes it. In each
-//! round one file, or both, fail each call after the first so many. Where a step fails, the files are opened again twice: as they were
-//! written, as after the end of the process, and without what was not synced, as after a crash of the machine. For each step a line says
-//! what was found then; with a word it has the counts too.
+//! A question is a line of standard input; it is printed with its answer behind ` =>`. A line that begins with `#` and an empty line are printed as they are.
+//! `stop` stops a round with a record at each call of its files in turn, and says for each step whether the rows before it or after it were found; `count`
+//! says how often too. `refuse N` runs a script of one task over a new record, of whose log N writes in a row are refused, after 0, 1, 2 .. that are not, until
+//! a run meets none; runs that print the same share a line. `meet gates` and `meet operators` run two tries with two workers that wait for one another.
 #![tactic(auto)]
 
 mod files;
+mod flaky;
+mod meetings;
+mod refusals;
 mod rounds;
+mod scripts;
 mod states;
+mod stopping;
 mod stops;
 mod tallies;
+mod teams;
 
-use crate::files::{Failing, Stopping, as_written, crash};
-use crate::rounds::{STEPS, round_events};
-use crate::states::{held_in, states};
-use crate::stops::{Stop, stopped_run};
-use crate::tallies::{Left, Tally};
-use sched_core::Event;
-use sqlite::Files;
-use std::alloc::Global;
-use std::{env, io};
-
-// More calls than a round makes.
-const MANY: u64 = 10_000;
+use std::io;
+use std::sync::Wait;
+use std::thread::Threads;
 
 fn main(rt: HostRuntime) -> io::Result<()> {
-    let has_counts = env::args(&rt)?.nth(1).is_some();
-    let steps = steps_stopped(rt.alloc())?;
-    put_steps(&rt, &steps, has_counts)
-}
-
-// What the stops of each step left.
-fn steps_stopped(alloc: Global) -> io::Result<Vec<Left>> {
-    let events = round_events(alloc)?;
-    let states = states(alloc, &events)?;
-    let mut steps = vec![in alloc; Left::none(); STEPS.len()]?;
-    for failing in [Failing::Log, Failing::Database, Failing::Both] {
-        stop_all(alloc, failing, &events, &states, &mut steps)?;
+    let text = io::read_to_string(rt.alloc(), rt.reader())?;
+    for line in text.as_str().lines() {
+        write_line(&rt, &rt, line)?;
     }
-    Ok(steps)
+    Ok(())
 }
 
-// Stops rounds at one call after another, until one is not stopped.
-fn stop_all(
-    alloc: Global,
-    failing: Failing,
-    events: &[Event],
-    states: &[String],
-    steps: &mut [Left],
-) -> io::Result<()> {
-    for calls in 0..MANY {
-        match stopped_run(alloc, failing, calls, events) {
-            Some(stop) => judge(alloc, states, steps, stop)?,
-            None => return Ok(()),
+// Writes a line of the page.
+fn write_line<T: Threads + Wait + Sync>(rt: &T, host: &HostRuntime, line: &str) -> io::Result<()> {
+    if line.is_empty() || line.starts_with('#') {
+        return host.println(line);
+    }
+    print!(host; "{line} =>")?;
+    let (subject, rest) = line.split_once(' ').unwrap_or((line, ""));
+    match subject {
+        "stop" => stop(host, false),
+        "count" => stop(host, true),
+        "refuse" => refuse(rt, host, rest),
+        "meet" => meetings::write_answer(rt, host, rest),
+        _ => host.println(" no such question"),
+    }
+}
+
+fn stop(host: &HostRuntime, has_counts: bool) -> io::Result<()> {
+    host.println("")?;
+    stopping::write_answers(host, host.alloc(), has_counts)
+}
+
+fn refuse<T: Threads + Wait + Sync>(rt: &T, host: &HostRuntime, count: &str) -> io::Result<()> {
+    match count.parse::<u64>() {
+        Ok(count) => {
+            host.println("")?;
+            refusals::write_answers(rt, host, count)
         }
+        Err(_) => host.println(" no number"),
     }
-    Ok(())
-}
-
-// Counts what a stop left.
-fn judge(alloc: Global, states: &[String], steps: &mut [Left], stop: Stop) -> io::Result<()> {
-    let Stop { step, files } = stop;
-    let (written, crashed) = held_after(alloc, files)?;
-    let before = states.get(step);
-    let after = states.get(step.saturating_add(1));
-    if let (Some(before), Some(after), Some(left)) = (before, after, steps.get_mut(step)) {
-        left.written.count(&written, before, after);
-        left.crashed.count(&crashed, before, after);
-    }
-    Ok(())
-}
-
-// What these files hold as they were written, and after a crash.
-fn held_after(alloc: Global, files: Files<Stopping>) -> io::Result<(String, String)> {
-    let mut files = files;
-    let written = held_in(alloc, as_written(alloc, &files)?)?;
-    crash(&mut files);
-    Ok((written, held_in(alloc, files)?))
-}
-
-fn put_steps<R: Print>(rt: &R, steps: &[Left], has_counts: bool) -> io::Result<()> {
-    for (name, left) in STEPS.iter().zip(steps) {
-        print!(rt; "{name}: as written ")?;
-        put_tally(rt, left.written, has_counts)?;
-        rt.print("; after a crash ")?;
-        put_tally(rt, left.crashed, has_counts)?;
-        rt.println("")?;
-    }
-    Ok(())
-}
-
-fn put_tally<R: Print>(rt: &R, tally: Tally, has_counts: bool) -> io::Result<()> {
-    print!(rt; "{}, {} else", tally.kinds(), tally.other)?;
-    if has_counts {
-        print!(rt; " ({} and {})", tally.before, tally.after)?;
-    }
-    Ok(())
 }

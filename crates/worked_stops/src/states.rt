@@ -1,7 +1,7 @@
 //! What a record holds, as text.
 ghost use Rattle.std.specs.Prelude.{◌≡◌, false, IfOk};
 
-use crate::files::{Failing, Stopping, empty_files, open};
+use crate::files::{Failing, Faulty, empty_files, open};
 use crate::rounds::{create, run, step_all};
 use meta_store::{Store, StoreFault};
 use sched_core::Event;
@@ -36,7 +36,7 @@ fn opened_anew(alloc: Global, events: &[Event]) -> Result<String, AllocError> {
 }
 
 // A database that has nothing, in files that do not fail.
-fn empty(alloc: Global) -> Result<Connection<FileStore<Stopping>>, AllocError>
+fn empty(alloc: Global) -> Result<Connection<FileStore<Faulty>>, AllocError>
     ensures { IfOk result (λ conn. conn.in_transaction ≡ false) }
 {
     match open(alloc, empty_files(alloc, Failing::Both, u64::MAX)) {
@@ -84,7 +84,7 @@ fn held_anew<S: Alter + Drop>(
 }
 
 /// What the record in these files holds.
-pub fn held_in(alloc: Global, files: Files<Stopping>) -> Result<String, AllocError> {
+pub fn held_in(alloc: Global, files: Files<Faulty>) -> Result<String, AllocError> {
     match open(alloc, files) {
         Ok(conn) => held_by(alloc, conn),
         Err(_) => String::from_str(alloc, "not opened"),

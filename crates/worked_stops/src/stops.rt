@@ -1,7 +1,7 @@
 //! Rounds over files that fail.
 ghost use Rattle.std.specs.Prelude.{◌≡◌, false};
 
-use crate::files::{Failing, Stopping, empty_files, open};
+use crate::files::{Failing, Faulty, empty_files, open};
 use crate::rounds::{CLOSE, run};
 use meta_store::Store;
 use sched_core::Event;
@@ -13,7 +13,7 @@ use std::alloc::Global;
 pub struct Stop {
     /// The place of the step in `STEPS`.
     pub step: usize,
-    pub files: Files<Stopping>,
+    pub files: Files<Faulty>,
 }
 
 /// Runs a round over files that fail after so many calls: where it was stopped, if it was.
@@ -26,7 +26,7 @@ pub fn stopped_run(alloc: Global, failing: Failing, calls: u64, events: &[Event]
 
 fn run_and_close(
     alloc: Global,
-    conn: Connection<FileStore<Stopping>>,
+    conn: Connection<FileStore<Faulty>>,
     events: &[Event],
 ) -> Option<Stop>
     requires { conn.in_transaction ≡ false }
@@ -37,14 +37,14 @@ fn run_and_close(
     }
 }
 
-fn close(record: Store<FileStore<Stopping>>) -> Option<Stop> {
+fn close(record: Store<FileStore<Faulty>>) -> Option<Stop> {
     match record.release().close_files() {
         Ok(_) => None,
         Err((_, store)) => Some(stop_of(CLOSE, store)),
     }
 }
 
-fn stop_of(step: usize, store: FileStore<Stopping>) -> Stop {
+fn stop_of(step: usize, store: FileStore<Faulty>) -> Stop {
     Stop {
         step,
         files: store.close(),

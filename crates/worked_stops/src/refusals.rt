@@ -1,5 +1,6 @@
 //! A script over a record of whose log some writes in a row are refused, after so many that are not.
-use crate::scripts::{Writes, run};
+use crate::files::Writes;
+use crate::scripts::run;
 use crate::teams::worker;
 use std::io;
 use std::sync::Wait;

@@ -3,7 +3,8 @@ ghost use Rattle.graph_file.specs.declared.operators.Operator.TheVariants as kin
 ghost use Rattle.program_parts.specs.TaskOperators.{kind_of};
 ghost use Rattle.program_parts.specs.Teams.{IsWhole};
 
-use crate::scripts::{Writes, run};
+use crate::files::Writes;
+use crate::scripts::run;
 use crate::teams::{Worker, worker};
 use crew_rounds::Party;
 use std::alloc::Global;

@@ -4,38 +4,20 @@ ghost use Rattle.graph_file.specs.declared.operators.Operator.TheVariants as kin
 ghost use Rattle.program_parts.specs.TaskOperators.{kind_of};
 ghost use Rattle.program_parts.specs.Teams.{IsWhole};
 
-use crate::flaky::Flaky;
+use crate::files::{Faulty, Writes, flaky_files, open};
 use crate::teams::Worker;
 use answer_lines::{Shown, put};
 use meta_store::Store;
 use program_parts::{FileSources, run_team};
 use script_reader::{NoProgress, Script, failure_status};
 use session_rounds::ListedClock;
-use sqlite::{Alter, Connection, Files, Options};
-use sqlite_disk::{Disk, Memory};
+use sqlite::{Alter, Connection, Files};
 use std::alloc::Global;
 use std::io::{self, ErrorKind, Write};
 use std::sync::Wait;
 use std::thread::Threads;
 
 const LANES: u32 = 4;
-
-/// How many writes of the log pass first, and how many are refused after these.
-#[derive(Clone, Copy, Debug, PartialEq, Eq)]
-pub struct Writes {
-    pub passes: u64,
-    pub refusals: u64,
-}
-
-impl Writes {
-    /// Nothing is refused.
-    pub fn all_pass() -> Writes {
-        Writes {
-            passes: u64::MAX,
-            refusals: 0,
-        }
-    }
-}
 
 /// The lines that a script prints with this team, with ` / ` between them, and its status; and how many writes were refused.
 pub fn run<T: Threads + Wait + Sync>(
@@ -49,10 +31,7 @@ pub fn run<T: Threads + Wait + Sync>(
     requires whole { All (λ w. IsWhole (kind_of (λ _. kinds.Command)) w.0.items) team.items }
 {
     let alloc = host.alloc();
-    let files = Files {
-        log: Flaky::new(Memory::new(alloc), writes.passes, writes.refusals),
-        db: Flaky::new(Memory::new(alloc), u64::MAX, 0),
-    };
+    let files = flaky_files(alloc, writes);
     let mut printed = Vec::new(alloc);
     let (status, refused) = run_on_files(rt, host, files, team, script, &mut printed);
     Ok((in_one_line(alloc, printed, status?)?, refused))
@@ -62,7 +41,7 @@ pub fn run<T: Threads + Wait + Sync>(
 fn run_on_files<T: Threads + Wait + Sync>(
     rt: &T,
     host: &HostRuntime,
-    files: Files<Flaky<Memory>>,
+    files: Files<Faulty>,
     team: Vec<Worker>,
     script: &str,
     printed: &mut Vec<u8>,
@@ -70,19 +49,18 @@ fn run_on_files<T: Threads + Wait + Sync>(
     requires workers { length team.items ≤ 16 }
     requires whole { All (λ w. IsWhole (kind_of (λ _. kinds.Command)) w.0.items) team.items }
 {
-    if !files.may_be_used() {
-        return (not_run(printed, "no files"), 0);
-    }
-    match Connection::open_files(host.alloc(), files, Options::new(1)) {
+    match open(host.alloc(), files) {
         Ok(conn) => {
             let (conn, status) = run_on_connection(rt, host, conn, team, script, printed);
-            (status, conn.into_store().close().log.refused())
+            (status, refused_by(&conn.into_store().close()))
         }
-        Err((_, left)) => (
-            not_run(printed, "not opened"),
-            left.into_files().log.refused(),
-        ),
+        Err(files) => (not_run(printed, "not opened"), refused_by(&files)),
     }
+}
+
+// How many writes the log has refused.
+fn refused_by(files: &Files<Faulty>) -> u64 {
+    files.log.inner().refused()
 }
 
 // The same over an open connection, whatever it stands on, which is given back.

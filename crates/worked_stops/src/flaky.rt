@@ -3,7 +3,7 @@ ghost use Rattle.std.specs.Prelude.{◌≡◌, ◌+◌, false};
 ghost use Rattle.sqlite_disk.specs.Disk.{CountsFault};
 ghost use Rattle.sqlite_disk.specs.Refusal.{finds_no_room};
 
-use sqlite_disk::{Disk, Tally};
+use sqlite_disk::{Crash, Disk, Tally};
 use std::io;
 
 /// Passes so many writes on, refuses so many after these, which change nothing, and passes on the rest. All other calls are passed on.
@@ -24,6 +24,11 @@ impl<D: Disk> Flaky<D> {
             refusals,
             refused: 0,
         }
+    }
+
+    /// What it passes calls on to.
+    pub fn inner(&self) -> &D {
+        &self.inner
     }
 
     /// How many writes it has refused.
@@ -114,5 +119,13 @@ impl<D: Disk> Disk for Flaky<D> {
 
     fn sync(&mut self) -> io::Result<()> {
         self.inner.sync()
+    }
+}
+
+/// The machine comes back with a disk that refuses nothing.
+impl<D: Crash> Crash for Flaky<D> {
+    fn crash(&mut self) {
+        self.inner.crash();
+        self.refusals = 0;
     }
 }
