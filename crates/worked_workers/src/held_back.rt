@@ -1,8 +1,8 @@
 //! A gate holds one worker back, with its first job, until the other has done all others.
 use crate::operator_jobs::make_jobs;
-use crate::teams::{operators_of, run_team};
-use crew_rounds::Turnstile;
-use operators::Exit;
+use crate::teams::run_team;
+use crew_rounds::{Caller, Turnstile};
+use operators::{BoxedOperator, Exit, Noop};
 use std::alloc::{AllocError, Global};
 use std::io;
 use std::sync::atomic::AtomicU64;
@@ -24,7 +24,10 @@ pub fn write_answer<R: Threads + Wait + Print + Sync>(
     let (held, free) = turnstiles(alloc, count - 1)?;
     let mut team = Vec::new(alloc);
     for gate in [held, free] {
-        let operators = operators_of(alloc, None, Exit::new(alloc))?;
+        let mut operators: Vec<BoxedOperator> = Vec::new(alloc);
+        operators.push(Box::new(alloc, Noop::new(alloc))?)?;
+        operators.push(Box::new(alloc, Caller::new(alloc, None))?)?;
+        operators.push(Box::new(alloc, Exit::new(alloc))?)?;
         team.push((operators, gate))?;
     }
     let jobs = make_jobs(alloc, count, "noop", "[]")?;

@@ -1,8 +1,8 @@
 //! Two workers with a job each wait for one another, in their gates or in their operators. Both see the other only where they run at once.
 use crate::operator_jobs::make_jobs;
-use crate::teams::{operators_of, run_team};
-use crew_rounds::{Meeting, Party};
-use operators::Exit;
+use crate::teams::run_team;
+use crew_rounds::{Caller, Meeting, Party};
+use operators::{BoxedOperator, Exit, Noop};
 use std::alloc::Global;
 use std::io;
 use std::sync::Wait;
@@ -28,7 +28,10 @@ fn meet_in_gates<R: Threads + Wait + Print + Sync>(rt: &R, alloc: Global) -> io:
     let (one, two, seen) = Party::pair(alloc)?;
     let mut team = Vec::new(alloc);
     for party in [one, two] {
-        let operators = operators_of(alloc, None, Exit::new(alloc))?;
+        let mut operators: Vec<BoxedOperator> = Vec::new(alloc);
+        operators.push(Box::new(alloc, Noop::new(alloc))?)?;
+        operators.push(Box::new(alloc, Caller::new(alloc, None))?)?;
+        operators.push(Box::new(alloc, Exit::new(alloc))?)?;
         team.push((operators, Meeting::new(Some(party))))?;
     }
     let jobs = make_jobs(alloc, 2, "noop", "[]")?;
@@ -47,7 +50,10 @@ fn meet_in_operators<R: Threads + Wait + Print + Sync>(rt: &R, alloc: Global) ->
     let (one, two, seen) = Party::pair(alloc)?;
     let mut team = Vec::new(alloc);
     for party in [one, two] {
-        let operators = operators_of(alloc, Some(party), Exit::new(alloc))?;
+        let mut operators: Vec<BoxedOperator> = Vec::new(alloc);
+        operators.push(Box::new(alloc, Noop::new(alloc))?)?;
+        operators.push(Box::new(alloc, Caller::new(alloc, Some(party)))?)?;
+        operators.push(Box::new(alloc, Exit::new(alloc))?)?;
         team.push((operators, OpenGate))?;
     }
     let jobs = make_jobs(alloc, 2, "command", "[\"true\"]")?;

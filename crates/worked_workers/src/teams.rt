@@ -2,26 +2,13 @@
 ghost use Rattle.std.specs.Prelude.{◌<◌, ◌≤◌, All, IfOk};
 ghost use Rattle.operators.specs.Kits.{IsKit};
 
-use crew_rounds::{Caller, CrewFault, Party, Round, run_jobs};
-use operators::{BoxedOperator, Exit, Kit, Noop, Operator};
+use crew_rounds::{CrewFault, Round, run_jobs};
+use operators::{Kit, Operator};
 use sched_state::Job;
 use std::alloc::{AllocError, Global};
 use std::sync::Wait;
 use std::thread::Threads;
 use work::{Crew, Gate};
-
-/// The operators of a worker: this one of `exit`, and one of `command` that meets the other of the party, if there is one.
-pub fn operators_of(
-    alloc: Global,
-    party: Option<Party>,
-    exit: Exit,
-) -> Result<Vec<BoxedOperator>, AllocError> {
-    let mut operators: Vec<BoxedOperator> = Vec::new(alloc);
-    operators.push(Box::new(alloc, Noop::new(alloc))?)?;
-    operators.push(Box::new(alloc, Caller::new(alloc, party))?)?;
-    operators.push(Box::new(alloc, exit)?)?;
-    Ok(operators)
-}
 
 /// Has a crew for each of these lists of operators, with the gate beside it, do the jobs. `None` where a list is no kit, there are more
 /// than 16, or memory runs out.
