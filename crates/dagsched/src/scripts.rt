@@ -2,8 +2,8 @@
 use crate::records::put_failure;
 use command_words::ScriptOptions;
 use meta_store::Store;
-use program_parts::{FileSources, SystemClock, TerminalProgress, operators_for, run_team};
 use script_reader::Script;
+use script_runner::{FileSources, SystemClock, TerminalProgress, operators_for, run_team};
 use sqlite::Alter;
 use std::fs;
 use std::io::{self, BufReader, BufWriter, ErrorKind};

@@ -1,2 +1,4 @@
 pub mod Named
 pub mod Runs
+pub mod TaskOperators
+pub mod Teams

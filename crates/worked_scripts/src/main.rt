@@ -14,16 +14,39 @@
 //! ok
 //! status 0
 //! ```
+//!
+//! Its tests are of what no stored run reaches: readers and writers that fail, want of memory, long lines, graphs and schedules of the greatest size, graphs
+//! with more than one cycle, and what is asked of a schedule that has it not.
 #![tactic(auto)]
 
 mod clocks;
+#[cfg(test)]
+mod cycles;
+#[cfg(test)]
+mod failing;
+#[cfg(test)]
+mod long_lines;
+#[cfg(test)]
+mod memory;
+#[cfg(test)]
+mod records;
+#[cfg(test)]
+mod runs;
 mod sections;
+#[cfg(test)]
+mod sizes;
+#[cfg(test)]
+mod sources;
+#[cfg(test)]
+mod streams;
+#[cfg(test)]
+mod views;
 
 use answer_lines::{Shown, put};
 use clocks::worked_clock;
 use meta_store::Store;
-use program_parts::{FileSources, operators_for, run_team};
 use script_reader::{NoProgress, Script, failure_status};
+use script_runner::{FileSources, operators_for, run_team};
 use sections::{Section, next_section};
 use sqlite::Connection;
 use std::fs;

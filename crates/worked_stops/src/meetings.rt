@@ -1,7 +1,7 @@
 //! Two workers with a try each wait for one another, in their gates or in their operators. Both see the other only where they run at once.
 ghost use Rattle.graph_file.specs.declared.operators.Operator.TheVariants as kinds;
-ghost use Rattle.program_parts.specs.TaskOperators.{kind_of};
-ghost use Rattle.program_parts.specs.Teams.{IsWhole};
+ghost use Rattle.script_runner.specs.TaskOperators.{kind_of};
+ghost use Rattle.script_runner.specs.Teams.{IsWhole};
 
 use crate::files::Writes;
 use crate::scripts::run;

@@ -1,15 +1,15 @@
 //! A script that is run over a new record whose disk may refuse writes, and what it prints in one line.
 ghost use Rattle.std.specs.Prelude.{◌≡◌, ◌≤◌, All, false, length};
 ghost use Rattle.graph_file.specs.declared.operators.Operator.TheVariants as kinds;
-ghost use Rattle.program_parts.specs.TaskOperators.{kind_of};
-ghost use Rattle.program_parts.specs.Teams.{IsWhole};
+ghost use Rattle.script_runner.specs.TaskOperators.{kind_of};
+ghost use Rattle.script_runner.specs.Teams.{IsWhole};
 
 use crate::files::{Faulty, Writes, flaky_files, open};
 use crate::teams::Worker;
 use answer_lines::{Shown, put};
 use meta_store::Store;
-use program_parts::{FileSources, run_team};
 use script_reader::{NoProgress, Script, failure_status};
+use script_runner::{FileSources, run_team};
 use session_rounds::ListedClock;
 use sqlite::{Alter, Connection, Files};
 use std::alloc::Global;

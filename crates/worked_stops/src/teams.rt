@@ -1,12 +1,12 @@
 //! Workers with an operator of each kind, which may wait for one another.
 ghost use Rattle.std.specs.Prelude.{IfOk};
 ghost use Rattle.graph_file.specs.declared.operators.Operator.TheVariants as kinds;
-ghost use Rattle.program_parts.specs.TaskOperators.{kind_of};
-ghost use Rattle.program_parts.specs.Teams.{IsWhole};
+ghost use Rattle.script_runner.specs.TaskOperators.{kind_of};
+ghost use Rattle.script_runner.specs.Teams.{IsWhole};
 
 use crew_rounds::{Caller, Meeting, Party};
 use operators::{Exit, Noop};
-use program_parts::TaskOperator;
+use script_runner::TaskOperator;
 use std::alloc::{AllocError, Global};
 
 /// The operators of a worker, and its gate.

@@ -1,8 +1,8 @@
 //! An operator of whichever kind, so that a worker may have one of each.
 ghost use Rattle.std.specs.Prelude.{◌≡◌, All, IfOk, length};
 ghost use Rattle.graph_file.specs.declared.operators.Operator.TheVariants as kinds;
-ghost use Rattle.program_parts.specs.TaskOperators.{kind_of};
-ghost use Rattle.program_parts.specs.Teams.{IsWhole};
+ghost use Rattle.script_runner.specs.TaskOperators.{kind_of};
+ghost use Rattle.script_runner.specs.Teams.{IsWhole};
 
 use graph_file::Operator as Kind;
 use instance_machine::Outcome;
@@ -25,7 +25,7 @@ pub enum TaskOperator<P: Operator> {
 }
 
 impl<P: Operator> Operator for TaskOperator<P> {
-    ghost use Rattle.program_parts.specs.TaskOperators as spec;
+    ghost use Rattle.script_runner.specs.TaskOperators as spec;
 
     ghost kind_of = { spec.kind_of P.kind_of };
 

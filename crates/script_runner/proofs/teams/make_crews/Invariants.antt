@@ -2,8 +2,8 @@ use Rattle.std.proofs.Common.{◌≡◌, ◌++◌, ◌+◌, List, length, map, v
 use Rattle.std.specs.Vec.Iter.{into_iter_items}
 use Rattle.operators.specs.Kits.{IsKit}
 use Rattle.operators.specs.declared.kits.Kit.{Kit}
-use Rattle.program_parts.specs.Teams.{AreKitsOf, IsWhole}
-use Rattle.program_parts.proofs.teams.make_crews.Given as goal
+use Rattle.script_runner.specs.Teams.{AreKitsOf, IsWhole}
+use Rattle.script_runner.proofs.teams.make_crews.Given as goal
 
 abbrev pub invariant-loop-operators : goal.invariant-loop-operators
 invariant-loop-operators g l =

@@ -6,13 +6,13 @@ ghost use Rattle.sqlite.specs.State.{HasCleanDisk};
 ghost use Rattle.operators.specs.Kits.{IsKit};
 ghost use Rattle.sched_state.specs.Limits.{ceilings};
 ghost use Rattle.director.specs.Faults.{IsOpenFault};
-ghost use Rattle.program_parts.specs.Teams.{AreKitsOf, IsTeamRun, IsWhole};
+ghost use Rattle.script_runner.specs.Teams.{AreKitsOf, IsTeamRun, IsWhole};
 
+use crate::running::{Ran, RunOptions, run_on};
 use director::Fault;
 use meta_store::Store;
 use operators::{Kit, Operator};
 use script_reader::{Progress, Script, Sources};
-use script_runner::{Ran, RunOptions, run_on};
 use sessions::Clock;
 use sqlite::Alter;
 use std::alloc::{AllocError, Global};

@@ -3,9 +3,9 @@ use Rattle.std.proofs.lemmas.List.Elements.{All-nil, All-push, All-same, All-tai
 use Rattle.std.specs.Vec.Iter.{into_iter_items}
 use Rattle.operators.specs.Kits.{IsKit}
 use Rattle.work.specs.declared.crews.Crew.{Crew}
-use Rattle.program_parts.specs.Teams.{AreKitsOf, IsWhole}
-use Rattle.program_parts.proofs.TeamLemmas.{kits_grow, kits_end, none_left, one_more}
-use Rattle.program_parts.proofs.teams.make_crews.Goals as goal
+use Rattle.script_runner.specs.Teams.{AreKitsOf, IsWhole}
+use Rattle.script_runner.proofs.TeamLemmas.{kits_grow, kits_end, none_left, one_more}
+use Rattle.script_runner.proofs.teams.make_crews.Goals as goal
 
 pub loop-operators-init : goal.loop-operators-init
 loop-operators-init g c =

@@ -3,8 +3,8 @@ use Rattle.std.specs.Prelude.{ℕ, Bool, List, Option}
 use Rattle.graph_file.specs.declared.operators.Operator.{Operator as Kind}
 use Rattle.graph_file.specs.declared.operators.Operator.TheVariants as kinds
 use Rattle.instance_machine.specs.declared.tries.Outcome.{Outcome}
-use Rattle.program_parts.specs.declared.task_operators.TaskOperator.{TaskOperator}
-use Rattle.program_parts.specs.declared.task_operators.TaskOperator.TheVariants.{Noop, Exit, Command}
+use Rattle.script_runner.specs.declared.task_operators.TaskOperator.{TaskOperator}
+use Rattle.script_runner.specs.declared.task_operators.TaskOperator.TheVariants.{Noop, Exit, Command}
 
 module _ {P : Type 0} where
   abbrev pub kind_of : (P → Kind) → TaskOperator P → Kind

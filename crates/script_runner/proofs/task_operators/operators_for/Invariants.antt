@@ -1,8 +1,8 @@
 use Rattle.std.proofs.Common.{◌≡◌, length, vec_items, All}
 use Rattle.graph_file.specs.declared.operators.Operator.TheVariants as kinds
-use Rattle.program_parts.specs.TaskOperators.{kind_of}
-use Rattle.program_parts.specs.Teams.{IsWhole}
-use Rattle.program_parts.proofs.task_operators.operators_for.Given as goal
+use Rattle.script_runner.specs.TaskOperators.{kind_of}
+use Rattle.script_runner.specs.Teams.{IsWhole}
+use Rattle.script_runner.proofs.task_operators.operators_for.Given as goal
 
 abbrev pub invariant-loop-worker : goal.invariant-loop-worker
 invariant-loop-worker g l = record {

@@ -1,2 +1,0 @@
-pub mod TaskOperators
-pub mod Teams
