@@ -3,12 +3,12 @@ use Rattle.std.proofs.Common.{◌≡◌, refl, sym, ap, ◌∙◌, ℕ, zero, su
 use Rattle.std.specs.List.{list_all}
 use Rattle.std.specs.Cmp.{IsTotalOrder}
 use Rattle.std.specs.declared.cmp.Ordering.{Ordering}
-use Rattle.std.specs.declared.cmp.Ordering.TheVariants.{Less, Equal, Greater}
 use Rattle.std.proofs.lemmas.Bool.{and_from, false_from_ne_true}
 use Rattle.std.proofs.lemmas.Option.{slice_get_read}
 use Rattle.sched_state.specs.Lists.{is_less}
 use Rattle.sched_state.proofs.OrderLemmas.{and_left, and_right}
 use Rattle.sched_model.specs.Lists.{rises}
+use Rattle.sched_laws.proofs.RankLemmas.{less_is}
 use Rattle.record_rules.proofs.MemberLemmas.{rises_pair}
 use Rattle.std.proofs.lemmas.Cmp.{nat_list_cmp_total}
 use Rattle.record_rows.specs.Rows.{PoolRow, DagRow}
@@ -21,11 +21,6 @@ use Rattle.record_rules.proofs.NumberLemmas.{less_more}
 -- what stands before another stands before those after it
 abbrev pub Transitive : {X : Type 0} → (X → X → Bool) → Type 0
 Transitive {X} before = (x y z : X) → before x y ≡ true → before y z ≡ true → before x z ≡ true
-
-less_is : (k : Ordering) → is_less k ≡ true → k ≡ Less
-less_is Less e = refl
-less_is Equal e = absurd (true≢false (sym e))
-less_is Greater e = absurd (true≢false (sym e))
 
 pub by_order : {X : Type 0} (R : X → X → Ordering) → IsTotalOrder R → Transitive (λ x y. is_less (R x y))
 by_order R total x y z e f = ap is_less (total.trans x y z (less_is (R x y) e) (less_is (R y z) f))

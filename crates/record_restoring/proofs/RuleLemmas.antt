@@ -1,5 +1,5 @@
 -- The rules in their order.
-use Rattle.std.proofs.Common.{◌≡◌, refl, sym, ap, ◌∙◌, ℕ, ◌+◌, List, [], ◌∷◌, Bool, true, false, cond, if◌then◌else◌, nat_le, ◌&&◌, Option, Some, None}
+use Rattle.std.proofs.Common.{◌≡◌, refl, sym, ap, ◌∙◌, ℕ, List, [], ◌∷◌, Bool, true, not, Option, Some, None}
 use Rattle.std.specs.List.{list_all}
 use Rattle.graph_file.specs.Lists.{first_some}
 use Rattle.record_rows.specs.Rows.{Rows, DagRow}
@@ -13,8 +13,8 @@ use Rattle.sched_model.specs.Schedule.{graph_before}
 use Rattle.sched_laws.proofs.RunLemmas.{rises_map}
 use Rattle.record_rules.specs.Keys.{IsByKey}
 use Rattle.record_rules.specs.Reading.{reads, graphs_of, meta_of}
-use Rattle.record_rules.specs.Faults.{first_from, first_bad, earlier_row, past_limit, in_table, meta_fault, pool_fault, dag_fault, run_fault, instance_fault, attempt_fault, end_fault, record_fault, is_dag_row_right}
-use Rattle.record_rules.proofs.FreeLemmas.{graph_ids_are}
+use Rattle.record_rules.specs.Faults.{first_bad, earlier_row, missing, past_limit, in_table, meta_fault, pool_fault, dag_fault, run_fault, instance_fault, attempt_fault, end_fault, record_fault, is_dag_row_right}
+use Rattle.record_rules.proofs.FreeLemmas.{graph_ids_are, all_from, there_from, none_both}
 use Rattle.record_restoring.specs.Rules.{Passes}
 
 skip : (t : Table) (o : Option ℕ) (os : List (Option (Table × ℕ))) → o ≡ None → first_some (in_table t o ∷ os) ≡ first_some os
@@ -64,20 +64,12 @@ ends_last l rows s =
     alone (Some n) = refl
 
 -- ---- what no fault says
-all_from : {X : Type 0} (ok : X → Bool) (i : ℕ) (xs : List X) → first_from ok i xs ≡ None → list_all ok xs ≡ true
-all_from ok i [] e = refl
-all_from {X} ok i (x ∷ xs) e = elim (ok x) as (λ b. (let o : Option ℕ = cond b (first_from ok (i + 1) xs) (Some i) in o) ≡ None → (b && list_all ok xs) ≡ true) [
-  | true ↦ λ f. all_from ok (i + 1) xs f
-  | false ↦ λ f. absurd (let c : ◌≡◌ {A = Option ℕ} (Some i) None = f in cc)
-] e
-
-first_none : (o p : Option ℕ) → earlier_row o p ≡ None → o ≡ None
-first_none None p e = refl
-first_none (Some i) None e = absurd (let c : ◌≡◌ {A = Option ℕ} (Some i) None = e in cc)
-first_none (Some i) (Some j) e = absurd (let c : ◌≡◌ {A = Option ℕ} (Some (if nat_le i j then i else j)) None = e in cc)
-
 pub all_right : {X : Type 0} (ok : X → Bool) (xs : List X) (o : Option ℕ) → earlier_row (first_bad ok xs) o ≡ None → list_all ok xs ≡ true
-all_right ok xs o e = all_from ok 0 xs (first_none (first_bad ok xs) o e)
+all_right ok xs o e = all_from ok 0 xs (none_both (first_bad ok xs) o e).0
+
+-- and no row is missing
+pub none_missing : {X : Type 0} (b : Bool) (xs : List X) (o : Option ℕ) → earlier_row o (missing (not b) xs) ≡ None → b ≡ true
+none_missing b xs o e = there_from b xs (none_both o (missing (not b) xs) e).1
 
 pub all_first : {X : Type 0} (ok : X → Bool) (xs : List X) → first_bad ok xs ≡ None → list_all ok xs ≡ true
 all_first ok xs e = all_from ok 0 xs e

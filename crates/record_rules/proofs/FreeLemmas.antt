@@ -41,7 +41,7 @@ pub record Rules (read : Reader) (l : Bounds) (rows : Rows) : Type 0 where
   pub attempts : list_all (is_attempt_row_right (graphs_of read rows) (meta_of rows).next_serial rows) rows.attempts ≡ true
   pub ends : list_all (is_end_of_run (graphs_of read rows) rows) rows.runs ≡ true
 
-all_from : {X : Type 0} (ok : X → Bool) (i : ℕ) (xs : List X) → first_from ok i xs ≡ None → list_all ok xs ≡ true
+pub all_from : {X : Type 0} (ok : X → Bool) (i : ℕ) (xs : List X) → first_from ok i xs ≡ None → list_all ok xs ≡ true
 all_from ok i [] e = refl
 all_from {X} ok i (x ∷ xs) e = elim (ok x) as (λ b. (let o : Option ℕ = cond b (first_from ok (i + 1) xs) (Some i) in o) ≡ None → (b && list_all ok xs) ≡ true) [
   | true ↦ λ f. all_from ok (i + 1) xs f
@@ -54,11 +54,11 @@ few_from n xs e = elim (nat_lt n (length xs)) as (λ b. nat_lt n (length xs) ≡
   | false ↦ λ g f. le-leb (length xs) n (ltb-false n (length xs) g)
 ] refl e
 
-there_from : {X : Type 0} (b : Bool) (xs : List X) → missing (not b) xs ≡ None → b ≡ true
+pub there_from : {X : Type 0} (b : Bool) (xs : List X) → missing (not b) xs ≡ None → b ≡ true
 there_from true xs e = refl
 there_from false xs e = absurd (let c : ◌≡◌ {A = Option ℕ} (Some (length xs)) None = e in cc)
 
-none_both : (o p : Option ℕ) → earlier_row o p ≡ None → (o ≡ None) × (p ≡ None)
+pub none_both : (o p : Option ℕ) → earlier_row o p ≡ None → (o ≡ None) × (p ≡ None)
 none_both None p e = (refl, e)
 none_both (Some i) None e = absurd (let c : ◌≡◌ {A = Option ℕ} (Some i) None = e in cc)
 none_both (Some i) (Some j) e = absurd (let c : ◌≡◌ {A = Option ℕ} (Some (if nat_le i j then i else j)) None = e in cc)

@@ -9,6 +9,7 @@ use Rattle.record_rows.specs.Rows.{Rows, MetaRow, PoolRow, DagRow, RunRow, Insta
 use Rattle.sched_state.specs.Lists.{name_cmp, is_less}
 use Rattle.sched_state.proofs.OrderLemmas.{then_total, on_total}
 use Rattle.sched_model.specs.Lists.{rises}
+use Rattle.sched_laws.proofs.RankLemmas.{less_is}
 use Rattle.record_rules.specs.Keys.{IsByKey, meta_row_before, pool_row_before, dag_row_before, run_row_before, instance_row_before, attempt_row_before}
 use Rattle.record_rules.specs.Between.{puts, lacked, keeps_keys, Tells}
 use Rattle.record_rules.proofs.NumberLemmas.{less_itself, less_more, less_alike}
@@ -22,11 +23,6 @@ by_number f same_row h = record {
   alike = λ x y z. less_alike (f x) (f y) (f z);
   same_is = h;
 }
-
-less_is : (k : Ordering) → is_less k ≡ true → k ≡ Less
-less_is Less e = refl
-less_is Equal e = absurd (true≢false (sym e))
-less_is Greater e = absurd (true≢false (sym e))
 
 pub itself : (k : Ordering) → k ≡ ordering_reverse k → is_less k ≡ false
 itself Less e = ap is_less e

@@ -1,6 +1,7 @@
 pub mod NumberLemmas
 pub mod ListLemmas
 pub mod MemberLemmas
+pub mod SearchLemmas
 pub mod FoundLemmas
 pub mod TryLemmas
 pub mod RuleLemmas

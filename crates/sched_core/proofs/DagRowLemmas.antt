@@ -20,7 +20,7 @@ use Rattle.record_rules.proofs.NumberLemmas.{number_itself}
 use Rattle.record_changes.specs.Changes.{same_dag_row}
 use Rattle.record_changes.proofs.KeyLemmas.{any_get, found_by}
 use Rattle.record_writing.proofs.CollectLemmas.{lacked_there}
-use Rattle.record_writing.proofs.SearchLemmas.{unfound}
+use Rattle.record_rules.proofs.SearchLemmas.{unfound}
 
 pub row_itself : (x : DagRow) → same_dag_row x x ≡ true
 row_itself x = and_from _ _ (same_itself x.dag_id) (and_from _ _ (same_itself x.body) (number_itself x.paused))

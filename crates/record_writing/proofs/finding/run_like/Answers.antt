@@ -5,7 +5,8 @@ use Rattle.std.specs.declared.cmp.Ordering.TheVariants.{Equal}
 use Rattle.sched_state.specs.declared.runs.Run.{Run}
 use Rattle.sched_laws.proofs.AddLemmas.{run_total}
 use Rattle.sched_model.specs.Schedule.{is_at}
-use Rattle.record_writing.proofs.SearchLemmas.{run_cmp, run_key, found_by_search, missed_by_search}
+use Rattle.record_rules.proofs.SearchLemmas.{found_by_search, missed_by_search}
+use Rattle.record_writing.proofs.SearchLemmas.{run_cmp, run_key}
 use Rattle.record_writing.proofs.finding.run_like.Goals as goal
 
 pub returns-in-Ok : goal.returns-in-Ok
