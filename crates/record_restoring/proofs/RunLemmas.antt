@@ -1,6 +1,7 @@
 -- A run by its row.
-use Rattle.std.proofs.Common.{◌≡◌, refl, sym, ap, ◌∙◌, ℕ, List, [], ◌∷◌, map, find, Bool, true, false, cond, ◌&&◌, Option, Some, None, is_some, option_map, unwrap_or}
+use Rattle.std.proofs.Common.{◌≡◌, refl, sym, ap, ◌∙◌, ℕ, List, [], ◌∷◌, map, find, Bool, true, false, cond, ◌&&◌, Option, Some, None, is_some, option_map, unwrap_or, true≢false}
 use Rattle.std.specs.Prelude.{int_le}
+use Rattle.std.specs.List.{list_all}
 use Rattle.cron_timetable.specs.declared.timetables.Interval.{Interval}
 use Rattle.instance_machine.specs.Instances.{InstanceValue}
 use Rattle.record_rows.specs.Rows.{Rows, RunRow}
@@ -14,7 +15,8 @@ use Rattle.sched_state.proofs.OrderLemmas.{and_left, and_right}
 use Rattle.sched_model.specs.Schedule.{graph_among, no_dag}
 use Rattle.record_rules.specs.Numbers.{natural, is_between, is_moment_column}
 use Rattle.record_rules.specs.Reading.{run_of, instance_in, kind_of, phase_of}
-use Rattle.record_rules.specs.Faults.{is_run_row_right}
+use Rattle.record_rules.specs.Faults.{is_run_row_right, has_all_instances}
+use Rattle.record_restoring.specs.Tasks.{has_row_of}
 
 found_passes : {X : Type 0} (p : X → Bool) (xs : List X) (x : X) → find p xs ≡ Some x → p x ≡ true
 found_passes {X} p [] x e = absurd (let c : ◌≡◌ {A = Option X} None (Some x) = e in cc)
@@ -25,6 +27,15 @@ found_passes {X} p (y ∷ ys) x e = elim (p y) as (λ b. p y ≡ b → cond b (l
 
 pub named_id : (gs : List LoadedGraph) (id : List ℕ) (g : LoadedGraph) → graph_among gs id ≡ Some g → g.dag.spec.dag_id ≡ id
 named_id gs id g e = same_is g.dag.spec.dag_id id (found_passes (λ (h : LoadedGraph). same h.dag.spec.dag_id id) gs g e)
+
+-- the graph of a right row is there
+pub graph_there : (gs : List LoadedGraph) (r : RunRow) → is_run_row_right gs r ≡ true → graph_among gs r.dag_id ≡ None → ⊥
+graph_there gs r h e = true≢false (sym (and_left (is_some (graph_among gs r.dag_id)) _ h) ∙ ap is_some e)
+
+-- a row of each task of the run's graph is there
+pub each_there : (rows : Rows) (gs : List LoadedGraph) (r : RunRow) (l : LoadedGraph) → graph_among gs r.dag_id ≡ Some l → has_all_instances gs rows r ≡ true → list_all (has_row_of rows r.dag_id r.logical) l.dag.tasks ≡ true
+each_there rows gs r l f h =
+    ap (λ (o : Option LoadedGraph). list_all (has_row_of rows r.dag_id r.logical) (unwrap_or (option_map (λ (g : LoadedGraph). g.dag) o) no_dag).tasks) (sym f) ∙ h
 
 -- the columns of a right row
 pub record Columns (r : RunRow) : Type 0 where

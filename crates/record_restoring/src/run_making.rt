@@ -5,10 +5,10 @@ ghost use Rattle.sched_model.specs.Schedule.{dag_among};
 ghost use Rattle.record_rules.specs.Keys.{IsByKey};
 ghost use Rattle.record_rules.specs.Reading.{reads, graphs_of, instance_in, run_of};
 ghost use Rattle.record_rules.specs.Numbers.{natural, is_moment_column};
-ghost use Rattle.record_rules.specs.Faults.{is_run_row_right};
+ghost use Rattle.record_rules.specs.Faults.{is_run_row_right, has_all_instances};
 ghost use Rattle.record_restoring.specs.Dealing.{tries_among};
 ghost use Rattle.record_restoring.specs.Rules.{Passes};
-ghost use Rattle.record_restoring.specs.Tasks.{IsTaskOf};
+ghost use Rattle.record_restoring.specs.Tasks.{IsTaskOf, has_row_of};
 
 use crate::buckets::Bucket;
 use crate::codes::{kind_of, moment_of, phase_of};
@@ -36,6 +36,7 @@ pub fn read_runs(
     requires dealt { buckets.now ≡ map (tries_among rows.now.attempts) rows.now.instances }
     requires graphs { graphs.now ≡ graphs_of (reads limits) rows.now }
     requires right { list_all (is_run_row_right graphs.now) runs.now ≡ true }
+    requires whole { list_all (has_all_instances graphs.now rows.now) runs.now ≡ true }
     ensures { IfOk result (λ made. made.items ≡ map (run_of rows.now graphs.now) runs.now) }
 {
     let mut made = Vec::new(alloc);
@@ -58,11 +59,12 @@ fn read_run(
     requires dealt { buckets.now ≡ map (tries_among rows.now.attempts) rows.now.instances }
     requires graphs { graphs.now ≡ graphs_of (reads limits) rows.now }
     requires right { is_run_row_right graphs.now row.now ≡ true }
+    requires whole { has_all_instances graphs.now rows.now row.now ≡ true }
     ensures { IfOk result (λ run. run ≡ run_of rows.now graphs.now row.now) }
 {
     let dag_id = row.dag_id.as_str();
     let Some(graph) = graph_named(graphs, dag_id) else {
-        return Err(AllocError);
+        unreachable!();
     };
     let instances = read_instances(
         alloc,
@@ -108,6 +110,7 @@ fn read_instances(
     requires rules { Passes limits rows.now }
     requires dealt { buckets.now ≡ map (tries_among rows.now.attempts) rows.now.instances }
     requires graph { dag_among (graphs_of (reads limits) rows.now) dag_id.now ≡ graph.now }
+    requires whole { list_all (has_row_of rows.now dag_id.now logical) graph.now.tasks ≡ true }
     ensures { IfOk result (λ instances. instances.items
         ≡ map (instance_in rows.now dag_id.now logical) graph.now.tasks) }
 {
@@ -133,13 +136,11 @@ fn read_one(
     requires rules { Passes limits rows.now }
     requires dealt { buckets.now ≡ map (tries_among rows.now.attempts) rows.now.instances }
     requires task { IsTaskOf limits rows.now dag_id.now task.now }
+    requires there { has_row_of rows.now dag_id.now logical task.now ≡ true }
     ensures { IfOk result (λ instance. instance ≡ instance_in rows.now dag_id.now logical task.now) }
 {
     match instance_at(&rows.instances, dag_id, logical, task.task_id.as_str()) {
-        Some(place) => {
-            let instance = read_instance(alloc, &rows.instances[place], &buckets[place], task)?;
-            Ok(instance)
-        }
-        None => Err(AllocError),
+        Some(place) => read_instance(alloc, &rows.instances[place], &buckets[place], task),
+        None => unreachable!(),
     }
 }

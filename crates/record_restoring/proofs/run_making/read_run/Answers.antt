@@ -1,15 +1,30 @@
-use Rattle.std.proofs.Common.{◌≡◌, ap, ◌∙◌, rules, true, Some}
+use Rattle.std.proofs.Common.{◌≡◌, ap, ◌∙◌, rules, true, None, Some}
+use Rattle.std.specs.List.{list_all}
 use Rattle.record_rows.specs.Rows.{RunRow}
 use Rattle.sched_state.specs.declared.graphs.LoadedGraph.{LoadedGraph}
 use Rattle.sched_model.specs.Lists.{rises}
 use Rattle.sched_model.specs.Schedule.{graph_before, graph_among}
 use Rattle.record_rules.specs.Numbers.{is_between, is_moment_column}
+use Rattle.record_restoring.specs.Tasks.{has_row_of}
 use Rattle.record_restoring.proofs.RuleLemmas.{graphs_rise}
-use Rattle.record_restoring.proofs.RunLemmas.{columns, run_made}
+use Rattle.record_restoring.proofs.RunLemmas.{graph_there, each_there, columns, run_made}
 use Rattle.record_restoring.proofs.run_making.read_run.Goals as goal
 
 pub graph_named-requires : goal.graph_named-requires
 graph_named-requires c = ap (rises graph_before) c.requires.graphs ∙ graphs_rise c.args.limits c.args.rows.now c.requires.keyed c.requires.rules.dags
+
+pub unreachable-requires : goal.unreachable-requires
+unreachable-requires c =
+    let none : graph_among c.args.graphs.now c.args.row.now.dag_id ≡ None = search (rules, c.graph_named.ensures, c.in_default.is, c.as_str-dag_id.ensures.value, c.row.view_is) in
+    graph_there c.args.graphs.now c.args.row.now c.requires.right none
+
+pub read_instances-requires-clause-whole : goal.read_instances-requires-clause-whole
+read_instances-requires-clause-whole c =
+    let r : RunRow = c.args.row.now in
+    let l : LoadedGraph = c.in-Some.graph.now in
+    let found : graph_among c.args.graphs.now r.dag_id ≡ Some l = search (rules, c.graph_named.ensures, c.in-Some.is, c.as_str-dag_id.ensures.value, c.row.view_is) in
+    let each : list_all (has_row_of c.args.rows.now r.dag_id r.logical) l.dag.tasks ≡ true = each_there c.args.rows.now c.args.graphs.now r l found c.requires.whole in
+    search (rules, each, c.as_str-dag_id.ensures.value, c.row.view_is)
 
 pub interval_of-requires-clause-start : goal.interval_of-requires-clause-start
 interval_of-requires-clause-start c =
