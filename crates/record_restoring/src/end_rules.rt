@@ -14,7 +14,6 @@ use crate::finding::graph_named;
 use dag_check::Graph;
 use record_rows::{Rows, RunRow};
 use sched_state::{LoadedGraph, Run, RunPhase};
-use trigger_rules::State;
 
 // The first run that has ended before one of its task instances is finished. `runs` are those of the rows.
 pub fn end_fault(
@@ -61,18 +60,9 @@ fn are_finished(graph: &Graph, run: &Run) -> bool
 {
     for place in 0..graph.len() {
         let instance = &run.instances.as_slice()[place];
-        if !is_finished(instance.state(graph.task(place))) {
+        if !instance.state(graph.task(place)).is_finished() {
             return false;
         }
     }
     true
-}
-
-fn is_finished(state: State) -> bool
-    ensures { result ≡ states.is_finished state }
-{
-    matches!(
-        state,
-        State::Success | State::Failed | State::Skipped | State::UpstreamFailed
-    )
 }
