@@ -15,3 +15,4 @@ pub mod SlotLemmas
 pub mod CountLemmas
 pub mod BookLemmas
 pub mod PartLemmas
+pub mod ColumnLemmas

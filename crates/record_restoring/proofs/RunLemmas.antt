@@ -1,22 +1,22 @@
 -- A run by its row.
-use Rattle.std.proofs.Common.{◌≡◌, refl, sym, ap, ◌∙◌, ℕ, List, [], ◌∷◌, map, find, Bool, true, false, cond, ◌&&◌, Option, Some, None, is_some, option_map, unwrap_or, true≢false}
-use Rattle.std.specs.Prelude.{int_le}
+use Rattle.std.proofs.Common.{◌≡◌, refl, sym, ap, ◌∙◌, ℕ, List, [], ◌∷◌, map, find, Bool, true, false, cond, Option, Some, None, is_some, option_map, unwrap_or, true≢false}
 use Rattle.std.specs.List.{list_all}
-use Rattle.cron_timetable.specs.declared.timetables.Interval.{Interval}
+use Rattle.graph_file.specs.Lists.{when}
+use Rattle.graph_file.proofs.ListLemmas.{when_none}
 use Rattle.instance_machine.specs.Instances.{InstanceValue}
 use Rattle.record_rows.specs.Rows.{Rows, RunRow}
 use Rattle.sched_state.specs.Lists.{same}
 use Rattle.sched_state.specs.declared.graphs.LoadedGraph.{LoadedGraph}
 use Rattle.sched_state.specs.declared.runs.Run.{Run}
-use Rattle.sched_state.specs.declared.runs.RunKind.{RunKind}
-use Rattle.sched_state.specs.declared.runs.RunPhase.{RunPhase}
 use Rattle.sched_state.proofs.NameLemmas.{same_is}
 use Rattle.sched_state.proofs.OrderLemmas.{and_left, and_right}
 use Rattle.sched_model.specs.Schedule.{graph_among, no_dag}
-use Rattle.record_rules.specs.Numbers.{natural, is_between, is_moment_column}
-use Rattle.record_rules.specs.Reading.{run_of, instance_in, kind_of, phase_of}
+use Rattle.record_rules.specs.Reading.{run_of, instance_in}
 use Rattle.record_rules.specs.Faults.{is_run_row_right, has_all_instances}
+use Rattle.record_restoring.specs.Columns.{are_columns_right, columns_in}
 use Rattle.record_restoring.specs.Tasks.{has_row_of}
+use Rattle.record_restoring.specs.declared.run_columns.RunColumns.{RunColumns}
+use Rattle.record_restoring.proofs.ColumnLemmas.{when_there, when_some}
 
 found_passes : {X : Type 0} (p : X → Bool) (xs : List X) (x : X) → find p xs ≡ Some x → p x ≡ true
 found_passes {X} p [] x e = absurd (let c : ◌≡◌ {A = Option X} None (Some x) = e in cc)
@@ -37,39 +37,21 @@ pub each_there : (rows : Rows) (gs : List LoadedGraph) (r : RunRow) (l : LoadedG
 each_there rows gs r l f h =
     ap (λ (o : Option LoadedGraph). list_all (has_row_of rows r.dag_id r.logical) (unwrap_or (option_map (λ (g : LoadedGraph). g.dag) o) no_dag).tasks) (sym f) ∙ h
 
--- the columns of a right row
-pub record Columns (r : RunRow) : Type 0 where
-  pub logical : is_moment_column r.logical ≡ true
-  pub start : is_moment_column r.data_start ≡ true
-  pub end : is_moment_column r.data_end ≡ true
-  pub kind : is_between 0 2 r.kind ≡ true
-  pub phase : is_between 0 3 r.phase ≡ true
+-- and so is what its columns say
+pub columns_there : (r : RunRow) (o : Option RunColumns) → o ≡ when (are_columns_right r) (columns_in r) → is_some o ≡ are_columns_right r
+columns_there r o e = ap (λ (p : Option RunColumns). is_some p) e ∙ when_there (are_columns_right r) (columns_in r)
 
-pub columns : (gs : List LoadedGraph) (r : RunRow) → is_run_row_right gs r ≡ true → Columns r
-columns gs r h =
-    let times : Bool = is_moment_column r.logical && (is_moment_column r.data_start && (is_moment_column r.data_end && int_le r.data_start r.data_end)) in
-    let codes : Bool = is_between 0 2 r.kind && is_between 0 3 r.phase in
-    let h1 : (times && codes) ≡ true = and_right (is_some (graph_among gs r.dag_id)) (times && codes) h in
-    let t : times ≡ true = and_left times codes h1 in
-    let c : codes ≡ true = and_right times codes h1 in
-    let t1 : (is_moment_column r.data_start && (is_moment_column r.data_end && int_le r.data_start r.data_end)) ≡ true = and_right (is_moment_column r.logical) (is_moment_column r.data_start && (is_moment_column r.data_end && int_le r.data_start r.data_end)) t in
-    let t2 : (is_moment_column r.data_end && int_le r.data_start r.data_end) ≡ true = and_right (is_moment_column r.data_start) (is_moment_column r.data_end && int_le r.data_start r.data_end) t1 in
-    record {
-      logical = and_left (is_moment_column r.logical) (is_moment_column r.data_start && (is_moment_column r.data_end && int_le r.data_start r.data_end)) t;
-      start = and_left (is_moment_column r.data_start) (is_moment_column r.data_end && int_le r.data_start r.data_end) t1;
-      end = and_left (is_moment_column r.data_end) (int_le r.data_start r.data_end) t2;
-      kind = and_left (is_between 0 2 r.kind) (is_between 0 3 r.phase) c;
-      phase = and_right (is_between 0 2 r.kind) (is_between 0 3 r.phase) c;
-    }
+pub no_columns : (gs : List LoadedGraph) (r : RunRow) → is_run_row_right gs r ≡ true → when (are_columns_right r) (columns_in r) ≡ None → ⊥
+no_columns gs r h e = true≢false (sym (and_right (is_some (graph_among gs r.dag_id)) (are_columns_right r) h) ∙ when_none (are_columns_right r) (columns_in r) e)
 
-pub run_made : (rows : Rows) (gs : List LoadedGraph) (r : RunRow) (l : LoadedGraph) (g : List ℕ) (m : ℕ) (v : Interval) (k : RunKind) (p : RunPhase) (is : List InstanceValue) → graph_among gs r.dag_id ≡ Some l
-    → g ≡ l.dag.spec.dag_id → m ≡ natural r.logical → v ≡ record { start = natural r.data_start; end = natural r.data_end } → k ≡ kind_of (natural r.kind) → p ≡ phase_of (natural r.phase) → is ≡ map (instance_in rows r.dag_id r.logical) l.dag.tasks
-    → (let z : Run = record { graph = g; logical = m; interval = v; kind = k; phase = p; instances = is } in z) ≡ run_of rows gs r
-run_made rows gs r l g m v k p is f eg em ev ek ep ei =
-    ap (λ a. let z : Run = record { graph = a; logical = m; interval = v; kind = k; phase = p; instances = is } in z) (eg ∙ named_id gs r.dag_id l f)
-    ∙ ap (λ a. let z : Run = record { graph = r.dag_id; logical = a; interval = v; kind = k; phase = p; instances = is } in z) em
-    ∙ ap (λ a. let z : Run = record { graph = r.dag_id; logical = natural r.logical; interval = a; kind = k; phase = p; instances = is } in z) ev
-    ∙ ap (λ a. let z : Run = record { graph = r.dag_id; logical = natural r.logical; interval = record { start = natural r.data_start; end = natural r.data_end }; kind = a; phase = p; instances = is } in z) ek
-    ∙ ap (λ a. let z : Run = record { graph = r.dag_id; logical = natural r.logical; interval = record { start = natural r.data_start; end = natural r.data_end }; kind = kind_of (natural r.kind); phase = a; instances = is } in z) ep
-    ∙ ap (λ a. let z : Run = record { graph = r.dag_id; logical = natural r.logical; interval = record { start = natural r.data_start; end = natural r.data_end }; kind = kind_of (natural r.kind); phase = phase_of (natural r.phase); instances = a } in z)
+pub those_columns : (r : RunRow) (c : RunColumns) → when (are_columns_right r) (columns_in r) ≡ Some c → c ≡ columns_in r
+those_columns r c e = when_some (are_columns_right r) (columns_in r) c e
+
+pub run_made : (rows : Rows) (gs : List LoadedGraph) (r : RunRow) (l : LoadedGraph) (g : List ℕ) (c : RunColumns) (is : List InstanceValue) → graph_among gs r.dag_id ≡ Some l
+    → g ≡ l.dag.spec.dag_id → c ≡ columns_in r → is ≡ map (instance_in rows r.dag_id r.logical) l.dag.tasks
+    → (let z : Run = record { graph = g; logical = c.logical; interval = c.interval; kind = c.kind; phase = c.phase; instances = is } in z) ≡ run_of rows gs r
+run_made rows gs r l g c is f eg ec ei =
+    ap (λ a. let z : Run = record { graph = a; logical = c.logical; interval = c.interval; kind = c.kind; phase = c.phase; instances = is } in z) (eg ∙ named_id gs r.dag_id l f)
+    ∙ ap (λ (a : RunColumns). let z : Run = record { graph = r.dag_id; logical = a.logical; interval = a.interval; kind = a.kind; phase = a.phase; instances = is } in z) ec
+    ∙ ap (λ a. let b : RunColumns = columns_in r in let z : Run = record { graph = r.dag_id; logical = b.logical; interval = b.interval; kind = b.kind; phase = b.phase; instances = a } in z)
     (ei ∙ ap (λ (o : Option LoadedGraph). map (instance_in rows r.dag_id r.logical) (unwrap_or (option_map (λ (h : LoadedGraph). h.dag) o) no_dag).tasks) (sym f))

@@ -7,3 +7,4 @@ pub mod Making
 pub mod Tasks
 pub mod Pools
 pub mod Parts
+pub mod Columns

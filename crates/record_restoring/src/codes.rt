@@ -1,5 +1,6 @@
-//! Numbers of columns as values.
+//! Numbers of columns as values. A number that is no code or no moment has none.
 ghost use Rattle.std.specs.Prelude.{◌≡◌, true, pos, int_le};
+ghost use Rattle.graph_file.specs.Lists.{when};
 ghost use Rattle.record_rules.specs.Numbers.{natural, is_moment_column, is_between};
 ghost use Rattle.record_rules.specs.Reading as spec;
 
@@ -14,59 +15,59 @@ pub fn flag_of(code: i64) -> bool
     code > 0
 }
 
-pub fn kind_of(code: i64) -> RunKind
-    requires { is_between 0 2 code ≡ true }
-    ensures { result ≡ spec.kind_of (natural code) }
+pub fn kind_of(code: i64) -> Option<RunKind>
+    ensures { result ≡ when (is_between 0 2 code) (spec.kind_of (natural code)) }
 {
     match code {
-        0 => RunKind::Scheduled,
-        1 => RunKind::Manual,
-        _ => RunKind::Backfill,
+        0 => Some(RunKind::Scheduled),
+        1 => Some(RunKind::Manual),
+        2 => Some(RunKind::Backfill),
+        _ => None,
     }
 }
 
-pub fn phase_of(code: i64) -> RunPhase
-    requires { is_between 0 3 code ≡ true }
-    ensures { result ≡ spec.phase_of (natural code) }
+pub fn phase_of(code: i64) -> Option<RunPhase>
+    ensures { result ≡ when (is_between 0 3 code) (spec.phase_of (natural code)) }
 {
     match code {
-        0 => RunPhase::Queued,
-        1 => RunPhase::Running,
-        2 => RunPhase::Success,
-        _ => RunPhase::Failed,
+        0 => Some(RunPhase::Queued),
+        1 => Some(RunPhase::Running),
+        2 => Some(RunPhase::Success),
+        3 => Some(RunPhase::Failed),
+        _ => None,
     }
 }
 
-pub fn verdict_of(code: i64) -> Option<Verdict>
-    requires { is_between 0 3 code ≡ true }
-    ensures { result ≡ spec.verdict_of (natural code) }
+// The verdict, which is itself absent where there is none yet.
+pub fn verdict_of(code: i64) -> Option<Option<Verdict>>
+    ensures { result ≡ when (is_between 0 3 code) (spec.verdict_of (natural code)) }
 {
     match code {
-        0 => None,
-        1 => Some(Verdict::Run),
-        2 => Some(Verdict::Skip),
-        _ => Some(Verdict::UpstreamFailed),
+        0 => Some(None),
+        1 => Some(Some(Verdict::Run)),
+        2 => Some(Some(Verdict::Skip)),
+        3 => Some(Some(Verdict::UpstreamFailed)),
+        _ => None,
     }
 }
 
-pub fn outcome_of(code: i64) -> Outcome
-    requires { is_between 0 3 code ≡ true }
-    ensures { result ≡ spec.outcome_of (natural code) }
+pub fn outcome_of(code: i64) -> Option<Outcome>
+    ensures { result ≡ when (is_between 0 3 code) (spec.outcome_of (natural code)) }
 {
     match code {
-        0 => Outcome::Success,
-        1 => Outcome::Failed,
-        2 => Outcome::Skipped,
-        _ => Outcome::Lost,
+        0 => Some(Outcome::Success),
+        1 => Some(Outcome::Failed),
+        2 => Some(Outcome::Skipped),
+        3 => Some(Outcome::Lost),
+        _ => None,
     }
 }
 
 // The moment of a column.
-pub fn moment_of(column: i64) -> Moment
-    requires { is_moment_column column ≡ true }
-    ensures { result ≡ natural column }
+pub fn moment_of(column: i64) -> Option<Moment>
+    ensures { result ≡ when (is_moment_column column) (natural column) }
 {
-    Moment::at(column as u64)
+    Moment::from_secs(column)
 }
 
 // The count of a column.

@@ -2,22 +2,12 @@
 ghost use Rattle.std.specs.Prelude.{◌≡◌, ◌&&◌, int_le};
 ghost use Rattle.std.specs.List.{list_all};
 ghost use Rattle.graph_file.specs.Names as spec;
-ghost use Rattle.record_rules.specs.Numbers.{is_moment_column};
-
-use moment_core::END;
 
 // Whether the number is at least the first and at most the second.
 pub fn is_between(low: i64, high: i64, number: i64) -> bool
     ensures { result ≡ (int_le low number && int_le number high) }
 {
     low <= number && number <= high
-}
-
-// Whether the number is a moment.
-pub fn is_moment(number: i64) -> bool
-    ensures { result ≡ is_moment_column number }
-{
-    is_between(0, END as i64 - 1, number)
 }
 
 // Whether the text is a name.

@@ -12,7 +12,7 @@ ghost use Rattle.record_rules.specs.Faults as spec;
 ghost use Rattle.record_restoring.specs.Dealing.{tries_among};
 
 use crate::buckets::Bucket;
-use crate::columns::is_between;
+use crate::codes::verdict_of;
 use crate::earlier::earlier;
 use crate::finding::{graph_named, has_instance, has_run};
 use dag_check::Graph;
@@ -81,7 +81,7 @@ fn is_known(graphs: &[LoadedGraph], rows: &Rows, row: &InstanceRow) -> bool
 fn is_state_right(row: &InstanceRow, tries: usize) -> bool
     ensures { result ≡ (spec_between 0 3 row.now.verdict && spec_between 0 tries row.now.since) }
 {
-    is_between(0, 3, row.verdict) && is_up_to(tries, row.since)
+    verdict_of(row.verdict).is_some() && is_up_to(tries, row.since)
 }
 
 // Whether the number is at least 0 and at most the count.

@@ -3,7 +3,7 @@ ghost use Rattle.std.specs.Prelude.{◌≡◌, ◌++◌, ◌&&◌, None, true, f
 ghost use Rattle.std.specs.List.{list_all};
 ghost use Rattle.std.specs.Ordering.{int_eq};
 ghost use Rattle.sched_model.specs.Lists.{but_last};
-ghost use Rattle.sched_model.specs.Sound.{has_end, is_sound_instance, is_wait};
+ghost use Rattle.sched_model.specs.Sound.{has_end, is_sound_instance};
 ghost use Rattle.record_rules.specs.Numbers.{natural, is_moment_column, is_between, passes_if};
 ghost use Rattle.record_rules.specs.Reading as spec;
 ghost use Rattle.record_rules.specs.Faults.{is_end_row_right};
@@ -17,7 +17,6 @@ use instance_machine::{End, Instance, Try};
 use moment_core::Moment;
 use record_rows::{AttemptRow, InstanceRow};
 use std::alloc::{AllocError, Global};
-use trigger_rules::Verdict;
 
 // The instance of a row with the rows of its tries, which are right.
 pub fn read_instance(
@@ -39,19 +38,20 @@ pub fn read_instance(
     fill(&mut instance, earlier, slots)?;
     instance.clear();
     fill(&mut instance, recent, slots)?;
-    decide_if(&mut instance, verdict_of(row.verdict));
+    decide_if(&mut instance, row.verdict);
     Ok(instance)
 }
 
-// The instance, which has no verdict, gets this one, if there is one.
-fn decide_if(instance: &mut Instance, verdict: Option<Verdict>)
+// The instance, which has no verdict, gets that of a code, if the code says one.
+fn decide_if(instance: &mut Instance, code: i64)
     requires none { instance.old.verdict ≡ None }
-    requires decided { is_wait verdict ≡ false }
-    ensures { instance.new ≡ record instance.old { verdict = verdict } }
+    requires code { is_between 0 3 code ≡ true }
+    ensures { instance.new ≡ record instance.old { verdict = spec.verdict_of (natural code) } }
 {
-    match verdict {
-        Some(verdict) => instance.decide(verdict),
-        None => {}
+    match verdict_of(code) {
+        Some(Some(verdict)) => instance.decide(verdict),
+        Some(None) => {}
+        None => unreachable!(),
     }
 }
 
@@ -101,7 +101,7 @@ fn moment_if(column: Option<i64>) -> Option<Moment>
     ensures { result ≡ option_map natural column }
 {
     match column {
-        Some(number) => Some(moment_of(number)),
+        Some(number) => moment_of(number),
         None => None,
     }
 }
@@ -113,8 +113,8 @@ fn end_of(ended: Option<i64>, outcome: Option<i64>) -> Option<End>
 {
     match (ended, outcome) {
         (Some(moment), Some(code)) => Some(End {
-            moment: moment_of(moment),
-            outcome: outcome_of(code),
+            moment: moment_of(moment)?,
+            outcome: outcome_of(code)?,
         }),
         _ => None,
     }

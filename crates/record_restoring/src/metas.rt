@@ -1,11 +1,11 @@
 //! The rule of `meta`.
 ghost use Rattle.std.specs.Prelude.{◌≡◌, ◌+◌, ◌&&◌};
 ghost use Rattle.sched_model.specs.Handout.{last_serial};
-ghost use Rattle.record_rules.specs.Numbers.{is_moment_column, is_between};
+ghost use Rattle.record_rules.specs.Numbers.{is_moment_column, is_between as spec_between};
 ghost use Rattle.record_rules.specs.Faults as spec;
 
-use crate::columns;
-use crate::columns::is_moment;
+use crate::codes::moment_of;
+use crate::columns::is_between;
 use record_rows::MetaRow;
 use sched_state::Limits;
 
@@ -25,10 +25,10 @@ pub fn meta_fault(limits: Limits, rows: &[MetaRow]) -> Option<usize>
 }
 
 fn is_right(limits: Limits, now: i64, next_serial: i64, lanes: i64) -> bool
-    ensures { result ≡ (is_moment_column now && (is_between 1 (last_serial + 1) next_serial
-        && is_between 0 limits.lanes lanes)) }
+    ensures { result ≡ (is_moment_column now && (spec_between 1 (last_serial + 1) next_serial
+        && spec_between 0 limits.lanes lanes)) }
 {
-    is_moment(now)
-        && columns::is_between(1, LAST_SERIAL + 1, next_serial)
-        && columns::is_between(0, i64::from(limits.lanes()), lanes)
+    moment_of(now).is_some()
+        && is_between(1, LAST_SERIAL + 1, next_serial)
+        && is_between(0, i64::from(limits.lanes()), lanes)
 }

@@ -53,11 +53,14 @@ fn parts_of(alloc: Global, limits: Limits, rows: &Rows) -> Result<ScheduleParts,
     let GraphsAndRuns { graphs, runs } = made_of(alloc, limits, rows)?;
     let pools = book_of(alloc, limits, rows, &graphs, &runs)?;
     let meta = first_meta(&rows.metas);
+    let Some(clock) = moment_of(meta.now) else {
+        unreachable!();
+    };
     Ok(ScheduleParts {
         limits,
         graphs,
         pools,
-        clock: moment_of(meta.now),
+        clock,
         lanes: lanes_of(limits.lanes(), meta.lanes),
         next: serial_of(meta.next_serial),
         runs,

@@ -4,17 +4,15 @@ ghost use Rattle.std.specs.List.{list_all};
 ghost use Rattle.sched_model.specs.Schedule.{dag_among};
 ghost use Rattle.record_rules.specs.Keys.{IsByKey};
 ghost use Rattle.record_rules.specs.Reading.{reads, graphs_of, instance_in, run_of};
-ghost use Rattle.record_rules.specs.Numbers.{natural, is_moment_column};
 ghost use Rattle.record_rules.specs.Faults.{is_run_row_right, has_all_instances};
 ghost use Rattle.record_restoring.specs.Dealing.{tries_among};
 ghost use Rattle.record_restoring.specs.Rules.{Passes};
 ghost use Rattle.record_restoring.specs.Tasks.{IsTaskOf, has_row_of};
 
 use crate::buckets::Bucket;
-use crate::codes::{kind_of, moment_of, phase_of};
 use crate::finding::{graph_named, instance_at};
 use crate::making::read_instance;
-use cron_timetable::Interval;
+use crate::run_columns::columns_of;
 use dag_check::Graph;
 use graph_file::{Sequence, TaskSpec};
 use instance_machine::Instance;
@@ -62,84 +60,68 @@ fn read_run(
     requires whole { has_all_instances graphs.now rows.now row.now ≡ true }
     ensures { IfOk result (λ run. run ≡ run_of rows.now graphs.now row.now) }
 {
-    let dag_id = row.dag_id.as_str();
-    let Some(graph) = graph_named(graphs, dag_id) else {
+    let Some(graph) = graph_named(graphs, row.dag_id.as_str()) else {
         unreachable!();
     };
-    let instances = read_instances(
-        alloc,
-        limits,
-        rows,
-        buckets,
-        &graph.dag,
-        dag_id,
-        row.logical,
-    )?;
+    let Some(columns) = columns_of(row) else {
+        unreachable!();
+    };
+    let instances = read_instances(alloc, limits, rows, buckets, &graph.dag, row)?;
     Ok(Run {
         graph: graph.dag.spec().dag_id.copy(alloc)?,
-        logical: moment_of(row.logical),
-        interval: interval_of(row.data_start, row.data_end),
-        kind: kind_of(row.kind),
-        phase: phase_of(row.phase),
+        logical: columns.logical,
+        interval: columns.interval,
+        kind: columns.kind,
+        phase: columns.phase,
         instances: Sequence::new(instances),
     })
 }
 
-fn interval_of(start: i64, end: i64) -> Interval
-    requires start { is_moment_column start ≡ true }
-    requires end { is_moment_column end ≡ true }
-    ensures { result ≡ record { start = natural start; end = natural end } }
-{
-    Interval {
-        start: moment_of(start),
-        end: moment_of(end),
-    }
-}
-
-// The task instances of the run of this graph and date, by place.
+// The task instances of the run of a row, by place.
 fn read_instances(
     alloc: Global,
     limits: Limits,
     rows: &Rows,
     buckets: &[Bucket<'_>],
     graph: &Graph,
-    dag_id: &str,
-    logical: i64,
+    row: &RunRow,
 ) -> Result<Vec<Instance>, AllocError>
     requires keyed { IsByKey rows.now }
     requires rules { Passes limits rows.now }
     requires dealt { buckets.now ≡ map (tries_among rows.now.attempts) rows.now.instances }
-    requires graph { dag_among (graphs_of (reads limits) rows.now) dag_id.now ≡ graph.now }
-    requires whole { list_all (has_row_of rows.now dag_id.now logical) graph.now.tasks ≡ true }
+    requires graph { dag_among (graphs_of (reads limits) rows.now) row.now.dag_id ≡ graph.now }
+    requires whole { list_all (has_row_of rows.now row.now.dag_id row.now.logical) graph.now.tasks
+        ≡ true }
     ensures { IfOk result (λ instances. instances.items
-        ≡ map (instance_in rows.now dag_id.now logical) graph.now.tasks) }
+        ≡ map (instance_in rows.now row.now.dag_id row.now.logical) graph.now.tasks) }
 {
     let mut instances = Vec::new(alloc);
     for place in 0..graph.len() {
         let task = graph.task(place);
-        instances.push(read_one(alloc, limits, rows, buckets, task, dag_id, logical)?)?;
+        instances.push(read_one(alloc, limits, rows, buckets, task, row)?)?;
     }
     Ok(instances)
 }
 
-// The instance of a task in the run of this graph and date.
+// The instance of a task in the run of a row.
 fn read_one(
     alloc: Global,
     limits: Limits,
     rows: &Rows,
     buckets: &[Bucket<'_>],
     task: &TaskSpec,
-    dag_id: &str,
-    logical: i64,
+    row: &RunRow,
 ) -> Result<Instance, AllocError>
     requires keyed { IsByKey rows.now }
     requires rules { Passes limits rows.now }
     requires dealt { buckets.now ≡ map (tries_among rows.now.attempts) rows.now.instances }
-    requires task { IsTaskOf limits rows.now dag_id.now task.now }
-    requires there { has_row_of rows.now dag_id.now logical task.now ≡ true }
-    ensures { IfOk result (λ instance. instance ≡ instance_in rows.now dag_id.now logical task.now) }
+    requires task { IsTaskOf limits rows.now row.now.dag_id task.now }
+    requires there { has_row_of rows.now row.now.dag_id row.now.logical task.now ≡ true }
+    ensures { IfOk result (λ instance. instance
+        ≡ instance_in rows.now row.now.dag_id row.now.logical task.now) }
 {
-    match instance_at(&rows.instances, dag_id, logical, task.task_id.as_str()) {
+    let task_id = task.task_id.as_str();
+    match instance_at(&rows.instances, row.dag_id.as_str(), row.logical, task_id) {
         Some(place) => read_instance(alloc, &rows.instances[place], &buckets[place], task),
         None => unreachable!(),
     }

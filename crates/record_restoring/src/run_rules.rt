@@ -1,13 +1,12 @@
 //! The rule of `run`.
-ghost use Rattle.std.specs.Prelude.{◌≡◌, ◌&&◌, true, int_le};
+ghost use Rattle.std.specs.Prelude.{◌≡◌, true};
 ghost use Rattle.sched_model.specs.Lists.{rises};
 ghost use Rattle.sched_model.specs.Schedule.{graph_before};
-ghost use Rattle.record_rules.specs.Numbers.{is_moment_column, is_between as spec_between};
 ghost use Rattle.record_rules.specs.Faults as spec;
 
-use crate::columns::{is_between, is_moment};
 use crate::earlier::{earlier, past_limit};
 use crate::finding::graph_named;
+use crate::run_columns::columns_of;
 use record_rows::{Rows, RunRow};
 use sched_state::{Limits, LoadedGraph};
 
@@ -37,23 +36,5 @@ fn is_right(graphs: &[LoadedGraph], row: &RunRow) -> bool
     requires { rises graph_before graphs.now ≡ true }
     ensures { result ≡ spec.is_run_row_right graphs.now row.now }
 {
-    graph_named(graphs, row.dag_id.as_str()).is_some()
-        && (are_times_right(row) && are_codes_right(row))
-}
-
-// Whether the times are moments, and the interval does not end before it starts.
-fn are_times_right(row: &RunRow) -> bool
-    ensures { result ≡ (is_moment_column row.now.logical && (is_moment_column row.now.data_start
-        && (is_moment_column row.now.data_end && int_le row.now.data_start row.now.data_end))) }
-{
-    is_moment(row.logical)
-        && is_moment(row.data_start)
-        && is_moment(row.data_end)
-        && row.data_start <= row.data_end
-}
-
-fn are_codes_right(row: &RunRow) -> bool
-    ensures { result ≡ (spec_between 0 2 row.now.kind && spec_between 0 3 row.now.phase) }
-{
-    is_between(0, 2, row.kind) && is_between(0, 3, row.phase)
+    graph_named(graphs, row.dag_id.as_str()).is_some() && columns_of(row).is_some()
 }

@@ -7,7 +7,7 @@ ghost use Rattle.record_rules.specs.Faults as spec;
 ghost use Rattle.sched_model.specs.Lists.{rises};
 
 use crate::buckets::Bucket;
-use crate::columns::{is_between, is_moment};
+use crate::codes::{moment_of, outcome_of};
 use graph_file::TaskSpec;
 use record_rows::{AttemptRow, InstanceRow};
 
@@ -76,7 +76,7 @@ fn is_moment_if(column: Option<i64>) -> bool
     ensures { result ≡ passes_if is_moment_column column }
 {
     match column {
-        Some(number) => is_moment(number),
+        Some(number) => moment_of(number).is_some(),
         None => true,
     }
 }
@@ -85,7 +85,7 @@ fn is_code_if(column: Option<i64>) -> bool
     ensures { result ≡ passes_if (spec_between 0 3) column }
 {
     match column {
-        Some(number) => is_between(0, 3, number),
+        Some(code) => outcome_of(code).is_some(),
         None => true,
     }
 }
