@@ -163,12 +163,19 @@ change_held e a b ranged accepted kept is =
     record { sound = subst IsSound (sym is) c.0; said = subst (λ (s : Schedule). AllSay s.graphs) (sym is) c.1 }
 
 -- ---- by a draft
-pub draft_sound : (e : Event) (a b : Schedule) → IsInRange e → refused a e ≡ None → IsSoundAndSaid a → b ≡ add_runs (named_by e a) (change_by e a) → IsSound b
-draft_sound e a b dated accepted kept is = subst IsSound (sym is) (added_sound e a dated accepted kept (change_kept e a dated accepted kept).0)
+-- the event is accepted, and the draft has what it changes of the schedule
+pub record IsDraftOf (e : Event) (a b : Schedule) : Type 0 where
+  pub ranged : IsInRange e
+  pub accepted : refused a e ≡ None
+  pub kept : IsSoundAndSaid a
+  pub is : b ≡ add_runs (named_by e a) (change_by e a)
 
-pub draft_kept : (e : Event) (a b : Schedule) → IsInRange e → refused a e ≡ None → IsSoundAndSaid a → b ≡ add_runs (named_by e a) (change_by e a) → IsSettledAndSound (hand_out (settle b))
+pub draft_sound : {e : Event} {a b : Schedule} → IsDraftOf e a b → IsSound b
+draft_sound {e} {a} {b} d = subst IsSound (sym d.is) (added_sound e a d.ranged d.accepted d.kept (change_kept e a d.ranged d.accepted d.kept).0)
+
+pub draft_kept : {e : Event} {a b : Schedule} → IsDraftOf e a b → IsSettledAndSound (hand_out (settle b))
 unfolding step
-draft_kept e a b dated accepted kept is = subst (λ (c : Schedule). IsSettledAndSound (hand_out (settle c))) (sym is) (step_kept e a dated accepted kept)
+draft_kept {e} {a} {b} d = subst (λ (c : Schedule). IsSettledAndSound (hand_out (settle c))) (sym d.is) (step_kept e a d.ranged d.accepted d.kept)
 
 -- what an event answers, but for the tries that are handed out
 abbrev pub told : Event → Schedule → Answer
@@ -183,14 +190,14 @@ told_by e a q ids more count quiet ids_is more_is count_is =
     ∙ (ap (λ m. record no_runs { made = map id_of (named_by e a); more = m; cleared = count }) more_is
     ∙ ap (λ n. record no_runs { made = map id_of (named_by e a); more = leaves_more_by e a; cleared = n }) count_is))
 
-pub draft_planned : (e : Event) (a b : Schedule) (answer : Answer) (c : Planned) → IsInRange e → refused a e ≡ None → b ≡ add_runs (named_by e a) (change_by e a) → answer ≡ told e a
+pub draft_planned : {e : Event} {a b : Schedule} (answer : Answer) (c : Planned) → IsDraftOf e a b → answer ≡ told e a
     → c ≡ record { before = a; after = hand_out (settle b); answer = record answer { jobs = handed a (hand_out (settle b)) } } → IsPlanned a e c
 unfolding step
-draft_planned e a b answer c ranged accepted is answer_is planned =
-    let after : hand_out (settle b) ≡ step e a = ap (λ (s : Schedule). hand_out (settle s)) is in
+draft_planned {e} {a} {b} answer c d answer_is planned =
+    let after : hand_out (settle b) ≡ step e a = ap (λ (s : Schedule). hand_out (settle s)) d.is in
     let given : ◌≡◌ {A = Answer} (record answer { jobs = handed a (hand_out (settle b)) }) (answer_to e a) =
     ap (λ (t : Answer). record t { jobs = handed a (hand_out (settle b)) }) answer_is ∙ ap (λ (s : Schedule). record (told e a) { jobs = handed a s }) after in
-    subst (IsPlanned a e) (sym planned) (record { ranged = ranged; accepted = accepted; before = refl; after = after; answer = given })
+    subst (IsPlanned a e) (sym planned) (record { ranged = d.ranged; accepted = d.accepted; before = refl; after = after; answer = given })
 
 -- the tick's causes
 two_none : (b c : Bool) (x y : Refusal) → b ≡ false → c ≡ false → first_some (when b x ∷ when c y ∷ []) ≡ None

@@ -16,9 +16,39 @@ use Rattle.sched_core.specs.Changes.{ScheduleValue}
 use Rattle.sched_core.specs.Plans.{run_id}
 use Rattle.sched_core.specs.Repairs.{IsSetBack, reset_of}
 use Rattle.sched_core.proofs.BookLemmas.{repair_counted}
-use Rattle.sched_core.proofs.PlanLemmas.{draft_sound, draft_kept, draft_planned, told_by}
+use Rattle.sched_core.proofs.PlanLemmas.{IsDraftOf, draft_sound, draft_kept, draft_planned, told_by}
 use Rattle.sched_core.proofs.RepairLemmas.{found_is, back_waits, back_room, IsFilled, back_done}
+use Rattle.sched_core.proofs.schedules.Schedule.plan_backfill.Goals.{In-Some, In_ok-add}
 use Rattle.sched_core.proofs.schedules.Schedule.plan_backfill.Goals as goal
+
+-- what was found of the schedule that is there
+found : (c : In-Some) → IsBackfillOf c.args.self.now.content c.args.graph.now c.args.from c.args.to c.saturating_sub-room.result (Some c.in-Some.named)
+found c =
+    found_is c.args.self.now.content c.in_ok-draft.draft c.args.graph.now c.args.from c.args.to c.saturating_sub-room.result c.in-Some.named c.in_ok-draft.ensures
+    (subst (IsBackfillOf c.in_ok-draft.draft c.args.graph.now c.args.from c.args.to c.saturating_sub-room.result) c.in-Some.is c.in_ok-named.ensures)
+
+-- the draft, with runs set back and added
+filled : (c : In_ok-add) → IsBackfillOf c.args.self.now.content c.args.graph.now c.args.from c.args.to c.saturating_sub-room.result (Some c.in-Some.named) → IsFilled c.args.self.now.content c.args.graph.now c.args.from c.args.to c.args.reset c.add.new.draft c.in_ok-made.made c.in_ok-cleared.cleared
+filled c h =
+    let a : Schedule = c.args.self.now.content in
+    let d : Schedule = c.in_ok-draft.draft in
+    let e : Schedule = c.reset_if.new.draft in
+    let id : List ℕ = c.args.graph.now in
+    let b : Found = c.in-Some.named in
+    let most : ℕ = c.saturating_sub-room.result in
+    let kept : IsSoundAndSaid a = subst (λ (s : ScheduleValue). IsSoundAndSaid s.content) c.self.view_is c.self.invariant.kept in
+    let good : nat_lt c.args.to c.args.from ≡ false = grind (arith, nat_tests, c.lt.ensures, c.if-lt.false) in
+    let limit : c.self.inside.limits.runs ≡ a.limits.runs = ap (λ (s : ScheduleValue). s.content.limits.runs) c.self.view_is in
+    let long : length c.self.inside.runs.items ≡ length a.runs = ap (λ (s : ScheduleValue). length s.content.runs) c.self.view_is in
+    let few : length a.runs ≤ a.limits.runs = grind (arith, nat_tests, kept.sound.few_runs) in
+    let room : most ≡ a.limits.runs - length a.runs = omega (arith, c.saturating_sub-room.ensures, c.runs.ensures.value, c.len.ensures, limit, long) in
+    let fits = back_room a id c.args.from c.args.to most b false h room few c.if-named.false in
+    back_done a d e c.add.new.draft id c.args.from c.args.to most c.args.reset b c.in_ok-made.made c.in_ok-cleared.cleared c.in_ok-draft.ensures h good (subst (λ (ds : List ℕ). IsSetBack (reset_of c.args.reset id ds) d e (Ok c.in_ok-cleared.cleared)) c.deref.ensures.value c.in_ok-cleared.ensures) c.if-named.false fits c.in_ok-add.ensures (c.in_ok-made.ensures ∙ ap (map run_id) c.deref-2.ensures.value)
+
+drafted : (c : In_ok-add) → IsBackfillOf c.args.self.now.content c.args.graph.now c.args.from c.args.to c.saturating_sub-room.result (Some c.in-Some.named) → IsDraftOf (Backfill c.args.graph.now c.args.from c.args.to c.args.reset) c.args.self.now.content c.add.new.draft
+drafted c h =
+    let done = filled c h in
+    record { ranged = tt; accepted = done.accepted; kept = subst (λ (s : ScheduleValue). IsSoundAndSaid s.content) c.self.view_is c.self.invariant.kept; is = done.is }
 
 pub returns-in_err-cleared-clause-refused : goal.returns-in_err-cleared-clause-refused
 returns-in_err-cleared-clause-refused c =
@@ -27,10 +57,8 @@ returns-in_err-cleared-clause-refused c =
     let id : List ℕ = c.args.graph.now in
     let b : Found = c.in-Some.named in
     let most : ℕ = c.saturating_sub-room.result in
-    let h : IsBackfillOf a id c.args.from c.args.to most (Some b) =
-    found_is a d id c.args.from c.args.to most b c.in_ok-draft.ensures (subst (IsBackfillOf d id c.args.from c.args.to most) c.in-Some.is c.in_ok-named.ensures) in
+    let h : IsBackfillOf a id c.args.from c.args.to most (Some b) = found (goal.at.returns-in_err-cleared-clause-refused c).In-Some in
     let good : nat_lt c.args.to c.args.from ≡ false = grind (arith, nat_tests, c.lt.ensures, c.if-lt.false) in
-    let kept : IsSoundAndSaid a = subst (λ (s : ScheduleValue). IsSoundAndSaid s.content) c.self.view_is c.self.invariant.kept in
     let r : Refusal = c.in_err-cleared.field-0.0 in
     let e : Schedule = c.reset_if.new.draft in
     let set = subst (λ (ds : List ℕ). IsSetBack (reset_of c.args.reset id ds) d e (Err r)) c.deref.ensures.value c.in_err-cleared.ensures in
@@ -39,87 +67,24 @@ returns-in_err-cleared-clause-refused c =
     rw shown.1 (subst (IsRefusal a (Backfill id c.args.from c.args.to c.args.reset)) (sym shown.2) waits)
 
 pub finish-requires-clause-sound : goal.finish-requires-clause-sound
-finish-requires-clause-sound c =
-    let a : Schedule = c.args.self.now.content in
-    let d : Schedule = c.in_ok-draft.draft in
-    let id : List ℕ = c.args.graph.now in
-    let b : Found = c.in-Some.named in
-    let most : ℕ = c.saturating_sub-room.result in
-    let h : IsBackfillOf a id c.args.from c.args.to most (Some b) =
-    found_is a d id c.args.from c.args.to most b c.in_ok-draft.ensures (subst (IsBackfillOf d id c.args.from c.args.to most) c.in-Some.is c.in_ok-named.ensures) in
-    let good : nat_lt c.args.to c.args.from ≡ false = grind (arith, nat_tests, c.lt.ensures, c.if-lt.false) in
-    let kept : IsSoundAndSaid a = subst (λ (s : ScheduleValue). IsSoundAndSaid s.content) c.self.view_is c.self.invariant.kept in
-    let limit : c.self.inside.limits.runs ≡ a.limits.runs = ap (λ (s : ScheduleValue). s.content.limits.runs) c.self.view_is in
-    let long : length c.self.inside.runs.items ≡ length a.runs = ap (λ (s : ScheduleValue). length s.content.runs) c.self.view_is in
-    let few : length a.runs ≤ a.limits.runs = grind (arith, nat_tests, kept.sound.few_runs) in
-    let room : most ≡ a.limits.runs - length a.runs = omega (arith, c.saturating_sub-room.ensures, c.runs.ensures.value, c.len.ensures, limit, long) in
-    let fits = back_room a id c.args.from c.args.to most b false h room few c.if-named.false in
-    let e : Schedule = c.reset_if.new.draft in
-    let done : IsFilled a id c.args.from c.args.to c.args.reset c.add.new.draft c.in_ok-made.made c.in_ok-cleared.cleared =
-    back_done a d e c.add.new.draft id c.args.from c.args.to most c.args.reset b c.in_ok-made.made c.in_ok-cleared.cleared c.in_ok-draft.ensures h good (subst (λ (ds : List ℕ). IsSetBack (reset_of c.args.reset id ds) d e (Ok c.in_ok-cleared.cleared)) c.deref.ensures.value c.in_ok-cleared.ensures) c.if-named.false fits c.in_ok-add.ensures (c.in_ok-made.ensures ∙ ap (map run_id) c.deref-2.ensures.value) in
-    draft_sound (Backfill id c.args.from c.args.to c.args.reset) a c.add.new.draft tt done.accepted kept done.is
+finish-requires-clause-sound c = draft_sound (let at = goal.at.finish-requires-clause-sound c in drafted at.In_ok-add (found at.In-Some))
 
 pub finish-requires-clause-kept : goal.finish-requires-clause-kept
-finish-requires-clause-kept c =
-    let a : Schedule = c.args.self.now.content in
-    let d : Schedule = c.in_ok-draft.draft in
-    let id : List ℕ = c.args.graph.now in
-    let b : Found = c.in-Some.named in
-    let most : ℕ = c.saturating_sub-room.result in
-    let h : IsBackfillOf a id c.args.from c.args.to most (Some b) =
-    found_is a d id c.args.from c.args.to most b c.in_ok-draft.ensures (subst (IsBackfillOf d id c.args.from c.args.to most) c.in-Some.is c.in_ok-named.ensures) in
-    let good : nat_lt c.args.to c.args.from ≡ false = grind (arith, nat_tests, c.lt.ensures, c.if-lt.false) in
-    let kept : IsSoundAndSaid a = subst (λ (s : ScheduleValue). IsSoundAndSaid s.content) c.self.view_is c.self.invariant.kept in
-    let limit : c.self.inside.limits.runs ≡ a.limits.runs = ap (λ (s : ScheduleValue). s.content.limits.runs) c.self.view_is in
-    let long : length c.self.inside.runs.items ≡ length a.runs = ap (λ (s : ScheduleValue). length s.content.runs) c.self.view_is in
-    let few : length a.runs ≤ a.limits.runs = grind (arith, nat_tests, kept.sound.few_runs) in
-    let room : most ≡ a.limits.runs - length a.runs = omega (arith, c.saturating_sub-room.ensures, c.runs.ensures.value, c.len.ensures, limit, long) in
-    let fits = back_room a id c.args.from c.args.to most b false h room few c.if-named.false in
-    let e : Schedule = c.reset_if.new.draft in
-    let done : IsFilled a id c.args.from c.args.to c.args.reset c.add.new.draft c.in_ok-made.made c.in_ok-cleared.cleared =
-    back_done a d e c.add.new.draft id c.args.from c.args.to most c.args.reset b c.in_ok-made.made c.in_ok-cleared.cleared c.in_ok-draft.ensures h good (subst (λ (ds : List ℕ). IsSetBack (reset_of c.args.reset id ds) d e (Ok c.in_ok-cleared.cleared)) c.deref.ensures.value c.in_ok-cleared.ensures) c.if-named.false fits c.in_ok-add.ensures (c.in_ok-made.ensures ∙ ap (map run_id) c.deref-2.ensures.value) in
-    draft_kept (Backfill id c.args.from c.args.to c.args.reset) a c.add.new.draft tt done.accepted kept done.is
+finish-requires-clause-kept c = draft_kept (let at = goal.at.finish-requires-clause-kept c in drafted at.In_ok-add (found at.In-Some))
 
 pub finish-requires-clause-counted : goal.finish-requires-clause-counted
 finish-requires-clause-counted c =
     let a : Schedule = c.args.self.now.content in
-    let d : Schedule = c.in_ok-draft.draft in
     let id : List ℕ = c.args.graph.now in
-    let b : Found = c.in-Some.named in
-    let most : ℕ = c.saturating_sub-room.result in
-    let h : IsBackfillOf a id c.args.from c.args.to most (Some b) =
-    found_is a d id c.args.from c.args.to most b c.in_ok-draft.ensures (subst (IsBackfillOf d id c.args.from c.args.to most) c.in-Some.is c.in_ok-named.ensures) in
-    let good : nat_lt c.args.to c.args.from ≡ false = grind (arith, nat_tests, c.lt.ensures, c.if-lt.false) in
-    let kept : IsSoundAndSaid a = subst (λ (s : ScheduleValue). IsSoundAndSaid s.content) c.self.view_is c.self.invariant.kept in
-    let limit : c.self.inside.limits.runs ≡ a.limits.runs = ap (λ (s : ScheduleValue). s.content.limits.runs) c.self.view_is in
-    let long : length c.self.inside.runs.items ≡ length a.runs = ap (λ (s : ScheduleValue). length s.content.runs) c.self.view_is in
-    let few : length a.runs ≤ a.limits.runs = grind (arith, nat_tests, kept.sound.few_runs) in
-    let room : most ≡ a.limits.runs - length a.runs = omega (arith, c.saturating_sub-room.ensures, c.runs.ensures.value, c.len.ensures, limit, long) in
-    let fits = back_room a id c.args.from c.args.to most b false h room few c.if-named.false in
-    let e : Schedule = c.reset_if.new.draft in
-    let done : IsFilled a id c.args.from c.args.to c.args.reset c.add.new.draft c.in_ok-made.made c.in_ok-cleared.cleared =
-    back_done a d e c.add.new.draft id c.args.from c.args.to most c.args.reset b c.in_ok-made.made c.in_ok-cleared.cleared c.in_ok-draft.ensures h good (subst (λ (ds : List ℕ). IsSetBack (reset_of c.args.reset id ds) d e (Ok c.in_ok-cleared.cleared)) c.deref.ensures.value c.in_ok-cleared.ensures) c.if-named.false fits c.in_ok-add.ensures (c.in_ok-made.ensures ∙ ap (map run_id) c.deref-2.ensures.value) in
     let counted : IsCounted a = subst (λ (s : ScheduleValue). IsCounted s.content) c.self.view_is c.self.invariant.counted in
-    subst IsCounted (sym done.is) (repair_counted (named_by_backfill a id c.args.from c.args.to) (set_back_by (Backfill id c.args.from c.args.to c.args.reset) a) a counted)
+    subst IsCounted (sym (let at = goal.at.finish-requires-clause-counted c in drafted at.In_ok-add (found at.In-Some)).is)
+    (repair_counted (named_by_backfill a id c.args.from c.args.to) (set_back_by (Backfill id c.args.from c.args.to c.args.reset) a) a counted)
 
 pub returns-clause-accepted : goal.returns-clause-accepted
 returns-clause-accepted c =
     let a : Schedule = c.args.self.now.content in
-    let d : Schedule = c.in_ok-draft.draft in
-    let id : List ℕ = c.args.graph.now in
-    let b : Found = c.in-Some.named in
-    let most : ℕ = c.saturating_sub-room.result in
-    let h : IsBackfillOf a id c.args.from c.args.to most (Some b) =
-    found_is a d id c.args.from c.args.to most b c.in_ok-draft.ensures (subst (IsBackfillOf d id c.args.from c.args.to most) c.in-Some.is c.in_ok-named.ensures) in
-    let good : nat_lt c.args.to c.args.from ≡ false = grind (arith, nat_tests, c.lt.ensures, c.if-lt.false) in
-    let kept : IsSoundAndSaid a = subst (λ (s : ScheduleValue). IsSoundAndSaid s.content) c.self.view_is c.self.invariant.kept in
-    let limit : c.self.inside.limits.runs ≡ a.limits.runs = ap (λ (s : ScheduleValue). s.content.limits.runs) c.self.view_is in
-    let long : length c.self.inside.runs.items ≡ length a.runs = ap (λ (s : ScheduleValue). length s.content.runs) c.self.view_is in
-    let few : length a.runs ≤ a.limits.runs = grind (arith, nat_tests, kept.sound.few_runs) in
-    let room : most ≡ a.limits.runs - length a.runs = omega (arith, c.saturating_sub-room.ensures, c.runs.ensures.value, c.len.ensures, limit, long) in
-    let fits = back_room a id c.args.from c.args.to most b false h room few c.if-named.false in
-    let e : Schedule = c.reset_if.new.draft in
-    let done : IsFilled a id c.args.from c.args.to c.args.reset c.add.new.draft c.in_ok-made.made c.in_ok-cleared.cleared =
-    back_done a d e c.add.new.draft id c.args.from c.args.to most c.args.reset b c.in_ok-made.made c.in_ok-cleared.cleared c.in_ok-draft.ensures h good (subst (λ (ds : List ℕ). IsSetBack (reset_of c.args.reset id ds) d e (Ok c.in_ok-cleared.cleared)) c.deref.ensures.value c.in_ok-cleared.ensures) c.if-named.false fits c.in_ok-add.ensures (c.in_ok-made.ensures ∙ ap (map run_id) c.deref-2.ensures.value) in
-    draft_planned (Backfill id c.args.from c.args.to c.args.reset) a c.add.new.draft _ c.in_ok-finish.field-0 tt done.accepted done.is
-    (told_by (Backfill id c.args.from c.args.to c.args.reset) a c.quiet_answer.result c.in_ok-made.made _ c.in_ok-cleared.cleared c.quiet_answer.ensures done.ids_is (ap (λ (q : Answer). q.more) c.quiet_answer.ensures) done.count_is) c.in_ok-finish.ensures
+    let at = goal.at.returns-clause-accepted c in
+    let h = found at.In-Some in
+    let done = filled at.In_ok-add h in
+    draft_planned _ c.in_ok-finish.field-0 (drafted at.In_ok-add h)
+    (told_by (Backfill c.args.graph.now c.args.from c.args.to c.args.reset) a c.quiet_answer.result c.in_ok-made.made _ c.in_ok-cleared.cleared c.quiet_answer.ensures done.ids_is (ap (λ (q : Answer). q.more) c.quiet_answer.ensures) done.count_is) c.in_ok-finish.ensures

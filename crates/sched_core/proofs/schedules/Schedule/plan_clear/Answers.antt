@@ -12,8 +12,9 @@ use Rattle.sched_events.specs.declared.events.Event.TheVariants.{Clear}
 use Rattle.sched_core.specs.Books.{IsCounted}
 use Rattle.sched_core.specs.Changes.{ScheduleValue}
 use Rattle.sched_core.proofs.BookLemmas.{repair_counted}
-use Rattle.sched_core.proofs.PlanLemmas.{draft_sound, draft_kept, draft_planned, told_by}
+use Rattle.sched_core.proofs.PlanLemmas.{IsDraftOf, draft_sound, draft_kept, draft_planned, told_by}
 use Rattle.sched_core.proofs.RepairLemmas.{cleared_is, clear_waits, IsCleared, clear_done}
+use Rattle.sched_core.proofs.schedules.Schedule.plan_clear.Goals.{In_ok-cleared}
 use Rattle.sched_core.proofs.schedules.Schedule.plan_clear.Goals as goal
 
 pub returns-in_err-cleared-clause-refused : goal.returns-in_err-cleared-clause-refused
@@ -27,45 +28,36 @@ returns-in_err-cleared-clause-refused c =
     let shown = err_from_is_err_and c.from_residual-in_err-cleared.result c.from_residual-in_err-cleared.ensures.1 in
     rw shown.1 (subst (IsRefusal a (Clear x)) (sym shown.2) waits)
 
-pub finish-requires-clause-sound : goal.finish-requires-clause-sound
-finish-requires-clause-sound c =
+-- the draft, with the instances set back
+cleared : (c : In_ok-cleared) → IsCleared c.args.self.now.content c.args.clearing.now c.set_back.new.draft c.in_ok-cleared.cleared
+cleared c =
     let a : Schedule = c.args.self.now.content in
     let x : Clearing = c.args.clearing.now in
     let n : SelectionParts = c.in-Ok.selection in
     let h : IsClear a x (Ok n) = cleared_is a c.in_ok-draft.draft x n c.in_ok-draft.ensures (subst (IsClear c.in_ok-draft.draft x) c.in-Ok.is c.named_by_clear.ensures) in
     let good : nat_lt x.to x.from ≡ false = grind (arith, nat_tests, c.lt.ensures, c.if-lt.false) in
-    let done : IsCleared a x c.set_back.new.draft c.in_ok-cleared.cleared = clear_done a c.in_ok-draft.draft c.set_back.new.draft x n c.in_ok-cleared.cleared c.in_ok-draft.ensures h good c.in_ok-cleared.ensures in
-    draft_sound (Clear x) a c.set_back.new.draft tt done.accepted (subst (λ (s : ScheduleValue). IsSoundAndSaid s.content) c.self.view_is c.self.invariant.kept) done.is
+    clear_done a c.in_ok-draft.draft c.set_back.new.draft x n c.in_ok-cleared.cleared c.in_ok-draft.ensures h good c.in_ok-cleared.ensures
+
+drafted : (c : In_ok-cleared) → IsDraftOf (Clear c.args.clearing.now) c.args.self.now.content c.set_back.new.draft
+drafted c =
+    let done = cleared c in
+    record { ranged = tt; accepted = done.accepted; kept = subst (λ (s : ScheduleValue). IsSoundAndSaid s.content) c.self.view_is c.self.invariant.kept; is = done.is }
+
+pub finish-requires-clause-sound : goal.finish-requires-clause-sound
+finish-requires-clause-sound c = draft_sound (drafted (goal.at.finish-requires-clause-sound c).In_ok-cleared)
 
 pub finish-requires-clause-kept : goal.finish-requires-clause-kept
-finish-requires-clause-kept c =
-    let a : Schedule = c.args.self.now.content in
-    let x : Clearing = c.args.clearing.now in
-    let n : SelectionParts = c.in-Ok.selection in
-    let h : IsClear a x (Ok n) = cleared_is a c.in_ok-draft.draft x n c.in_ok-draft.ensures (subst (IsClear c.in_ok-draft.draft x) c.in-Ok.is c.named_by_clear.ensures) in
-    let good : nat_lt x.to x.from ≡ false = grind (arith, nat_tests, c.lt.ensures, c.if-lt.false) in
-    let done : IsCleared a x c.set_back.new.draft c.in_ok-cleared.cleared = clear_done a c.in_ok-draft.draft c.set_back.new.draft x n c.in_ok-cleared.cleared c.in_ok-draft.ensures h good c.in_ok-cleared.ensures in
-    draft_kept (Clear x) a c.set_back.new.draft tt done.accepted (subst (λ (s : ScheduleValue). IsSoundAndSaid s.content) c.self.view_is c.self.invariant.kept) done.is
+finish-requires-clause-kept c = draft_kept (drafted (goal.at.finish-requires-clause-kept c).In_ok-cleared)
 
 pub finish-requires-clause-counted : goal.finish-requires-clause-counted
 finish-requires-clause-counted c =
     let a : Schedule = c.args.self.now.content in
-    let x : Clearing = c.args.clearing.now in
-    let n : SelectionParts = c.in-Ok.selection in
-    let h : IsClear a x (Ok n) = cleared_is a c.in_ok-draft.draft x n c.in_ok-draft.ensures (subst (IsClear c.in_ok-draft.draft x) c.in-Ok.is c.named_by_clear.ensures) in
-    let good : nat_lt x.to x.from ≡ false = grind (arith, nat_tests, c.lt.ensures, c.if-lt.false) in
-    let done : IsCleared a x c.set_back.new.draft c.in_ok-cleared.cleared = clear_done a c.in_ok-draft.draft c.set_back.new.draft x n c.in_ok-cleared.cleared c.in_ok-draft.ensures h good c.in_ok-cleared.ensures in
     let counted : IsCounted a = subst (λ (s : ScheduleValue). IsCounted s.content) c.self.view_is c.self.invariant.counted in
-    subst IsCounted (sym done.is) (repair_counted [] (set_back_by (Clear x) a) a counted)
+    subst IsCounted (sym (drafted (goal.at.finish-requires-clause-counted c).In_ok-cleared).is) (repair_counted [] (set_back_by (Clear c.args.clearing.now) a) a counted)
 
 pub returns-clause-accepted : goal.returns-clause-accepted
 returns-clause-accepted c =
-    let a : Schedule = c.args.self.now.content in
-    let x : Clearing = c.args.clearing.now in
-    let n : SelectionParts = c.in-Ok.selection in
-    let h : IsClear a x (Ok n) = cleared_is a c.in_ok-draft.draft x n c.in_ok-draft.ensures (subst (IsClear c.in_ok-draft.draft x) c.in-Ok.is c.named_by_clear.ensures) in
-    let good : nat_lt x.to x.from ≡ false = grind (arith, nat_tests, c.lt.ensures, c.if-lt.false) in
-    let done : IsCleared a x c.set_back.new.draft c.in_ok-cleared.cleared = clear_done a c.in_ok-draft.draft c.set_back.new.draft x n c.in_ok-cleared.cleared c.in_ok-draft.ensures h good c.in_ok-cleared.ensures in
+    let done = cleared (goal.at.returns-clause-accepted c).In_ok-cleared in
     let quiet = c.quiet_answer.ensures in
-    draft_planned (Clear x) a c.set_back.new.draft _ c.in_ok-finish.field-0 tt done.accepted done.is
-    (told_by (Clear x) a c.quiet_answer.result _ _ c.in_ok-cleared.cleared quiet (ap (λ (q : Answer). q.made) quiet) (ap (λ (q : Answer). q.more) quiet) done.count_is) c.in_ok-finish.ensures
+    draft_planned _ c.in_ok-finish.field-0 (drafted (goal.at.returns-clause-accepted c).In_ok-cleared)
+    (told_by (Clear c.args.clearing.now) c.args.self.now.content c.quiet_answer.result _ _ c.in_ok-cleared.cleared quiet (ap (λ (q : Answer). q.made) quiet) (ap (λ (q : Answer). q.more) quiet) done.count_is) c.in_ok-finish.ensures

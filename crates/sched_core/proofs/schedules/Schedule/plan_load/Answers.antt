@@ -12,13 +12,11 @@ use Rattle.sched_draft.specs.Books.{pools_in}
 use Rattle.sched_core.specs.Changes.{ScheduleValue}
 use Rattle.sched_events.specs.Causes.{refused}
 use Rattle.sched_core.specs.Inside.{StandsAt, IsTaken}
-use Rattle.sched_events.specs.Events.{named_by, change_by}
 use Rattle.sched_events.specs.SettledAndSound.{IsSoundAndSaid}
-use Rattle.sched_model.specs.NamedRuns.{add_runs}
 use Rattle.sched_core.specs.Plans.{no_runs}
 use Rattle.sched_events.specs.declared.events.Event.TheVariants.{Load}
 use Rattle.sched_events.specs.declared.refusals.Refusal.TheVariants as refusal
-use Rattle.sched_core.proofs.PlanLemmas.{known_is, refused_full, accepted_new, accepted_same, refused_differs, accepted_other, again_change, draft_planned}
+use Rattle.sched_core.proofs.PlanLemmas.{known_is, refused_full, accepted_new, accepted_same, refused_differs, accepted_other, again_change, IsDraftOf, draft_planned}
 use Rattle.sched_core.proofs.schedules.Schedule.plan_load.Goals as goal
 
 pub returns-then-graphs-len-clause-refused : goal.returns-then-graphs-len-clause-refused
@@ -65,9 +63,8 @@ returns-then-is_same-clause-accepted c =
     let text_is : same g.text c.args.text.now ≡ true = sym c.if-is_same.ensures in
     let accepted = accepted_same a c.args.text.now dag c.in-Some.place g c.self.invariant.kept taken known.0 known.1 text_is in
     let is = again_change a c.args.text.now dag c.in-Some.place g c.self.invariant.kept taken.says known.0 known.1 text_is in
-    draft_planned (Load c.args.text.now) c.args.self.now.content c.args.self.now.content no_runs c.in_ok-graph_change-in-Some.field-0 tt
-    (subst (λ (h : ScheduleValue). refused h.content (Load c.args.text.now) ≡ None) c.self.view_is accepted)
-    (subst (λ (h : ScheduleValue). h.content ≡ add_runs (named_by (Load c.args.text.now) h.content) (change_by (Load c.args.text.now) h.content)) c.self.view_is is)
+    let made : IsDraftOf (Load c.args.text.now) a a = record { ranged = tt; accepted = accepted; kept = c.self.invariant.kept; is = is } in
+    draft_planned no_runs c.in_ok-graph_change-in-Some.field-0 (subst (λ (h : ScheduleValue). IsDraftOf (Load c.args.text.now) h.content h.content) c.self.view_is made)
     refl c.in_ok-graph_change-in-Some.ensures
 
 pub returns-then-has_runs-clause-refused : goal.returns-then-has_runs-clause-refused

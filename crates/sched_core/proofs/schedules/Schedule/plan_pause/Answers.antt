@@ -9,7 +9,8 @@ use Rattle.sched_core.specs.Plans.{no_runs}
 use Rattle.sched_core.specs.declared.changes.GraphChange.TheVariants as graphs
 use Rattle.sched_core.proofs.BookLemmas.{pause_counted}
 use Rattle.sched_core.proofs.EffectLemmas.{quiet_whole}
-use Rattle.sched_core.proofs.PlanLemmas.{looked_up, pause_unknown, pause_accepted, pause_draft, change_held, draft_sound, draft_kept, draft_planned}
+use Rattle.sched_core.proofs.PlanLemmas.{looked_up, pause_unknown, pause_accepted, pause_draft, change_held, IsDraftOf, draft_sound, draft_kept, draft_planned}
+use Rattle.sched_core.proofs.schedules.Schedule.plan_pause.Goals.{In_ok-draft}
 use Rattle.sched_core.proofs.schedules.Schedule.plan_pause.Goals as goal
 
 pub returns-then-is_none-clause-refused : goal.returns-then-is_none-clause-refused
@@ -35,31 +36,35 @@ returns-then-self-clause-accepted c =
     let a : Schedule = c.args.self.now.content in
     let id : List ℕ = c.args.id.now in
     let still : IsSettled a = subst (λ (h : ScheduleValue). IsSettled h.content) c.self.view_is (c.self.invariant.settled c.if-self.true) in
+    let kept = subst (λ (h : ScheduleValue). IsSoundAndSaid h.content) c.self.view_is c.self.invariant.kept in
     let there : is_none (graph_named a c.args.id.now) ≡ false =
     looked_up a c.as_slice.result.now c.args.id.now c.graph_named.result c.is_none.result (c.as_slice.ensures.value ∙ ap (λ (h : ScheduleValue). h.content.graphs) c.self.view_is)
     c.graph_named.ensures c.is_none.ensures ∙ c.if-is_none.false in
     let is : c.in_ok-quiet_change.field-0 ≡ record { before = a; after = set_paused id true a; answer = no_runs } =
     c.in_ok-quiet_change.ensures ∙ ap (λ (n : List ℕ). let p : Planned = record { before = a; after = set_paused n true a; answer = no_runs } in p) c.in_ok-copy.ensures in
-    draft_planned (Pause id) a (set_paused id true a) no_runs c.in_ok-quiet_change.field-0 tt (pause_accepted a id there) (pause_draft a (set_paused id true a) id refl) refl
+    let made : IsDraftOf (Pause id) a (set_paused id true a) = record { ranged = tt; accepted = pause_accepted a id there; kept = kept; is = pause_draft a (set_paused id true a) id refl } in
+    draft_planned no_runs c.in_ok-quiet_change.field-0 made refl
     (quiet_whole (graphs.Pause id true) a c.in_ok-quiet_change.field-0 refl still is)
 
-pub finish-requires-clause-sound : goal.finish-requires-clause-sound
-finish-requires-clause-sound c =
+-- the draft, in which the graph is paused
+drafted : (c : In_ok-draft) → IsDraftOf (Pause c.args.id.now) c.args.self.now.content c.in_ok-draft.draft
+drafted c =
     let a : Schedule = c.args.self.now.content in
-    let kept = subst (λ (h : ScheduleValue). IsSoundAndSaid h.content) c.self.view_is c.self.invariant.kept in
     let there : is_none (graph_named a c.args.id.now) ≡ false =
     looked_up a c.as_slice.result.now c.args.id.now c.graph_named.result c.is_none.result (c.as_slice.ensures.value ∙ ap (λ (h : ScheduleValue). h.content.graphs) c.self.view_is)
     c.graph_named.ensures c.is_none.ensures ∙ c.if-is_none.false in
-    draft_sound (Pause c.args.id.now) a c.in_ok-draft.draft tt (pause_accepted a c.args.id.now there) kept (pause_draft a c.in_ok-draft.draft c.args.id.now c.in_ok-draft.ensures)
+    record {
+      ranged = tt;
+      accepted = pause_accepted a c.args.id.now there;
+      kept = subst (λ (h : ScheduleValue). IsSoundAndSaid h.content) c.self.view_is c.self.invariant.kept;
+      is = pause_draft a c.in_ok-draft.draft c.args.id.now c.in_ok-draft.ensures;
+    }
+
+pub finish-requires-clause-sound : goal.finish-requires-clause-sound
+finish-requires-clause-sound c = draft_sound (drafted (goal.at.finish-requires-clause-sound c).In_ok-draft)
 
 pub finish-requires-clause-kept : goal.finish-requires-clause-kept
-finish-requires-clause-kept c =
-    let a : Schedule = c.args.self.now.content in
-    let kept = subst (λ (h : ScheduleValue). IsSoundAndSaid h.content) c.self.view_is c.self.invariant.kept in
-    let there : is_none (graph_named a c.args.id.now) ≡ false =
-    looked_up a c.as_slice.result.now c.args.id.now c.graph_named.result c.is_none.result (c.as_slice.ensures.value ∙ ap (λ (h : ScheduleValue). h.content.graphs) c.self.view_is)
-    c.graph_named.ensures c.is_none.ensures ∙ c.if-is_none.false in
-    draft_kept (Pause c.args.id.now) a c.in_ok-draft.draft tt (pause_accepted a c.args.id.now there) kept (pause_draft a c.in_ok-draft.draft c.args.id.now c.in_ok-draft.ensures)
+finish-requires-clause-kept c = draft_kept (drafted (goal.at.finish-requires-clause-kept c).In_ok-draft)
 
 pub finish-requires-clause-counted : goal.finish-requires-clause-counted
 finish-requires-clause-counted c =
@@ -68,10 +73,4 @@ finish-requires-clause-counted c =
     subst IsCounted (sym c.in_ok-draft.ensures) (pause_counted c.args.id.now true a counted)
 
 pub returns-clause-accepted : goal.returns-clause-accepted
-returns-clause-accepted c =
-    let a : Schedule = c.args.self.now.content in
-    let there : is_none (graph_named a c.args.id.now) ≡ false =
-    looked_up a c.as_slice.result.now c.args.id.now c.graph_named.result c.is_none.result (c.as_slice.ensures.value ∙ ap (λ (h : ScheduleValue). h.content.graphs) c.self.view_is)
-    c.graph_named.ensures c.is_none.ensures ∙ c.if-is_none.false in
-    draft_planned (Pause c.args.id.now) a c.in_ok-draft.draft c.quiet_answer.result c.in_ok-finish.field-0 tt (pause_accepted a c.args.id.now there)
-    (pause_draft a c.in_ok-draft.draft c.args.id.now c.in_ok-draft.ensures) c.quiet_answer.ensures c.in_ok-finish.ensures
+returns-clause-accepted c = draft_planned c.quiet_answer.result c.in_ok-finish.field-0 (drafted (goal.at.returns-clause-accepted c).In_ok-draft) c.quiet_answer.ensures c.in_ok-finish.ensures

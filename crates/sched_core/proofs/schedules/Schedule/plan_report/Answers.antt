@@ -7,7 +7,8 @@ use Rattle.sched_events.specs.declared.events.Event.TheVariants.{Report}
 use Rattle.sched_core.specs.Books.{IsCounted}
 use Rattle.sched_core.specs.Changes.{ScheduleValue}
 use Rattle.sched_core.proofs.BookLemmas.{report_counted}
-use Rattle.sched_core.proofs.PlanLemmas.{found_try, not_in_flight, out_of_turn, in_turn, report_draft, draft_sound, draft_kept, draft_planned}
+use Rattle.sched_core.proofs.PlanLemmas.{found_try, not_in_flight, out_of_turn, in_turn, report_draft, IsDraftOf, draft_sound, draft_kept, draft_planned}
+use Rattle.sched_core.proofs.schedules.Schedule.plan_report.Goals.{After-report}
 use Rattle.sched_core.proofs.schedules.Schedule.plan_report.Goals as goal
 
 pub returns-in_default-clause-refused : goal.returns-in_default-clause-refused
@@ -23,21 +24,24 @@ returns-then-not-takes-clause-refused c =
     let turn : is_some (report_try c.args.stage a.now c.in-Some.one) ≡ false = sym (c.if-not-takes.ensures a.now) in
     inr (record { first = out_of_turn a c.args.serial c.args.stage c.in-Some.one (sym c.in-Some.is ∙ found) turn; shown = tt })
 
-pub finish-requires-clause-sound : goal.finish-requires-clause-sound
-finish-requires-clause-sound c =
+-- the draft, with what is reported
+drafted : (c : After-report) → IsDraftOf (Report c.args.serial c.args.stage) c.args.self.now.content c.report.new.self
+drafted c =
     let a : Schedule = c.args.self.now.content in
     let found = found_try a c.args.serial c.deref.result.now c.open_try.result (c.deref.ensures.value ∙ ap (λ (h : ScheduleValue). h.content.runs) c.self.view_is) c.open_try.ensures in
     let turn : is_some (report_try c.args.stage a.now c.in-Some.one) ≡ true = sym (c.if-not-takes.ensures a.now) in
-    draft_sound (Report c.args.serial c.args.stage) a c.report.new.self tt (in_turn a c.args.serial c.args.stage c.in-Some.one (sym c.in-Some.is ∙ found) turn)
-    (subst (λ (h : ScheduleValue). IsSoundAndSaid h.content) c.self.view_is c.self.invariant.kept) (report_draft a c.in_ok-draft.draft c.report.new.self c.args.serial c.args.stage c.in_ok-draft.ensures c.report.ensures)
+    record {
+      ranged = tt;
+      accepted = in_turn a c.args.serial c.args.stage c.in-Some.one (sym c.in-Some.is ∙ found) turn;
+      kept = subst (λ (h : ScheduleValue). IsSoundAndSaid h.content) c.self.view_is c.self.invariant.kept;
+      is = report_draft a c.in_ok-draft.draft c.report.new.self c.args.serial c.args.stage c.in_ok-draft.ensures c.report.ensures;
+    }
+
+pub finish-requires-clause-sound : goal.finish-requires-clause-sound
+finish-requires-clause-sound c = draft_sound (drafted (goal.at.finish-requires-clause-sound c).After-report)
 
 pub finish-requires-clause-kept : goal.finish-requires-clause-kept
-finish-requires-clause-kept c =
-    let a : Schedule = c.args.self.now.content in
-    let found = found_try a c.args.serial c.deref.result.now c.open_try.result (c.deref.ensures.value ∙ ap (λ (h : ScheduleValue). h.content.runs) c.self.view_is) c.open_try.ensures in
-    let turn : is_some (report_try c.args.stage a.now c.in-Some.one) ≡ true = sym (c.if-not-takes.ensures a.now) in
-    draft_kept (Report c.args.serial c.args.stage) a c.report.new.self tt (in_turn a c.args.serial c.args.stage c.in-Some.one (sym c.in-Some.is ∙ found) turn)
-    (subst (λ (h : ScheduleValue). IsSoundAndSaid h.content) c.self.view_is c.self.invariant.kept) (report_draft a c.in_ok-draft.draft c.report.new.self c.args.serial c.args.stage c.in_ok-draft.ensures c.report.ensures)
+finish-requires-clause-kept c = draft_kept (drafted (goal.at.finish-requires-clause-kept c).After-report)
 
 pub finish-requires-clause-counted : goal.finish-requires-clause-counted
 finish-requires-clause-counted c =
@@ -46,9 +50,4 @@ finish-requires-clause-counted c =
     subst IsCounted (sym (c.report.ensures ∙ ap (report c.args.serial c.args.stage) c.in_ok-draft.ensures)) (report_counted c.args.serial c.args.stage a counted)
 
 pub returns-clause-accepted : goal.returns-clause-accepted
-returns-clause-accepted c =
-    let a : Schedule = c.args.self.now.content in
-    let found = found_try a c.args.serial c.deref.result.now c.open_try.result (c.deref.ensures.value ∙ ap (λ (h : ScheduleValue). h.content.runs) c.self.view_is) c.open_try.ensures in
-    let turn : is_some (report_try c.args.stage a.now c.in-Some.one) ≡ true = sym (c.if-not-takes.ensures a.now) in
-    draft_planned (Report c.args.serial c.args.stage) a c.report.new.self c.quiet_answer.result c.in_ok-finish.field-0 tt (in_turn a c.args.serial c.args.stage c.in-Some.one (sym c.in-Some.is ∙ found) turn)
-    (report_draft a c.in_ok-draft.draft c.report.new.self c.args.serial c.args.stage c.in_ok-draft.ensures c.report.ensures) c.quiet_answer.ensures c.in_ok-finish.ensures
+returns-clause-accepted c = draft_planned c.quiet_answer.result c.in_ok-finish.field-0 (drafted (goal.at.returns-clause-accepted c).After-report) c.quiet_answer.ensures c.in_ok-finish.ensures

@@ -1,11 +1,9 @@
-use Rattle.std.proofs.Common.{◌≡◌, ◌∙◌, ap, subst, sym, ℕ, List, ◌+◌, length, map, nat_lt, false, None, arith}
+use Rattle.std.proofs.Common.{◌≡◌, ◌∙◌, ap, subst, sym, ℕ, List, ◌+◌, length, map, nat_lt, false, arith}
 use Rattle.std.proofs.lemmas.Bool.Decides.{nat_tests}
 use Rattle.sched_state.specs.declared.runs.Run.{Run}
 use Rattle.sched_model.specs.Schedule.{Schedule}
-use Rattle.sched_model.specs.NamedRuns.{named_by_hand, add_runs}
+use Rattle.sched_model.specs.NamedRuns.{named_by_hand}
 use Rattle.sched_creation.proofs.ByHandLemmas.{run_named}
-use Rattle.sched_events.specs.Causes.{refused}
-use Rattle.sched_events.specs.Events.{named_by, change_by}
 use Rattle.sched_events.specs.SettledAndSound.{IsSoundAndSaid}
 use Rattle.sched_events.specs.declared.answers.Answer.{Answer}
 use Rattle.sched_events.specs.declared.events.Event.TheVariants.{Trigger}
@@ -13,12 +11,14 @@ use Rattle.sched_core.specs.Books.{IsCounted}
 use Rattle.sched_core.specs.Changes.{ScheduleValue}
 use Rattle.sched_core.specs.Plans.{run_id}
 use Rattle.sched_core.proofs.BookLemmas.{trigger_counted}
-use Rattle.sched_core.proofs.PlanLemmas.{draft_sound, draft_kept, draft_planned, told_by}
+use Rattle.sched_core.proofs.PlanLemmas.{IsDraftOf, draft_sound, draft_kept, draft_planned, told_by}
 use Rattle.sched_core.proofs.TriggerLemmas.{hand_full, trigger_draft, trigger_ids}
+use Rattle.sched_core.proofs.schedules.Schedule.plan_trigger.Goals.{In_ok-add}
 use Rattle.sched_core.proofs.schedules.Schedule.plan_trigger.Goals as goal
 
-pub finish-requires-clause-sound : goal.finish-requires-clause-sound
-finish-requires-clause-sound c =
+-- the draft, with the run added
+drafted : (c : In_ok-add) → IsDraftOf (Trigger c.args.id.now) c.args.self.now.content c.add.new.draft
+drafted c =
     let a : Schedule = c.args.self.now.content in
     let id : List ℕ = c.args.id.now in
     let d : Schedule = c.in_ok-draft.draft in
@@ -27,36 +27,24 @@ finish-requires-clause-sound c =
     let limit : c.self.inside.limits.runs ≡ a.limits.runs = ap (λ (s : ScheduleValue). s.content.limits.runs) c.self.view_is in
     let long : length c.self.inside.runs.items ≡ length a.runs = ap (λ (s : ScheduleValue). length s.content.runs) c.self.view_is in
     let full : nat_lt a.limits.runs (length a.runs + 1) ≡ false = grind (arith, nat_tests, c.runs.ensures.value, c.len.ensures, limit, long, c.if-runs-len.false) in
-    let accepted : refused a (Trigger id) ≡ None = hand_full a d id run c.in_ok-draft.ensures h false full in
-    let is : c.add.new.draft ≡ add_runs (named_by (Trigger id) a) (change_by (Trigger id) a) =
-    trigger_draft a d c.add.new.draft id run c.in_ok-runs.runs.items c.in_ok-draft.ensures h.1.1 c.in_ok-runs.ensures c.in_ok-add.ensures in
-    draft_sound (Trigger id) a c.add.new.draft tt accepted (subst (λ (s : ScheduleValue). IsSoundAndSaid s.content) c.self.view_is c.self.invariant.kept) is
+    record {
+      ranged = tt;
+      accepted = hand_full a d id run c.in_ok-draft.ensures h false full;
+      kept = subst (λ (s : ScheduleValue). IsSoundAndSaid s.content) c.self.view_is c.self.invariant.kept;
+      is = trigger_draft a d c.add.new.draft id run c.in_ok-runs.runs.items c.in_ok-draft.ensures h.1.1 c.in_ok-runs.ensures c.in_ok-add.ensures;
+    }
+
+pub finish-requires-clause-sound : goal.finish-requires-clause-sound
+finish-requires-clause-sound c = draft_sound (drafted (goal.at.finish-requires-clause-sound c).In_ok-add)
 
 pub finish-requires-clause-kept : goal.finish-requires-clause-kept
-finish-requires-clause-kept c =
-    let a : Schedule = c.args.self.now.content in
-    let id : List ℕ = c.args.id.now in
-    let d : Schedule = c.in_ok-draft.draft in
-    let run : Run = c.in-Ok.run' in
-    let h = run_named d id _ _ c.in-Ok.run' c.in-Some.is c.in-Ok.is c.in_ok-planned.ensures in
-    let limit : c.self.inside.limits.runs ≡ a.limits.runs = ap (λ (s : ScheduleValue). s.content.limits.runs) c.self.view_is in
-    let long : length c.self.inside.runs.items ≡ length a.runs = ap (λ (s : ScheduleValue). length s.content.runs) c.self.view_is in
-    let full : nat_lt a.limits.runs (length a.runs + 1) ≡ false = grind (arith, nat_tests, c.runs.ensures.value, c.len.ensures, limit, long, c.if-runs-len.false) in
-    let accepted : refused a (Trigger id) ≡ None = hand_full a d id run c.in_ok-draft.ensures h false full in
-    let is : c.add.new.draft ≡ add_runs (named_by (Trigger id) a) (change_by (Trigger id) a) =
-    trigger_draft a d c.add.new.draft id run c.in_ok-runs.runs.items c.in_ok-draft.ensures h.1.1 c.in_ok-runs.ensures c.in_ok-add.ensures in
-    draft_kept (Trigger id) a c.add.new.draft tt accepted (subst (λ (s : ScheduleValue). IsSoundAndSaid s.content) c.self.view_is c.self.invariant.kept) is
+finish-requires-clause-kept c = draft_kept (drafted (goal.at.finish-requires-clause-kept c).In_ok-add)
 
 pub finish-requires-clause-counted : goal.finish-requires-clause-counted
 finish-requires-clause-counted c =
     let a : Schedule = c.args.self.now.content in
-    let id : List ℕ = c.args.id.now in
-    let d : Schedule = c.in_ok-draft.draft in
-    let h = run_named d id _ _ c.in-Ok.run' c.in-Some.is c.in-Ok.is c.in_ok-planned.ensures in
     let counted : IsCounted a = subst (λ (s : ScheduleValue). IsCounted s.content) c.self.view_is c.self.invariant.counted in
-    let is : c.add.new.draft ≡ add_runs (named_by (Trigger id) a) (change_by (Trigger id) a) =
-    trigger_draft a d c.add.new.draft id c.in-Ok.run' c.in_ok-runs.runs.items c.in_ok-draft.ensures h.1.1 c.in_ok-runs.ensures c.in_ok-add.ensures in
-    subst IsCounted (sym is) (trigger_counted (named_by_hand a id) a counted)
+    subst IsCounted (sym (drafted (goal.at.finish-requires-clause-counted c).In_ok-add).is) (trigger_counted (named_by_hand a c.args.id.now) a counted)
 
 pub returns-clause-accepted : goal.returns-clause-accepted
 returns-clause-accepted c =
@@ -65,11 +53,6 @@ returns-clause-accepted c =
     let d : Schedule = c.in_ok-draft.draft in
     let run : Run = c.in-Ok.run' in
     let h = run_named d id _ _ c.in-Ok.run' c.in-Some.is c.in-Ok.is c.in_ok-planned.ensures in
-    let limit : c.self.inside.limits.runs ≡ a.limits.runs = ap (λ (s : ScheduleValue). s.content.limits.runs) c.self.view_is in
-    let long : length c.self.inside.runs.items ≡ length a.runs = ap (λ (s : ScheduleValue). length s.content.runs) c.self.view_is in
-    let full : nat_lt a.limits.runs (length a.runs + 1) ≡ false = grind (arith, nat_tests, c.runs.ensures.value, c.len.ensures, limit, long, c.if-runs-len.false) in
-    let accepted : refused a (Trigger id) ≡ None = hand_full a d id run c.in_ok-draft.ensures h false full in
-    let is : c.add.new.draft ≡ add_runs (named_by (Trigger id) a) (change_by (Trigger id) a) =
-    trigger_draft a d c.add.new.draft id run c.in_ok-runs.runs.items c.in_ok-draft.ensures h.1.1 c.in_ok-runs.ensures c.in_ok-add.ensures in
     let ids = trigger_ids a d id run c.in_ok-runs.runs.items c.in_ok-made.made c.in_ok-draft.ensures h.1.1 c.in_ok-runs.ensures (c.in_ok-made.ensures ∙ ap (map run_id) c.deref.ensures.value) in
-    draft_planned (Trigger id) a c.add.new.draft _ c.in_ok-finish.field-0 tt accepted is (told_by (Trigger id) a c.quiet_answer.result c.in_ok-made.made _ _ c.quiet_answer.ensures ids (ap (λ (q : Answer). q.more) c.quiet_answer.ensures) (ap (λ (q : Answer). q.cleared) c.quiet_answer.ensures)) c.in_ok-finish.ensures
+    draft_planned _ c.in_ok-finish.field-0 (drafted (goal.at.returns-clause-accepted c).In_ok-add)
+    (told_by (Trigger id) a c.quiet_answer.result c.in_ok-made.made _ _ c.quiet_answer.ensures ids (ap (λ (q : Answer). q.more) c.quiet_answer.ensures) (ap (λ (q : Answer). q.cleared) c.quiet_answer.ensures)) c.in_ok-finish.ensures

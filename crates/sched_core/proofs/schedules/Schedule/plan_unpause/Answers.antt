@@ -5,41 +5,9 @@ use Rattle.sched_events.specs.declared.events.Event.TheVariants.{Unpause}
 use Rattle.sched_core.specs.Books.{IsCounted}
 use Rattle.sched_core.specs.Changes.{ScheduleValue}
 use Rattle.sched_core.proofs.BookLemmas.{pause_counted}
-use Rattle.sched_core.proofs.PlanLemmas.{looked_up, pause_unknown, pause_accepted, unpause_draft, draft_sound, draft_kept, draft_planned}
+use Rattle.sched_core.proofs.PlanLemmas.{looked_up, pause_unknown, pause_accepted, unpause_draft, IsDraftOf, draft_sound, draft_kept, draft_planned}
+use Rattle.sched_core.proofs.schedules.Schedule.plan_unpause.Goals.{In_ok-draft}
 use Rattle.sched_core.proofs.schedules.Schedule.plan_unpause.Goals as goal
-
-pub finish-requires-clause-sound : goal.finish-requires-clause-sound
-finish-requires-clause-sound c =
-    let a : Schedule = c.args.self.now.content in
-    let kept = subst (λ (h : ScheduleValue). IsSoundAndSaid h.content) c.self.view_is c.self.invariant.kept in
-    let there : is_none (graph_named a c.args.id.now) ≡ false =
-    looked_up a c.as_slice.result.now c.args.id.now c.graph_named.result c.is_none.result (c.as_slice.ensures.value ∙ ap (λ (h : ScheduleValue). h.content.graphs) c.self.view_is)
-    c.graph_named.ensures c.is_none.ensures ∙ c.if-is_none.false in
-    draft_sound (Unpause c.args.id.now) a c.in_ok-draft.draft tt (pause_accepted a c.args.id.now there) kept (unpause_draft a c.in_ok-draft.draft c.args.id.now c.in_ok-draft.ensures)
-
-pub finish-requires-clause-kept : goal.finish-requires-clause-kept
-finish-requires-clause-kept c =
-    let a : Schedule = c.args.self.now.content in
-    let kept = subst (λ (h : ScheduleValue). IsSoundAndSaid h.content) c.self.view_is c.self.invariant.kept in
-    let there : is_none (graph_named a c.args.id.now) ≡ false =
-    looked_up a c.as_slice.result.now c.args.id.now c.graph_named.result c.is_none.result (c.as_slice.ensures.value ∙ ap (λ (h : ScheduleValue). h.content.graphs) c.self.view_is)
-    c.graph_named.ensures c.is_none.ensures ∙ c.if-is_none.false in
-    draft_kept (Unpause c.args.id.now) a c.in_ok-draft.draft tt (pause_accepted a c.args.id.now there) kept (unpause_draft a c.in_ok-draft.draft c.args.id.now c.in_ok-draft.ensures)
-
-pub finish-requires-clause-counted : goal.finish-requires-clause-counted
-finish-requires-clause-counted c =
-    let a : Schedule = c.args.self.now.content in
-    let counted : IsCounted a = subst (λ (h : ScheduleValue). IsCounted h.content) c.self.view_is c.self.invariant.counted in
-    subst IsCounted (sym c.in_ok-draft.ensures) (pause_counted c.args.id.now false a counted)
-
-pub returns-clause-accepted : goal.returns-clause-accepted
-returns-clause-accepted c =
-    let a : Schedule = c.args.self.now.content in
-    let there : is_none (graph_named a c.args.id.now) ≡ false =
-    looked_up a c.as_slice.result.now c.args.id.now c.graph_named.result c.is_none.result (c.as_slice.ensures.value ∙ ap (λ (h : ScheduleValue). h.content.graphs) c.self.view_is)
-    c.graph_named.ensures c.is_none.ensures ∙ c.if-is_none.false in
-    draft_planned (Unpause c.args.id.now) a c.in_ok-draft.draft c.quiet_answer.result c.in_ok-finish.field-0 tt (pause_accepted a c.args.id.now there)
-    (unpause_draft a c.in_ok-draft.draft c.args.id.now c.in_ok-draft.ensures) c.quiet_answer.ensures c.in_ok-finish.ensures
 
 pub returns-then-is_none-clause-refused : goal.returns-then-is_none-clause-refused
 returns-then-is_none-clause-refused c =
@@ -48,3 +16,32 @@ returns-then-is_none-clause-refused c =
     looked_up a c.as_slice.result.now c.args.id.now c.graph_named.result c.is_none.result (c.as_slice.ensures.value ∙ ap (λ (h : ScheduleValue). h.content.graphs) c.self.view_is)
     c.graph_named.ensures c.is_none.ensures ∙ c.if-is_none.true in
     inr (record { first = pause_unknown a c.args.id.now unknown; shown = tt })
+
+-- the draft, in which the graph is paused no more
+drafted : (c : In_ok-draft) → IsDraftOf (Unpause c.args.id.now) c.args.self.now.content c.in_ok-draft.draft
+drafted c =
+    let a : Schedule = c.args.self.now.content in
+    let there : is_none (graph_named a c.args.id.now) ≡ false =
+    looked_up a c.as_slice.result.now c.args.id.now c.graph_named.result c.is_none.result (c.as_slice.ensures.value ∙ ap (λ (h : ScheduleValue). h.content.graphs) c.self.view_is)
+    c.graph_named.ensures c.is_none.ensures ∙ c.if-is_none.false in
+    record {
+      ranged = tt;
+      accepted = pause_accepted a c.args.id.now there;
+      kept = subst (λ (h : ScheduleValue). IsSoundAndSaid h.content) c.self.view_is c.self.invariant.kept;
+      is = unpause_draft a c.in_ok-draft.draft c.args.id.now c.in_ok-draft.ensures;
+    }
+
+pub finish-requires-clause-sound : goal.finish-requires-clause-sound
+finish-requires-clause-sound c = draft_sound (drafted (goal.at.finish-requires-clause-sound c).In_ok-draft)
+
+pub finish-requires-clause-kept : goal.finish-requires-clause-kept
+finish-requires-clause-kept c = draft_kept (drafted (goal.at.finish-requires-clause-kept c).In_ok-draft)
+
+pub finish-requires-clause-counted : goal.finish-requires-clause-counted
+finish-requires-clause-counted c =
+    let a : Schedule = c.args.self.now.content in
+    let counted : IsCounted a = subst (λ (h : ScheduleValue). IsCounted h.content) c.self.view_is c.self.invariant.counted in
+    subst IsCounted (sym c.in_ok-draft.ensures) (pause_counted c.args.id.now false a counted)
+
+pub returns-clause-accepted : goal.returns-clause-accepted
+returns-clause-accepted c = draft_planned c.quiet_answer.result c.in_ok-finish.field-0 (drafted (goal.at.returns-clause-accepted c).In_ok-draft) c.quiet_answer.ensures c.in_ok-finish.ensures

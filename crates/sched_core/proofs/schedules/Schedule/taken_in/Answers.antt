@@ -8,7 +8,7 @@ use Rattle.sched_model.specs.Jobs.{handed}
 use Rattle.sched_model.specs.Settle.{settle}
 use Rattle.sched_core.specs.Changes.{Planned}
 use Rattle.sched_core.specs.Plans.{no_runs}
-use Rattle.sched_core.proofs.PlanLemmas.{change_held, load_change, draft_planned}
+use Rattle.sched_core.proofs.PlanLemmas.{change_held, load_change, IsDraftOf, draft_planned}
 use Rattle.sched_core.proofs.schedules.Schedule.taken_in.Goals as goal
 
 pub graph_change-requires-clause-sound : goal.graph_change-requires-clause-sound
@@ -26,4 +26,5 @@ returns-clause-accepted c =
     let is : c.in_ok-graph_change.field-0 ≡ record { before = a; after = hand_out (settle b); answer = record no_runs { jobs = handed a (hand_out (settle b)) } } =
     c.in_ok-graph_change.ensures
     ∙ ap (λ (t : List ℕ). let s : Schedule = load_graph t c.args.dag a in let p : Planned = record { before = a; after = hand_out (settle s); answer = record no_runs { jobs = handed a (hand_out (settle s)) } } in p) c.in_ok-text.ensures in
-    draft_planned (Load text) a b no_runs c.in_ok-graph_change.field-0 tt c.requires.accepted (load_change a text c.args.dag c.requires.taken.says) refl is
+    let made : IsDraftOf (Load text) a b = record { ranged = tt; accepted = c.requires.accepted; kept = c.requires.kept; is = load_change a text c.args.dag c.requires.taken.says } in
+    draft_planned no_runs c.in_ok-graph_change.field-0 made refl is
