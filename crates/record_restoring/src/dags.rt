@@ -148,8 +148,8 @@ fn is_memory(fault: &DagFault) -> bool
     matches!(fault, DagFault::Memory)
 }
 
-// Whether the file has no more tasks and upstream names than the limits allow.
-fn is_within(limits: Limits, spec: &GraphSpec) -> bool
+/// Whether the file has no more tasks and upstream names than the limits allow.
+pub fn is_within(limits: Limits, spec: &GraphSpec) -> bool
     ensures { result ≡ (nat_le (length spec.now.tasks) limits.tasks
         && nat_le (sum_by (λ (t : Task). length t.upstream) spec.now.tasks) limits.edges) }
 {

@@ -41,6 +41,7 @@ mod run_making;
 mod run_rules;
 mod try_rules;
 
+pub use dags::is_within;
 pub use faults::RestoreFault;
 pub use keyed::KeyedRows;
 pub use laws::taken_slots_are_counted;

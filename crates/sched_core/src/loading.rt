@@ -1,10 +1,9 @@
 //! Planning a load: the text is read and checked, then the bounds and the pools are asked, then the graph that is there.
-ghost use Rattle.std.specs.Prelude.{◌≡◌, ◌≤◌, IfOk, IfErr, MatchResult, None, false, not, find, option_map};
+ghost use Rattle.std.specs.Prelude.{◌≡◌, IfOk, IfErr, MatchResult, None, false, not, find, option_map};
 ghost use Rattle.std.specs.Option.{option_copied};
-ghost use Rattle.graph_file.specs.TaskLists.{upstream_limit};
 ghost use Rattle.pool_book.specs.Pools.{has_pool};
 ghost use Rattle.sched_model.specs.Schedule.{has_runs};
-ghost use Rattle.sched_events.specs.Causes.{refused, exceeds, edge_count};
+ghost use Rattle.sched_events.specs.Causes.{refused, exceeds};
 ghost use Rattle.sched_core.specs.Plans.{IsPlanned};
 ghost use Rattle.sched_events.specs.Outcomes.{IsRefusal};
 ghost use Rattle.sched_events.specs.SettledAndSound.{IsSoundAndSaid};
@@ -17,6 +16,7 @@ use crate::schedules::Schedule;
 use dag_check::{Graph, check};
 use graph_file::{GraphFault, GraphSpec, Name, TaskSpec, read_graph};
 use pool_book::Pools;
+use record_restoring::is_within;
 use sched_events::Refusal;
 use sched_state::{GraphText, Limits};
 use std::alloc::Global;
@@ -103,19 +103,7 @@ fn checked(alloc: Global, spec: GraphSpec) -> Result<Graph, Refusal>
 fn exceeds(spec: &GraphSpec, limits: Limits) -> bool
     ensures { result ≡ exceeds limits spec.now }
 {
-    let tasks = spec.tasks.as_slice();
-    (limits.tasks() as usize) < tasks.len() || (limits.edges() as usize) < edge_count(tasks)
-}
-
-// How many upstream names the tasks have in all.
-fn edge_count(tasks: &[TaskSpec]) -> usize
-    requires { edge_count tasks.now ≤ upstream_limit }
-    ensures { result ≡ edge_count tasks.now }
-{
-    tasks
-        .iter()
-        .map(|task| task.upstream.as_slice().len())
-        .sum()
+    !is_within(limits, spec)
 }
 
 // The pool of the first task whose pool is not there.
