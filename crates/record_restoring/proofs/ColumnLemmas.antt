@@ -1,5 +1,5 @@
 -- What columns say, where each is in its range.
-use Rattle.std.proofs.Common.{◌≡◌, refl, sym, ap, ◌∙◌, ℕ, Bool, true, false, ◌&&◌, Option, Some, None, is_some}
+use Rattle.std.proofs.Common.{◌≡◌, refl, sym, ap, ◌∙◌, ℕ, Bool, true, false, ◌&&◌, Option, Some, None}
 use Rattle.std.specs.Prelude.{int_le}
 use Rattle.std.proofs.lemmas.Bool.{and_from}
 use Rattle.graph_file.specs.Lists.{when}
@@ -13,10 +13,6 @@ use Rattle.record_restoring.specs.Columns.{are_columns_right, columns_in}
 use Rattle.record_restoring.specs.declared.run_columns.RunColumns.{RunColumns}
 
 -- ---- a value that is there where a test passes
-pub when_there : {X : Type 0} (b : Bool) (x : X) → is_some (when b x) ≡ b
-when_there true x = refl
-when_there false x = refl
-
 pub when_some : {X : Type 0} (b : Bool) (x y : X) → when b x ≡ Some y → y ≡ x
 when_some true x y e = cc
 when_some {X} false x y e = absurd (let c : ◌≡◌ {A = Option X} None (Some y) = e in cc)

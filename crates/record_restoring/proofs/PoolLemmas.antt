@@ -73,12 +73,6 @@ pub pool_added : (xs : List PoolRow) (n : ℕ) (x : PoolRow) (es next : Entries)
     → next ≡ resized x.name (natural x.size) es → next ≡ vacant_pools (take (n + 1) xs)
 pool_added xs n x es next r l e so_far put = put ∙ (ap (resized x.name (natural x.size)) so_far ∙ added xs n x r (read_at xs n x l e))
 
--- as many pools as rows
-pub pools_counted : (xs : List PoolRow) (n : ℕ) → n < length xs → length (vacant_pools (take n xs)) ≡ n
-pools_counted [] n l = absurd (omega arith)
-pools_counted (x ∷ xs) zero l = refl
-pools_counted (x ∷ xs) (suc n) l = ap suc (pools_counted xs n (omega arith))
-
 -- the pools of the book are those of the rows
 pub pools_read : (xs : List PoolRow) → pools_in (vacant_pools xs) ≡ map pool_for xs
 pools_read [] = refl

@@ -1,22 +1,19 @@
 -- A run by its row.
 use Rattle.std.proofs.Common.{◌≡◌, refl, sym, ap, ◌∙◌, ℕ, List, [], ◌∷◌, map, find, Bool, true, false, cond, Option, Some, None, is_some, option_map, unwrap_or, true≢false}
 use Rattle.std.specs.List.{list_all}
-use Rattle.graph_file.specs.Lists.{when}
-use Rattle.graph_file.proofs.ListLemmas.{when_none}
 use Rattle.instance_machine.specs.Instances.{InstanceValue}
 use Rattle.record_rows.specs.Rows.{Rows, RunRow}
 use Rattle.sched_state.specs.Lists.{same}
 use Rattle.sched_state.specs.declared.graphs.LoadedGraph.{LoadedGraph}
 use Rattle.sched_state.specs.declared.runs.Run.{Run}
 use Rattle.sched_state.proofs.NameLemmas.{same_is}
-use Rattle.sched_state.proofs.OrderLemmas.{and_left, and_right}
+use Rattle.sched_state.proofs.OrderLemmas.{and_left}
 use Rattle.sched_model.specs.Schedule.{graph_among, no_dag}
 use Rattle.record_rules.specs.Reading.{run_of, instance_in}
 use Rattle.record_rules.specs.Faults.{is_run_row_right, has_all_instances}
-use Rattle.record_restoring.specs.Columns.{are_columns_right, columns_in}
+use Rattle.record_restoring.specs.Columns.{columns_in}
 use Rattle.record_restoring.specs.Tasks.{has_row_of}
 use Rattle.record_restoring.specs.declared.run_columns.RunColumns.{RunColumns}
-use Rattle.record_restoring.proofs.ColumnLemmas.{when_there, when_some}
 
 found_passes : {X : Type 0} (p : X → Bool) (xs : List X) (x : X) → find p xs ≡ Some x → p x ≡ true
 found_passes {X} p [] x e = absurd (let c : ◌≡◌ {A = Option X} None (Some x) = e in cc)
@@ -36,16 +33,6 @@ graph_there gs r h e = true≢false (sym (and_left (is_some (graph_among gs r.da
 pub each_there : (rows : Rows) (gs : List LoadedGraph) (r : RunRow) (l : LoadedGraph) → graph_among gs r.dag_id ≡ Some l → has_all_instances gs rows r ≡ true → list_all (has_row_of rows r.dag_id r.logical) l.dag.tasks ≡ true
 each_there rows gs r l f h =
     ap (λ (o : Option LoadedGraph). list_all (has_row_of rows r.dag_id r.logical) (unwrap_or (option_map (λ (g : LoadedGraph). g.dag) o) no_dag).tasks) (sym f) ∙ h
-
--- and so is what its columns say
-pub columns_there : (r : RunRow) (o : Option RunColumns) → o ≡ when (are_columns_right r) (columns_in r) → is_some o ≡ are_columns_right r
-columns_there r o e = ap (λ (p : Option RunColumns). is_some p) e ∙ when_there (are_columns_right r) (columns_in r)
-
-pub no_columns : (gs : List LoadedGraph) (r : RunRow) → is_run_row_right gs r ≡ true → when (are_columns_right r) (columns_in r) ≡ None → ⊥
-no_columns gs r h e = true≢false (sym (and_right (is_some (graph_among gs r.dag_id)) (are_columns_right r) h) ∙ when_none (are_columns_right r) (columns_in r) e)
-
-pub those_columns : (r : RunRow) (c : RunColumns) → when (are_columns_right r) (columns_in r) ≡ Some c → c ≡ columns_in r
-those_columns r c e = when_some (are_columns_right r) (columns_in r) c e
 
 pub run_made : (rows : Rows) (gs : List LoadedGraph) (r : RunRow) (l : LoadedGraph) (g : List ℕ) (c : RunColumns) (is : List InstanceValue) → graph_among gs r.dag_id ≡ Some l
     → g ≡ l.dag.spec.dag_id → c ≡ columns_in r → is ≡ map (instance_in rows r.dag_id r.logical) l.dag.tasks

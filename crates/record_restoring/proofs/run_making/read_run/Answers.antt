@@ -3,8 +3,9 @@ use Rattle.record_rows.specs.Rows.{RunRow}
 use Rattle.sched_state.specs.declared.graphs.LoadedGraph.{LoadedGraph}
 use Rattle.sched_model.specs.Lists.{rises}
 use Rattle.sched_model.specs.Schedule.{graph_before, graph_among}
+use Rattle.record_restoring.proofs.ColumnLemmas.{when_some}
 use Rattle.record_restoring.proofs.RuleLemmas.{graphs_rise}
-use Rattle.record_restoring.proofs.RunLemmas.{graph_there, each_there, those_columns, run_made}
+use Rattle.record_restoring.proofs.RunLemmas.{graph_there, each_there, run_made}
 use Rattle.record_restoring.proofs.run_making.read_run.Goals as goal
 
 pub graph_named-requires : goal.graph_named-requires
@@ -28,5 +29,5 @@ returns c =
     let l : LoadedGraph = c.in-Some.graph.now in
     let found : graph_among c.args.graphs.now r.dag_id ≡ Some l = search (rules, c.graph_named.ensures, c.in-Some.is, c.as_str.ensures.value, c.row.view_is) in
     run_made c.args.rows.now c.args.graphs.now r l c.in_ok-copy.field-0 c.in-Some-columns_of.columns c.new.result found
-    (search (rules, c.in_ok-copy.ensures, c.spec.ensures.spec)) (those_columns r c.in-Some-columns_of.columns (sym c.columns_of.ensures ∙ c.in-Some-columns_of.is))
+    (search (rules, c.in_ok-copy.ensures, c.spec.ensures.spec)) (when_some _ _ c.in-Some-columns_of.columns (sym c.columns_of.ensures ∙ c.in-Some-columns_of.is))
     (search (rules, c.new.ensures, c.in_ok-instances.ensures))
