@@ -1,80 +1,69 @@
-//! Steps a list of events with a record beside the schedule, and prints for each event the rows that it writes, or why it is refused, and at
-//! the end the rows that are read back; then fills a second record with the runs of a graph of 256 tasks, reports tries, and prints how many rows that wrote.
+//! Worked records: what each event writes, what a disk that fails leaves, what a script says of it, and what workers do of a script.
 //!
-//! A row is printed as sqlite3 prints it, behind the name of its table. With one word the list alone is stepped, with a record in the file of that name. With
-//! the words `time FILE RUNS` a new record in that file is filled with so many runs, and it is printed how long that took; with `load FILE` the record in
-//! that file is loaded.
+//! A question is a line of standard input; it is printed with its answer behind ` =>`. A line that begins with `#` and an empty line are printed as they are.
+//! Of records: `rows FILE` steps a list of events with a record in this file, and prints the rows that each writes and those that are read at the end; `fill RUNS TRIES` says
+//! how many rows a greater round writes. `stop` stops a round at each call of its files in turn, and says for each step whether the rows before it or after it were
+//! found. `refuse N` runs a script of one task over a new record, of whose log N writes in a row are refused, after 0, 1, 2 .. that are not, until a run meets none;
+//! runs that print the same share a line. Of workers: `log WORD..` has one do tries of these operators, `busy WORD..` one whose operator of `command` has another
+//! try taken up; `count WORKERS TRIES` has several do so many tries; `meet gates` and `meet operators` have two wait for one another, and `held TRIES` has one wait until
+//! the other has done the rest.
+//!
+//! With the words `rows FILE` that question alone is answered. With the words `time FILE RUNS` a new record in that file is filled with so many runs of 256 tasks,
+//! and it is printed how long that took; with `load FILE` the record in that file is loaded.
 #![tactic(auto)]
 
-ghost use Rattle.std.specs.Prelude.{◌≡◌, false, IfOk};
-
+mod asking;
+mod callers;
+mod counts;
+mod events;
+mod files;
+mod filling;
+mod flaky;
+mod gates;
 mod graphs;
+mod held_back;
+mod logs;
+mod meetings;
+mod parties;
 mod playing;
 mod printed;
+mod refusals;
 mod rounds;
+mod scripts;
+mod states;
 mod stepping;
+mod stopping;
+mod stops;
+mod tallies;
+mod teams;
 mod times;
 mod work;
 
-use crate::playing::play;
-use crate::rounds::{Round, load_again, run};
-use crate::times::{put_counts, put_times};
-use sqlite::{Connection, File, FileStore};
+use crate::asking::{rows_in, write_line};
+use crate::times::{write_load, write_times};
+use std::sync::Wait;
+use std::thread::Threads;
 use std::{env, io};
-
-const RUNS: u64 = 4;
-
-const TRIES: u64 = 20;
-
-const TIMED_TRIES: u64 = 400;
 
 fn main(rt: HostRuntime) -> io::Result<()> {
     let mut words = env::args(&rt)?;
-    let Some(first) = words.nth(1) else {
-        return worked(&rt);
+    let _program = words.next();
+    let Some(question) = words.next() else {
+        return write_page(&rt, &rt);
     };
-    let Some(path) = words.next() else {
-        return in_file(&rt, &first);
-    };
-    if first.as_str() == "load" {
-        return timed_load(&rt, &path);
-    }
-    let runs = words.next().and_then(|word| word.parse::<u64>().ok());
-    timed(&rt, &path, runs.unwrap_or(RUNS))
-}
-
-fn worked(rt: &HostRuntime) -> io::Result<()> {
-    in_file(rt, "record.db")?;
-    println!(rt; "> {RUNS} runs of {} tasks", graphs::TASKS)?;
-    put_counts(rt, &fill(rt, "rounds.db", RUNS, TRIES)?)
-}
-
-// The file is closed at the end, so that nothing of the record is left in the log beside it.
-fn in_file(rt: &HostRuntime, path: &str) -> io::Result<()> {
-    match play(rt, rt.alloc(), open(rt, path)?)?.close() {
-        Ok(()) => Ok(()),
-        Err(_) => rt.println("the file cannot be closed"),
+    let path = words.next().unwrap_or(String::new(rt.alloc()));
+    match question.as_str() {
+        "rows" => rows_in(&rt, &path),
+        "load" => write_load(&rt, &path),
+        "time" => write_times(&rt, &path, words.next()),
+        _ => rt.println("no such word"),
     }
 }
 
-fn timed(rt: &HostRuntime, path: &str, runs: u64) -> io::Result<()> {
-    put_times(rt, runs, &fill(rt, path, runs, TIMED_TRIES)?)
-}
-
-fn fill(rt: &HostRuntime, path: &str, runs: u64, tries: u64) -> io::Result<Round> {
-    run(rt, rt.alloc(), open(rt, path)?, runs, tries)
-}
-
-fn timed_load(rt: &HostRuntime, path: &str) -> io::Result<()> {
-    let (runs, time) = load_again(rt, rt.alloc(), open(rt, path)?)?;
-    println!(rt; "{runs} runs loaded in {} ms", time.as_millis())
-}
-
-fn open(rt: &HostRuntime, path: &str) -> io::Result<Connection<FileStore<File>>>
-    ensures { IfOk result (λ conn. conn.in_transaction ≡ false) }
-{
-    match Connection::open(rt, path) {
-        Ok(conn) => Ok(conn),
-        Err(_) => Err(io::Error::other("the file cannot be opened")),
+fn write_page<T: Threads + Wait + Sync>(rt: &T, host: &HostRuntime) -> io::Result<()> {
+    let text = io::read_to_string(host.alloc(), host.reader())?;
+    for line in text.as_str().lines() {
+        write_line(rt, host, line)?;
     }
+    Ok(())
 }

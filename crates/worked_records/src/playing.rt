@@ -1,10 +1,10 @@
 //! The events, one after another.
 ghost use Rattle.std.specs.Prelude.{◌≡◌, false};
 
+use crate::events::worked_events;
 use crate::printed::print_rows;
 use director::{Director, Fault};
 use meta_store::{Store, StoreFault};
-use record_rounds::worked_events;
 use sched_core::{Event, Limits};
 use sqlite::{Alter, Connection};
 use std::alloc::Global;

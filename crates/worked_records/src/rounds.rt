@@ -1,115 +1,121 @@
-//! A round: a record is filled with runs, and tries of them are reported.
+//! A round over a store: a record is made and opened, the events are stepped, and the record is opened anew, until a call of the disk fails.
 ghost use Rattle.std.specs.Prelude.{◌≡◌, false};
 
-use crate::graphs::{backfill, load, tick};
-use crate::stepping::Timed;
-use crate::work::Work;
+use crate::events::worked_events;
+use director::Director;
 use meta_store::Store;
-use sched_core::{Event, Limits, Outcome, Schedule, Stage};
+use sched_core::{Event, Limits};
 use sqlite::{Alter, Connection};
-use std::alloc::Global;
-use std::io;
-use std::rt::Clock;
-use std::time::{Duration, Instant};
+use std::alloc::{AllocError, Global};
 
-// The most runs that one backfill makes.
-const RUNS_AT_ONCE: u64 = 100;
+/// What a round does, step by step.
+pub const STEPS: [&str; 8] = [
+    "create", "open", "load", "tick", "backfill", "report", "reopen", "close",
+];
+
+/// The place of the last step, which is done by the files.
+pub const CLOSE: usize = 7;
 
 const LANES: u32 = 4;
 
-/// What a round did.
-#[derive(Clone, Copy)]
-pub struct Round {
-    /// The backfills that made the runs.
-    pub backfills: Work,
-    /// The reports that a try has begun.
-    pub starts: Work,
-    /// The reports that a try has ended.
-    pub ends: Work,
+// The load of a graph, the tick, the backfill of three runs, and the report that a try has begun: their places in the worked events.
+const PLACES: [usize; 4] = [1, 2, 4, 6];
+
+/// The events of a round, each of which changes rows.
+pub fn round_events(alloc: Global) -> Result<Vec<Event>, AllocError> {
+    let mut events = Vec::new(alloc);
+    for (place, event) in worked_events(alloc)?.into_iter().enumerate() {
+        if PLACES.contains(&place) {
+            events.push(event)?;
+        }
+    }
+    Ok(events)
 }
 
-/// Makes so many runs in a new record, then reports the starts and ends of so many tries, one after another.
-pub fn run<S: Alter + Drop, R: Clock>(
-    rt: &R,
+/// All steps but the last: the record, or the step that failed, by its place, and the store.
+pub fn run<S: Alter + Drop>(
     alloc: Global,
     conn: Connection<S>,
-    runs: u64,
-    tries: u64,
-) -> io::Result<Round>
+    events: &[Event],
+) -> Result<Store<S>, (usize, S)>
     requires { conn.in_transaction ≡ false }
 {
-    let Ok(store) = Store::create(alloc, conn) else {
-        return Err(io::Error::other("no record is made"));
-    };
-    let schedule = Schedule::new(alloc, Limits::full())?;
-    let mut timed = Timed { store, schedule };
-    prepare(rt, alloc, &mut timed)?;
-    let backfills = fill(rt, alloc, &mut timed, runs)?;
-    let (starts, ends) = report(rt, alloc, &mut timed, tries)?;
-    Ok(Round {
-        backfills,
-        starts,
-        ends,
-    })
+    match step_all(alloc, conn, events) {
+        Ok(director) => reopen(alloc, director, events.len().saturating_add(2)),
+        Err(stop) => Err(stop),
+    }
 }
 
-/// Loads the record that is there: how many runs it has, and how long that took.
-pub fn load_again<S: Alter + Drop, R: Clock>(
-    rt: &R,
+/// The steps up to the last event.
+pub fn step_all<S: Alter + Drop>(
     alloc: Global,
     conn: Connection<S>,
-) -> io::Result<(usize, Duration)>
+    events: &[Event],
+) -> Result<Director<S>, (usize, S)>
     requires { conn.in_transaction ≡ false }
 {
-    let mut store = Store::adopt(conn);
-    let start = Instant::now(rt)?;
-    match store.load(alloc, Limits::full()) {
-        Ok(schedule) => Ok((schedule.runs().len(), start.elapsed(rt)?)),
-        Err(_) => Err(io::Error::other("the record is not loaded")),
+    match create(alloc, conn) {
+        Ok(record) => open_and_step(alloc, record, events),
+        Err(store) => Err((0, store)),
     }
 }
 
-// The lanes, the graph and the clock.
-fn prepare<S: Alter + Drop, R: Clock>(
-    rt: &R,
-    alloc: Global,
-    timed: &mut Timed<S>,
-) -> io::Result<()> {
-    let mut work = Work::none();
-    timed.step(rt, alloc, &Event::Restart(LANES), &mut work)?;
-    timed.step(rt, alloc, &load(alloc)?, &mut work)?;
-    timed.step(rt, alloc, &tick(), &mut work)
+/// Makes a record, or gives the store back.
+pub fn create<S: Alter + Drop>(alloc: Global, conn: Connection<S>) -> Result<Store<S>, S>
+    requires { conn.in_transaction ≡ false }
+{
+    match Store::create(alloc, conn) {
+        Ok(record) => Ok(record),
+        Err((conn, _)) => Err(conn.into_store()),
+    }
 }
 
-fn fill<S: Alter + Drop, R: Clock>(
-    rt: &R,
+fn open_and_step<S: Alter + Drop>(
     alloc: Global,
-    timed: &mut Timed<S>,
-    runs: u64,
-) -> io::Result<Work> {
-    let mut work = Work::none();
-    for number in 0..runs.div_ceil(RUNS_AT_ONCE) {
-        let first = number.saturating_mul(RUNS_AT_ONCE);
-        let count = runs.saturating_sub(first).min(RUNS_AT_ONCE);
-        timed.step(rt, alloc, &backfill(alloc, first, count)?, &mut work)?;
+    record: Store<S>,
+    events: &[Event],
+) -> Result<Director<S>, (usize, S)> {
+    match Director::open(alloc, record, LANES, Limits::full()) {
+        Ok(director) => step_events(alloc, director, events),
+        Err((record, _)) => Err((1, store_of(record))),
     }
-    Ok(work)
 }
 
-fn report<S: Alter + Drop, R: Clock>(
-    rt: &R,
+fn step_events<S: Alter + Drop>(
     alloc: Global,
-    timed: &mut Timed<S>,
-    tries: u64,
-) -> io::Result<(Work, Work)> {
-    let mut starts = Work::none();
-    let mut ends = Work::none();
-    for number in 0..tries {
-        let serial = number.saturating_add(1);
-        let start = Event::Report(serial, Stage::Started);
-        timed.step(rt, alloc, &start, &mut starts)?;
-        let end = Event::Report(serial, Stage::Ended(Outcome::Success));
-        timed.step(rt, alloc, &end, &mut ends)?;
+    mut director: Director<S>,
+    events: &[Event],
+) -> Result<Director<S>, (usize, S)> {
+    match first_not_stepped(alloc, &mut director, events) {
+        Some(place) => Err((place.saturating_add(2), store_of(director.close()))),
+        None => Ok(director),
     }
-    Ok((starts, ends))
+}
+
+fn first_not_stepped<S: Alter>(
+    alloc: Global,
+    director: &mut Director<S>,
+    events: &[Event],
+) -> Option<usize> {
+    for (place, event) in events.iter().enumerate() {
+        if director.step(alloc, event).is_err() {
+            return Some(place);
+        }
+    }
+    None
+}
+
+fn reopen<S: Alter + Drop>(
+    alloc: Global,
+    director: Director<S>,
+    step: usize,
+) -> Result<Store<S>, (usize, S)> {
+    match director.reopen(alloc, LANES) {
+        Ok(director) => Ok(director.close()),
+        Err((record, _)) => Err((step, store_of(record))),
+    }
+}
+
+fn store_of<S: Alter + Drop>(record: Store<S>) -> S {
+    record.release().into_store()
 }

@@ -1,8 +1,28 @@
 //! What a round wrote, and how long that took.
+use crate::files::in_file;
+use crate::filling::{Round, fill, load_again};
 use crate::graphs::TASKS;
-use crate::rounds::Round;
 use crate::work::{Work, a_second, micros_each};
 use std::io;
+
+// The runs of a round for which no number is said.
+const RUNS: u64 = 4;
+
+const TRIES: u64 = 400;
+
+/// Fills a new record in this file with so many runs, reports tries of them, and prints how long that took.
+pub fn write_times(host: &HostRuntime, path: &str, runs: Option<String>) -> io::Result<()> {
+    let runs = runs.and_then(|word| word.parse::<u64>().ok());
+    let runs = runs.unwrap_or(RUNS);
+    let round = fill(host, host.alloc(), in_file(host, path)?, runs, TRIES)?;
+    put_times(host, runs, &round)
+}
+
+/// Loads the record in this file, and prints how many runs it has and how long that took.
+pub fn write_load(host: &HostRuntime, path: &str) -> io::Result<()> {
+    let (runs, time) = load_again(host, host.alloc(), in_file(host, path)?)?;
+    println!(host; "{runs} runs loaded in {} ms", time.as_millis())
+}
 
 /// Prints how many steps and rows a round wrote.
 pub fn put_counts<R: Print>(rt: &R, round: &Round) -> io::Result<()> {
@@ -11,8 +31,8 @@ pub fn put_counts<R: Print>(rt: &R, round: &Round) -> io::Result<()> {
     put_count(rt, "ends", &round.ends)
 }
 
-/// The same with times, of a round of so many runs.
-pub fn put_times<R: Print>(rt: &R, runs: u64, round: &Round) -> io::Result<()> {
+// The same with times, of a round of so many runs.
+fn put_times<R: Print>(rt: &R, runs: u64, round: &Round) -> io::Result<()> {
     let instances = runs.saturating_mul(TASKS);
     println!(rt; "{instances} task instances")?;
     put_time(rt, "backfills", &round.backfills)?;

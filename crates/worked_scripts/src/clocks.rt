@@ -1,6 +1,6 @@
 //! The clock of the worked scripts.
+use crate::listed_clock::ListedClock;
 use moment_core::Moment;
-use session_rounds::ListedClock;
 use sessions::ClockFault;
 use std::alloc::{AllocError, Global};
 

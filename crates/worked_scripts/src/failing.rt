@@ -1,8 +1,8 @@
-//! A reader and a writer that fail.
+//! A reader and a writer that fail after so many calls.
 use std::alloc::Global;
 use std::io::{self, ErrorKind, Read, Write};
 
-// How many reads of a script, and how many writes of its answers, do not fail.
+/// How many reads of a script, and how many writes of its answers, do not fail.
 #[derive(Clone, Copy)]
 pub struct Calls {
     pub reads: usize,
@@ -10,7 +10,7 @@ pub struct Calls {
 }
 
 impl Calls {
-    // Nothing fails.
+    /// Nothing fails.
     pub fn all() -> Calls {
         Calls {
             reads: usize::MAX,
@@ -27,7 +27,7 @@ fn call(calls: &mut usize) -> io::Result<()> {
     Ok(())
 }
 
-// A reader of a text whose reads fail after so many.
+/// A reader of a text whose reads fail after so many.
 #[derive(Drop)]
 pub struct Source<'a> {
     pub text: &'a [u8],
@@ -41,7 +41,7 @@ impl Read for Source<'_> {
     }
 }
 
-// A writer that takes a byte at each write, and keeps it; its writes fail after so many.
+/// A writer that takes a byte at each write, and keeps it; its writes fail after so many.
 #[derive(Drop)]
 pub struct Sink {
     pub bytes: Vec<u8>,
@@ -49,6 +49,7 @@ pub struct Sink {
 }
 
 impl Sink {
+    /// A writer that has taken nothing.
     pub fn new(alloc: Global, calls: usize) -> Sink {
         Sink {
             bytes: Vec::new(alloc),

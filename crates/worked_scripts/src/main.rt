@@ -1,8 +1,8 @@
 //! Worked scripts: each from a new record in memory, with one worker, with what it prints and its status.
 //!
-//! Standard input has headings, `== LANES TITLE`, and below each the lines of a script. Standard output has the same, with `> ` before each
-//! line of a script, and after them what the script prints and its status. So the output reads as one page. The clock of `tick now` gives three
-//! moments, 2024-01-02, 2024-01-03 and 2024-01-01, and then fails: once as it would past 2199, and then as one that is not there.
+//! Standard input has headings, `== WORD TITLE`, and below each the lines of a script. Standard output has the same, with `> ` before each line of a script,
+//! and after them what the script prints and its status. So the output reads as one page. The clock of `tick now` gives three moments, 2024-01-02, 2024-01-03 and
+//! 2024-01-01, and then fails: once as it would past 2199, and then as one that is not there.
 //!
 //! ```text
 //! == 4 pools are sized and listed
@@ -15,62 +15,48 @@
 //! status 0
 //! ```
 //!
-//! Its tests are of what no stored run reaches: readers and writers that fail, want of memory, long lines, graphs and schedules of the greatest size, graphs
-//! with more than one cycle, and what is asked of a schedule that has it not.
+//! WORD is the number of lanes, or says that a script is run in another way, without lanes. `reads`: its reads fail after 0, 1, 2 .. that do not, until a run meets no
+//! such read; `writes`: the same of what it writes, a byte at a time. Runs with the same answers, status and clock of the record share a line. `long-COUNT`: each
+//! `~` of the script and the byte before it stand for so many of that byte. `tasks-COUNT`: the script stands below the load of a graph of so many tasks, each after the one before it.
+//! `memory`: not a script, but what is written where memory ran out.
 #![tactic(auto)]
 
-mod clocks;
-#[cfg(test)]
-mod cycles;
-#[cfg(test)]
-mod failing;
-#[cfg(test)]
-mod long_lines;
-#[cfg(test)]
-mod memory;
-#[cfg(test)]
-mod records;
-#[cfg(test)]
-mod runs;
-mod sections;
-#[cfg(test)]
-mod sizes;
-#[cfg(test)]
-mod sources;
-#[cfg(test)]
-mod streams;
-#[cfg(test)]
-mod views;
+ghost use Rattle.std.specs.Prelude.{◌≤◌};
 
-use answer_lines::{Shown, put};
-use clocks::worked_clock;
-use meta_store::Store;
-use script_reader::{NoProgress, Script, failure_status};
-use script_runner::{FileSources, operators_for, run_team};
-use sections::{Section, next_section};
-use sqlite::Connection;
+mod clocks;
+mod failing;
+mod generated;
+mod lacking;
+mod listed_clock;
+mod playing;
+mod sections;
+mod stopping;
+
+use failing::Calls;
+use generated::{long, with_chain};
+use lacking::put_lacks;
+use playing::play;
+use sections::{Kind, Section, next_section};
 use std::fs;
-use std::io::{self, BufWriter, ErrorKind, Read, Write};
+use std::io::{self, BufWriter, Read, Write};
 use std::sync::Wait;
 use std::thread::Threads;
-
-// Where the tries of `command` have their folders.
-const SCRATCH: &str = "tries";
+use stopping::put_stops;
 
 fn main(rt: HostRuntime) -> io::Result<()> {
     let alloc = rt.alloc();
     // the folder of the tries of `command`
-    fs::create_dir(&rt, SCRATCH)?;
+    fs::create_dir(&rt, playing::SCRATCH)?;
     let mut text = Vec::new(alloc);
     rt.stdin().read_to_end(&mut text)?;
     let mut output = BufWriter::new(alloc, rt.stdout())?;
     run_all(&rt, &rt, text.as_slice(), &mut output)?;
     output.flush()?;
-    fs::remove_dir(&rt, SCRATCH)
+    fs::remove_dir(&rt, playing::SCRATCH)
 }
 
 // Runs the scripts of a text, one after another.
-fn run_all<T: Threads + Wait + Sync, W: Write + Drop>(
+fn run_all<T: Threads + Wait + Sync, W: Write>(
     rt: &T,
     host: &HostRuntime,
     text: &[u8],
@@ -81,50 +67,51 @@ fn run_all<T: Threads + Wait + Sync, W: Write + Drop>(
         let Some((section, rest)) = next_section(left) else {
             break;
         };
-        run(rt, host, &section, output)?;
+        put_line(section.heading, output)?;
+        echo(section.script, output)?;
+        put_run(rt, host, &section, output)?;
+        output.write_all(b"\n")?;
         left = rest;
     }
     Ok(())
 }
 
-fn run<T: Threads + Wait + Sync, W: Write + Drop>(
+// Runs the script of a section, and writes what comes of it.
+fn put_run<T: Threads + Wait + Sync, W: Write>(
     rt: &T,
     host: &HostRuntime,
     section: &Section<'_>,
     output: &mut W,
 ) -> io::Result<()> {
-    put_line(section.heading, output)?;
-    echo(section.script, output)?;
-    let status = status(rt, host, section, output)?;
-    writeln!(output, "status {status}\n")
+    let alloc = host.alloc();
+    match section.kind() {
+        Kind::Lanes(lanes) => put_played(rt, host, lanes, section.script, output),
+        Kind::Stops(part) => put_stops(rt, host, part, section.script, output),
+        Kind::Long(count) => {
+            let script = long(alloc, section.script, count)?;
+            put_played(rt, host, 0, script.as_slice(), output)
+        }
+        Kind::Tasks(count) => {
+            let script = with_chain(alloc, section.script, count)?;
+            put_played(rt, host, 0, script.as_slice(), output)
+        }
+        Kind::Memory => put_lacks(output),
+    }
 }
 
-// Runs a script on a new record in memory, and answers its status.
-fn status<T: Threads + Wait + Sync, W: Write + Drop>(
+// Writes what a script prints, and its status.
+fn put_played<T: Threads + Wait + Sync, W: Write>(
     rt: &T,
     host: &HostRuntime,
-    section: &Section<'_>,
+    lanes: u32,
+    script: &[u8],
     output: &mut W,
-) -> io::Result<u8> {
-    let alloc = host.alloc();
-    let Ok(store) = Store::create(alloc, Connection::open_in_memory(alloc)?) else {
-        return Err(io::Error::from(ErrorKind::OutOfMemory));
-    };
-    let team = operators_for(*host, alloc, 1, SCRATCH)?;
-    let script = Script {
-        input: section.script,
-        output: &mut *output,
-        sources: FileSources::new(*host, alloc),
-        progress: NoProgress,
-    };
-    let mut clock = worked_clock(alloc)?;
-    match run_team(rt, alloc, store, section.lanes(), team, script, &mut clock) {
-        Ok(ran) => Ok(ran.status),
-        Err((_store, fault)) => {
-            put(output, Shown::Failure(&fault))?;
-            Ok(failure_status(&fault))
-        }
-    }
+) -> io::Result<()>
+    requires { lanes ≤ 64 }
+{
+    let played = play(rt, host, lanes, script, Calls::all())?;
+    output.write_all(played.printed.as_slice())?;
+    writeln!(output, "status {}", played.status)
 }
 
 fn put_line<W: Write>(line: &[u8], output: &mut W) -> io::Result<()> {

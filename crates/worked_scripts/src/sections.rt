@@ -1,27 +1,66 @@
 //! The sections of a text, each a heading and the lines of a script.
-ghost use Rattle.std.specs.Prelude.{◌≤◌};
+ghost use Rattle.worked_scripts.specs.Sections.{HasFewLanes};
 
 use std::str;
 
-/// A heading, `== LANES TITLE`, and the text below it. Neither has the newline that ends it.
+/// A heading, `== WORD TITLE`, and the text below it. Neither has the newline that ends it.
 #[derive(Clone, Copy)]
 pub struct Section<'a> {
     pub heading: &'a [u8],
     pub script: &'a [u8],
 }
 
+/// How a script is run.
+#[derive(Clone, Copy, Debug, PartialEq, Eq)]
+pub enum Kind {
+    /// With so many lanes, of 64 at most.
+    Lanes(u32),
+    /// With reads or writes that fail.
+    Stops(Part),
+    /// With so many bytes for each `~` and the byte before it.
+    Long(usize),
+    /// Below the load of a graph of so many tasks.
+    Tasks(usize),
+    /// What is written where memory ran out.
+    Memory,
+}
+
+/// What fails.
+#[derive(Clone, Copy, Debug, PartialEq, Eq)]
+pub enum Part {
+    Reads,
+    Writes,
+}
+
 impl Section<'_> {
-    /// The number of lanes, of 64 at most; none where the heading has no number.
-    pub fn lanes(&self) -> u32
-        ensures { result ≤ 64 }
+    /// How the script is run; without lanes where the heading does not say it.
+    pub fn kind(&self) -> Kind
+        ensures { HasFewLanes result }
     {
-        str::from_utf8(self.heading)
+        let word = str::from_utf8(self.heading)
             .ok()
             .and_then(|text| text.split(' ').nth(1))
-            .and_then(|word| word.parse::<u32>().ok())
-            .unwrap_or(0)
-            .min(64)
+            .unwrap_or("");
+        match word {
+            "reads" => Kind::Stops(Part::Reads),
+            "writes" => Kind::Stops(Part::Writes),
+            "memory" => Kind::Memory,
+            _ => counted(word),
+        }
     }
+}
+
+// The kind of a word that has a number.
+fn counted(word: &str) -> Kind
+    ensures { HasFewLanes result }
+{
+    if let Some(count) = word.strip_prefix("long-") {
+        return Kind::Long(count.parse::<usize>().unwrap_or(0));
+    }
+    if let Some(count) = word.strip_prefix("tasks-") {
+        return Kind::Tasks(count.parse::<usize>().unwrap_or(0));
+    }
+    Kind::Lanes(word.parse::<u32>().unwrap_or(0).min(64))
 }
 
 /// The first section of a text, and the text after it; none where the text is empty. A section ends where a line begins with `== `.

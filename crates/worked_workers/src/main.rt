@@ -1,7 +1,7 @@
-//! Worked workers: what the queues between threads, the slot desk, the operators and the crews answer to questions that are lines of
-//! standard input.
+//! Worked workers: what the queues between threads, the slot desk and the operators answer to questions that are lines of standard input.
 //!
-//! A question is printed with its answer behind ` =>`: below the line `[crews]`, `meet gates` as `meet gates => saw the other: 2`. The answers
+//! A question is printed with its answer behind ` =>`: below the line
+//! `[queues]`, `turns 0 1 stop take` as `turns 0 1 stop take => sent took:stop, left: jobs 0, reports 0`. The answers
 //! are the same whatever the schedule of the threads is. With the word `time` no question is read: printed is how many jobs are sent and taken
 //! a second, and how many tries are performed; with `time queues` or `time operators` one of the two.
 #![tactic(auto)]
@@ -9,21 +9,15 @@
 mod actions;
 mod arguments;
 mod books;
-mod crew_counts;
-mod crew_logs;
-mod crew_questions;
 mod desk_questions;
 mod desk_rounds;
 mod desk_turns;
 mod folders;
 mod hands;
-mod held_back;
 mod holds;
 mod job_threads;
 mod jobs;
 mod kits;
-mod meetings;
-mod operator_jobs;
 mod operator_questions;
 mod operator_turns;
 mod page;
@@ -37,7 +31,6 @@ mod report_threads;
 mod reports;
 mod seats;
 mod starts;
-mod teams;
 mod times;
 mod tries;
 

@@ -1,9 +1,9 @@
-//! A page of questions. A line that names a section, `[queues]`, `[desk]`, `[operators]` or `[crews]`, stands before the questions of it.
+//! A page of questions. A line that names a section, `[queues]`, `[desk]` or `[operators]`, stands before the questions of it.
 //!
 //! A question is printed with its answer behind ` =>`; a section's name, a line that begins with `#` and an empty line are printed as they
 //! are.
 use crate::folders::base_folder;
-use crate::{crew_questions, desk_questions, operator_questions, queue_questions};
+use crate::{desk_questions, operator_questions, queue_questions};
 use std::io;
 use std::rt::Clock;
 use std::sync::Wait;
@@ -15,7 +15,6 @@ enum Section {
     Queues,
     Desk,
     Operators,
-    Crews,
 }
 
 /// Writes the page of standard input.
@@ -39,7 +38,6 @@ fn section_named(line: &str) -> Option<Section> {
         "[queues]" => Some(Section::Queues),
         "[desk]" => Some(Section::Desk),
         "[operators]" => Some(Section::Operators),
-        "[crews]" => Some(Section::Crews),
         _ => None,
     }
 }
@@ -76,7 +74,6 @@ fn write_answer<R: Threads + Wait + Print + Clock + Sync>(
         Some(Section::Operators) => {
             operator_questions::write_answer(rt, host, alloc, base, subject, rest)
         }
-        Some(Section::Crews) => crew_questions::write_answer(rt, alloc, subject, rest),
         None => rt.print(" no such section"),
     }
 }

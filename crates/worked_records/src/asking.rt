@@ -1,0 +1,90 @@
+//! The questions, by their first words.
+use crate::files::{Failing, empty_files, in_file, open};
+use crate::filling::fill;
+use crate::playing::play;
+use crate::times::put_counts;
+use crate::{counts, held_back, logs, meetings, refusals, stopping};
+use std::io;
+use std::sync::Wait;
+use std::thread::Threads;
+
+/// Writes a line of the page, and behind a question its answer.
+pub fn write_line<T: Threads + Wait + Sync>(
+    rt: &T,
+    host: &HostRuntime,
+    line: &str,
+) -> io::Result<()> {
+    if line.is_empty() || line.starts_with('#') {
+        return host.println(line);
+    }
+    print!(host; "{line} =>")?;
+    let (subject, rest) = line.split_once(' ').unwrap_or((line, ""));
+    match subject {
+        "rows" | "fill" | "stop" => write_rows(host, subject, rest),
+        "refuse" => write_refusals(rt, host, rest),
+        _ => write_work(rt, host, subject, rest),
+    }
+}
+
+// Writes what records hold.
+fn write_rows(host: &HostRuntime, subject: &str, rest: &str) -> io::Result<()> {
+    host.println("")?;
+    match subject {
+        "rows" => rows_in(host, rest),
+        "fill" => write_counts(host, rest),
+        _ => stopping::write_answers(host, host.alloc()),
+    }
+}
+
+/// Steps the worked events with a record in this file. It is closed at the end, so that nothing of the record is left in the log beside it.
+pub fn rows_in(host: &HostRuntime, path: &str) -> io::Result<()> {
+    match play(host, host.alloc(), in_file(host, path)?)?.close() {
+        Ok(()) => Ok(()),
+        Err(_) => host.println("the file cannot be closed"),
+    }
+}
+
+// Writes how many rows a round of so many runs and tries writes to a record in memory.
+fn write_counts(host: &HostRuntime, rest: &str) -> io::Result<()> {
+    let (runs, tries) = rest.split_once(' ').unwrap_or((rest, ""));
+    match (runs.parse::<u64>(), tries.parse::<u64>()) {
+        (Ok(runs), Ok(tries)) => {
+            let alloc = host.alloc();
+            let Ok(conn) = open(alloc, empty_files(alloc, Failing::Both, u64::MAX)) else {
+                return host.println("not opened");
+            };
+            put_counts(host, &fill(host, alloc, conn, runs, tries)?)
+        }
+        _ => host.println("no numbers"),
+    }
+}
+
+fn write_refusals<T: Threads + Wait + Sync>(
+    rt: &T,
+    host: &HostRuntime,
+    count: &str,
+) -> io::Result<()> {
+    host.println("")?;
+    match count.parse::<u64>() {
+        Ok(count) => refusals::write_answers(rt, host, count),
+        Err(_) => host.println("no number"),
+    }
+}
+
+// Writes what workers do.
+fn write_work<T: Threads + Wait + Sync>(
+    rt: &T,
+    host: &HostRuntime,
+    subject: &str,
+    rest: &str,
+) -> io::Result<()> {
+    match subject {
+        "log" => logs::write_answer(rt, host, false, rest)?,
+        "busy" => logs::write_answer(rt, host, true, rest)?,
+        "count" => counts::write_answer(rt, host, rest)?,
+        "meet" => meetings::write_answer(rt, host, rest)?,
+        "held" => held_back::write_answer(rt, host, rest)?,
+        _ => host.print(" no such question")?,
+    }
+    host.println("")
+}

@@ -1,0 +1,184 @@
+//! A script that is run over a new record whose disk may refuse writes, and what came of it.
+ghost use Rattle.std.specs.Prelude.{◌≡◌, ◌≤◌, All, false, length};
+ghost use Rattle.graph_file.specs.declared.operators.Operator.TheVariants as kinds;
+ghost use Rattle.script_runner.specs.TaskOperators.{kind_of};
+ghost use Rattle.script_runner.specs.Teams.{IsWhole};
+
+use crate::callers::Caller;
+use crate::files::{RecordFiles, Writes, flaky_files, open, refused_by};
+use crate::gates::Waiting;
+use crate::teams::Worker;
+use answer_lines::{Shown, put};
+use crews::Settled;
+use meta_store::Store;
+use sched_core::Event;
+use script_reader::{NoProgress, Script, failure_status};
+use script_runner::{FileSources, SystemClock, TaskOperator, run_team};
+use sessions::ConductFault;
+use sqlite::{Alter, Connection};
+use std::alloc::Global;
+use std::io::{self, ErrorKind, Write};
+use std::sync::Wait;
+use std::thread::Threads;
+
+const LANES: u32 = 4;
+
+/// What came of a script.
+#[derive(Drop)]
+pub struct Played {
+    /// What it printed, in one line.
+    pub printed: String,
+    /// How many writes were refused.
+    pub refused: u64,
+    /// The events that were accepted, and what became of the workers, where the script was run.
+    pub work: Option<Performed>,
+}
+
+/// What workers did.
+#[derive(Drop)]
+pub struct Performed {
+    /// The events that were accepted.
+    pub minutes: Vec<Event>,
+    /// What became of the workers.
+    pub outcome: Result<Settled<Waiting, TaskOperator<Caller>>, ConductFault>,
+}
+
+// How a script ended.
+#[derive(Drop)]
+struct End {
+    status: Option<u8>,
+    work: Option<Performed>,
+}
+
+/// Runs a script with this team, over a disk that refuses such writes.
+pub fn run<T: Threads + Wait + Sync>(
+    rt: &T,
+    host: &HostRuntime,
+    writes: Writes,
+    team: Vec<Worker>,
+    script: &str,
+) -> io::Result<Played>
+    requires workers { length team.items ≤ 16 }
+    requires whole { All (λ w. IsWhole (kind_of (λ _. kinds.Command)) w.0.items) team.items }
+{
+    let alloc = host.alloc();
+    let files = flaky_files(alloc, writes);
+    let mut printed = Vec::new(alloc);
+    let (end, refused) = run_on_files(rt, host, files, team, script, &mut printed);
+    let End { status, work } = end?;
+    Ok(Played {
+        printed: in_one_line(alloc, printed, status)?,
+        refused,
+        work,
+    })
+}
+
+// The same over such files, and how many writes were refused.
+fn run_on_files<T: Threads + Wait + Sync>(
+    rt: &T,
+    host: &HostRuntime,
+    files: RecordFiles,
+    team: Vec<Worker>,
+    script: &str,
+    printed: &mut Vec<u8>,
+) -> (io::Result<End>, u64)
+    requires workers { length team.items ≤ 16 }
+    requires whole { All (λ w. IsWhole (kind_of (λ _. kinds.Command)) w.0.items) team.items }
+{
+    match open(host.alloc(), files) {
+        Ok(conn) => {
+            let (conn, end) = run_on_connection(rt, host, conn, team, script, printed);
+            (end, refused_by(&conn.into_store().close()))
+        }
+        Err(files) => (not_run(printed, "not opened"), refused_by(&files)),
+    }
+}
+
+// The same over an open connection, whatever it stands on, which is given back.
+fn run_on_connection<S: Alter + Drop, T: Threads + Wait + Sync>(
+    rt: &T,
+    host: &HostRuntime,
+    conn: Connection<S>,
+    team: Vec<Worker>,
+    script: &str,
+    printed: &mut Vec<u8>,
+) -> (Connection<S>, io::Result<End>)
+    requires settled { conn.in_transaction ≡ false }
+    requires workers { length team.items ≤ 16 }
+    requires whole { All (λ w. IsWhole (kind_of (λ _. kinds.Command)) w.0.items) team.items }
+{
+    match Store::create(host.alloc(), conn) {
+        Ok(record) => {
+            let (record, end) = run_on_record(rt, host, record, team, script, printed);
+            (record.release(), end)
+        }
+        Err((conn, _)) => (conn, not_run(printed, "no record")),
+    }
+}
+
+// The same over a record.
+fn run_on_record<S: Alter + Drop, T: Threads + Wait + Sync>(
+    rt: &T,
+    host: &HostRuntime,
+    record: Store<S>,
+    team: Vec<Worker>,
+    script: &str,
+    printed: &mut Vec<u8>,
+) -> (Store<S>, io::Result<End>)
+    requires workers { length team.items ≤ 16 }
+    requires whole { All (λ w. IsWhole (kind_of (λ _. kinds.Command)) w.0.items) team.items }
+{
+    let alloc = host.alloc();
+    let mut clock = SystemClock::new(*host);
+    let script = Script {
+        input: script.as_bytes(),
+        output: &mut *printed,
+        sources: FileSources::new(*host, alloc),
+        progress: NoProgress,
+    };
+    match run_team(rt, alloc, record, LANES, team, script, &mut clock) {
+        Ok(ran) => {
+            let work = Performed {
+                minutes: ran.minutes,
+                outcome: ran.outcome,
+            };
+            let end = End {
+                status: Some(ran.status),
+                work: Some(work),
+            };
+            (ran.store, Ok(end))
+        }
+        Err((record, fault)) => {
+            let end = End {
+                status: Some(failure_status(&fault)),
+                work: None,
+            };
+            let put = put(printed, Shown::Failure(&fault));
+            (record, put.map(|()| end))
+        }
+    }
+}
+
+// Prints why the script is not run, which has no status.
+fn not_run(printed: &mut Vec<u8>, why: &str) -> io::Result<End> {
+    printed.write_all(why.as_bytes())?;
+    Ok(End {
+        status: None,
+        work: None,
+    })
+}
+
+fn in_one_line(alloc: Global, printed: Vec<u8>, status: Option<u8>) -> io::Result<String> {
+    let Ok(text) = String::from_utf8(printed) else {
+        return Err(io::Error::from(ErrorKind::InvalidData));
+    };
+    let Some(status) = status else {
+        return Ok(text);
+    };
+    let mut line = Vec::new(alloc);
+    for it in text.as_str().lines() {
+        write!(&mut line, "{it} / ")?;
+    }
+    write!(&mut line, "status {status}")?;
+    String::from_utf8(line).map_err(|_| io::Error::from(ErrorKind::InvalidData))
+}

@@ -1,0 +1,82 @@
+//! Rounds that are stopped at each call of the disk in turn.
+//!
+//! A round makes a record in two files in memory, opens a director on it, steps four events, opens the record anew and closes it. In each
+//! round one file, or both, fail each call after the first so many. Where a step fails, the files are opened again twice: as they were
+//! written, as after the end of the process, and without what was not synced, as after a crash of the machine.
+use crate::files::{Failing, RecordFiles, as_written, crash};
+use crate::rounds::{STEPS, round_events};
+use crate::states::{held_in, states};
+use crate::stops::{Stop, stopped_run};
+use crate::tallies::{Left, Tally};
+use sched_core::Event;
+use std::alloc::Global;
+use std::io;
+
+// More calls than a round makes.
+const MANY: u64 = 10_000;
+
+/// Writes for each step of a round what was found after it was stopped.
+pub fn write_answers<R: Print>(rt: &R, alloc: Global) -> io::Result<()> {
+    let steps = steps_stopped(alloc)?;
+    for (name, left) in STEPS.iter().zip(&steps) {
+        print!(rt; "{name}: as written ")?;
+        put_tally(rt, left.written)?;
+        rt.print("; after a crash ")?;
+        put_tally(rt, left.crashed)?;
+        rt.println("")?;
+    }
+    Ok(())
+}
+
+// What the stops of each step left.
+fn steps_stopped(alloc: Global) -> io::Result<Vec<Left>> {
+    let events = round_events(alloc)?;
+    let states = states(alloc, &events)?;
+    let mut steps = vec![in alloc; Left::none(); STEPS.len()]?;
+    for failing in [Failing::Log, Failing::Database, Failing::Both] {
+        stop_all(alloc, failing, &events, &states, &mut steps)?;
+    }
+    Ok(steps)
+}
+
+// Stops rounds at one call after another, until one is not stopped.
+fn stop_all(
+    alloc: Global,
+    failing: Failing,
+    events: &[Event],
+    states: &[String],
+    steps: &mut [Left],
+) -> io::Result<()> {
+    for calls in 0..MANY {
+        match stopped_run(alloc, failing, calls, events) {
+            Some(stop) => judge(alloc, states, steps, stop)?,
+            None => return Ok(()),
+        }
+    }
+    Ok(())
+}
+
+// Counts what a stop left.
+fn judge(alloc: Global, states: &[String], steps: &mut [Left], stop: Stop) -> io::Result<()> {
+    let Stop { step, files } = stop;
+    let (written, crashed) = held_after(alloc, files)?;
+    let before = states.get(step);
+    let after = states.get(step.saturating_add(1));
+    if let (Some(before), Some(after), Some(left)) = (before, after, steps.get_mut(step)) {
+        left.written.count(&written, before, after);
+        left.crashed.count(&crashed, before, after);
+    }
+    Ok(())
+}
+
+// What these files hold as they were written, and after a crash.
+fn held_after(alloc: Global, files: RecordFiles) -> io::Result<(String, String)> {
+    let mut files = files;
+    let written = held_in(alloc, as_written(alloc, &files)?)?;
+    crash(&mut files);
+    Ok((written, held_in(alloc, files)?))
+}
+
+fn put_tally<R: Print>(rt: &R, tally: Tally) -> io::Result<()> {
+    print!(rt; "{}, {} else", tally.kinds(), tally.other)
+}

@@ -1,0 +1,16 @@
+-- What a listed clock gave.
+use Rattle.std.specs.Prelude.{◌≡◌, ℕ, List, [], ◌++◌}
+use Rattle.std.proofs.Common.{sym, append-nil}
+use Rattle.sessions.specs.Readings.{Reading, moments_in}
+use Rattle.worked_scripts.specs.declared.listed_clock.ListedClock.{ListedClock}
+
+-- the moments that a clock gave
+abbrev pub given_of : ListedClock → List ℕ
+given_of c = c.given.items
+
+-- from one state of it to another it gave the moments of these readings
+abbrev pub Gives : ListedClock → List Reading → ListedClock → Type 0
+Gives c readings later = given_of later ≡ given_of c ++ moments_in readings
+
+pub gives_none : (c : ListedClock) → Gives c [] c
+gives_none c = sym (append-nil (given_of c))

@@ -1,0 +1,40 @@
+//! Scripts that are too long to stand in a text.
+use std::alloc::{AllocError, Global};
+use std::io::{self, Write};
+
+/// The script in which each `~` and the byte before it stand for so many of that byte.
+pub fn long(alloc: Global, script: &[u8], count: usize) -> Result<Vec<u8>, AllocError> {
+    let mut longer = Vec::new(alloc);
+    let mut before = b'~';
+    for byte in script {
+        if *byte == b'~' {
+            let filled = longer.len().saturating_add(count.saturating_sub(1));
+            longer.resize(filled, before)?;
+        } else {
+            longer.push(*byte)?;
+        }
+        before = *byte;
+    }
+    Ok(longer)
+}
+
+/// The script below the load of a graph of so many tasks, each after the one before it.
+pub fn with_chain(alloc: Global, script: &[u8], count: usize) -> io::Result<Vec<u8>> {
+    let mut longer = Vec::new(alloc);
+    longer.write_all(
+        b"load inline\ndag_id = \"chain\"\nschedule = \"@daily\"\nstart_date = \"2024-01-01\"\n",
+    )?;
+    for task in 0..count {
+        write!(
+            longer,
+            "[[task]]\ntask_id = \"t{task}\"\noperator = \"noop\"\n"
+        )?;
+        if task > 0 {
+            let before = task - 1;
+            writeln!(longer, "upstream = [\"t{before}\"]")?;
+        }
+    }
+    longer.write_all(b".\n")?;
+    longer.write_all(script)?;
+    Ok(longer)
+}

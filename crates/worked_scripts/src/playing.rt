@@ -1,0 +1,101 @@
+//! A script that is run on a new record in memory, with one worker.
+ghost use Rattle.std.specs.Prelude.{◌≤◌};
+
+use crate::clocks::worked_clock;
+use crate::failing::{Calls, Sink, Source};
+use answer_lines::{Shown, put};
+use meta_store::Store;
+use moment_core::Moment;
+use sched_core::Limits;
+use script_reader::{NoProgress, Script, failure_status};
+use script_runner::{FileSources, operators_for, run_team};
+use sqlite::{Connection, MemStore};
+use std::alloc::Global;
+use std::io::{self, BufReader, ErrorKind};
+use std::sync::Wait;
+use std::thread::Threads;
+
+/// Where the tries of `command` have their folders.
+pub const SCRATCH: &str = "tries";
+
+/// What came of a script.
+#[derive(Drop)]
+pub struct Played {
+    /// What it printed.
+    pub printed: Vec<u8>,
+    /// Its status.
+    pub status: u8,
+    /// The clock of the record that it leaves.
+    pub now: Moment,
+    /// How many calls are left that do not fail.
+    pub left: Calls,
+}
+
+/// Runs a script of which so many reads and writes do not fail.
+///
+/// All scripts are run by this, since each type of record and of streams is proved and compiled with all that it stands on.
+pub fn play<T: Threads + Wait + Sync>(
+    rt: &T,
+    host: &HostRuntime,
+    lanes: u32,
+    script: &[u8],
+    calls: Calls,
+) -> io::Result<Played>
+    requires { lanes ≤ 64 }
+{
+    let alloc = host.alloc();
+    let team = operators_for(*host, alloc, 1, SCRATCH)?;
+    let mut source = Source {
+        text: script,
+        calls: calls.reads,
+    };
+    let mut sink = Sink::new(alloc, calls.writes);
+    let script = Script {
+        input: BufReader::with_capacity(alloc, 1, &mut source)?,
+        output: &mut sink,
+        sources: FileSources::new(*host, alloc),
+        progress: NoProgress,
+    };
+    let mut clock = worked_clock(alloc)?;
+    let (record, status) = match run_team(
+        rt,
+        alloc,
+        new_record(alloc)?,
+        lanes,
+        team,
+        script,
+        &mut clock,
+    ) {
+        Ok(ran) => (ran.store, ran.status),
+        Err((record, fault)) => {
+            put(&mut sink, Shown::Failure(&fault))?;
+            (record, failure_status(&fault))
+        }
+    };
+    let left = Calls {
+        reads: source.calls,
+        writes: sink.calls,
+    };
+    Ok(Played {
+        printed: sink.bytes,
+        status,
+        now: clock_of(alloc, record)?,
+        left,
+    })
+}
+
+fn new_record(alloc: Global) -> io::Result<Store<MemStore>> {
+    match Store::create(alloc, Connection::open_in_memory(alloc)?) {
+        Ok(record) => Ok(record),
+        Err(_) => Err(io::Error::from(ErrorKind::OutOfMemory)),
+    }
+}
+
+// The clock of the schedule that the record holds.
+fn clock_of(alloc: Global, record: Store<MemStore>) -> io::Result<Moment> {
+    let mut record = record;
+    match record.load(alloc, Limits::full()) {
+        Ok(schedule) => Ok(schedule.now()),
+        Err(_) => Err(io::Error::other("not read")),
+    }
+}
