@@ -1,7 +1,7 @@
 //! The building blocks of what runs workers: it starts a thread for each, sends them items, joins them, and settles what they did.
 //!
-//! In: `start_all(scope, rt, alloc, &lanes, &desk, &mut handles, passes, shares, crews)`, then `send_item` for each job, `stop_all` and
-//! `join_all`. Out: `settle(rt, lanes, desk, director, results, room)`, with the ends of the crews in their order: each item that was
+//! In: `start_all(scope, rt, alloc, &lanes, &desk, &mut handles, passes, shares, crews)`, then `Lanes::wait_to_send` for each job,
+//! `stop_all` and `join_all`. Out: `settle(rt, lanes, desk, director, results, room)`, with the ends of the crews in their order: each item that was
 //! sent stands in one of the logs, what was heard of each worker is what its log says, and the desk holds what the shares hold.
 //!
 //! What a thread gives back is known by the promise that it was started with (`Works`). Easy to get wrong: a scope ends only when all its
@@ -17,6 +17,6 @@ mod threads;
 
 pub use laws::reports_belong_to_one_log;
 pub use rooms::Room;
-pub use sending::{send_item, stop_all};
+pub use sending::stop_all;
 pub use settling::{Settled, settle};
 pub use threads::{Handle, Worked, Works, join_all, start_all};

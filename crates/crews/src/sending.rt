@@ -1,31 +1,10 @@
-//! What is sent to the workers. Where the queue is full it is sent again, with pauses.
-ghost use Rattle.std.specs.Prelude.{◌≡◌, ◌++◌, ◌∷◌, [], ℕ, replicate};
+//! Stops for the workers.
+ghost use Rattle.std.specs.Prelude.{◌≡◌, ◌++◌, ℕ, replicate};
 ghost use Rattle.ruled_dispatch.specs.declared.items.JobOrStop.TheVariants as items;
 ghost use Rattle.ruled_dispatch.specs.Lanes.{sent_of, heard_of, IsDirectorOf, HasWorkers};
 
 use ruled_dispatch::{DirectorPass, JobOrStop, Lanes};
 use std::sync::Wait;
-use work::Pause;
-
-/// Sends an item.
-pub fn send_item<R: Wait>(rt: &R, lanes: &Lanes, director: &mut DirectorPass, item: JobOrStop)
-    requires { IsDirectorOf lanes.now director.old }
-    ensures sent { sent_of director.new ≡ sent_of director.old ++ item ∷ [] }
-    ensures heard { heard_of director.new ≡ heard_of director.old }
-    ensures pass { IsDirectorOf lanes.now director.new }
-    ensures workers { (n : ℕ) → HasWorkers director.old n → HasWorkers director.new n }
-{
-    let mut item = item;
-    let mut pause = Pause::new();
-    for _ in rt.forever() {
-        match lanes.send(rt, director, item) {
-            Ok(()) => return,
-            Err(back) => item = back,
-        }
-        pause.wait(rt);
-    }
-    unreachable!()
-}
 
 /// Sends so many stops: one for each worker that was started.
 pub fn stop_all<R: Wait>(rt: &R, lanes: &Lanes, director: &mut DirectorPass, workers: usize)
@@ -36,6 +15,6 @@ pub fn stop_all<R: Wait>(rt: &R, lanes: &Lanes, director: &mut DirectorPass, wor
     ensures workers { (n : ℕ) → HasWorkers director.old n → HasWorkers director.new n }
 {
     for _stopped in 0..workers {
-        send_item(rt, lanes, director, JobOrStop::Stop);
+        lanes.wait_to_send(rt, director, JobOrStop::Stop);
     }
 }

@@ -9,6 +9,7 @@ use crate::passes::{DirectorPass, JobQueue, ReportQueue, WorkerPass, worker_pass
 use crate::reports_rule::{Compares, Hears, JoinTeller, Tells};
 use std::alloc::{AllocError, Global};
 use std::sync::Wait;
+use std::thread;
 
 /// What the director and the workers share: the queue of jobs and the queue of reports.
 #[derive(Drop)]
@@ -96,6 +97,27 @@ impl Lanes {
         let sent = self.jobs.push_as::<Sends, R>(rt, &mut pass.jobs, item);
         self.sent.ring();
         sent
+    }
+
+    /// Puts an item behind those that were sent before; where the queue is full, it leaves the processor to others and asks again.
+    ///
+    /// There is room at once where no more jobs are in flight than there are lanes, and no more stops are sent than there are workers.
+    pub fn wait_to_send<R: Wait>(&self, rt: &R, pass: &mut DirectorPass, item: JobOrStop)
+        requires { IsDirectorOf self.now pass.old }
+        ensures sent { sent_of pass.new ≡ sent_of pass.old ++ item ∷ [] }
+        ensures heard { heard_of pass.new ≡ heard_of pass.old }
+        ensures pass { IsDirectorOf self.now pass.new }
+        ensures workers { (n : ℕ) → HasWorkers pass.old n → HasWorkers pass.new n }
+    {
+        let mut item = item;
+        for _ in rt.forever() {
+            match self.send(rt, pass, item) {
+                Ok(()) => return,
+                Err(back) => item = back,
+            }
+            thread::yield_now();
+        }
+        unreachable!()
     }
 
     /// Takes the item that was sent first of those in the queue, or gives `None` where the queue was empty at one moment of the

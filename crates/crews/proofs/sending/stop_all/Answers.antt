@@ -7,7 +7,7 @@ use Rattle.crews.proofs.sending.stop_all.Goals as goal
 pub loop-stopped-preserved : goal.loop-stopped-preserved
 loop-stopped-preserved g c =
     let was = c.loop-stopped.invariant in
-    let now = c.send_item.ensures in
+    let now = c.wait_to_send.ensures in
     let n = c.loop-stopped._stopped in
     let before = sent_of c.args.director.now in
     record {

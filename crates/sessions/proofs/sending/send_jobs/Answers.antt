@@ -8,7 +8,7 @@ use Rattle.sessions.proofs.sending.send_jobs.Goals as goal
 pub loop-job-preserved : goal.loop-job-preserved
 loop-job-preserved g c =
     let was = c.loop-job.invariant in
-    let sent = c.send_item.ensures in
+    let sent = c.wait_to_send.ensures in
     let e = c.in-Some.ensures.steps.0 in
     let before = sent_of c.loop-job.pass in
     record {
