@@ -3,7 +3,7 @@ ghost use Rattle.std.specs.Prelude.{◌≡◌, false};
 
 use crate::graphs::{backfill, load, tick};
 use crate::stepping::Timed;
-use crate::work::Work;
+use crate::totals::Work;
 use meta_store::Store;
 use sched_core::{Event, Limits, Outcome, Schedule, Stage};
 use sqlite::{Alter, Connection};

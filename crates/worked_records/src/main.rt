@@ -37,7 +37,7 @@ mod stops;
 mod tallies;
 mod teams;
 mod times;
-mod work;
+mod totals;
 
 use crate::asking::{rows_in, write_line};
 use crate::times::{write_load, write_times};

@@ -1,7 +1,7 @@
 //! One step, timed in its parts.
 ghost use Rattle.std.specs.Prelude.{◌≡◌, IfOk};
 
-use crate::work::Work;
+use crate::totals::Work;
 use meta_store::Store;
 use record_rows::Rows;
 use sched_core::{Change, Event, Schedule};

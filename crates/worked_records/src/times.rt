@@ -2,7 +2,7 @@
 use crate::files::in_file;
 use crate::filling::{Round, fill, load_again};
 use crate::graphs::TASKS;
-use crate::work::{Work, a_second, micros_each};
+use crate::totals::{Work, a_second, micros_each};
 use std::io;
 
 // The runs of a round for which no number is said.
