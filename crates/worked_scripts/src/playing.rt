@@ -3,11 +3,10 @@ ghost use Rattle.std.specs.Prelude.{◌≤◌};
 
 use crate::clocks::worked_clock;
 use crate::failing::{Calls, Sink, Source};
-use answer_lines::{Shown, put};
 use meta_store::Store;
 use moment_core::Moment;
 use sched_core::Limits;
-use script_reader::{NoProgress, Script, failure_status};
+use script_reader::{NoProgress, Script};
 use script_runner::{FileSources, operators_for, run_team};
 use sqlite::{Connection, MemStore};
 use std::alloc::Global;
@@ -27,8 +26,6 @@ pub struct Played {
     pub status: u8,
     /// The clock of the record that it leaves.
     pub now: Moment,
-    /// How many calls are left that do not fail.
-    pub left: Calls,
 }
 
 /// Runs a script of which so many reads and writes do not fail.
@@ -45,43 +42,26 @@ pub fn play<T: Threads + Wait + Sync>(
 {
     let alloc = host.alloc();
     let team = operators_for(*host, alloc, 1, SCRATCH)?;
-    let mut source = Source {
+    let mut clock = worked_clock(alloc)?;
+    let source = Source {
         text: script,
         calls: calls.reads,
     };
-    let mut sink = Sink::new(alloc, calls.writes);
     let script = Script {
-        input: BufReader::with_capacity(alloc, 1, &mut source)?,
-        output: &mut sink,
+        input: BufReader::with_capacity(alloc, 1, source)?,
+        output: Sink::new(alloc, calls.writes),
         sources: FileSources::new(*host, alloc),
         progress: NoProgress,
     };
-    let mut clock = worked_clock(alloc)?;
-    let (record, status) = match run_team(
-        rt,
-        alloc,
-        new_record(alloc)?,
-        lanes,
-        team,
-        script,
-        &mut clock,
-    ) {
-        Ok(ran) => (ran.store, ran.status),
-        Err((record, fault)) => {
-            put(&mut sink, Shown::Failure(&fault))?;
-            (record, failure_status(&fault))
-        }
-    };
-    let left = Calls {
-        reads: source.calls,
-        writes: sink.calls,
-    };
-    Ok(Played {
-        printed: sink.bytes,
-        status,
-        now: clock_of(alloc, record)?,
-        left,
-    })
+    let record = new_record(alloc)?;
+    match run_team(rt, alloc, record, lanes, team, script, &mut clock) {
+        Ok(ran) => Ok(Played {
+            printed: ran.output.bytes,
+            status: ran.status,
+            now: clock_of(alloc, ran.store)?,
+        }),
+        Err(_) => Err(io::Error::other("not opened")),
+    }
 }
 
 fn new_record(alloc: Global) -> io::Result<Store<MemStore>> {
