@@ -1,8 +1,7 @@
 //! The questions, by their first words.
-use crate::files::{Failing, empty_files, in_file, open};
-use crate::filling::fill;
+use crate::files::new_database;
 use crate::playing::play;
-use crate::times::put_counts;
+use crate::times::{fill_new, put_counts};
 use crate::{counts, held_back, logs, meetings, refusals, stopping};
 use std::io;
 use std::sync::Wait;
@@ -30,31 +29,23 @@ pub fn write_line<T: Threads + Wait + Sync>(
 fn write_rows(host: &HostRuntime, subject: &str, rest: &str) -> io::Result<()> {
     host.println("")?;
     match subject {
-        "rows" => rows_in(host, rest),
+        "rows" => play_new(host),
         "fill" => write_counts(host, rest),
         _ => stopping::write_answers(host, host.alloc()),
     }
 }
 
-/// Steps the worked events with a record in this file. It is closed at the end, so that nothing of the record is left in the log beside it.
-pub fn rows_in(host: &HostRuntime, path: &str) -> io::Result<()> {
-    match play(host, host.alloc(), in_file(host, path)?)?.close() {
-        Ok(()) => Ok(()),
-        Err(_) => host.println("the file cannot be closed"),
-    }
+// Steps the worked events with a new record.
+fn play_new(host: &HostRuntime) -> io::Result<()> {
+    let alloc = host.alloc();
+    play(host, alloc, new_database(alloc)?)
 }
 
 // Writes how many rows a round of so many runs and tries writes to a record in memory.
 fn write_counts(host: &HostRuntime, rest: &str) -> io::Result<()> {
     let (runs, tries) = rest.split_once(' ').unwrap_or((rest, ""));
     match (runs.parse::<u64>(), tries.parse::<u64>()) {
-        (Ok(runs), Ok(tries)) => {
-            let alloc = host.alloc();
-            let Ok(conn) = open(alloc, empty_files(alloc, Failing::Both, u64::MAX)) else {
-                return host.println("not opened");
-            };
-            put_counts(host, &fill(host, alloc, conn, runs, tries)?)
-        }
+        (Ok(runs), Ok(tries)) => put_counts(host, &fill_new(host, runs, tries)?),
         _ => host.println("no numbers"),
     }
 }

@@ -1,22 +1,21 @@
-//! The two files of a database: files of the system, or files in memory of which one or both may fail every call after the first so many, and of the
-//! log some writes in a row may be refused. All records here lie in files of this one type.
+//! The two files of a database in memory: one or both may fail every call after the first so many, and of the log some writes in a row may be
+//! refused.
 ghost use Rattle.std.specs.Prelude.{◌≡◌, false, IfOk};
 
 use crate::flaky::Flaky;
-use record_files::{Place, open_in_file};
-use sqlite::{Connection, Error, ErrorCode, File, FileStore, Files, Options};
+use sqlite::{Connection, FileStore, Files, Options};
 use sqlite_disk::{Crash, Disk, Fuse, Memory};
 use std::alloc::Global;
-use std::io::{self, ErrorKind};
+use std::io;
 
 /// A file in memory that may fail.
 pub type Faulty = Fuse<Flaky<Memory>>;
 
-/// The files of a record.
-pub type RecordFiles = Files<Place<Faulty, File>>;
+/// The files of a record. All records here lie in such files.
+pub type RecordFiles = Files<Faulty>;
 
 /// A database in such files.
-pub type RecordStore = FileStore<Place<Faulty, File>>;
+pub type RecordStore = FileStore<Faulty>;
 
 /// Which of the files fail.
 #[derive(Clone, Copy)]
@@ -43,9 +42,9 @@ impl Writes {
     }
 }
 
-fn file(memory: Memory, writes: Writes, calls: u64) -> Place<Faulty, File> {
+fn file(memory: Memory, writes: Writes, calls: u64) -> Faulty {
     let Writes { passes, refusals } = writes;
-    Place::InMemory(Fuse::new(Flaky::new(memory, passes, refusals), calls))
+    Fuse::new(Flaky::new(memory, passes, refusals), calls)
 }
 
 /// Empty files, of which those that fail do so after so many calls each.
@@ -77,36 +76,31 @@ pub fn as_written(alloc: Global, files: &RecordFiles) -> io::Result<RecordFiles>
     })
 }
 
-fn file_as_written(
-    alloc: Global,
-    written: &Place<Faulty, File>,
-) -> io::Result<Place<Faulty, File>> {
+fn file_as_written(alloc: Global, written: &Faulty) -> io::Result<Faulty> {
     let mut copy = Memory::new(alloc);
-    if let Place::InMemory(written) = written {
-        copy.write_at(0, written.inner().inner().bytes())?;
-        copy.sync()?;
-    }
+    copy.write_at(0, written.inner().inner().bytes())?;
+    copy.sync()?;
     Ok(file(copy, Writes::all_pass(), u64::MAX))
 }
 
-/// The machine is stopped and comes back: of files in memory what was not synced is lost, and no call fails any more.
+/// The machine is stopped and comes back: what was not synced is lost, and no call fails any more.
 pub fn crash(files: &mut RecordFiles) {
-    crash_file(&mut files.log);
-    crash_file(&mut files.db);
-}
-
-fn crash_file(file: &mut Place<Faulty, File>) {
-    match file {
-        Place::InMemory(file) => file.crash(),
-        Place::InFile(_) => {}
-    }
+    files.log.crash();
+    files.db.crash();
 }
 
 /// How many writes the log has refused.
 pub fn refused_by(files: &RecordFiles) -> u64 {
-    match &files.log {
-        Place::InMemory(log) => log.inner().refused(),
-        Place::InFile(_) => 0,
+    files.log.inner().refused()
+}
+
+/// A new database, in files that fail no call.
+pub fn new_database(alloc: Global) -> io::Result<Connection<RecordStore>>
+    ensures { IfOk result (λ conn. conn.in_transaction ≡ false) }
+{
+    match open(alloc, empty_files(alloc, Failing::Both, u64::MAX)) {
+        Ok(conn) => Ok(conn),
+        Err(_) => Err(io::Error::other("the files cannot be opened")),
     }
 }
 
@@ -120,18 +114,5 @@ pub fn open(alloc: Global, files: RecordFiles) -> Result<Connection<RecordStore>
     match Connection::open_files(alloc, files, Options::new(1)) {
         Ok(conn) => Ok(conn),
         Err((_, left)) => Err(left.into_files()),
-    }
-}
-
-/// The database in the file of the system at this path.
-pub fn in_file(host: &HostRuntime, path: &str) -> io::Result<Connection<RecordStore>>
-    ensures { IfOk result (λ conn. conn.in_transaction ≡ false) }
-{
-    match open_in_file(host, path) {
-        Ok(conn) => Ok(conn),
-        Err(Error::SqliteFailure(ErrorCode::OutOfMemory)) => {
-            Err(io::Error::from(ErrorKind::OutOfMemory))
-        }
-        Err(_) => Err(io::Error::other("the file cannot be opened")),
     }
 }

@@ -26,6 +26,8 @@ pub struct Round {
     pub starts: Work,
     /// The reports that a try has ended.
     pub ends: Work,
+    /// How many runs the record has that is read at the end, and how long that took.
+    pub loaded: (usize, Duration),
 }
 
 /// Makes so many runs in a new record, then reports the starts and ends of so many tries, one after another.
@@ -50,18 +52,16 @@ pub fn fill<S: Alter + Drop, R: Clock>(
         backfills,
         starts,
         ends,
+        loaded: load_again(rt, alloc, &mut timed.store)?,
     })
 }
 
-/// Loads the record that is there: how many runs it has, and how long that took.
-pub fn load_again<S: Alter + Drop, R: Clock>(
+// Loads the record: how many runs it has, and how long that took.
+fn load_again<S: Alter, R: Clock>(
     rt: &R,
     alloc: Global,
-    conn: Connection<S>,
-) -> io::Result<(usize, Duration)>
-    requires { conn.in_transaction ≡ false }
-{
-    let mut store = Store::adopt(conn);
+    store: &mut Store<S>,
+) -> io::Result<(usize, Duration)> {
     let start = Instant::now(rt)?;
     match store.load(alloc, Limits::full()) {
         Ok(schedule) => Ok((schedule.runs().len(), start.elapsed(rt)?)),

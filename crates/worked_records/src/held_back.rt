@@ -30,8 +30,8 @@ fn hold_back<T: Threads + Wait + Sync>(rt: &T, host: &HostRuntime, count: u64) -
     team.push(worker(alloc, Waiting::Count(free), Caller::new(alloc, None))?)?;
     let script = script_of(alloc, count)?;
     let played = run(rt, host, Writes::all_pass(), team, script.as_str())?;
-    match played.work {
-        Some(work) => write_done(host, &work),
+    match &played.work {
+        Some(work) => write_done(host, work),
         None => host.print(" not run"),
     }
 }

@@ -32,8 +32,8 @@ pub fn write_answer<T: Threads + Wait + Sync>(
     team.push(worker(alloc, Waiting::Nothing, caller)?)?;
     let script = script_of(alloc, words)?;
     let played = run(rt, host, Writes::all_pass(), team, script.as_str())?;
-    match played.work {
-        Some(work) => write_work(host, &work),
+    match &played.work {
+        Some(work) => write_work(host, work),
         None => host.print(" not run"),
     }
 }

@@ -1,15 +1,14 @@
 //! Worked records: what each event writes, what a disk that fails leaves, what a script says of it, and what workers do of a script.
 //!
 //! A question is a line of standard input; it is printed with its answer behind ` =>`. A line that begins with `#` and an empty line are printed as they are.
-//! Of records: `rows FILE` steps a list of events with a record in this file, and prints the rows that each writes and those that are read at the end; `fill RUNS TRIES` says
-//! how many rows a greater round writes. `stop` stops a round at each call of its files in turn, and says for each step whether the rows before it or after it were
+//! Of records: `rows` steps a list of events with a record, and prints the rows that each writes and those that are read at the end; `fill RUNS TRIES` says how many
+//! rows a greater round writes. `stop` stops a round at each call of its files in turn, and says for each step whether the rows before it or after it were
 //! found. `refuse N` runs a script of one task over a new record, of whose log N writes in a row are refused, after 0, 1, 2 .. that are not, until a run meets none;
 //! runs that print the same share a line. Of workers: `log WORD..` has one do tries of these operators, `busy WORD..` one whose operator of `command` has another
 //! try taken up; `count WORKERS TRIES` has several do so many tries; `meet gates` and `meet operators` have two wait for one another, and `held TRIES` has one wait until
 //! the other has done the rest.
 //!
-//! With the words `rows FILE` that question alone is answered. With the words `time FILE RUNS` a new record in that file is filled with so many runs of 256 tasks,
-//! and it is printed how long that took; with `load FILE` the record in that file is loaded.
+//! With the words `time RUNS` no question is read: a new record is filled with so many runs of 256 tasks and then loaded, and it is printed how long that took.
 #![tactic(auto)]
 
 mod asking;
@@ -39,25 +38,18 @@ mod teams;
 mod times;
 mod totals;
 
-use crate::asking::{rows_in, write_line};
-use crate::times::{write_load, write_times};
+use crate::asking::write_line;
+use crate::times::write_times;
 use std::sync::Wait;
 use std::thread::Threads;
 use std::{env, io};
 
 fn main(rt: HostRuntime) -> io::Result<()> {
     let mut words = env::args(&rt)?;
-    let _program = words.next();
-    let Some(question) = words.next() else {
-        return write_page(&rt, &rt);
-    };
-    let path = words.next().unwrap_or(String::new(rt.alloc()));
-    match question.as_str() {
-        "rows" => rows_in(&rt, &path),
-        "load" => write_load(&rt, &path),
-        "time" => write_times(&rt, &path, words.next()),
-        _ => rt.println("no such word"),
+    if words.nth(1).is_some_and(|word| word.as_str() == "time") {
+        return write_times(&rt, words.next());
     }
+    write_page(&rt, &rt)
 }
 
 fn write_page<T: Threads + Wait + Sync>(rt: &T, host: &HostRuntime) -> io::Result<()> {

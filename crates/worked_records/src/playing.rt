@@ -10,27 +10,23 @@ use sqlite::{Alter, Connection};
 use std::alloc::Global;
 use std::io;
 
-/// Makes a record, opens a director on it, steps the events, and prints what the record holds then; gives the connection back.
-pub fn play<S: Alter + Drop, R: Print>(
-    rt: &R,
-    alloc: Global,
-    conn: Connection<S>,
-) -> io::Result<Connection<S>>
+/// Makes a record, opens a director on it, steps the events, and prints what the record holds then.
+pub fn play<S: Alter + Drop, R: Print>(rt: &R, alloc: Global, conn: Connection<S>) -> io::Result<()>
     requires { conn.in_transaction ≡ false }
 {
-    let mut store = match Store::create(alloc, conn) {
-        Ok(store) => store,
-        Err((conn, fault)) => {
-            tell(rt, &fault)?;
-            return Ok(conn);
-        }
-    };
+    match Store::create(alloc, conn) {
+        Ok(store) => play_on(rt, alloc, store),
+        Err((_conn, fault)) => tell(rt, &fault),
+    }
+}
+
+fn play_on<S: Alter + Drop, R: Print>(rt: &R, alloc: Global, store: Store<S>) -> io::Result<()> {
+    let mut store = store;
     rt.println("> a new record")?;
     read(rt, alloc, &mut store)?;
     let mut store = step_all(rt, alloc, store)?;
     rt.println("> read")?;
-    read(rt, alloc, &mut store)?;
-    Ok(store.release())
+    read(rt, alloc, &mut store)
 }
 
 fn step_all<S: Alter + Drop, R: Print>(

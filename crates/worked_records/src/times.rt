@@ -1,6 +1,6 @@
 //! What a round wrote, and how long that took.
-use crate::files::in_file;
-use crate::filling::{Round, fill, load_again};
+use crate::files::new_database;
+use crate::filling::{Round, fill};
 use crate::graphs::TASKS;
 use crate::totals::{Work, a_second, micros_each};
 use std::io;
@@ -10,25 +10,25 @@ const RUNS: u64 = 4;
 
 const TRIES: u64 = 400;
 
-/// Fills a new record in this file with so many runs, reports tries of them, and prints how long that took.
-pub fn write_times(host: &HostRuntime, path: &str, runs: Option<String>) -> io::Result<()> {
+/// Fills a new record with so many runs, reports tries of them, reads it, and prints how long that took.
+pub fn write_times(host: &HostRuntime, runs: Option<String>) -> io::Result<()> {
     let runs = runs.and_then(|word| word.parse::<u64>().ok());
     let runs = runs.unwrap_or(RUNS);
-    let round = fill(host, host.alloc(), in_file(host, path)?, runs, TRIES)?;
-    put_times(host, runs, &round)
+    put_times(host, runs, &fill_new(host, runs, TRIES)?)
 }
 
-/// Loads the record in this file, and prints how many runs it has and how long that took.
-pub fn write_load(host: &HostRuntime, path: &str) -> io::Result<()> {
-    let (runs, time) = load_again(host, host.alloc(), in_file(host, path)?)?;
-    println!(host; "{runs} runs loaded in {} ms", time.as_millis())
+/// Fills a new record with so many runs, and reports so many tries of them.
+pub fn fill_new(host: &HostRuntime, runs: u64, tries: u64) -> io::Result<Round> {
+    let alloc = host.alloc();
+    fill(host, alloc, new_database(alloc)?, runs, tries)
 }
 
 /// Prints how many steps and rows a round wrote.
 pub fn put_counts<R: Print>(rt: &R, round: &Round) -> io::Result<()> {
     put_count(rt, "backfills", &round.backfills)?;
     put_count(rt, "starts", &round.starts)?;
-    put_count(rt, "ends", &round.ends)
+    put_count(rt, "ends", &round.ends)?;
+    println!(rt; "loaded: {} runs", round.loaded.0)
 }
 
 // The same with times, of a round of so many runs.
@@ -37,7 +37,9 @@ fn put_times<R: Print>(rt: &R, runs: u64, round: &Round) -> io::Result<()> {
     println!(rt; "{instances} task instances")?;
     put_time(rt, "backfills", &round.backfills)?;
     put_time(rt, "starts", &round.starts)?;
-    put_time(rt, "ends", &round.ends)
+    put_time(rt, "ends", &round.ends)?;
+    let (loaded, time) = round.loaded;
+    println!(rt; "{loaded} runs loaded in {} ms", time.as_millis())
 }
 
 fn put_count<R: Print>(rt: &R, name: &str, work: &Work) -> io::Result<()> {

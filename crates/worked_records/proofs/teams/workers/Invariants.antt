@@ -5,7 +5,7 @@ use Rattle.script_runner.specs.Teams.{IsWhole}
 use Rattle.worked_records.proofs.teams.workers.Given as goal
 
 abbrev pub invariant-loop-worker : goal.invariant-loop-worker
-invariant-loop-worker g l = record {
+invariant-loop-worker l = record {
   count : length (vec_items l.team) ≡ l._worker;
   whole : All (λ w. IsWhole (kind_of (λ _. kinds.Command)) w.0.items) (vec_items l.team);
 }
