@@ -33,3 +33,10 @@ appends_more {X = X} f xs i x a b c inside here h k =
 -- the texts of a try's line, from the right
 pub try_texts : (serial graph logical task number : List ℕ) → codes "try " ++ (serial ++ (after_blank graph ++ (after_blank logical ++ (after_blank task ++ (after_blank number ++ codes "\n"))))) ≡ codes "try " ++ serial ++ after_blank graph ++ after_blank logical ++ after_blank task ++ after_blank number ++ codes "\n"
 try_texts serial graph logical task number = simp append_assoc refl
+
+-- the texts of a made run's line, from the right
+pub made_texts : (graph kind logical : List ℕ) → codes "made " ++ (graph ++ after_blank (kind ++ (codes "__" ++ (logical ++ codes "\n")))) ≡ codes "made " ++ graph ++ after_blank (kind ++ codes "__" ++ logical) ++ codes "\n"
+made_texts graph kind logical =
+    let id : List ℕ = kind ++ codes "__" ++ logical in
+    let end = append_assoc (kind ++ codes "__") logical (codes "\n") ∙ append_assoc kind (codes "__") (logical ++ codes "\n") in
+    ap (λ (t : List ℕ). codes "made " ++ (graph ++ after_blank t)) (sym end) ∙ ap (λ (t : List ℕ). codes "made " ++ t) (sym (append_assoc graph (after_blank id) (codes "\n")))

@@ -2,7 +2,8 @@
 use Rattle.std.specs.Prelude.{ℕ, Bool, true, false, List, [], ◌++◌, codes, if◌then◌else◌}
 use Rattle.std.specs.Fmt.{decimal}
 use Rattle.std.specs.List.{flat_map}
-use Rattle.answer_lines.specs.Runs.{run_id_text, after_blank}
+use Rattle.sched_state.specs.RunIds.{run_id_text}
+use Rattle.answer_lines.specs.Runs.{after_blank}
 use Rattle.answer_lines.specs.Jobs.{job_line}
 use Rattle.sched_events.specs.declared.answers.RunId.{RunId}
 use Rattle.sched_events.specs.declared.answers.Answer.{Answer}

@@ -2,21 +2,10 @@
 use Rattle.std.specs.Prelude.{ℕ, List, ◌∷◌, ◌++◌, codes}
 use Rattle.std.specs.List.{flat_map}
 use Rattle.moment_core.specs.Printing.{text_of}
-use Rattle.sched_state.specs.declared.runs.RunKind.{RunKind}
-use Rattle.sched_state.specs.declared.runs.RunKind.TheVariants.{Scheduled, Manual, Backfill}
+use Rattle.sched_state.specs.RunIds.{run_id_text}
 use Rattle.sched_state.specs.declared.runs.RunPhase.{RunPhase}
 use Rattle.sched_state.specs.declared.runs.RunPhase.TheVariants.{Queued, Running, Success, Failed}
 use Rattle.sched_state.specs.declared.runs.Run.{Run}
-
--- what a run id of this kind begins with
-abbrev pub prefix : RunKind → List ℕ
-prefix Scheduled = codes "scheduled__"
-prefix Manual = codes "manual__"
-prefix Backfill = codes "backfill__"
-
--- `scheduled__2024-01-01T00:00:00+00:00`
-abbrev pub run_id_text : RunKind → ℕ → List ℕ
-run_id_text kind logical = prefix kind ++ text_of logical
 
 abbrev pub phase_text : RunPhase → List ℕ
 phase_text Queued = codes "queued"

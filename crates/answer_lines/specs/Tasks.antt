@@ -4,7 +4,8 @@ use Rattle.std.specs.Fmt.{decimal}
 use Rattle.std.specs.List.{flat_map}
 use Rattle.trigger_rules.specs.States.{name_of}
 use Rattle.sched_events.specs.Rows.{Row}
-use Rattle.answer_lines.specs.Runs.{after_blank, run_id_text}
+use Rattle.sched_state.specs.RunIds.{run_id_text}
+use Rattle.answer_lines.specs.Runs.{after_blank}
 
 -- `DAG RUNID TASK STATE TRIES`
 abbrev pub task_line : Row → List ℕ

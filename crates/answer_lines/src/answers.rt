@@ -4,11 +4,9 @@ ghost use Rattle.std.specs.Io.KnownBytes.{Appends};
 ghost use Rattle.std.specs.List.{flat_map};
 ghost use Rattle.answer_lines.specs.Answers as answers;
 ghost use Rattle.answer_lines.specs.Answers.{answer_text, cleared_line, made_line};
-ghost use Rattle.answer_lines.specs.Runs as spec;
 
 use crate::jobs::put_jobs;
 use sched_events::{Answer, Event, RunId};
-use sched_state::RunKind;
 use std::io::{self, Write};
 
 // Writes the answer to an event.
@@ -68,18 +66,7 @@ fn put_made_line<W: Write>(output: &mut W, id: &RunId) -> io::Result<()>
         (made_line id.now)) }
 {
     let graph = id.graph.as_str();
-    let prefix = prefix(id.kind);
+    let kind = id.kind.name();
     let logical = id.logical;
-    writeln!(output, "made {graph} {prefix}{logical}")
-}
-
-// What a run id of this kind begins with (Airflow 2, "DAG Runs").
-pub(crate) fn prefix(kind: RunKind) -> &'static str
-    ensures { result.now ≡ spec.prefix kind }
-{
-    match kind {
-        RunKind::Scheduled => "scheduled__",
-        RunKind::Manual => "manual__",
-        RunKind::Backfill => "backfill__",
-    }
+    writeln!(output, "made {graph} {kind}__{logical}")
 }

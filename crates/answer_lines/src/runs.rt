@@ -4,7 +4,6 @@ ghost use Rattle.std.specs.Io.KnownBytes.{Appends};
 ghost use Rattle.answer_lines.specs.Runs as spec;
 ghost use Rattle.answer_lines.specs.Runs.{run_line};
 
-use crate::answers::prefix;
 use sched_state::{Run, RunPhase};
 use std::io::{self, Write};
 
@@ -14,12 +13,12 @@ pub(crate) fn put_run<W: Write>(output: &mut W, run: &Run) -> io::Result<()>
         (run_line run.now)) }
 {
     let graph = run.graph.as_str();
-    let prefix = prefix(run.kind);
+    let kind = run.kind.name();
     let logical = run.logical;
     let start = run.interval.start;
     let end = run.interval.end;
     let phase = phase_name(run.phase);
-    writeln!(output, "{graph} {prefix}{logical} {start} {end} {phase}")
+    writeln!(output, "{graph} {kind}__{logical} {start} {end} {phase}")
 }
 
 // The name of a phase (Airflow 2, "DAG Runs").

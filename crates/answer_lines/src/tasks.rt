@@ -3,7 +3,6 @@ ghost use Rattle.std.specs.Prelude.{OnOk};
 ghost use Rattle.std.specs.Io.KnownBytes.{Appends};
 ghost use Rattle.answer_lines.specs.Tasks.{task_line};
 
-use crate::answers::prefix;
 use sched_events::InstanceRow;
 use std::io::{self, Write};
 
@@ -13,10 +12,10 @@ pub(crate) fn put_task<W: Write>(output: &mut W, row: &InstanceRow<'_>) -> io::R
         (task_line row.now)) }
 {
     let graph = row.graph.as_str();
-    let prefix = prefix(row.kind);
+    let kind = row.kind.name();
     let logical = row.logical;
     let task = row.task.as_str();
     let state = row.state.name();
     let tries = row.tries;
-    writeln!(output, "{graph} {prefix}{logical} {task} {state} {tries}")
+    writeln!(output, "{graph} {kind}__{logical} {task} {state} {tries}")
 }

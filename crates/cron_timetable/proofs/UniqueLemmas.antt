@@ -4,12 +4,12 @@ use Rattle.std.proofs.lemmas.Bool.{cases_lt, false≢true}
 use Rattle.moment_core.specs.Moments.{seconds_end}
 use Rattle.cron_timetable.specs.Fields.{Fields, fires}
 use Rattle.cron_timetable.specs.Ticks.{NoneBetween, IsNextTick, IsLastTick}
-use Rattle.cron_timetable.specs.Intervals.{IsInterval, IsFirstIntervalFrom, IsLastIntervalTo, IntervalFrom, ManualInterval}
+use Rattle.cron_timetable.specs.Intervals.{IsInterval, IsFirstIntervalFrom, IsLastIntervalTo, IsFirstTriggerFrom, IntervalFrom, ManualInterval}
 use Rattle.cron_timetable.specs.Grammar.{IsRead, FaultOf}
 use Rattle.cron_timetable.specs.declared.faults.CronFault.{CronFault}
 use Rattle.cron_timetable.specs.declared.timetables.Interval.{Interval}
 use Rattle.cron_timetable.specs.declared.timetables.Timetable.{Timetable}
-use Rattle.cron_timetable.specs.declared.timetables.Timetable.TheVariants.{Cron, Once, Never}
+use Rattle.cron_timetable.specs.declared.timetables.Timetable.TheVariants.{Cron, Trigger, Once, Never}
 
 -- a moment that fires lies in no range where none does
 pub clash : (c : Fields) (low high m : ℕ) → NoneBetween c low high → low ≤ m → m < high → fires c m ≡ true → ⊥
@@ -78,11 +78,20 @@ same_ended c t i j p q =
     let moved : IsInterval c j.start i.end = rw ends q.interval in
     same_interval i j (same_start c i.start j.start i.end p.interval moved) ends
 
+same_trigger : (c : Fields) (t : ℕ) (i j : Interval) → IsFirstTriggerFrom c t i → IsFirstTriggerFrom c t j → i ≡ j
+same_trigger c t i j p q =
+    let starts : i.start ≡ j.start = same_least c t i.start j.start p.tick.from q.tick.from p.tick.least q.tick.least p.tick.tick.1 q.tick.tick.1 in
+    same_interval i j starts (p.empty ∙ (starts ∙ sym q.empty))
+
 pub same_interval_from : (x : Timetable) (t : ℕ) (r s : Option Interval) → IntervalFrom x t r → IntervalFrom x t s → r ≡ s
 same_interval_from (Cron c) t None None p q = refl
 same_interval_from (Cron c) t None (Some j) p q = absurd (p j.start j.end q.interval q.from)
 same_interval_from (Cron c) t (Some i) None p q = absurd (q i.start i.end p.interval p.from)
 same_interval_from (Cron c) t (Some i) (Some j) p q = ap (λ (k : Interval). Some k) (same_first c t i j p q)
+same_interval_from (Trigger c) t None None p q = refl
+same_interval_from (Trigger c) t None (Some j) p q = absurd (clash c t seconds_end j.start p q.tick.from q.tick.tick.0 q.tick.tick.1)
+same_interval_from (Trigger c) t (Some i) None p q = absurd (clash c t seconds_end i.start q p.tick.from p.tick.tick.0 p.tick.tick.1)
+same_interval_from (Trigger c) t (Some i) (Some j) p q = ap (λ (k : Interval). Some k) (same_trigger c t i j p q)
 same_interval_from Once t r s p q = p ∙ sym q
 same_interval_from Never t r s p q = p ∙ sym q
 
@@ -91,6 +100,7 @@ same_manual_interval (Cron c) t None None p q = refl
 same_manual_interval (Cron c) t None (Some j) p q = absurd (p j.start j.end q.interval q.to)
 same_manual_interval (Cron c) t (Some i) None p q = absurd (q i.start i.end p.interval p.to)
 same_manual_interval (Cron c) t (Some i) (Some j) p q = ap (λ (k : Interval). Some k) (same_ended c t i j p q)
+same_manual_interval (Trigger c) t r s p q = p ∙ sym q
 same_manual_interval Once t r s p q = p ∙ sym q
 same_manual_interval Never t r s p q = p ∙ sym q
 

@@ -1,8 +1,9 @@
 //! Cron expressions as Airflow 2 writes schedules: when they fire, and the data intervals between their ticks, in UTC.
 //!
 //! [`Cron::read`] reads a text such as `*/15 9-17 * * MON-FRI`; [`Cron::fires`] says whether a moment is a tick, and the four
-//! searches find the tick next to a moment on either side. A [`Timetable`] is a cron expression, one date or none at all, and
-//! gives the [`Interval`] of a run. A tick is a whole minute from 1970 to before 2200. No call allocates.
+//! searches find the tick next to a moment on either side. A [`Timetable`] is a cron expression, with a run for each time between two
+//! ticks or at each tick, one date or none at all, and gives the [`Interval`] of a run. A tick is a whole minute from 1970 to before
+//! 2200. No call allocates.
 //!
 //! ```text
 //! let cron = Cron::read("0 0 29 2 *")?;

@@ -1,7 +1,9 @@
 //! Timetables, and the data intervals of their runs.
 //!
-//! Easy to get wrong: an interval's start is a tick, and its run is due at its end, the tick after.
-ghost use Rattle.cron_timetable.specs.Intervals.{IntervalFrom, ManualInterval};
+//! Easy to get wrong: an interval's start is a tick, and its run is due at its end, the tick after. A trigger timetable's intervals
+//! are empty, so what goes on from an interval's end finds the same one again: the next starts a second later or more.
+ghost use Rattle.std.specs.Prelude.{◌≡◌};
+ghost use Rattle.cron_timetable.specs.Intervals.{empty_at, IntervalFrom, ManualInterval};
 
 use crate::Cron;
 use moment_core::Moment;
@@ -11,6 +13,8 @@ use moment_core::Moment;
 pub enum Timetable {
     /// One run for each two neighbouring ticks.
     Cron(Cron),
+    /// One run at each tick, Airflow's cron trigger timetable. Its interval is empty.
+    Trigger(Cron),
     /// One run, Airflow's `@once`.
     Once,
     /// Only runs by hand, Airflow's `None`.
@@ -24,10 +28,23 @@ pub struct Interval {
     pub end: Moment,
 }
 
+impl Interval {
+    /// The empty interval at a moment.
+    pub fn empty_at(moment: Moment) -> Interval
+        ensures { result ≡ empty_at moment }
+    {
+        Interval {
+            start: moment,
+            end: moment,
+        }
+    }
+}
+
 impl Timetable {
     /// The first interval whose start is at or after `from`; both ends have to be moments.
     ///
-    /// For `Once` it is the empty interval at `from`, and for `Never` there is none.
+    /// For `Trigger` it is the empty interval at the first tick at or after `from`, for `Once` the empty one at `from`, and for `Never`
+    /// there is none.
     pub fn interval_from(&self, from: Moment) -> Option<Interval>
         ensures { IntervalFrom self.now from result }
     {
@@ -37,17 +54,18 @@ impl Timetable {
                 let end = cron.next_after(start)?;
                 Some(Interval { start, end })
             }
-            Timetable::Once => Some(Interval {
-                start: from,
-                end: from,
-            }),
+            Timetable::Trigger(cron) => {
+                let tick = cron.next_at_or_after(from)?;
+                Some(Interval::empty_at(tick))
+            }
+            Timetable::Once => Some(Interval::empty_at(from)),
             Timetable::Never => None,
         }
     }
 
     /// The interval of a run by hand at `now`: the last one whose end is at or before `now`.
     ///
-    /// For `Once` and `Never` it is the empty interval at `now`.
+    /// For `Trigger`, `Once` and `Never` it is the empty interval at `now`.
     pub fn manual_interval(&self, now: Moment) -> Option<Interval>
         ensures { ManualInterval self.now now result }
     {
@@ -57,10 +75,9 @@ impl Timetable {
                 let start = cron.last_before(end)?;
                 Some(Interval { start, end })
             }
-            Timetable::Once | Timetable::Never => Some(Interval {
-                start: now,
-                end: now,
-            }),
+            Timetable::Trigger(_) | Timetable::Once | Timetable::Never => {
+                Some(Interval::empty_at(now))
+            }
         }
     }
 }

@@ -9,11 +9,9 @@ use crate::reasons::Reason;
 use crate::subjects::Subject;
 use graph_file::Name;
 use sched_core::{PoolRow, Schedule};
+use sched_state::LAST_SERIAL;
 use std::alloc::{AllocError, Global};
 use trigger_rules::State;
-
-// The greatest serial.
-const LAST_SERIAL: u64 = 1 << 62;
 
 pub fn retry_later(schedule: &Schedule, subject: &Subject<'_>) -> Option<Reason>
     ensures { result ≡ spec.retry_later schedule.now.content subject.now }

@@ -5,3 +5,4 @@ pub mod ScheduleLemmas
 pub mod FaultLemmas
 pub mod StatusLemmas
 pub mod WriteLemmas
+pub mod SortedLemmas

@@ -9,7 +9,8 @@ use Rattle.graph_file.specs.Operators.{operator_of, takes}
 use Rattle.graph_file.specs.Rules.{rule_of, weight_rule_of}
 use Rattle.graph_file.specs.Keys.{row_of, task_keys}
 use Rattle.graph_file.specs.Tables.{each_item, some_item, keys_in, member_at}
-use Rattle.graph_file.specs.Values.{texts_of}
+use Rattle.graph_file.specs.Values.{value_of, text_in, texts_of}
+use Rattle.graph_file.specs.Schedules.{cron_timetable_of, lacks_ticks}
 use Rattle.graph_file.specs.declared.operators.Operator.{Operator}
 use Rattle.graph_file.specs.declared.keys.Key.{Key}
 use Rattle.graph_file.specs.declared.keys.Key.TheVariants as key
@@ -76,15 +77,18 @@ is_outside (role.Range low high) d = holds_at (λ z. int_lt z low || int_lt high
 is_outside role.Operator d = holds_at (λ s. is_none (operator_of s)) (as_str d)
 is_outside role.Rule d = holds_at (λ s. is_none (rule_of s)) (as_str d)
 is_outside role.WeightRule d = holds_at (λ s. is_none (weight_rule_of s)) (as_str d)
+is_outside role.Timetable d = holds_at (λ s. is_none (cron_timetable_of s)) (as_str d)
 is_outside _ d = false
 
 -- the operator of a task, if its word is one
 abbrev pub operator_at : Members → Option Operator
 operator_at t = option_and_then (λ d. option_and_then operator_of (as_str d)) (member_at key.Operator t)
 
--- arguments are wanted, and those of the table, which may be none, the operator beside them does not take
+-- arguments are wanted, and those of the table, which may be none, the operator beside them does not take; or a run at each tick is,
+-- and the schedule of the table has no ticks
 abbrev pub is_unfit : Role → Members → Bool
 is_unfit role.Arguments t = holds_at (λ o. not (takes o (texts_of key.Argv t))) (operator_at t)
+is_unfit role.Timetable t = lacks_ticks (cron_timetable_of (text_in (value_of key.Timetable t))) (text_in (value_of key.Schedule t))
 is_unfit _ t = false
 
 abbrev pub is_bad : Key → Members → Bool

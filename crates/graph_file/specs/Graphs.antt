@@ -3,17 +3,19 @@ use Rattle.std.specs.Prelude.{ℕ, nat_lt, if◌then◌else◌, List, map, lengt
 use Rattle.std.specs.Result.{result_unwrap_or}
 use Rattle.toml.specs.Data.{Data, Members}
 use Rattle.toml.specs.Parse.{parse_document}
+use Rattle.cron_timetable.specs.declared.timetables.Timetable.{Timetable}
 use Rattle.cron_timetable.specs.declared.timetables.Timetable.TheVariants.{Never}
 use Rattle.graph_file.specs.Operators.{operator_of, Call}
 use Rattle.graph_file.specs.Rules.{rule_of, weight_rule_of}
 use Rattle.graph_file.specs.Tables.{tasks_of, table_of}
 use Rattle.graph_file.specs.Values.{value_of, text_in, flag_in, number_in, moment_in, texts_of}
-use Rattle.graph_file.specs.Schedules.{timetable_of}
+use Rattle.graph_file.specs.Schedules.{timetable_of, cron_timetable_of, with_timetable}
 use Rattle.graph_file.specs.Faults.{fault_of}
 use Rattle.graph_file.specs.declared.keys.Key.TheVariants as key
 use Rattle.graph_file.specs.declared.operators.Operator.TheVariants.{Noop}
 use Rattle.graph_file.specs.declared.rules.Rule.TheVariants.{AllSuccess}
 use Rattle.graph_file.specs.declared.rules.WeightRule.TheVariants.{Downstream}
+use Rattle.graph_file.specs.declared.schedules.CronTimetable.TheVariants.{Interval}
 use Rattle.graph_file.specs.declared.faults.GraphFault.{GraphFault}
 use Rattle.graph_file.specs.declared.faults.GraphFault.TheVariants.{NotToml, TooMany}
 use Rattle.graph_file.specs.declared.task_specs.TaskSpec.{TaskSpec}
@@ -49,11 +51,17 @@ task_in t = record {
 abbrev pub task_of : Data → TaskSpec
 task_of d = task_in (table_of d)
 
+-- when the runs of a table come
+abbrev pub schedule_in : Members → Timetable
+schedule_in t =
+    with_timetable (unwrap_or (cron_timetable_of (text_in (value_of key.Timetable t))) Interval)
+    (result_unwrap_or (timetable_of (text_in (value_of key.Schedule t))) Never)
+
 -- the graph of a table
 abbrev pub graph_in : Members → GraphSpec
 graph_in t = record {
   dag_id = text_in (value_of key.DagId t);
-  schedule = result_unwrap_or (timetable_of (text_in (value_of key.Schedule t))) Never;
+  schedule = schedule_in t;
   start_date = unwrap_or (moment_in (value_of key.StartDate t)) 0;
   end_date = moment_in (value_of key.EndDate t);
   catchup = flag_in (value_of key.Catchup t);

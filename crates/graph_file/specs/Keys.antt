@@ -30,6 +30,7 @@ row_of key.EndDate = record { name = codes "end_date"; kind = Text; role = role.
 row_of key.Catchup = record { name = codes "catchup"; kind = Flag; role = role.Free; absent = absent.Flag true }
 row_of key.MaxActiveRuns = whole_row (codes "max_active_runs") 1 1000000 16
 row_of key.Task = record { name = codes "task"; kind = Tables; role = role.Free; absent = absent.Empty }
+row_of key.Timetable = record { name = codes "timetable"; kind = Text; role = role.Timetable; absent = absent.Interval }
 row_of key.TaskId = record { name = codes "task_id"; kind = Text; role = role.Name; absent = absent.Refused }
 row_of key.Operator = record { name = codes "operator"; kind = Text; role = role.Operator; absent = absent.Refused }
 row_of key.Argv = record { name = codes "argv"; kind = Texts; role = role.Arguments; absent = absent.Empty }
@@ -45,7 +46,7 @@ row_of key.DependsOnPast = record { name = codes "depends_on_past"; kind = Flag;
 
 -- the keys at the top of a file
 abbrev pub top_keys : List Key
-top_keys = key.DagId ∷ key.Schedule ∷ key.StartDate ∷ key.EndDate ∷ key.Catchup ∷ key.MaxActiveRuns ∷ key.Task ∷ []
+top_keys = key.DagId ∷ key.Schedule ∷ key.StartDate ∷ key.EndDate ∷ key.Catchup ∷ key.MaxActiveRuns ∷ key.Task ∷ key.Timetable ∷ []
 
 -- the keys of a task
 abbrev pub task_keys : List Key

@@ -21,6 +21,7 @@ default_of (absent.Whole n) = Some (integer (pos n))
 default_of absent.AllSuccess = Some (string (codes "all_success"))
 default_of absent.DefaultPool = Some (string (codes "default_pool"))
 default_of absent.Downstream = Some (string (codes "downstream"))
+default_of absent.Interval = Some (string (codes "interval"))
 
 abbrev pub value_of : Key → Members → Option Data
 value_of k t = option_or (member_at k t) (default_of (row_of k).absent)

@@ -16,12 +16,13 @@ ghost use Rattle.graph_file.specs.Values as texts;
 ghost use Rattle.graph_file.specs.Graphs as spec;
 
 use crate::keys::{Absent, Key};
-use crate::schedules::read_timetable;
-use crate::tables::{items_at, tasks, text_of, value_at};
+use crate::schedules::{CronTimetable, read_timetable};
+use crate::tables::{items_at, tasks, text_at, text_of, value_at};
 use crate::{
     Action, Argument, Bounded, GraphSpec, Name, Operator, Rule, Sequence, TaskSpec, Tasks,
     WeightRule,
 };
+use cron_timetable::Timetable;
 use moment_core::Moment;
 use std::alloc::{AllocError, Global};
 use toml::{Table, Value};
@@ -38,13 +39,24 @@ pub fn graph_in(alloc: Global, table: &Table) -> Result<GraphSpec, AllocError>
     let tasks = tasks_in(alloc, tasks(table))?;
     Ok(GraphSpec {
         dag_id,
-        schedule: read_timetable(text_at(table, Key::Schedule)).unwrap(),
+        schedule: schedule_in(table),
         start_date: moment_at(table, Key::StartDate).unwrap(),
         end_date: moment_at(table, Key::EndDate),
         catchup: flag_at(table, Key::Catchup),
         max_active_runs: bounded_at(table, Key::MaxActiveRuns),
         tasks: Tasks::new(tasks),
     })
+}
+
+// When the runs of a table without faults come.
+fn schedule_in(table: &Table) -> Timetable
+    requires top { is_faultless top_keys (table_view table.now) ≡ true }
+    requires schedule { cron_fault top_keys (table_view table.now) ≡ None }
+    ensures { result ≡ spec.schedule_in (table_view table.now) }
+{
+    let schedule = read_timetable(text_at(table, Key::Schedule)).unwrap();
+    let timetable = CronTimetable::read(text_at(table, Key::Timetable)).unwrap();
+    timetable.of(schedule)
 }
 
 // The tasks of tables without faults.
@@ -128,19 +140,6 @@ fn name_at(alloc: Global, table: &Table, key: Key) -> Result<Name, AllocError>
     ensures { IfOk result (λ name. name ≡ text_in (value_of key (table_view table.now))) }
 {
     Name::of(alloc, text_at(table, key))
-}
-
-// The text at a key.
-fn text_at(table: &Table, key: Key) -> &str
-    ensures { result.now ≡ text_in (value_of key (table_view table.now)) }
-{
-    match value_at(table, key) {
-        Some(value) => match value.as_str() {
-            Some(text) => text,
-            None => "",
-        },
-        None => key.absent().text(),
-    }
 }
 
 // The flag at a key.

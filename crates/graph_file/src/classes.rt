@@ -1,7 +1,7 @@
 //! The classes of faults that have a place, each one test over the rows of the keys.
 //!
 //! A class speaks of a table only: that the first class that stands anywhere in the file is answered, and at its first
-//! place, is the business of `reading.rt`. So a value of the wrong type is no bad name and no bad value here.
+//! place, is the business of `finding.rt`. So a value of the wrong type is no bad name and no bad value here.
 ghost use Rattle.std.specs.Prelude.{◌≡◌, not, string_bytes};
 ghost use Rattle.std.specs.List.{list_all, list_any};
 ghost use Rattle.std.specs.BTreeMap.{keys as entry_keys};
@@ -14,7 +14,8 @@ ghost use Rattle.graph_file.specs.Classes as spec;
 use crate::arguments::takes;
 use crate::keys::{Absent, Key, Kind, Role, TASK_KEYS};
 use crate::names::is_name;
-use crate::tables::{items_at, value_at};
+use crate::schedules::{CronTimetable, lacks_ticks};
+use crate::tables::{items_at, text_at, value_at};
 use crate::{Operator, Rule, WeightRule};
 use moment_core::Moment;
 use toml::{Table, Value};
@@ -230,11 +231,16 @@ fn is_outside(role: Role, value: &Value) -> bool
             Some(text) => WeightRule::read(text).is_none(),
             None => false,
         },
+        Role::Timetable => match value.as_str() {
+            Some(text) => CronTimetable::read(text).is_none(),
+            None => false,
+        },
         _ => false,
     }
 }
 
-// Whether arguments are wanted, and the operator beside them does not take those of the table.
+// Whether arguments are wanted, and the operator beside them does not take those of the table; or a run at each tick is, and the
+// schedule of the table has no ticks.
 fn is_unfit(role: Role, table: &Table) -> bool
     ensures { result ≡ spec.is_unfit role (table_view table.now) }
 {
@@ -243,6 +249,10 @@ fn is_unfit(role: Role, table: &Table) -> bool
             Some(operator) => !takes(operator, items_at(table, Key::Argv)),
             None => false,
         },
+        Role::Timetable => lacks_ticks(
+            CronTimetable::read(text_at(table, Key::Timetable)),
+            text_at(table, Key::Schedule),
+        ),
         _ => false,
     }
 }

@@ -6,6 +6,9 @@ ghost use Rattle.std.specs.Prelude.{◌≡◌};
 ghost use Rattle.graph_file.specs.Keys.{row_of};
 ghost use Rattle.graph_file.specs.Values.{default_of, text_in};
 
+/// The pool of a task that names none, which each schedule has (Airflow 2, "Pools").
+pub const DEFAULT_POOL: &str = "default_pool";
+
 /// What a value is in TOML.
 #[derive(Clone, Copy)]
 pub enum Kind {
@@ -36,6 +39,8 @@ pub enum Role {
     Range(i64, i64),
     /// When a graph's runs come.
     Schedule,
+    /// The word of a cron text's timetable; `trigger` wants a schedule that has ticks.
+    Timetable,
     /// The word of an operator.
     Operator,
     /// Arguments that the operator of the same task takes.
@@ -63,6 +68,8 @@ pub enum Absent {
     DefaultPool,
     /// The text `downstream`.
     Downstream,
+    /// The text `interval`.
+    Interval,
 }
 
 /// A key of a table.
@@ -75,6 +82,7 @@ pub enum Key {
     Catchup,
     MaxActiveRuns,
     Task,
+    Timetable,
     TaskId,
     Operator,
     Argv,
@@ -99,7 +107,7 @@ pub struct Row {
 }
 
 /// The keys at the top of a file.
-pub const TOP_KEYS: [Key; 7] = [
+pub const TOP_KEYS: [Key; 8] = [
     Key::DagId,
     Key::Schedule,
     Key::StartDate,
@@ -107,6 +115,7 @@ pub const TOP_KEYS: [Key; 7] = [
     Key::Catchup,
     Key::MaxActiveRuns,
     Key::Task,
+    Key::Timetable,
 ];
 
 /// The keys of a task.
@@ -141,6 +150,7 @@ impl Key {
             Key::Catchup => Row::new("catchup", Kind::Flag, Role::Free, Absent::Flag(true)),
             Key::MaxActiveRuns => Row::whole("max_active_runs", 1, 1_000_000, 16),
             Key::Task => Row::new("task", Kind::Tables, Role::Free, Absent::Empty),
+            Key::Timetable => Row::new("timetable", Kind::Text, Role::Timetable, Absent::Interval),
             Key::TaskId => Row::new("task_id", Kind::Text, Role::Name, Absent::Refused),
             Key::Operator => Row::new("operator", Kind::Text, Role::Operator, Absent::Refused),
             Key::Argv => Row::new("argv", Kind::Texts, Role::Arguments, Absent::Empty),
@@ -239,8 +249,9 @@ impl Absent {
     {
         match self {
             Absent::AllSuccess => "all_success",
-            Absent::DefaultPool => "default_pool",
+            Absent::DefaultPool => DEFAULT_POOL,
             Absent::Downstream => "downstream",
+            Absent::Interval => "interval",
             _ => "",
         }
     }

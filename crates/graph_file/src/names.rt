@@ -86,8 +86,8 @@ impl Name {
     }
 }
 
-// Whether the text is a name.
-pub(crate) fn is_name(text: &str) -> bool
+/// Whether the text is a name: 1 to 250 letters, digits, `_`, `-` and `.`.
+pub fn is_name(text: &str) -> bool
     ensures { result ≡ spec.is_name text.now }
 {
     let bytes = text.as_bytes();

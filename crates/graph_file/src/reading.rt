@@ -8,7 +8,7 @@ use crate::{GraphFault, GraphSpec};
 use std::alloc::Global;
 
 /// The most bytes that a graph file may have.
-const TEXT_LIMIT: usize = 1_048_576;
+pub const TEXT_LIMIT: usize = 1_048_576;
 
 /// The graph that a text describes, or the first fault.
 pub fn read_graph(alloc: Global, text: &str) -> Result<GraphSpec, GraphFault>

@@ -1,8 +1,9 @@
-//! A table of TOML: what stands at a key, the items of an array, and the tasks.
+//! A table of TOML: what stands at a key, a text or its default there, the items of an array, and the tasks.
 ghost use Rattle.std.specs.Prelude.{◌≡◌, map, option_map, option_and_then};
 ghost use Rattle.toml.specs.Data.{as_array};
 ghost use Rattle.toml.specs.View.{table_view, array_view, view};
 ghost use Rattle.graph_file.specs.Tables.{member_at, items_of, tasks_of};
+ghost use Rattle.graph_file.specs.Values.{value_of, text_in};
 ghost use Rattle.graph_file.specs.Values as spec;
 
 use crate::keys::Key;
@@ -42,6 +43,19 @@ pub fn tasks(table: &Table) -> &[Value]
     ensures { map view result.now ≡ tasks_of (table_view table.now) }
 {
     items_at(table, Key::Task)
+}
+
+// The text at a key, or the one that stands where it is absent.
+pub fn text_at(table: &Table, key: Key) -> &str
+    ensures { result.now ≡ text_in (value_of key (table_view table.now)) }
+{
+    match value_at(table, key) {
+        Some(value) => match value.as_str() {
+            Some(text) => text,
+            None => "",
+        },
+        None => key.absent().text(),
+    }
 }
 
 // The text of a value.

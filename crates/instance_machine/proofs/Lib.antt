@@ -1,1 +1,2 @@
+pub mod MarkLemmas
 pub mod StateLemmas

@@ -1,3 +1,4 @@
 pub mod Instances
+pub mod Marks
 pub mod States
 pub mod Reports

@@ -1,5 +1,5 @@
 //! A task instance, and what is done to it.
-ghost use Rattle.std.specs.Prelude.{◌≡◌, ◌≢◌, [], ◌∷◌, ◌++◌, length, map, None, Some, IfOk, OnOk, OnErr};
+ghost use Rattle.std.specs.Prelude.{◌≡◌, ◌≢◌, ◌≤◌, [], ◌∷◌, ◌++◌, length, map, None, Some, IfOk, OnOk, OnErr};
 ghost use Rattle.trigger_rules.specs.declared.verdicts.Verdict.TheVariants.{Wait};
 ghost use Rattle.instance_machine.specs.Instances.{new_instance, with_last, last_of, recent, map_tries};
 ghost use Rattle.instance_machine.specs.Reports.{reported_try, lost_try};
@@ -41,6 +41,19 @@ impl Instance {
             verdict: None,
             since: 0,
             tries: Vec::new(alloc),
+        }
+    }
+
+    /// The instance that has this verdict and these tries, so many of them from before its last clearing. It takes no memory.
+    pub fn of(verdict: Option<Verdict>, since: usize, tries: Vec<Try>) -> Instance
+        requires decided { verdict ≢ Some Wait }
+        requires since { since ≤ length tries.items }
+        ensures { result ≡ record { verdict = verdict; since = since; tries = tries.items } }
+    {
+        Instance {
+            verdict,
+            since,
+            tries,
         }
     }
 

@@ -9,12 +9,14 @@
 //! ```
 #![tactic(auto)]
 
+mod dirty;
 mod instances;
 mod laws;
 mod reports;
 mod states;
 mod tries;
 
+pub use dirty::Dirty;
 pub use instances::Instance;
 pub use laws::failures_are_tried_again;
 pub use reports::ReportFault;

@@ -11,7 +11,7 @@ use Rattle.std.specs.declared.cmp.Ordering.{Ordering}
 use Rattle.std.specs.declared.cmp.Ordering.TheVariants.{Less, Equal, Greater}
 use Rattle.pool_book.proofs.PoolLemmas.{pool_of-with}
 use Rattle.pool_book.proofs.RankLemmas.{rank_total, alike, both-ways, none-left-out}
-use Rattle.pool_book.specs.Keys.{rank, same_instance, same_key, has_instance, with_key, without_key, IsFirstInRank, fits, fits_in}
+use Rattle.pool_book.specs.Keys.{rank, same_instance, same_key, has_instance, with_key, without_key, IsFirstInRank, fits, fits_pool, fits_in}
 use Rattle.pool_book.specs.Pools.{PoolUse, Entries, pool_of, with_pool, take_slots}
 use Rattle.pool_book.specs.declared.keys.Key.{Key}
 
@@ -62,14 +62,16 @@ same-parts x y e =
     let b = and_parts (same_instance x y) _ a.1 in
     let c = and_parts (x.logical == y.logical) _ b.0 in
     let d = and_parts (bytes_eq x.graph y.graph) (bytes_eq x.task y.task) c.1 in
-    let f = and_parts (bytes_eq x.pool y.pool) (x.slots == y.slots) b.1 in
+    let f = and_parts (bytes_eq x.pool y.pool) _ b.1 in
     let weight = eqb-true x.weight y.weight a.0 in
     let logical = eqb-true x.logical y.logical c.0 in
     let graph = same_text x.graph y.graph (sym d.0) in
     let task = same_text x.task y.task (sym d.1) in
+    let g = and_parts (x.slots == y.slots) (x.room == y.room) f.1 in
     let pool = same_text x.pool y.pool (sym f.0) in
-    let slots = eqb-true x.slots y.slots f.1 in
-    λ i. record { weight = weight i; logical = logical i; graph = graph i; task = task i; pool = pool i; slots = slots i }
+    let slots = eqb-true x.slots y.slots g.0 in
+    let room = eqb-true x.room y.room g.1 in
+    λ i. record { weight = weight i; logical = logical i; graph = graph i; task = task i; pool = pool i; slots = slots i; room = room i }
 
 itself : (x : Key) → same_key x x ≡ true
 itself x = search rules
@@ -143,9 +145,9 @@ first-is-one keys others x y same f g =
 
 -- ROOM IN A POOL
 
-pub overdrawn-by_none : (pools : Entries) (key : Key) (p : PoolUse) → fits pools key ≡ true → pool_of key.pool (with_pool key.pool (take_slots key.slots) pools) ≡ Some p → p.occupied ≤ p.size
-overdrawn-by_none pools key p fit after =
-    by (pool_of key.pool pools) fit (sym (pool_of-with key.pool (take_slots key.slots) key.pool pools ∙ ap (λ b. cond b (option_map (take_slots key.slots) (pool_of key.pool pools)) (pool_of key.pool pools)) (nat_list_eq_equiv.refl key.pool)) ∙ after)
+pub overdrawn-by_none : (pools : Entries) (rooms : List Bool) (key : Key) (p : PoolUse) → fits pools rooms key ≡ true → pool_of key.pool (with_pool key.pool (take_slots key.slots) pools) ≡ Some p → p.occupied ≤ p.size
+overdrawn-by_none pools rooms key p fit after =
+    by (pool_of key.pool pools) (and_parts (fits_pool pools key) _ fit).0 (sym (pool_of-with key.pool (take_slots key.slots) key.pool pools ∙ ap (λ b. cond b (option_map (take_slots key.slots) (pool_of key.pool pools)) (pool_of key.pool pools)) (nat_list_eq_equiv.refl key.pool)) ∙ after)
   where
     by : (o : Option PoolUse) → fits_in key.slots o ≡ true → option_map (take_slots key.slots) o ≡ Some p → p.occupied ≤ p.size
     by None fit is = absurd (false≢true fit)

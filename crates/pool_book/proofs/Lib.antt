@@ -1,4 +1,3 @@
-pub mod OrderLemmas
 pub mod PoolLemmas
 pub mod RankLemmas
 pub mod LawLemmas

@@ -20,7 +20,7 @@ use Rattle.std.specs.Str.{bytes_eq}
 use Rattle.std.specs.declared.cmp.Ordering.{Ordering}
 use Rattle.std.specs.declared.cmp.Ordering.TheVariants.{Less, Equal, Greater}
 use Rattle.indexmap.specs.IndexMap.{insert_entry as index_insert}
-use Rattle.pool_book.proofs.OrderLemmas.{below-all, sorted-from_strict}
+use Rattle.graph_file.proofs.SortedLemmas.{below-all, sorted-from_strict}
 use Rattle.pool_book.specs.Pools.{Name, name_cmp, PoolUse, Entries, IsInOrder, pool_of, with_pool, vacated}
 
 -- a name is told from another by its bytes

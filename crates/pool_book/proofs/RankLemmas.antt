@@ -15,7 +15,7 @@ use Rattle.std.specs.Ordering.{is_lt, ordering_reverse, ordering_then, nat_cmp}
 use Rattle.std.specs.Str.{bytes_eq}
 use Rattle.std.specs.declared.cmp.Ordering.{Ordering}
 use Rattle.std.specs.declared.cmp.Ordering.TheVariants.{Less, Equal, Greater}
-use Rattle.pool_book.proofs.OrderLemmas.{sorted-from_strict, sorted-insert_key, insert-at_gap}
+use Rattle.graph_file.proofs.SortedLemmas.{sorted-from_strict, sorted-insert_key, insert-at_gap}
 use Rattle.pool_book.specs.Keys.{rank, ranks_before, IsInRank, IsRankAt, same_instance, has_instance, same_key, with_key, without_key, IsFirstInRank}
 use Rattle.pool_book.specs.Pools.{name_cmp}
 use Rattle.pool_book.specs.declared.keys.Key.{Key}

@@ -1,4 +1,4 @@
--- What is ready to be handed out: keys, their rank, and which of them fits its pool.
+-- What is ready to be handed out: keys, their rank, and which of them fits.
 use Rattle.std.specs.Prelude.{◌≡◌, ◌⊎◌, ℕ, ◌+◌, ◌<◌, ◌≤◌, Bool, true, false, ◌&&◌, ◌==◌, not, List, length, Option, Some, None, Result, Ok, Err, Contains, HoldsAt, filter, nat_le, bytes_eq}
 use Rattle.std.specs.BTreeSet.{insert_key}
 use Rattle.std.specs.List.{list_any}
@@ -9,6 +9,7 @@ use Rattle.std.specs.declared.cmp.Ordering.TheVariants.{Less, Equal, Greater}
 use Rattle.pool_book.specs.Ranks.{RankParts, rank_cmp}
 use Rattle.pool_book.specs.declared.keys.Key.{Key}
 use Rattle.pool_book.specs.Pools.{Entries, PoolUse, pool_of}
+use Rattle.pool_book.specs.Rooms.{has_room}
 
 -- the keys that are offered, in the order of their rank, and how many more there is memory for
 pub record Offered : Type 0 where
@@ -43,7 +44,7 @@ has_instance key keys = list_any (same_instance key) keys
 
 -- the keys are the same
 abbrev pub same_key : Key → Key → Bool
-same_key x y = (x.weight == y.weight) && (same_instance x y && (bytes_eq x.pool y.pool && (x.slots == y.slots)))
+same_key x y = (x.weight == y.weight) && (same_instance x y && (bytes_eq x.pool y.pool && ((x.slots == y.slots) && (x.room == y.room))))
 
 -- the key stands at its rank
 abbrev pub with_key : Key → List Key → List Key
@@ -59,12 +60,16 @@ fits_in slots None = false
 fits_in slots (Some p) = nat_le (p.occupied + slots) p.size
 
 -- the key's slots are open in its pool; where there is no such pool they aren't
-abbrev pub fits : Entries → Key → Bool
-fits pools key = fits_in key.slots (pool_of key.pool pools)
+abbrev pub fits_pool : Entries → Key → Bool
+fits_pool pools key = fits_in key.slots (pool_of key.pool pools)
+
+-- the key fits its pool, and its graph has room
+abbrev pub fits : Entries → List Bool → Key → Bool
+fits pools rooms key = fits_pool pools key && has_room rooms key.room
 
 -- the keys that fit
-abbrev pub fitting : Entries → List Key → List Key
-fitting pools keys = filter (fits pools) keys
+abbrev pub fitting : Entries → List Bool → List Key → List Key
+fitting pools rooms keys = filter (fits pools rooms) keys
 
 -- it is one of the keys, and ranks before each other of them
 abbrev pub IsFirstInRank : List Key → Key → Type 0

@@ -2,7 +2,7 @@
 ghost use Rattle.std.specs.Prelude.{◌≡◌, IfOk};
 ghost use Rattle.pool_book.specs.Keys.{parts_of, rank, same_instance, same_key, fits};
 
-use crate::{Pools, Rank, Slots};
+use crate::{Pools, Rank, Rooms, Slots};
 use graph_file::Name;
 use moment_core::Moment;
 use std::alloc::{AllocError, Global};
@@ -23,6 +23,8 @@ pub struct Key {
     pub pool: Name,
     /// How many of them.
     pub slots: Slots,
+    /// The number of its graph in [`Rooms`].
+    pub room: usize,
 }
 
 impl Key {
@@ -37,6 +39,7 @@ impl Key {
             task: self.task.copy(alloc)?,
             pool: self.pool.copy(alloc)?,
             slots: self.slots,
+            room: self.room,
         })
     }
 
@@ -74,12 +77,13 @@ impl Key {
             && self.is_same_instance(other)
             && self.pool == other.pool
             && self.slots == other.slots
+            && self.room == other.room
     }
 
-    // Whether its slots are open in its pool; where there is no such pool, they aren't.
-    pub(crate) fn fits(&self, pools: &Pools) -> bool
-        ensures { result ≡ fits pools.now.pools self.now }
+    // Whether its slots are open in its pool, and its graph has room. Where there is no such pool, they aren't.
+    pub(crate) fn fits(&self, pools: &Pools, rooms: &Rooms) -> bool
+        ensures { result ≡ fits pools.now.pools rooms.now self.now }
     {
-        pools.fits(&self.pool, self.slots)
+        pools.fits(&self.pool, self.slots) && rooms.has_room(self.room)
     }
 }

@@ -1,5 +1,5 @@
 //! Laws of the definitions: each is the contract of an empty function, so that the gate proves it.
-ghost use Rattle.std.specs.Prelude.{◌≡◌, ◌≢◌, ◌≤◌, ◌↔◌, ◌⊎◌, ℕ, List, Some, true, false, option_map, bytes_eq, Contains, if◌then◌else◌};
+ghost use Rattle.std.specs.Prelude.{◌≡◌, ◌≢◌, ◌≤◌, ◌↔◌, ◌⊎◌, ℕ, Bool, List, Some, true, false, option_map, bytes_eq, Contains, if◌then◌else◌};
 ghost use Rattle.pool_book.specs.Pools.{Name, PoolUse, Entries, IsInOrder, pool_of, resized, with_pool, take_slots, occupied_of};
 ghost use Rattle.pool_book.specs.Keys.{IsFirstInRank, fits, has_instance, with_key, without_key};
 ghost use Rattle.pool_book.specs.declared.keys.Key.{Key};
@@ -28,7 +28,7 @@ pub fn pools_are_known_by_their_names()
 
 /// After the slots of a key that fits are taken, no more of its pool is taken than it has.
 pub fn what_fits_overdraws_no_pool()
-    ensures { (pools : Entries) (key : Key) (p : PoolUse) → fits pools key ≡ true
+    ensures { (pools : Entries) (rooms : List Bool) (key : Key) (p : PoolUse) → fits pools rooms key ≡ true
         → pool_of key.pool (with_pool key.pool (take_slots key.slots) pools) ≡ Some p
         → p.occupied ≤ p.size }
 {}

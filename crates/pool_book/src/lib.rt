@@ -2,15 +2,17 @@
 //! "Priority Weights").
 //!
 //! [`Pools`] counts for each pool how many of its slots are taken, and [`Ready`] keeps the task instances that could be handed
-//! out, in the order of their rank. Easy to get wrong: what doesn't fit is passed over, so a light task may go before a heavy
-//! one; and a pool may be made smaller than what is taken of it, so its open slots may be fewer than none.
+//! out, in the order of their rank; [`Rooms`] says which graphs may have one more try. Easy to get wrong: what doesn't fit is passed
+//! over, so a light task may go before a heavy one; and a pool may be made smaller than what is taken of it, so its open slots may be
+//! fewer than none.
 //!
 //! ```text
 //! pools.resize(alloc, name, size)?;                 // a pool `p` of 3 slots
 //! ready.offer(a);  ready.offer(b);  ready.offer(c); // of 2, 2 and 1 slots, weights 5, 4, 3
-//! ready.best_fitting(&pools)                        // a
+//! rooms.set(0, 0, 16);                              // their graph has no active try, and may have 16
+//! ready.best_fitting(&pools, &rooms)                // a
 //! pools.occupy(&p, two);  ready.withdraw(&a);
-//! ready.best_fitting(&pools)                        // c: b needs 2 slots, and 1 is open
+//! ready.best_fitting(&pools, &rooms)                // c: b needs 2 slots, and 1 is open
 //! ```
 #![tactic(auto)]
 
@@ -20,6 +22,7 @@ mod pool_uses;
 mod pools;
 mod ranks;
 mod ready;
+mod rooms;
 mod slots;
 
 pub use keys::Key;
@@ -31,4 +34,5 @@ pub use pool_uses::Pool;
 pub use pools::{PoolFault, Pools};
 pub use ranks::Rank;
 pub use ready::Ready;
+pub use rooms::Rooms;
 pub use slots::Slots;

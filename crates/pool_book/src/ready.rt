@@ -5,7 +5,7 @@
 ghost use Rattle.std.specs.Prelude.{◌≡◌, ◌+◌, ◌<◌, ◌≤◌, [], false, length, MatchOption, OnOk};
 ghost use Rattle.pool_book.specs.Keys.{IsInRank, IsRankAt, IsFirstInRank, has_instance, with_key, without_key, fitting};
 
-use crate::{Key, Pools};
+use crate::{Key, Pools, Rooms};
 use std::alloc::{AllocError, Global};
 use std::marker::Model;
 
@@ -82,15 +82,15 @@ impl Ready {
         }
     }
 
-    /// The first in rank of the offered keys whose slots are open in their pool. It goes through the keys that rank before.
-    pub fn best_fitting(&self, pools: &Pools) -> Option<&Key>
-        ensures best { MatchOption result
-            (fitting pools.now.pools self.now.keys ≡ [])
-            (λ key. IsFirstInRank (fitting pools.now.pools self.now.keys) key.now) }
+    /// The first in rank of the offered keys whose slots are open in their pool and whose graph has room. It goes through the keys
+    /// that rank before.
+    pub fn best_fitting(&self, pools: &Pools, rooms: &Rooms) -> Option<&Key>
+        ensures best { let fit = fitting pools.now.pools rooms.now self.now.keys in
+            MatchOption result (fit ≡ []) (λ key. IsFirstInRank fit key.now) }
         ensures in_rank { IsInRank self.now.keys }
     {
         for key in &self.keys {
-            if key.fits(pools) {
+            if key.fits(pools, rooms) {
                 return Some(key);
             }
         }

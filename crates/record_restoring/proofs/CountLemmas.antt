@@ -18,13 +18,20 @@ use Rattle.sched_state.specs.declared.runs.RunPhase.{RunPhase}
 use Rattle.sched_state.proofs.OrderLemmas.{and_left, and_right}
 use Rattle.sched_model.specs.Lists.{all_pairs, but_last}
 use Rattle.sched_model.specs.Schedule.{Schedule, graph_among, dag_among}
-use Rattle.sched_model.specs.Sound.{IsSound, AllSay, is_moment, is_sound_in, is_sound_instance, is_sound_run, is_sound_try, earlier, has_end, has_failed}
+use Rattle.sched_model.specs.Sound.{IsSound, AllSay, is_moment, is_sound_in, is_sound_instance, is_sound_run, is_sound_try, earlier, has_end, has_failed, is_failure_if}
 use Rattle.sched_model.specs.States.{is_open, open_of, slots_in, occupied}
 use Rattle.sched_laws.proofs.InstanceLemmas.{Parts, parts_of}
 use Rattle.sched_laws.proofs.ListLemmas.{all_impl}
 use Rattle.record_restoring.specs.Pools.{open_in, open_among}
-use Rattle.record_restoring.proofs.MakingLemmas.{failed_end}
 use Rattle.record_restoring.proofs.SlotLemmas.{slots_within, IsSmall, found_small}
+
+-- ---- ends
+failed_end : (t : Try) → has_failed t ≡ true → has_end t ≡ true
+failed_end t e = ended_of t.ended e
+  where
+    ended_of : (o : Option End) → is_failure_if o ≡ true → is_some o ≡ true
+    ended_of None f = absurd (true≢false (sym f))
+    ended_of (Some x) f = refl
 
 -- ---- tries without an end
 shut : (o : Option End) → is_some o ≡ true → is_none o ≡ false

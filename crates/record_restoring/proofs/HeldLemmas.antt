@@ -55,7 +55,6 @@ pub record Held (rows : Rows) (graph : List ℕ) (date : ℤ) (t : TaskSpec) (x 
   pub verdict : is_between 0 3 x.verdict ≡ true
   pub since : is_between 0 (length (tries_among rows.attempts x)) x.since ≡ true
   pub tries : list_all (is_readable t.pool_slots) (tries_among rows.attempts x) ≡ true
-  pub sound : is_sound_instance t (instance_of x (tries_among rows.attempts x)) ≡ true
   pub whole : instance_of x (tries_among rows.attempts x) ≡ instance_in rows graph date t
 
 pub held : (l : Bounds) (rows : Rows) (graph : List ℕ) (date : ℤ) (t : TaskSpec) {n : ℕ} → IsByKey rows → Passes l rows → IsTaskOf l rows graph t → (s : StandsAt (is_of graph date t.task_id) rows.instances n) → Held rows graph date t s.of
@@ -78,7 +77,6 @@ held l rows graph date t {n} k p i s =
       tries = ap (list_all (is_readable t.pool_slots)) (sym o.tries)
           ∙ all_impl (is_attempt_of next (instance_row_in rows graph date t.task_id) t (tries_in rows graph date t.task_id)) (is_readable t.pool_slots)
           (readable next (instance_row_in rows graph date t.task_id) t (tries_in rows graph date t.task_id)) (tries_in rows graph date t.task_id) right;
-      sound = ap (is_sound_instance t) here ∙ instance_sound gs next rows graph date i.at t once i.there k.attempts attempts instances o.there;
       whole = here;
     }
 
@@ -87,7 +85,6 @@ pub record HeldBy (rows : Rows) (graph : List ℕ) (date : ℤ) (t : TaskSpec) (
   pub verdict : is_between 0 3 x.verdict ≡ true
   pub since : is_between 0 (length b) x.since ≡ true
   pub tries : list_all (is_readable t.pool_slots) b ≡ true
-  pub sound : is_sound_instance t (instance_of x b) ≡ true
   pub whole : instance_of x b ≡ instance_in rows graph date t
 
 pub held_by : (l : Bounds) (rows : Rows) (graph : List ℕ) (date : ℤ) (t : TaskSpec) {n : ℕ} (x : InstanceRow) (b : List AttemptRow) → IsByKey rows → Passes l rows → IsTaskOf l rows graph t → (s : StandsAt (is_of graph date t.task_id) rows.instances n)
@@ -96,4 +93,4 @@ held_by l rows graph date t {n} x b k p i s e f =
     let h : Held rows graph date t s.of = held l rows graph date t k p i s in
     let g : b ≡ tries_among rows.attempts x = f ∙ ap (tries_among rows.attempts) (sym e) in
     let hx : Held rows graph date t x = subst (Held rows graph date t) (sym e) h in
-    subst (HeldBy rows graph date t x) (sym g) (record { verdict = hx.verdict; since = hx.since; tries = hx.tries; sound = hx.sound; whole = hx.whole })
+    subst (HeldBy rows graph date t x) (sym g) (record { verdict = hx.verdict; since = hx.since; tries = hx.tries; whole = hx.whole })

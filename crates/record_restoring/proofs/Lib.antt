@@ -5,8 +5,6 @@ pub mod BodyLemmas
 pub mod DealLemmas
 pub mod TryLemmas
 pub mod RuleLemmas
-pub mod ReplayLemmas
-pub mod MakingLemmas
 pub mod HeldLemmas
 pub mod RunLemmas
 pub mod PoolLemmas

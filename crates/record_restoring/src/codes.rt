@@ -1,8 +1,9 @@
 //! Numbers of columns as values. A number that is no code or no moment has none.
-ghost use Rattle.std.specs.Prelude.{◌≡◌, true, pos, int_le};
+ghost use Rattle.std.specs.Prelude.{◌≡◌, ◌≢◌, true, pos, int_le, IfSome, Some};
 ghost use Rattle.graph_file.specs.Lists.{when};
 ghost use Rattle.record_rules.specs.Numbers.{natural, is_moment_column, is_between};
 ghost use Rattle.record_rules.specs.Reading as spec;
+ghost use Rattle.trigger_rules.specs.declared.verdicts.Verdict.TheVariants as Verdict;
 
 use instance_machine::Outcome;
 use moment_core::Moment;
@@ -40,7 +41,8 @@ pub fn phase_of(code: i64) -> Option<RunPhase>
 
 // The verdict, which is itself absent where there is none yet.
 pub fn verdict_of(code: i64) -> Option<Option<Verdict>>
-    ensures { result ≡ when (is_between 0 3 code) (spec.verdict_of (natural code)) }
+    ensures value { result ≡ when (is_between 0 3 code) (spec.verdict_of (natural code)) }
+    ensures decided { IfSome result (λ verdict. verdict ≢ Some Verdict.Wait) }
 {
     match code {
         0 => Some(None),

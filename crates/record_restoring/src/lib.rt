@@ -3,8 +3,7 @@
 //! In come the rows of the six tables. [`KeyedRows`] holds rows of which it is known that they rise by key. Inside, each rule of the record has a
 //! function of its own that goes through the rows of its table once and answers the first at fault; the graphs are read on the way
 //! (`dags.rt`), and the tries are dealt to their instances (`buckets.rt`). Runs are made of rows that pass (`run_making.rt`), and one function
-//! reads their columns for the rule and for the run (`run_columns.rt`); a task instance is handed its tries one after another, as it got them
-//! (`replaying.rt`). The book of pools is made of the rows of `pool` (`pool_making.rt`), and the tries without an end take their slots of it
+//! reads their columns for the rule and for the run (`run_columns.rt`). The book of pools is made of the rows of `pool` (`pool_making.rt`), and the tries without an end take their slots of it
 //! (`occupying.rt`). What is found by key is found by a binary search.
 //! Easy to get wrong: a row's number is its place by key from 0; a missing row has the number of rows that are there.
 //!
@@ -34,7 +33,6 @@ mod orders;
 mod parts;
 mod pool_making;
 mod pools;
-mod replaying;
 mod restoring;
 mod run_columns;
 mod run_making;

@@ -1,9 +1,7 @@
 //! Task instances made of their rows.
-ghost use Rattle.std.specs.Prelude.{◌≡◌, ◌++◌, ◌&&◌, None, true, false, length, map, pos, option_map, int_le, IfOk, OnOk};
+ghost use Rattle.std.specs.Prelude.{◌≡◌, ◌&&◌, true, false, length, map, pos, option_map, int_le, IfOk};
 ghost use Rattle.std.specs.List.{list_all};
 ghost use Rattle.std.specs.Ordering.{int_eq};
-ghost use Rattle.sched_model.specs.Lists.{but_last};
-ghost use Rattle.sched_model.specs.Sound.{has_end, is_sound_instance};
 ghost use Rattle.record_rules.specs.Numbers.{natural, is_moment_column, is_between, passes_if};
 ghost use Rattle.record_rules.specs.Reading as spec;
 ghost use Rattle.record_rules.specs.Faults.{is_end_row_right};
@@ -11,7 +9,6 @@ ghost use Rattle.record_restoring.specs.Making.{instance_of, is_readable};
 
 use crate::buckets::{Bucket, TryEntry};
 use crate::codes::{count_of, moment_of, outcome_of, verdict_of};
-use crate::replaying::add_try;
 use graph_file::{Bounded, TaskSpec};
 use instance_machine::{End, Instance, Try};
 use moment_core::Moment;
@@ -28,50 +25,34 @@ pub fn read_instance(
     requires verdict { is_between 0 3 row.now.verdict ≡ true }
     requires since { is_between 0 (length tries.now) row.now.since ≡ true }
     requires tries { list_all (is_readable task.now.pool_slots) tries.now ≡ true }
-    requires sound { is_sound_instance task.now (instance_of row.now tries.now) ≡ true }
     ensures { IfOk result (λ instance. instance ≡ instance_of row.now tries.now) }
 {
-    let slots = task.pool_slots;
-    let since = count_of(row.since);
-    let mut instance = Instance::new(alloc);
-    let (earlier, recent) = tries.entries().split_at(since);
-    fill(&mut instance, earlier, slots)?;
-    instance.clear();
-    fill(&mut instance, recent, slots)?;
-    decide_if(&mut instance, row.verdict);
-    Ok(instance)
+    let Some(verdict) = verdict_of(row.verdict) else {
+        unreachable!()
+    };
+    let tries = read_tries(alloc, tries.entries(), task.pool_slots)?;
+    Ok(Instance::of(verdict, count_of(row.since), tries))
 }
 
-// The instance, which has no verdict, gets that of a code, if the code says one.
-fn decide_if(instance: &mut Instance, code: i64)
-    requires none { instance.old.verdict ≡ None }
-    requires code { is_between 0 3 code ≡ true }
-    ensures { instance.new ≡ record instance.old { verdict = spec.verdict_of (natural code) } }
-{
-    match verdict_of(code) {
-        Some(Some(verdict)) => instance.decide(verdict),
-        Some(None) => {}
-        None => unreachable!(),
-    }
-}
-
-// Adds the tries of rows to an instance whose tries have ended.
-fn fill(
-    instance: &mut Instance,
+// The tries of rows, in their order.
+fn read_tries(
+    alloc: Global,
     entries: &[TryEntry<'_>],
     slots: Bounded<1, 1_000>,
-) -> Result<(), AllocError>
-    requires rows { list_all (is_readable slots) entries.now ≡ true }
-    requires before { list_all has_end instance.old.tries ≡ true }
-    requires each { list_all has_end (but_last (map spec.try_of entries.now)) ≡ true }
-    ensures { OnOk result (instance.new ≡ record instance.old
-        { tries = instance.old.tries ++ map spec.try_of entries.now }) }
+) -> Result<Vec<Try>, AllocError>
+    requires { list_all (is_readable slots) entries.now ≡ true }
+    ensures { IfOk result (λ tries. tries.items ≡ map spec.try_of entries.now) }
 {
+    let mut tries = Vec::with_capacity(alloc, entries.len())?;
     for entry in entries {
         let one = entry.read(slots);
-        add_try(instance, one)?;
+        // Rattle's borrow checker, of the kit 13f, fails at `push(one)`: it has to meet the types of the fields here.
+        tries.push(Try {
+            ended: one.ended,
+            ..one
+        })?;
     }
-    Ok(())
+    Ok(tries)
 }
 
 impl<'a> TryEntry<'a> {

@@ -7,10 +7,7 @@ ghost use Rattle.record_rules.specs.Faults as spec;
 use crate::codes::moment_of;
 use crate::columns::is_between;
 use record_rows::MetaRow;
-use sched_state::Limits;
-
-// The greatest serial of a try.
-const LAST_SERIAL: i64 = 1 << 62;
+use sched_state::{LAST_SERIAL, Limits};
 
 // The first row of `meta` at fault.
 pub fn meta_fault(limits: Limits, rows: &[MetaRow]) -> Option<usize>
@@ -29,6 +26,6 @@ fn is_right(limits: Limits, now: i64, next_serial: i64, lanes: i64) -> bool
         && spec_between 0 limits.lanes lanes)) }
 {
     moment_of(now).is_some()
-        && is_between(1, LAST_SERIAL + 1, next_serial)
+        && is_between(1, LAST_SERIAL as i64 + 1, next_serial)
         && is_between(0, i64::from(limits.lanes()), lanes)
 }

@@ -5,13 +5,11 @@ ghost use Rattle.record_rows.specs.Rows.{PoolRow as Row};
 ghost use Rattle.sched_state.specs.Lists.{same};
 ghost use Rattle.record_rules.specs.Faults as spec;
 
-use crate::columns::{is_between, is_name};
+use crate::columns::is_between;
 use crate::earlier::{earlier, past_limit};
+use graph_file::{DEFAULT_POOL, is_name};
 use record_rows::{PoolRow, Rows};
 use sched_state::Limits;
-
-// The pool that is always there.
-const DEFAULT_POOL: &str = "default_pool";
 
 // The first row of `pool` at fault.
 pub fn pool_fault(limits: Limits, rows: &Rows) -> Option<usize>

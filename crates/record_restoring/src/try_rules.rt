@@ -110,8 +110,8 @@ fn is_number_right(tries: &Bucket<'_>, row: &AttemptRow) -> bool
     row.try_number >= 1 && row.try_number as u64 - 1 == tries.count_before(row.serial) as u64
 }
 
-// Whether the row is at its turn: one that another follows has an end, and so has one from before the last clearing; for one since then
-// `is_recent_right` asks.
+// Whether the row is at its turn: one that another follows has an end, and so has one from before the last clearing; one since then is of an
+// instance that runs, within its retries, and where another follows has failed.
 fn is_turn_right(
     instance: &InstanceRow,
     task: &TaskSpec,

@@ -7,7 +7,7 @@ use Rattle.cron_timetable.specs.Fields.{Fields}
 use Rattle.cron_timetable.specs.Intervals.{ManualInterval, IsLastIntervalTo}
 use Rattle.cron_timetable.specs.declared.timetables.Interval.{Interval}
 use Rattle.cron_timetable.specs.declared.timetables.Timetable.{Timetable}
-use Rattle.cron_timetable.specs.declared.timetables.Timetable.TheVariants.{Cron, Once, Never}
+use Rattle.cron_timetable.specs.declared.timetables.Timetable.TheVariants.{Cron, Trigger, Once, Never}
 use Rattle.graph_file.specs.declared.graph_specs.GraphSpec.{GraphSpec}
 use Rattle.run_planner.specs.Index.{has_date}
 use Rattle.run_planner.specs.Latest.{IsDue, LatestDue}
@@ -17,7 +17,7 @@ use Rattle.run_planner.specs.declared.by_hand.PlanFault.TheVariants.{RunExists, 
 use Rattle.run_planner.proofs.LatestLemmas.{latest_last}
 
 -- an interval that has ended by t starts no later than the one whose end is the greatest tick at or before t
-no_later : (c : Fields) (t : ℕ) (i j : Interval) → IsLastIntervalTo c t i → IsDue c 0 None t j → j.start ≤ i.start
+no_later : (c : Fields) (t : ℕ) (i j : Interval) → IsLastIntervalTo c t i → IsDue (Cron c) 0 None t j → j.start ≤ i.start
 no_later c t i j h due =
     elim (cases_lt i.start j.start) [
       | inl later ↦
@@ -28,7 +28,7 @@ no_later c t i j h due =
       | inr before ↦ before
     ]
 
-manual_latest : (c : Fields) (t : ℕ) (r : Option Interval) → ManualInterval (Cron c) t r → LatestDue c 0 None t r
+manual_latest : (c : Fields) (t : ℕ) (r : Option Interval) → ManualInterval (Cron c) t r → LatestDue (Cron c) 0 None t r
 manual_latest c t None h = λ i due. h i.start i.end due.interval due.ended
 manual_latest c t (Some i) h = record {
   due = record { interval = h.interval; from = omega arith; up_to = refl; ended = h.to };
@@ -36,7 +36,8 @@ manual_latest c t (Some i) h = record {
 }
 
 pub manual_is : (x : Timetable) (t : ℕ) (r : Option Interval) → t < seconds_end → ManualInterval x t r → option_to_list r ≡ manual_intervals x t
-manual_is (Cron c) t r range h = latest_last c 0 t None r range (manual_latest c t r h)
+manual_is (Cron c) t r range h = latest_last (Cron c) 0 t None r range (manual_latest c t r h)
+manual_is (Trigger c) t r range h = ap option_to_list h
 manual_is Once t r range h = ap option_to_list h
 manual_is Never t r range h = ap option_to_list h
 

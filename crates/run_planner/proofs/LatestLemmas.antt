@@ -1,16 +1,20 @@
 -- The latest due interval is the last one of the list.
-use Rattle.std.proofs.Common.{◌≡◌, ℕ, ◌<◌, ◌≤◌, Bool, true, false, List, [], ◌∷◌, Option, None, Some, option_to_list, inl, inr, ap, sym, refl, arith, nat_lt}
-use Rattle.std.proofs.lemmas.Bool.{ltb-true, and_parts}
+use Rattle.std.proofs.Common.{◌≡◌, ◌↔◌, ℕ, ◌+◌, ◌<◌, ◌≤◌, true, List, [], ◌∷◌, Option, None, Some, option_to_list, inl, inr, ap, sym, refl, arith, nat_lt}
+use Rattle.std.proofs.lemmas.Bool.{ltb-true, and_parts, cases_lt}
 use Rattle.std.specs.List.{list_all, Contains}
 use Rattle.moment_core.specs.Moments.{seconds_end}
 use Rattle.cron_timetable.specs.Fields.{Fields}
+use Rattle.cron_timetable.specs.Ticks.{IsGreatestTickBelow}
+use Rattle.cron_timetable.specs.Intervals.{empty_at}
 use Rattle.cron_timetable.specs.declared.timetables.Interval.{Interval}
-use Rattle.cron_timetable.specs.declared.timetables.Timetable.TheVariants.{Cron, Never}
-use Rattle.graph_file.specs.declared.graph_specs.GraphSpec.{GraphSpec}
-use Rattle.run_planner.specs.Due.{due_intervals, last_alone, considered, without_runs, wanted_intervals, starts_rise}
+use Rattle.cron_timetable.specs.declared.timetables.Timetable.{Timetable}
+use Rattle.cron_timetable.specs.declared.timetables.Timetable.TheVariants.{Cron, Trigger, Never}
+use Rattle.cron_timetable.proofs.UniqueLemmas.{clash}
+use Rattle.run_planner.specs.Due.{is_up_to, due_intervals, last_alone, starts_rise}
 use Rattle.run_planner.specs.Latest.{IsDue, IsLatestDue, LatestDue}
 use Rattle.run_planner.proofs.RiseLemmas.{due_rise}
-use Rattle.run_planner.proofs.MemberLemmas.{contains_head, contains_tail, contains_cases, contains_none, due_sound, due_complete, due_nothing}
+use Rattle.run_planner.proofs.MemberLemmas.{contains_head, contains_tail, contains_cases, contains_none}
+use Rattle.run_planner.proofs.DueLemmas.{due_sound, due_complete, due_nothing}
 
 -- ---- the last of a list
 -- an element after which none starts is the last
@@ -30,41 +34,52 @@ last_of (x ∷ y ∷ is) i rises h latest =
     ]
 
 -- the latest due interval is the last of the list
-pub latest_last : (c : Fields) (first t : ℕ) (last : Option ℕ) (r : Option Interval) → t < seconds_end → LatestDue c first last t r → option_to_list r ≡ last_alone (due_intervals (Cron c) first last t)
-latest_last c first t last None range h =
-    sym (ap last_alone (due_nothing c first t last range h))
-latest_last c first t last (Some i) range h =
-    sym (last_of (due_intervals (Cron c) first last t) i (due_rise (Cron c) first last t) (due_complete c first t last i h.due)
-    (λ j g. h.latest j (due_sound c first t last j range g)))
+pub latest_last : (x : Timetable) (first t : ℕ) (last : Option ℕ) (r : Option Interval) → t < seconds_end → LatestDue x first last t r → option_to_list r ≡ last_alone (due_intervals x first last t)
+latest_last x first t last None range h =
+    sym (ap last_alone (due_nothing x first t last range h))
+latest_last x first t last (Some i) range h =
+    sym (last_of (due_intervals x first last t) i (due_rise x first last t) (due_complete x first t last i h.due)
+    (λ j g. h.latest j (due_sound x first t last j range g)))
 
--- ---- the first date
+pub never_last : (first t : ℕ) (last : Option ℕ) → option_to_list None ≡ last_alone (due_intervals Never first last t)
+unfolding due_intervals
+never_last first t last = refl
+
+-- ---- the first date of a cron expression
 -- what is due is due from any earlier first date on, too
-from_zero : (c : Fields) (first t : ℕ) (last : Option ℕ) (i : Interval) → IsDue c first last t i → IsDue c 0 last t i
+from_zero : (c : Fields) (first t : ℕ) (last : Option ℕ) (i : Interval) → IsDue (Cron c) first last t i → IsDue (Cron c) 0 last t i
 from_zero c first t last i h = record { interval = h.interval; from = omega arith; up_to = h.up_to; ended = h.ended }
 
-pub none_before : (c : Fields) (first t : ℕ) (last : Option ℕ) → t < first → LatestDue c first last t None
-none_before c first t last before i h = omega (arith, h.from, h.interval.rising, h.ended)
-
-pub none_from : (c : Fields) (first t : ℕ) (last : Option ℕ) → LatestDue c 0 last t None → LatestDue c first last t None
+pub none_from : (c : Fields) (first t : ℕ) (last : Option ℕ) → LatestDue (Cron c) 0 last t None → LatestDue (Cron c) first last t None
 none_from c first t last h i due = h i (from_zero c first t last i due)
 
-pub latest_from : (c : Fields) (first t : ℕ) (last : Option ℕ) (i : Interval) → IsLatestDue c 0 last t i → first ≤ i.start → LatestDue c first last t (Some i)
+pub latest_from : (c : Fields) (first t : ℕ) (last : Option ℕ) (i : Interval) → IsLatestDue (Cron c) 0 last t i → first ≤ i.start → LatestDue (Cron c) first last t (Some i)
 latest_from c first t last i h from = record {
   due = record { interval = h.due.interval; from = from; up_to = h.due.up_to; ended = h.due.ended };
   latest = λ j due. h.latest j (from_zero c first t last j due);
 }
 
-pub latest_too_early : (c : Fields) (first t : ℕ) (last : Option ℕ) (i : Interval) → IsLatestDue c 0 last t i → i.start < first → LatestDue c first last t None
+pub latest_too_early : (c : Fields) (first t : ℕ) (last : Option ℕ) (i : Interval) → IsLatestDue (Cron c) 0 last t i → i.start < first → LatestDue (Cron c) first last t None
 latest_too_early c first t last i h early j due = omega (arith, h.latest j (from_zero c first t last j due), due.from)
 
--- ---- what a graph wants
-pub wanted_latest : (g : GraphSpec) (c : Fields) (t : ℕ) (dates : List ℕ) (r : Option Interval) → g.schedule ≡ Cron c → g.catchup ≡ false → option_to_list r ≡ last_alone (due_intervals (Cron c) g.start_date g.end_date t) → without_runs dates (option_to_list r) ≡ wanted_intervals g t dates
-wanted_latest g c t dates r schedule catchup h = rw (schedule, catchup) (ap (without_runs dates) h)
+-- ---- the latest tick of a trigger timetable
+-- the bound of a start: past neither t nor the last date
+abbrev pub IsBound : Option ℕ → ℕ → ℕ → Type 0
+IsBound last t bound = (m : ℕ) → ((m ≤ t) × (is_up_to last m ≡ true)) ↔ (m ≤ bound)
 
-never_considered : (catchup : Bool) (first t : ℕ) (last : Option ℕ) → [] ≡ considered catchup (due_intervals Never first last t)
-unfolding due_intervals
-never_considered true first t last = refl
-never_considered false first t last = refl
+-- what is due starts by the bound
+below_bound : (c : Fields) (first t bound : ℕ) (last : Option ℕ) (j : Interval) → IsBound last t bound → IsDue (Trigger c) first last t j → j.start ≤ bound
+below_bound c first t bound last j h due = (h j.start).0 (omega (arith, due.interval.1, due.ended), due.up_to)
 
-pub wanted_never : (g : GraphSpec) (t : ℕ) (dates : List ℕ) → g.schedule ≡ Never → without_runs dates (option_to_list None) ≡ wanted_intervals g t dates
-wanted_never g t dates schedule = rw schedule (ap (without_runs dates) (never_considered g.catchup g.start_date t g.end_date))
+-- the interval at the greatest tick up to the bound is the latest one
+pub tick_latest : (c : Fields) (first t bound tick : ℕ) (last : Option ℕ) → IsBound last t bound → IsGreatestTickBelow c (bound + 1) tick → first ≤ tick → LatestDue (Trigger c) first last t (Some (empty_at tick))
+tick_latest c first t bound tick last h found from =
+    let within : (tick ≤ t) × (is_up_to last tick ≡ true) = (h tick).1 (omega (arith, found.below)) in
+    record {
+      due = record { interval = (found.tick, refl); from = from; up_to = within.1; ended = within.0 };
+      latest = λ j due.
+          elim (cases_lt tick j.start) [
+            | inl later ↦ absurd (clash c (tick + 1) (bound + 1) j.start found.greatest (omega arith) (omega (arith, below_bound c first t bound last j h due)) due.interval.0.1)
+            | inr more ↦ more
+          ];
+    }

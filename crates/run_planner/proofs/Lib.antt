@@ -2,6 +2,10 @@ pub mod IndexLemmas
 pub mod RiseLemmas
 pub mod PlanLemmas
 pub mod MemberLemmas
+pub mod TriggerLemmas
+pub mod DueLemmas
+pub mod WalkLemmas
+pub mod PassedLemmas
 pub mod LatestLemmas
 pub mod ByHandLemmas
 pub mod SpanLemmas

@@ -1,17 +1,12 @@
--- The due intervals of an expression are its intervals within the bounds: no others, and each of them.
-use Rattle.std.proofs.Common.{◌≡◌, ◌↔◌, ◌⊎◌, ℕ, zero, suc, ◌+◌, ◌-◌, ◌<◌, ◌≤◌, Bool, true, false, cond, List, [], ◌∷◌, length, get_or, filter, Option, None, Some, inl, inr, refl, ap, sym, subst, ◌∙◌, arith}
+-- The pairs of neighbouring ticks of a range are the intervals in it: no others, and each of them.
+use Rattle.std.proofs.Common.{◌≡◌, ◌⊎◌, ℕ, zero, suc, ◌+◌, ◌<◌, ◌≤◌, Bool, true, false, cond, List, [], ◌∷◌, length, get_or, filter, inl, inr, refl, ap, sym, subst, ◌∙◌, arith}
 use Rattle.std.proofs.lemmas.Bool.{cases_lt, false≢true}
-use Rattle.std.proofs.lemmas.Bool.Decides.{nat_tests}
 use Rattle.std.specs.List.{range_with_len, Contains}
-use Rattle.moment_core.specs.Moments.{seconds_end}
 use Rattle.cron_timetable.specs.Fields.{Fields, fires}
 use Rattle.cron_timetable.specs.Ticks.{NoneBetween}
-use Rattle.cron_timetable.specs.Intervals.{IsInterval, IsFirstIntervalFrom}
 use Rattle.cron_timetable.specs.declared.timetables.Interval.{Interval}
-use Rattle.cron_timetable.specs.declared.timetables.Timetable.TheVariants.{Cron}
 use Rattle.cron_timetable.proofs.UniqueLemmas.{clash}
-use Rattle.run_planner.specs.Due.{ticks_between, pairs_from, neighbours, is_up_to, due_intervals}
-use Rattle.run_planner.specs.Latest.{IsDue}
+use Rattle.run_planner.specs.Due.{pairs_from, neighbours}
 use Rattle.run_planner.proofs.PlanLemmas.{ticks-cons_no, ticks-cons_yes}
 
 -- ---- the elements of a list
@@ -63,13 +58,13 @@ filter_from p (y ∷ ys) x =
 
 -- ---- the neighbours in a range
 -- what an interval between two ticks of a range has
-record IsBetween (c : Fields) (low high : ℕ) (i : Interval) : Type 0 where
-  start : fires c i.start ≡ true
-  end : fires c i.end ≡ true
-  rising : i.start < i.end
-  between : NoneBetween c (i.start + 1) i.end
-  from : low ≤ i.start
-  below : i.end < high
+pub record IsBetween (c : Fields) (low high : ℕ) (i : Interval) : Type 0 where
+  pub start : fires c i.start ≡ true
+  pub end : fires c i.end ≡ true
+  pub rising : i.start < i.end
+  pub between : NoneBetween c (i.start + 1) i.end
+  pub from : low ≤ i.start
+  pub below : i.end < high
 
 wider : (c : Fields) (low a high top : ℕ) (i : Interval) → a ≤ low → high ≤ top → IsBetween c low high i → IsBetween c a top i
 wider c low a high top i from to h = record {
@@ -88,13 +83,13 @@ more_gap c a low none off k from below =
 no_gap : (c : Fields) (a : ℕ) → NoneBetween c (a + 1) (a + 1)
 no_gap c a k from below = absurd (omega arith)
 
-abbrev ticks : Fields → ℕ → ℕ → List ℕ
+abbrev pub ticks : Fields → ℕ → ℕ → List ℕ
 ticks c low n = filter (fires c) (range_with_len low n)
 
-abbrev interval : ℕ → ℕ → Interval
+abbrev pub interval : ℕ → ℕ → Interval
 interval a b = record { start = a; end = b }
 
-same_interval : (a b : ℕ) (i : Interval) → a ≡ i.start → b ≡ i.end → interval a b ≡ i
+pub same_interval : (a b : ℕ) (i : Interval) → a ≡ i.start → b ≡ i.end → interval a b ≡ i
 same_interval a b i starts ends = ap (λ (n : ℕ). interval n b) starts ∙ ap (interval i.start) ends
 
 pairs_sound : (c : Fields) (a low n : ℕ) (i : Interval) → fires c a ≡ true → a < low → NoneBetween c (a + 1) low → Contains (pairs_from a (ticks c low n)) i → IsBetween c a (low + n) i
@@ -143,7 +138,7 @@ pairs_complete c a low (suc n) i above none h =
           (pairs_complete c a (low + 1) n i (omega arith) (more_gap c a low none off) (wider c a a (low + suc n) (low + 1 + n) i (omega arith) (omega arith) h))
     ] refl
 
-neighbours_sound : (c : Fields) (low n : ℕ) (i : Interval) → Contains (neighbours (ticks c low n)) i → IsBetween c low (low + n) i
+pub neighbours_sound : (c : Fields) (low n : ℕ) (i : Interval) → Contains (neighbours (ticks c low n)) i → IsBetween c low (low + n) i
 neighbours_sound c low zero i h = absurd (contains_none i h)
 neighbours_sound c low (suc n) i h =
     elim (fires c low) as (λ v. fires c low ≡ v → IsBetween c low (low + suc n) i) [
@@ -155,7 +150,7 @@ neighbours_sound c low (suc n) i h =
           (neighbours_sound c (low + 1) n i (subst (λ (xs : List ℕ). Contains (neighbours xs) i) (ticks-cons_no c low n off) h))
     ] refl
 
-neighbours_complete : (c : Fields) (low n : ℕ) (i : Interval) → IsBetween c low (low + n) i → Contains (neighbours (ticks c low n)) i
+pub neighbours_complete : (c : Fields) (low n : ℕ) (i : Interval) → IsBetween c low (low + n) i → Contains (neighbours (ticks c low n)) i
 neighbours_complete c low zero i h = absurd (omega (arith, h.from, h.rising, h.below))
 neighbours_complete c low (suc n) i h =
     elim (fires c low) as (λ v. fires c low ≡ v → Contains (neighbours (ticks c low (suc n))) i) [
@@ -178,79 +173,3 @@ neighbours_complete c low (suc n) i h =
             below = omega (arith, h.below);
           }))
     ] refl
-
--- ---- the due intervals
-pub due_sound : (c : Fields) (first t : ℕ) (last : Option ℕ) (i : Interval) → t < seconds_end → Contains (due_intervals (Cron c) first last t) i → IsDue c first last t i
-unfolding due_intervals ticks_between
-due_sound c first t last i range h =
-    let r = filter_from (λ (j : Interval). is_up_to last j.start) (neighbours (ticks c first (t + 1 - first))) i h in
-    let b : IsBetween c first (first + (t + 1 - first)) i = neighbours_sound c first (t + 1 - first) i r.0 in
-    let ended : i.end ≤ t = omega (arith, b.from, b.rising, b.below) in
-    record {
-      interval = record {
-        start = (omega (arith, b.rising), b.start);
-        end = (omega arith, b.end);
-        rising = b.rising;
-        between = b.between;
-      };
-      from = b.from;
-      up_to = r.1;
-      ended = ended;
-    }
-
-pub due_complete : (c : Fields) (first t : ℕ) (last : Option ℕ) (i : Interval) → IsDue c first last t i → Contains (due_intervals (Cron c) first last t) i
-unfolding due_intervals ticks_between
-due_complete c first t last i h =
-    filter_has (λ (j : Interval). is_up_to last j.start) (neighbours (ticks c first (t + 1 - first))) i
-    (neighbours_complete c first (t + 1 - first) i (record {
-      start = h.interval.start.1;
-      end = h.interval.end.1;
-      rising = h.interval.rising;
-      between = h.interval.between;
-      from = h.from;
-      below = omega (arith, h.from, h.ended, h.interval.rising);
-    }))
-    h.up_to
-
-pub due_members : (c : Fields) (first t : ℕ) (last : Option ℕ) (i : Interval) → t < seconds_end → Contains (due_intervals (Cron c) first last t) i ↔ IsDue c first last t i
-due_members c first t last i range = (due_sound c first t last i range, due_complete c first t last i)
-
--- ---- where nothing is due
-pub nothing : (is : List Interval) → ((j : Interval) → Contains is j → ⊥) → is ≡ []
-nothing [] none = refl
-nothing (x ∷ is) none = absurd (none x (contains_head x is))
-
-pub due_nothing : (c : Fields) (first t : ℕ) (last : Option ℕ) → t < seconds_end → ((i : Interval) → IsDue c first last t i → ⊥) → due_intervals (Cron c) first last t ≡ []
-due_nothing c first t last range none =
-    nothing (due_intervals (Cron c) first last t) (λ j h. none j (due_sound c first t last j range h))
-
--- an interval from `from` on starts and ends no sooner than the first
-first_starts : (c : Fields) (from : ℕ) (i j : Interval) → IsFirstIntervalFrom c from i → IsInterval c j.start j.end → from ≤ j.start → i.start ≤ j.start
-first_starts c from i j h g later =
-    elim (cases_lt j.start i.start) [ inl less ↦ absurd (clash c from i.start j.start h.first later less g.start.1) | inr more ↦ more ]
-
-first_ends : (c : Fields) (from : ℕ) (i j : Interval) → IsFirstIntervalFrom c from i → IsInterval c j.start j.end → from ≤ j.start → i.end ≤ j.end
-first_ends c from i j h g later =
-    let starts : i.start ≤ j.start = first_starts c from i j h g later in
-    elim (cases_lt j.end i.end) [
-      | inl less ↦ absurd (clash c (i.start + 1) i.end j.end h.interval.between (omega (arith, g.rising)) less g.end.1)
-      | inr more ↦ more
-    ]
-
-up_to_sooner : (last : Option ℕ) (a k : ℕ) → is_up_to last k ≡ true → a ≤ k → is_up_to last a ≡ true
-up_to_sooner None a k on sooner = refl
-up_to_sooner (Some m) a k on sooner = grind (arith, nat_tests)
-
--- where no interval is left, the first one has not ended, or it starts past `last`
-pub none_left : (c : Fields) (from t : ℕ) (last : Option ℕ) → t < seconds_end → ((a b : ℕ) → IsInterval c a b → from ≤ a → ⊥) → due_intervals (Cron c) from last t ≡ []
-none_left c from t last range none =
-    due_nothing c from t last range (λ j h. none j.start j.end h.interval h.from)
-
-pub none_ended : (c : Fields) (from t : ℕ) (last : Option ℕ) (i : Interval) → t < seconds_end → IsFirstIntervalFrom c from i → t < i.end → due_intervals (Cron c) from last t ≡ []
-none_ended c from t last i range first later =
-    due_nothing c from t last range (λ j h. omega (arith, first_ends c from i j first h.interval h.from, h.ended))
-
-pub none_up_to : (c : Fields) (from t : ℕ) (last : Option ℕ) (i : Interval) → t < seconds_end → IsFirstIntervalFrom c from i → is_up_to last i.start ≡ false → due_intervals (Cron c) from last t ≡ []
-none_up_to c from t last i range first past =
-    due_nothing c from t last range
-    (λ j h. false≢true (sym past ∙ up_to_sooner last i.start j.start h.up_to (first_starts c from i j first h.interval h.from)))

@@ -31,14 +31,14 @@ ticks-skip c low (suc k) n none =
     ∙ (ticks-skip c (low + 1) k n (λ m from below. none m (omega arith) (omega arith))
     ∙ same_low c (low + 1 + k) (low + suc k) n (omega arith)))
 
-ticks-none : (c : Fields) (low high : ℕ) → NoneBetween c low high → ticks_between c low high ≡ []
+pub ticks-none : (c : Fields) (low high : ℕ) → NoneBetween c low high → ticks_between c low high ≡ []
 unfolding ticks_between
 ticks-none c low high none =
     same_len c low (high - low) (high - low + 0) (omega arith)
     ∙ ticks-skip c low (high - low) 0 (λ m from below. none m from (omega arith))
 
 -- the least tick is the first, if it is in the range
-ticks-first : (c : Fields) (low high a : ℕ) → low ≤ a → a < high → fires c a ≡ true → NoneBetween c low a → ticks_between c low high ≡ a ∷ ticks_between c (a + 1) high
+pub ticks-first : (c : Fields) (low high a : ℕ) → low ≤ a → a < high → fires c a ≡ true → NoneBetween c low a → ticks_between c low high ≡ a ∷ ticks_between c (a + 1) high
 unfolding ticks_between
 ticks-first c low high a from below on none =
     same_len c low (high - low) ((a - low) + suc (high - (a + 1))) (omega arith)

@@ -1,11 +1,12 @@
 -- The intervals of a timetable are listed by start, each start once.
-use Rattle.std.proofs.Common.{◌≡◌, refl, ℕ, zero, suc, ◌+◌, ◌-◌, ◌<◌, List, [], ◌∷◌, Bool, true, false, cond, not, ◌&&◌, filter, take, nat_lt, nat_le, Option, arith}
+use Rattle.std.proofs.Common.{◌≡◌, refl, ℕ, zero, suc, ◌+◌, ◌-◌, ◌<◌, List, [], ◌∷◌, Bool, true, false, cond, not, ◌&&◌, map, filter, take, nat_lt, nat_le, Option, arith}
 use Rattle.std.specs.List.{list_all, range_with_len}
 use Rattle.std.proofs.lemmas.Bool.{lt-ltb, and_parts, and_from}
 use Rattle.cron_timetable.specs.Fields.{fires}
+use Rattle.cron_timetable.specs.Intervals.{empty_at}
 use Rattle.cron_timetable.specs.declared.timetables.Interval.{Interval}
 use Rattle.cron_timetable.specs.declared.timetables.Timetable.{Timetable}
-use Rattle.cron_timetable.specs.declared.timetables.Timetable.TheVariants.{Cron, Once, Never}
+use Rattle.cron_timetable.specs.declared.timetables.Timetable.TheVariants.{Cron, Trigger, Once, Never}
 use Rattle.graph_file.specs.declared.graph_specs.GraphSpec.{GraphSpec}
 use Rattle.run_planner.specs.Index.{has_date}
 use Rattle.run_planner.specs.Due.{ticks_between, pairs_from, neighbours, is_up_to, due_intervals, last_alone, considered, wanted_intervals, starts_rise}
@@ -72,6 +73,16 @@ neighbours_rise : (ts : List ℕ) → rise ts ≡ true → starts_rise (neighbou
 neighbours_rise [] e = refl
 neighbours_rise (a ∷ ts) e = pairs_rise a ts e
 
+empties_above : (b : ℕ) (ts : List ℕ) → list_all (nat_lt b) ts ≡ true → list_all (λ (j : Interval). nat_lt b j.start) (map empty_at ts) ≡ true
+empties_above b [] e = refl
+empties_above b (t ∷ ts) e = and_from (nat_lt b t) _ (and_parts (nat_lt b t) _ e).0 (empties_above b ts (and_parts (nat_lt b t) _ e).1)
+
+empties_rise : (ts : List ℕ) → rise ts ≡ true → starts_rise (map empty_at ts) ≡ true
+unfolding rise
+empties_rise [] e = refl
+empties_rise (a ∷ ts) e =
+    and_from (list_all (λ (j : Interval). nat_lt a j.start) (map empty_at ts)) _ (empties_above a ts (and_parts (list_all (nat_lt a) ts) _ e).0) (empties_rise ts (and_parts (list_all (nat_lt a) ts) _ e).1)
+
 pub filter_starts : (p : Interval → Bool) (is : List Interval) → starts_rise is ≡ true → starts_rise (filter p is) ≡ true
 filter_starts p [] e = refl
 filter_starts p (i ∷ is) e =
@@ -97,7 +108,10 @@ unfolding due_intervals ticks_between
 due_rise (Cron c) first last t =
     filter_starts (λ i. is_up_to last i.start) (neighbours (filter (fires c) (range_with_len first (t + 1 - first))))
     (neighbours_rise _ (filter_rises (fires c) (range_with_len first (t + 1 - first)) (range_rises first (t + 1 - first))))
-due_rise Once first last t = filter_starts (λ i. is_up_to last i.start && nat_le i.end t) (record { start = first; end = first } ∷ []) refl
+due_rise (Trigger c) first last t =
+    filter_starts (λ i. is_up_to last i.start) (map empty_at (filter (fires c) (range_with_len first (t + 1 - first))))
+    (empties_rise _ (filter_rises (fires c) (range_with_len first (t + 1 - first)) (range_rises first (t + 1 - first))))
+due_rise Once first last t = filter_starts (λ i. is_up_to last i.start && nat_le i.end t) (empty_at first ∷ []) refl
 due_rise Never first last t = refl
 
 considered_rise : (catchup : Bool) (is : List Interval) → starts_rise is ≡ true → starts_rise (considered catchup is) ≡ true

@@ -1,11 +1,12 @@
--- The runs that a timetable names: Airflow 2's page 'DAG Runs', on schedules and catchup.
-use Rattle.std.specs.Prelude.{◌≡◌, ℕ, ◌+◌, ◌-◌, Bool, true, false, not, ◌&&◌, nat_le, nat_lt, List, [], ◌∷◌, length, take, filter, Option, Some, None}
+-- The runs that a timetable names: Airflow 2's page 'DAG Runs', on schedules and catchup, and its page 'Timetables'.
+use Rattle.std.specs.Prelude.{◌≡◌, ℕ, ◌+◌, ◌-◌, Bool, true, false, not, ◌&&◌, nat_le, nat_lt, List, [], ◌∷◌, length, take, map, filter, Option, Some, None}
 use Rattle.std.specs.List.{list_all, range_with_len}
 use Rattle.cron_timetable.specs.Fields.{Fields, fires}
+use Rattle.cron_timetable.specs.Intervals.{empty_at}
 use Rattle.cron_timetable.specs.declared.timetables.Interval.{Interval}
 use Rattle.graph_file.specs.declared.graph_specs.GraphSpec.{GraphSpec}
 use Rattle.cron_timetable.specs.declared.timetables.Timetable.{Timetable}
-use Rattle.cron_timetable.specs.declared.timetables.Timetable.TheVariants.{Cron, Once, Never}
+use Rattle.cron_timetable.specs.declared.timetables.Timetable.TheVariants.{Cron, Trigger, Once, Never}
 use Rattle.run_planner.specs.Index.{has_date}
 
 -- the ticks of an expression from `low` up to below `high`, rising
@@ -30,7 +31,8 @@ is_up_to (Some last) a = nat_le a last
 -- the intervals of a timetable that are due at t: those that start from `first` on and not past `last`, and have ended
 unfoldable pub due_intervals : Timetable → ℕ → Option ℕ → ℕ → List Interval
 due_intervals (Cron c) first last t = filter (λ i. is_up_to last i.start) (neighbours (ticks_between c first (t + 1)))
-due_intervals Once first last t = filter (λ i. is_up_to last i.start && nat_le i.end t) (record { start = first; end = first } ∷ [])
+due_intervals (Trigger c) first last t = filter (λ i. is_up_to last i.start) (map empty_at (ticks_between c first (t + 1)))
+due_intervals Once first last t = filter (λ i. is_up_to last i.start && nat_le i.end t) (empty_at first ∷ [])
 due_intervals Never first last t = []
 
 -- the last element alone, or nothing

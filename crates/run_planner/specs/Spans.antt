@@ -2,7 +2,7 @@
 use Rattle.std.specs.Prelude.{◌≡◌, ℕ, nat_le, List, [], map, filter, Some}
 use Rattle.cron_timetable.specs.declared.timetables.Interval.{Interval}
 use Rattle.cron_timetable.specs.declared.timetables.Timetable.{Timetable}
-use Rattle.cron_timetable.specs.declared.timetables.Timetable.TheVariants.{Cron, Once, Never}
+use Rattle.cron_timetable.specs.declared.timetables.Timetable.TheVariants.{Cron, Trigger, Once, Never}
 use Rattle.graph_file.specs.declared.graph_specs.GraphSpec.{GraphSpec}
 use Rattle.run_planner.specs.Index.{has_date}
 use Rattle.run_planner.specs.Due.{due_intervals, without_runs, IsFirst}
@@ -11,6 +11,7 @@ use Rattle.run_planner.specs.declared.spans.Backfill.{Backfill}
 -- the intervals of a timetable that start from `low` on and not past `high`, and have ended at t. The one of `@once` is at the start date
 abbrev pub timetable_span : Timetable → ℕ → ℕ → ℕ → ℕ → List Interval
 timetable_span (Cron c) start low high t = due_intervals (Cron c) low (Some high) t
+timetable_span (Trigger c) start low high t = due_intervals (Trigger c) low (Some high) t
 timetable_span Once start low high t = filter (λ i. nat_le low i.start) (due_intervals Once start (Some high) t)
 timetable_span Never start low high t = []
 

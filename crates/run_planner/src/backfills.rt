@@ -1,12 +1,14 @@
 //! Backfills: the runs of a span of past days.
 //!
 //! Easy to get wrong: the span is bounded by the words of the backfill, and not by the graph's start and end dates.
-ghost use Rattle.std.specs.Prelude.{◌≡◌, IfOk, option_to_list};
-ghost use Rattle.run_planner.specs.Spans.{span_intervals, timetable_span, IsBackfill};
+ghost use Rattle.std.specs.Prelude.{◌≡◌, ℕ, IfOk};
+ghost use Rattle.run_planner.specs.Spans.{span_intervals, IsBackfill};
+ghost use Rattle.run_planner.specs.Walks.{due_from};
 
 use crate::{Backfill, RunIndex};
-use cron_timetable::{Interval, Timetable};
+use cron_timetable::Timetable;
 use dag_check::Graph;
+use graph_file::GraphSpec;
 use moment_core::Moment;
 use std::alloc::{AllocError, Global};
 
@@ -35,26 +37,30 @@ pub fn backfill(
         more: false,
     };
     let spec = graph.spec();
-    match &spec.schedule {
-        Timetable::Cron(cron) => found.walk(cron, from, to, now, index, limit)?,
-        Timetable::Once => {
-            if let Some(interval) = once_in(spec.start_date, from, to, now) {
-                found.count(interval, index, limit)?;
-            }
-        }
-        Timetable::Never => {}
-    }
+    found.walk(
+        &spec.schedule,
+        span_start(spec, from),
+        to,
+        now,
+        index,
+        limit,
+    )?;
     Ok(found)
 }
 
-// The one interval of `@once`, where it starts within the span and has ended.
-#[tactic(auto, unfolding(crate::specs::Due::due_intervals))]
-fn once_in(start: Moment, from: Moment, to: Moment, now: Moment) -> Option<Interval>
-    ensures { option_to_list result ≡ timetable_span Timetable.Once start from to now }
+// From where on the intervals of a span start, if any do: the one of `@once` is at the start date.
+fn span_start(spec: &GraphSpec, from: Moment) -> Option<Moment>
+    ensures { (to t : ℕ) → due_from spec.now.schedule result (Some to) t
+        ≡ span_intervals spec.now from to t }
 {
-    if from <= start && start <= to && start <= now {
-        Some(Interval { start, end: start })
-    } else {
-        None
+    match spec.schedule {
+        Timetable::Once => {
+            if from.secs() <= spec.start_date.secs() {
+                Some(spec.start_date)
+            } else {
+                None
+            }
+        }
+        _ => Some(from),
     }
 }

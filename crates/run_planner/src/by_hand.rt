@@ -12,12 +12,12 @@ use moment_core::Moment;
 pub enum PlanFault {
     /// A run has this logical date.
     RunExists,
-    /// No interval of the timetable has ended.
+    /// No interval between two ticks of a cron schedule has ended. Of the other timetables it never comes.
     NoInterval,
 }
 
 /// The data interval of a run by hand at `now`, which is its logical date: of a cron schedule the latest interval that has ended,
-/// whatever the graph's start and end dates, and of `@once` and `None` the empty one at `now`.
+/// whatever the graph's start and end dates, and of a trigger timetable, `@once` and `None` the empty one at `now`.
 ///
 /// This takes no memory. The rule is that of Airflow 2's page 'DAG Runs', on external triggers.
 pub fn manual(graph: &Graph, now: Moment, index: &RunIndex) -> Result<Interval, PlanFault>

@@ -1,8 +1,7 @@
 //! Laws of the definitions: each is the contract of an empty function, so that the gate proves it.
-ghost use Rattle.std.specs.Prelude.{◌≡◌, ◌↔◌, ℕ, ◌<◌, true, Option, Some, option_to_list};
+ghost use Rattle.std.specs.Prelude.{◌≡◌, ◌≢◌, ◌↔◌, ℕ, ◌<◌, ◌≤◌, true, Option, Some, option_to_list};
 ghost use Rattle.std.specs.List.{Contains};
 ghost use Rattle.moment_core.specs.Moments.{seconds_end};
-ghost use Rattle.cron_timetable.specs.Fields.{Fields};
 ghost use Rattle.cron_timetable.specs.declared.timetables.Interval.{Interval};
 ghost use Rattle.cron_timetable.specs.declared.timetables.Timetable.{Timetable};
 ghost use Rattle.cron_timetable.specs.Intervals.{ManualInterval};
@@ -12,11 +11,11 @@ ghost use Rattle.run_planner.specs.ByHand.{manual_intervals};
 ghost use Rattle.run_planner.specs.Spans.{span_intervals};
 ghost use Rattle.run_planner.specs.Latest.{IsDue};
 
-/// What is listed as due for a cron expression are its intervals that start from the first date on and not past the last one,
-/// and have ended: those, and no others.
+/// What is listed as due for a timetable are its intervals that start from the first date on and not past the last one, and have
+/// ended: those, and no others.
 pub fn due_intervals_are_intervals()
-    ensures { (c : Fields) (first t : ℕ) (last : Option ℕ) (i : Interval) → t < seconds_end →
-        Contains (due_intervals (Timetable.Cron c) first last t) i ↔ IsDue c first last t i }
+    ensures { (x : Timetable) (first t : ℕ) (last : Option ℕ) (i : Interval) → t < seconds_end →
+        Contains (due_intervals x first last t) i ↔ IsDue x first last t i }
 {}
 
 /// Due intervals are listed by start, each start once.
@@ -33,9 +32,13 @@ pub fn a_run_by_hand_has_the_last_interval()
 
 /// What a span of a graph holds are its intervals that start within it and have ended: those, and no others. They are listed by start.
 pub fn a_span_holds_its_intervals()
-    ensures cron { (g : GraphSpec) (c : Fields) (low high t : ℕ) (i : Interval)
-        → g.schedule ≡ Timetable.Cron c → t < seconds_end
-        → Contains (span_intervals g low high t) i ↔ IsDue c low (Some high) t i }
+    ensures ticks { (g : GraphSpec) (low high t : ℕ) (i : Interval)
+        → g.schedule ≢ Timetable.Once → t < seconds_end
+        → Contains (span_intervals g low high t) i ↔ IsDue g.schedule low (Some high) t i }
+    ensures once { (g : GraphSpec) (low high t : ℕ) (i : Interval)
+        → g.schedule ≡ Timetable.Once → t < seconds_end
+        → Contains (span_intervals g low high t) i
+        ↔ (IsDue Timetable.Once g.start_date (Some high) t i × (low ≤ i.start)) }
     ensures rise { (g : GraphSpec) (low high t : ℕ)
         → starts_rise (span_intervals g low high t) ≡ true }
 {}

@@ -3,7 +3,8 @@
 //!
 //! [`due`] plans: it lists the intervals of a graph that have ended and have no run, the oldest first and no more than a limit.
 //! [`manual`] gives the interval of a run by hand, [`backfill`] the intervals of a span, with and without a run. A [`RunIndex`] is the
-//! set of the logical dates of a graph's runs.
+//! set of the logical dates of a graph's runs; where it was [settled](RunIndex::settle) for the graph, `due` passes over the starts
+//! that have a run.
 //!
 //! ```text
 //! let mut index = RunIndex::new(rt.alloc());
@@ -20,6 +21,7 @@ mod laws;
 mod planning;
 mod run_index;
 mod spans;
+mod walking;
 mod without_catchup;
 
 pub use backfills::backfill;

@@ -2,12 +2,12 @@
 //!
 //! Easy to get wrong: a run is due at the end of its interval, and its logical date is the start.
 ghost use Rattle.std.specs.Prelude.{◌≡◌, IfOk, option_to_list};
-ghost use Rattle.run_planner.specs.Due.{due_intervals, wanted_intervals, without_runs, IsFirst};
+ghost use Rattle.run_planner.specs.Due.{wanted_intervals, without_runs, IsFirst};
 
 use crate::RunIndex;
-use crate::catchup::{all_due, is_up_to};
+use crate::catchup::all_due;
 use crate::without_catchup::latest_due;
-use cron_timetable::{Interval, Timetable};
+use cron_timetable::Interval;
 use dag_check::Graph;
 use graph_file::GraphSpec;
 use moment_core::Moment;
@@ -26,7 +26,8 @@ pub struct Planned {
 /// `end_date`, have ended, and their start is the logical date of no run. With `catchup` each such interval counts, without it
 /// only the latest that is due.
 ///
-/// `Once` has the empty interval at `start_date`, and `Never` none. The only error is want of memory.
+/// `Trigger` has the empty interval at each tick, `Once` the one at `start_date`, and `Never` none. The only error is want of memory.
+/// With an index that was [settled](RunIndex::settle) for the graph, the walk begins past the starts that have a run.
 ///
 /// The rules are those of Airflow 2's page 'DAG Runs'.
 pub fn due(
@@ -53,30 +54,10 @@ fn due_of(
     ensures { IfOk result (λ p. IsFirst (wanted_intervals graph.now now index.now.dates) limit
         p.intervals.items p.more) }
 {
-    match &graph.schedule {
-        Timetable::Cron(cron) => {
-            if graph.catchup {
-                all_due(alloc, cron, graph, now, index, limit)
-            } else {
-                plan_one(alloc, latest_due(cron, graph, now), index, limit)
-            }
-        }
-        Timetable::Once => plan_one(alloc, once_due(graph, now), index, limit),
-        Timetable::Never => plan_one(alloc, None, index, limit),
-    }
-}
-
-// The one interval of `Once`, where it is due.
-#[tactic(auto, unfolding(crate::specs::Due::due_intervals))]
-fn once_due(graph: &GraphSpec, now: Moment) -> Option<Interval>
-    ensures { option_to_list result ≡ due_intervals Timetable.Once graph.now.start_date
-        graph.now.end_date now }
-{
-    let start = graph.start_date;
-    if is_up_to(&graph.end_date, start) && start.secs() <= now.secs() {
-        Some(Interval { start, end: start })
+    if graph.catchup {
+        all_due(alloc, graph, now, index, limit)
     } else {
-        None
+        plan_one(alloc, latest_due(graph, now), index, limit)
     }
 }
 

@@ -1,12 +1,12 @@
 //! What is found in a span of past days, interval by interval.
 ghost use Rattle.std.specs.Prelude.{◌++◌, ◌∷◌, [], List, Some, IsOk};
 ghost use Rattle.cron_timetable.specs.declared.timetables.Interval.{Interval as IntervalRecord};
-ghost use Rattle.run_planner.specs.Due.{due_intervals};
 ghost use Rattle.run_planner.specs.Spans.{IsBackfill};
+ghost use Rattle.run_planner.specs.Walks.{due_from};
 
 use crate::RunIndex;
-use crate::catchup::first_due;
-use cron_timetable::{Cron, Interval, Timetable};
+use crate::walking::{Step, first_due};
+use cron_timetable::{Interval, Timetable};
 use moment_core::Moment;
 use std::alloc::{AllocError, Global};
 
@@ -43,11 +43,11 @@ impl Backfill {
         Ok(())
     }
 
-    // Counts the intervals of a cron schedule in the span, the oldest first.
+    // Counts the intervals of a timetable in the span that start from a moment on, the oldest first.
     pub(crate) fn walk(
         &mut self,
-        cron: &Cron,
-        from: Moment,
+        timetable: &Timetable,
+        from: Option<Moment>,
         to: Moment,
         now: Moment,
         index: &RunIndex,
@@ -55,16 +55,16 @@ impl Backfill {
     ) -> Result<(), AllocError>
         requires { IsBackfill index.now.dates [] limit self.old }
         ensures { IsOk result → IsBackfill index.now.dates
-            (due_intervals (Timetable.Cron cron.now) from (Some to) now) limit self.new }
+            (due_from timetable.now from (Some to) now) limit self.new }
     {
         let last = Some(to);
-        let mut next = from;
+        let mut start = from;
         'walk: loop {
-            match first_due(cron, next, &last, now) {
+            match first_due(timetable, start, &last, now) {
                 None => return Ok(()),
-                Some(Interval { start, end }) => {
-                    self.count(Interval { start, end }, index, limit)?;
-                    next = end;
+                Some(Step { interval, next }) => {
+                    self.count(interval, index, limit)?;
+                    start = next;
                 }
             }
         }

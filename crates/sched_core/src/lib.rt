@@ -26,6 +26,7 @@ mod triggering;
 mod views;
 
 pub use changes::Change;
+pub use default_pools::DEFAULT_POOL_SLOTS;
 pub use graph_file::Name;
 pub use instance_machine::{Instance, Outcome, Stage, Try};
 pub use moment_core::Moment;

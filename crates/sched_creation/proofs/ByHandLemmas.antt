@@ -4,7 +4,7 @@ use Rattle.std.proofs.lemmas.List.{length-map}
 use Rattle.std.specs.Cmp.Lexicographic.{same_text}
 use Rattle.cron_timetable.specs.declared.timetables.Interval.{Interval}
 use Rattle.cron_timetable.specs.declared.timetables.Timetable.{Timetable}
-use Rattle.cron_timetable.specs.declared.timetables.Timetable.TheVariants.{Cron, Once, Never}
+use Rattle.cron_timetable.specs.declared.timetables.Timetable.TheVariants.{Cron, Trigger, Once, Never}
 use Rattle.dag_check.specs.Graphs.{Dag}
 use Rattle.run_planner.specs.ByHand.{by_hand, manual_intervals, the_interval}
 use Rattle.run_planner.specs.Due.{due_intervals, last_alone, without_runs}
@@ -43,6 +43,7 @@ alone (i ∷ j ∷ is) = alone (j ∷ is)
 
 one_at_most : (s : Timetable) (t : ℕ) → (manual_intervals s t ≡ []) ⊎ ((i : Interval) × (manual_intervals s t ≡ i ∷ []))
 one_at_most (Cron c) t = alone (due_intervals (Cron c) 0 None t)
+one_at_most (Trigger c) t = inr (record { start = t; end = t }, refl)
 one_at_most Once t = inr (record { start = t; end = t }, refl)
 one_at_most Never t = inr (record { start = t; end = t }, refl)
 

@@ -16,10 +16,7 @@ use crate::ranking::{Offer, better};
 use dag_check::Graph;
 use pool_book::Slots;
 use sched_draft::Draft;
-use sched_state::{Run, RunPhase};
-
-// The greatest serial.
-const LAST_SERIAL: u64 = 1 << 62;
+use sched_state::{LAST_SERIAL, Run, RunPhase};
 
 /// Whether a lane is free and a serial is left.
 pub fn has_lane(draft: &Draft<'_>, room: &Room) -> bool

@@ -1,5 +1,5 @@
 -- A text that takes in a graph without runs goes beside moves and hand-outs: it may be taken in before them or after them.
-use Rattle.std.proofs.Common.{◌≡◌, refl, sym, ap, subst, ◌∙◌, ℕ, zero, suc, ◌+◌, ◌-◌, ◌==◌, List, [], ◌∷◌, ◌++◌, Bool, true, false, cond, not, ◌&&◌, filter, flat_map, map, Option, Some, None, option_map, option_and_then, unwrap_or, slice_get, nat_lt}
+use Rattle.std.proofs.Common.{◌≡◌, refl, sym, ap, subst, ◌∙◌, ℕ, zero, suc, ◌+◌, ◌-◌, ◌==◌, List, [], ◌∷◌, ◌++◌, true, false, cond, not, ◌&&◌, filter, flat_map, map, Option, Some, None, option_map, option_and_then, unwrap_or, slice_get, nat_lt}
 use Rattle.std.specs.List.{list_all, list_any, range_with_len, zip}
 use Rattle.graph_file.specs.Lists.{when, first_some}
 use Rattle.graph_file.specs.declared.task_specs.TaskSpec.{TaskSpec}
@@ -23,7 +23,7 @@ use Rattle.sched_model.specs.States.{active_runs}
 use Rattle.sched_model.specs.Settle.{decides, decided_verdict, decide_task, decide_instance, decide_run, finish_run, start_run, is_leaf, move_runs, with_runs, move, moves_left, settle}
 use Rattle.sched_model.specs.Handout.{Offer, hand, hand_one, hand_out, best_offer, new_try, with_try, in_instance, serials_left}
 use Rattle.sched_model.specs.Changes.{with_graph, load_graph}
-use Rattle.sched_laws.specs.Seen.{Sight, sight_of, sights, seen_at, seen_past, seen_verdict}
+use Rattle.sched_laws.specs.Seen.{Sight, sight_of, sights, seen_at, seen_past}
 use Rattle.sched_model.specs.Jobs.{jobs_of, handed}
 use Rattle.sched_laws.proofs.AlikeLemmas.{AllDags, same_sights}
 use Rattle.sched_laws.proofs.KeyLemmas.{turns_keys, hands_keys}

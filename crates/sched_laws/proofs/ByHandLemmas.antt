@@ -5,7 +5,7 @@ use Rattle.std.proofs.lemmas.Bool.{ltb-true, and_from}
 use Rattle.moment_core.specs.Moments.{seconds_end}
 use Rattle.cron_timetable.specs.declared.timetables.Interval.{Interval}
 use Rattle.cron_timetable.specs.declared.timetables.Timetable.{Timetable}
-use Rattle.cron_timetable.specs.declared.timetables.Timetable.TheVariants.{Cron, Once, Never}
+use Rattle.cron_timetable.specs.declared.timetables.Timetable.TheVariants.{Cron, Trigger, Once, Never}
 use Rattle.run_planner.specs.ByHand.{manual_intervals}
 use Rattle.run_planner.specs.Due.{due_intervals, last_alone, starts_rise, without_runs}
 use Rattle.run_planner.specs.Index.{has_date}
@@ -25,6 +25,7 @@ empty_dated t range = and_from _ _ (dated t (record { start = t; end = t }) rang
 
 manual_dated : (s : Timetable) (t : ℕ) → t < seconds_end → list_all is_dated (manual_intervals s t) ≡ true
 manual_dated (Cron c) t range = all_last is_dated (due_intervals (Cron c) 0 None t) (due_dated (Cron c) 0 t None range)
+manual_dated (Trigger c) t range = empty_dated t range
 manual_dated Once t range = empty_dated t range
 manual_dated Never t range = empty_dated t range
 
@@ -53,6 +54,7 @@ one_new a id (i ∷ j ∷ is) alone known free now moments = let e = ap length a
 
 manual_alone : (s : Timetable) (t : ℕ) → manual_intervals s t ≡ last_alone (manual_intervals s t)
 manual_alone (Cron c) t = twice (due_intervals (Cron c) 0 None t)
+manual_alone (Trigger c) t = refl
 manual_alone Once t = refl
 manual_alone Never t = refl
 
@@ -64,11 +66,13 @@ by_hand_new a id s known free =
 -- ---- by a backfill
 span_dated : (s : Timetable) (start low high t : ℕ) → t < seconds_end → list_all is_dated (timetable_span s start low high t) ≡ true
 span_dated (Cron c) start low high t range = due_dated (Cron c) low t (Some high) range
+span_dated (Trigger c) start low high t range = due_dated (Trigger c) low t (Some high) range
 span_dated Once start low high t range = all_filter (λ (i : Interval). nat_le low i.start) is_dated (due_intervals Once start (Some high) t) (due_dated Once start t (Some high) range)
 span_dated Never start low high t range = refl
 
 span_rises : (s : Timetable) (start low high t : ℕ) → starts_rise (timetable_span s start low high t) ≡ true
 span_rises (Cron c) start low high t = due_rise (Cron c) low (Some high) t
+span_rises (Trigger c) start low high t = due_rise (Trigger c) low (Some high) t
 span_rises Once start low high t = filter_starts (λ (i : Interval). nat_le low i.start) (due_intervals Once start (Some high) t) (due_rise Once start (Some high) t)
 span_rises Never start low high t = refl
 

@@ -1,18 +1,16 @@
 -- The runs that a tick names are new: of graphs that are there, no two for one date, and dated by moments.
-use Rattle.std.proofs.Common.{◌≡◌, refl, sym, ap, ◌∙◌, ℕ, ◌<◌, ◌≤◌, List, [], ◌∷◌, ◌++◌, Bool, true, false, cond, not, ◌&&◌, ◌||◌, ◌==◌, map, filter, take, flat_map, is_some, Option, nat_lt, nat_le, arith, leb-true}
+use Rattle.std.proofs.Common.{◌≡◌, refl, sym, ap, ◌∙◌, ℕ, ◌<◌, ◌≤◌, List, [], ◌∷◌, ◌++◌, Bool, true, false, cond, not, ◌&&◌, ◌||◌, ◌==◌, map, filter, take, flat_map, is_some, Option, nat_lt, nat_le, arith}
 use Rattle.std.specs.List.{list_any, list_all, Contains}
 use Rattle.std.proofs.lemmas.Bool.{ltb-true, lt-ltb, le-leb, eqb-true, and_from, false_from_ne_true, or_right}
 use Rattle.moment_core.specs.Moments.{seconds_end}
-use Rattle.cron_timetable.specs.Fields.{Fields}
 use Rattle.cron_timetable.specs.declared.timetables.Interval.{Interval}
 use Rattle.cron_timetable.specs.declared.timetables.Timetable.{Timetable}
-use Rattle.cron_timetable.specs.declared.timetables.Timetable.TheVariants.{Cron, Once, Never}
 use Rattle.graph_file.specs.declared.graph_specs.GraphSpec.{GraphSpec}
 use Rattle.run_planner.specs.Index.{has_date}
-use Rattle.run_planner.specs.Due.{wanted_intervals, starts_rise, considered, due_intervals, last_alone, is_up_to}
-use Rattle.run_planner.specs.Latest.{IsDue}
+use Rattle.run_planner.specs.Due.{wanted_intervals, starts_rise, considered, due_intervals, last_alone}
 use Rattle.run_planner.proofs.RiseLemmas.{all_filtered, all_take, take_starts, wanted_rise}
-use Rattle.run_planner.proofs.MemberLemmas.{contains_head, contains_tail, due_members}
+use Rattle.run_planner.proofs.MemberLemmas.{contains_head, contains_tail}
+use Rattle.run_planner.proofs.DueLemmas.{due_members, in_order}
 use Rattle.sched_state.specs.Lists.{same}
 use Rattle.sched_state.specs.declared.graphs.LoadedGraph.{LoadedGraph}
 use Rattle.sched_state.specs.declared.runs.RunKind.{RunKind}
@@ -60,20 +58,10 @@ all_last q [] e = refl
 all_last q (x ∷ []) e = e
 all_last q (x ∷ y ∷ xs) e = all_last q (y ∷ xs) (and_right (q x) _ e)
 
-cron_dated : (c : Fields) (first t : ℕ) (last : Option ℕ) (i : Interval) → t < seconds_end → IsDue c first last t i → is_dated i ≡ true
-cron_dated c first t last i range h = let rising = h.interval.rising in dated t i range (omega arith) h.ended
-
-once_dated : (first t : ℕ) (last : Option ℕ) (b : Bool) → t < seconds_end → ((is_up_to last first && nat_le first t) ≡ b) → list_all is_dated (cond b (record { start = first; end = first } ∷ []) []) ≡ true
-once_dated first t last false range e = refl
-once_dated first t last true range e =
-    let ended : first ≤ t = leb-true first t (and_right (is_up_to last first) _ e) in
-    and_from _ _ (dated t (record { start = first; end = first }) range (omega arith) ended) refl
-
 pub due_dated : (timetable : Timetable) (first t : ℕ) (last : Option ℕ) → t < seconds_end → list_all is_dated (due_intervals timetable first last t) ≡ true
-unfolding due_intervals
-due_dated (Cron c) first t last range = all_members is_dated (due_intervals (Cron c) first last t) (λ i there. cron_dated c first t last i range ((due_members c first t last i range).0 there))
-due_dated Once first t last range = once_dated first t last (is_up_to last first && nat_le first t) range refl
-due_dated Never first t last range = refl
+due_dated timetable first t last range =
+    all_members is_dated (due_intervals timetable first last t)
+    (λ i there. let due = (due_members timetable first t last i range).0 there in dated t i range (in_order timetable first i due.interval) due.ended)
 
 considered_dated : (catchup : Bool) (is : List Interval) → list_all is_dated is ≡ true → list_all is_dated (considered catchup is) ≡ true
 considered_dated true is e = e

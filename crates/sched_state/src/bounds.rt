@@ -4,6 +4,9 @@ ghost use Rattle.sched_state.specs.Limits.{ceilings, limits_of};
 
 use std::marker::Model;
 
+/// The greatest serial of a try.
+pub const LAST_SERIAL: u64 = 1 << 62;
+
 /// The most that a schedule may hold.
 #[derive(Clone, Copy, Debug, PartialEq, Eq)]
 pub struct Limits {

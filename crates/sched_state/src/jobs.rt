@@ -1,6 +1,8 @@
 //! What is told of a try that is handed out.
 ghost use Rattle.std.specs.Prelude.{◌≡◌, IfOk};
 
+use crate::runs::RunKind;
+use cron_timetable::Interval;
 use graph_file::{Action, Bounded, Name};
 use moment_core::Moment;
 use std::alloc::{AllocError, Global};
@@ -14,6 +16,10 @@ pub struct Job {
     pub graph: Name,
     /// The logical date of its run.
     pub logical: Moment,
+    /// The data interval of its run.
+    pub interval: Interval,
+    /// How its run came to be.
+    pub kind: RunKind,
     /// The task's id.
     pub task: Name,
     /// The number of the try among those of its instance, from 1 (Airflow 2, "Tasks": try number).
@@ -35,6 +41,8 @@ impl Job {
             serial: self.serial,
             graph: self.graph.copy(alloc)?,
             logical: self.logical,
+            interval: self.interval,
+            kind: self.kind,
             task: self.task.copy(alloc)?,
             try_number: self.try_number,
             action: self.action.copy(alloc)?,

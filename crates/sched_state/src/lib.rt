@@ -15,7 +15,7 @@ mod jobs;
 mod runs;
 mod texts;
 
-pub use bounds::Limits;
+pub use bounds::{LAST_SERIAL, Limits};
 pub use clearings::Clearing;
 pub use graphs::LoadedGraph;
 pub use jobs::Job;

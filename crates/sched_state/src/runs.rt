@@ -1,5 +1,6 @@
 //! A run as a schedule holds it.
 ghost use Rattle.std.specs.Prelude.{◌≡◌, IfOk};
+ghost use Rattle.sched_state.specs.RunIds.{kind_text};
 
 use cron_timetable::Interval;
 use graph_file::{Name, Sequence};
@@ -16,6 +17,19 @@ pub enum RunKind {
     Manual,
     /// By a backfill.
     Backfill,
+}
+
+impl RunKind {
+    /// Its name, with which the id of a run begins (Airflow 2, "DAG Runs": run type).
+    pub fn name(self) -> &'static str
+        ensures { result.now ≡ kind_text self }
+    {
+        match self {
+            RunKind::Scheduled => "scheduled",
+            RunKind::Manual => "manual",
+            RunKind::Backfill => "backfill",
+        }
+    }
 }
 
 /// How far a run is.

@@ -1,13 +1,11 @@
 //! Files by their paths.
+use graph_file::TEXT_LIMIT;
 use script_commands::SourceFault;
 use script_reader::Sources;
 use std::alloc::Global;
 use std::fs;
 use std::io::{self, ErrorKind, Read};
 use std::rt::Files;
-
-// How many bytes a file may have.
-const MOST_BYTES: usize = 1_048_576;
 
 /// The files of the system. A path is one from the folder in which the program was started on, or begins with `/`.
 #[derive(Drop)]
@@ -30,7 +28,7 @@ impl<R: Files + Drop> Sources for FileSources<R> {
 
     fn text(&mut self, path: &str) -> Result<String, SourceFault> {
         match read_file(&self.rt, self.alloc, path) {
-            Ok(bytes) if bytes.len() > MOST_BYTES => Err(SourceFault::TooLong),
+            Ok(bytes) if bytes.len() > TEXT_LIMIT => Err(SourceFault::TooLong),
             Ok(bytes) => String::from_utf8(bytes).map_err(|_| SourceFault::NotText),
             Err(error) if error.kind() == ErrorKind::OutOfMemory => Err(SourceFault::Memory),
             Err(_) => Err(SourceFault::Unreadable),
@@ -42,6 +40,6 @@ impl<R: Files + Drop> Sources for FileSources<R> {
 fn read_file<R: Files>(rt: &R, alloc: Global, path: &str) -> io::Result<Vec<u8>> {
     let mut bytes = Vec::new(alloc);
     let file = fs::open(rt, path)?;
-    file.take(MOST_BYTES as u64 + 1).read_to_end(&mut bytes)?;
+    file.take(TEXT_LIMIT as u64 + 1).read_to_end(&mut bytes)?;
     Ok(bytes)
 }

@@ -6,7 +6,7 @@
 //!
 //! In: `let (desk, mut shares) = SlotDesk::open(alloc, blank, 2)?;`, then `desk.enter(rt, alloc, &mut shares[0], hold)` and
 //! `desk.leave(rt, &mut shares[0], serial)`, each share on one thread. Out: `desk.gather(shares)`. Easy to get wrong: `L` names one
-//! desk, so a function that opens one is generic in `L`, takes no `&str`, and is called with `std::marker::Brand` (`worked_desk`).
+//! desk, so a function that opens one is generic in `L`, takes no `&str`, and is called with `std::marker::Brand` (`worked_workers`).
 #![tactic(auto)]
 
 mod book;

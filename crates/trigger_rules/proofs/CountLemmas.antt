@@ -1,9 +1,10 @@
 -- Tests of a list of states, by how many of them are which.
-use Rattle.std.proofs.Common.{◌≡◌, ◌∙◌, ℕ, zero, suc, ◌+◌, ◌==◌, ◌&&◌, ◌||◌, Bool, true, false, not, cond, nat_lt, List, [], ◌∷◌, refl, sym, ap, arith, zero-add}
+use Rattle.std.proofs.Common.{◌≡◌, ◌∙◌, ℕ, zero, suc, ◌+◌, ◌==◌, ◌&&◌, ◌||◌, Bool, true, false, not, cond, nat_lt, List, [], ◌∷◌, ◌++◌, refl, sym, ap, arith, zero-add}
 use Rattle.std.proofs.lemmas.Bool.{lt-ltb, ne_eqb}
-use Rattle.std.proofs.lemmas.List.Sums.{sum_by-cons}
+use Rattle.std.proofs.lemmas.List.Sums.{sum_by-append, sum_by-cons}
 use Rattle.std.specs.List.{count_by, list_any, list_all}
 use Rattle.trigger_rules.specs.States.{is_success, is_failed, is_upstream_failed, is_skipped, is_finished}
+use Rattle.trigger_rules.specs.Counts.{Tally, counts_of}
 use Rattle.trigger_rules.specs.declared.states.State.{State}
 use Rattle.trigger_rules.specs.declared.states.State.TheVariants as state
 
@@ -90,3 +91,16 @@ all-is p s n e = ap (λ m. m == 0) (sym e) ∙ sym (all-count p s)
 pub zero-some : (n : ℕ) → (n == 0) ≡ not (nat_lt 0 n)
 zero-some zero = refl
 zero-some (suc n) = ne_eqb (suc n) 0 (λ e. absurd (omega arith)) ∙ sym (ap not (lt-ltb 0 (suc n) (omega arith)))
+
+-- a state counts the same wherever it stands
+count_moved : (p : State → Bool) (s t : List State) (x : State) → count_by p ((s ++ t) ++ x ∷ []) ≡ count_by p (s ++ x ∷ t)
+count_moved p s t x =
+    let f : State → ℕ = λ y. cond (p y) 1 0 in
+    omega (arith, sum_by-append f (s ++ t) (x ∷ []), sum_by-append f s t, sum_by-append f s (x ∷ t), sum_by-cons f x t, sum_by-cons f x [])
+
+pub counts_moved : (s t : List State) (x : State) → counts_of ((s ++ t) ++ x ∷ []) ≡ counts_of (s ++ x ∷ t)
+counts_moved s t x = all_same (count_moved is_success s t x) (count_moved is_failed s t x) (count_moved is_upstream_failed s t x) (count_moved is_skipped s t x) (count_moved is_unfinished s t x)
+  where
+    all_same : {a b c d n a' b' c' d' n' : ℕ} → a ≡ a' → b ≡ b' → c ≡ c' → d ≡ d' → n ≡ n'
+        → ◌≡◌ {A = Tally} (record { success = a; failed = b; upstream_failed = c; skipped = d; unfinished = n }) (record { success = a'; failed = b'; upstream_failed = c'; skipped = d'; unfinished = n' })
+    all_same e f g h k = cc

@@ -2,6 +2,7 @@
 use Rattle.std.specs.Prelude.{ℕ, ◌+◌, not, List, count_by}
 use Rattle.trigger_rules.specs.States.{is_success, is_failed, is_upstream_failed, is_skipped, is_finished}
 use Rattle.trigger_rules.specs.declared.states.State.{State}
+use Rattle.trigger_rules.specs.declared.states.State.TheVariants as state
 
 pub record Tally : Type 0 where
   pub success : ℕ
@@ -22,3 +23,11 @@ counts_of s = record {
 -- how many there are
 abbrev pub total : Tally → ℕ
 total t = t.success + (t.failed + (t.upstream_failed + (t.skipped + t.unfinished)))
+
+-- how many are in a state, where those of none of the four ends count as one
+abbrev pub counted_as : State → Tally → ℕ
+counted_as state.Success t = t.success
+counted_as state.Failed t = t.failed
+counted_as state.UpstreamFailed t = t.upstream_failed
+counted_as state.Skipped t = t.skipped
+counted_as _ t = t.unfinished

@@ -1,7 +1,7 @@
 //! How many upstreams are in which state.
 ghost use Rattle.std.specs.Prelude.{◌≡◌, ◌+◌, ◌<◌, ◌≤◌, List, [], ◌∷◌, ◌++◌};
 ghost use Rattle.graph_file.specs.TaskLists.{task_limit};
-ghost use Rattle.trigger_rules.specs.Counts.{counts_of, total};
+ghost use Rattle.trigger_rules.specs.Counts.{counts_of, counted_as, total};
 ghost use Rattle.trigger_rules.specs.declared.states.State.{State as StateOf};
 
 use crate::states::State;
@@ -79,6 +79,36 @@ impl Counts {
             State::Skipped => self.skipped += 1,
             State::None | State::Scheduled | State::Queued | State::Running | State::UpForRetry => {
                 self.unfinished += 1;
+            }
+        }
+    }
+
+    /// Counts an upstream in another state than before, in which it was counted.
+    pub fn replace(&mut self, old: State, new: State)
+        requires { 0 < counted_as old self.old }
+        ensures counted { (s t : List StateOf) → self.old ≡ counts_of (s ++ old ∷ t)
+            → self.new ≡ counts_of (s ++ new ∷ t) }
+        ensures total { total self.new ≡ total self.old }
+    {
+        self.remove(old);
+        self.add(new);
+    }
+
+    // Counts one upstream less.
+    fn remove(&mut self, state: State)
+        requires { 0 < counted_as state self.old }
+        ensures counted { (s t : List StateOf) → self.old ≡ counts_of (s ++ state ∷ t)
+            → self.new ≡ counts_of (s ++ t) }
+        ensures one { total self.new + 1 ≡ total self.old }
+        ensures bound { total self.new < task_limit }
+    {
+        match state {
+            State::Success => self.success -= 1,
+            State::Failed => self.failed -= 1,
+            State::UpstreamFailed => self.upstream_failed -= 1,
+            State::Skipped => self.skipped -= 1,
+            State::None | State::Scheduled | State::Queued | State::Running | State::UpForRetry => {
+                self.unfinished -= 1;
             }
         }
     }

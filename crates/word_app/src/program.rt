@@ -83,7 +83,7 @@ fn with_dags<'a>(alloc: Global, command: Command<'a>) -> Result<Command<'a>, All
         alloc,
         command,
         "pause",
-        "Pauses a graph: it gets no runs, and no try of it is handed out",
+        "Pauses a graph: its timetable makes no runs, no run of it starts, and no try of it is handed out",
     )?;
     let command = with_dag(alloc, command, "unpause", "Lets a paused graph go on")?;
     Ok(command)

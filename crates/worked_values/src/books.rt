@@ -1,27 +1,39 @@
-//! Pools and what is ready: steps with `; ` between them, each with its answer.
+//! Pools, what is ready, and which graphs have room: steps with `; ` between them, each with its answer.
 use graph_file::Name;
 use moment_core::Moment;
-use pool_book::{Key, PoolFault, Pools, Ready, Slots};
-use std::alloc::Global;
+use pool_book::{Key, PoolFault, Pools, Ready, Rooms, Slots};
+use std::alloc::{AllocError, Global};
 use std::io;
 
-// Pools, and the keys that are offered.
+// Pools, the keys that are offered, and which graphs have room.
 #[derive(Drop)]
 struct Book {
     pools: Pools,
     ready: Ready,
+    rooms: Rooms,
+    // How many numbers of graphs are reserved.
+    count: usize,
 }
 
 /// Writes the answers to steps.
 pub fn write_answer(rt: &HostRuntime, word: &str, rest: &str) -> io::Result<()> {
-    let mut book = Book {
-        pools: Pools::new(rt.alloc()),
-        ready: Ready::new(rt.alloc()),
-    };
+    let mut book = first_book(rt.alloc())?;
     match word {
         "steps" => write_steps(rt, &mut book, rest),
         _ => rt.print("no such word"),
     }
+}
+
+// No pool and no key; the number 0 is reserved, and its graph has room.
+fn first_book(alloc: Global) -> Result<Book, AllocError> {
+    let mut rooms = Rooms::new(alloc);
+    set_room(&mut rooms, 1, (0, 0, 1))?;
+    Ok(Book {
+        pools: Pools::new(alloc),
+        ready: Ready::new(alloc),
+        rooms,
+        count: 1,
+    })
 }
 
 fn write_steps(rt: &HostRuntime, book: &mut Book, steps: &str) -> io::Result<()> {
@@ -43,6 +55,8 @@ fn write_step(rt: &HostRuntime, book: &mut Book, step: &str) -> io::Result<()> {
         "pools" => write_names(rt, &book.pools),
         "copy" => copy(rt, &mut book.pools),
         "vacant" => vacant(rt, &mut book.pools),
+        "rooms" => write_rooms(rt, book, rest),
+        "room" => write_room(rt, book, rest),
         _ => write_pool_step(rt, &mut book.pools, word, rest),
     }
 }
@@ -148,20 +162,63 @@ fn vacant(rt: &HostRuntime, pools: &mut Pools) -> io::Result<()> {
     rt.print("yes")
 }
 
-// A key of pool `p` by `GRAPH TASK DATE WEIGHT SLOTS`.
+// Reserves the numbers of graphs below `N`.
+fn write_rooms(rt: &HostRuntime, book: &mut Book, text: &str) -> io::Result<()> {
+    let Ok(count) = text.parse::<usize>() else {
+        return rt.print("no number");
+    };
+    if book.rooms.reserve(count).is_err() {
+        return rt.print("no");
+    }
+    book.count = book.count.max(count);
+    rt.print("yes")
+}
+
+// Says of a number that is reserved how many tries of its graph are active, and how many may be: `N ACTIVE BOUND`.
+fn write_room(rt: &HostRuntime, book: &mut Book, text: &str) -> io::Result<()> {
+    let Some(room) = room_of(text) else {
+        return rt.print("no number");
+    };
+    let is_done = set_room(&mut book.rooms, book.count, room)?;
+    rt.print(if is_done { "yes" } else { "no" })
+}
+
+fn room_of(text: &str) -> Option<(usize, u64, u64)> {
+    let (n, rest) = text.split_once(' ')?;
+    let (active, bound) = rest.split_once(' ')?;
+    Some((n.parse().ok()?, active.parse().ok()?, bound.parse().ok()?))
+}
+
+// Says how many tries of a graph are active, and how many may be, where its number is below the count; the number is reserved then.
+// Answers whether it is below.
+fn set_room(
+    rooms: &mut Rooms,
+    count: usize,
+    (n, active, bound): (usize, u64, u64),
+) -> Result<bool, AllocError> {
+    if n >= count {
+        return Ok(false);
+    }
+    rooms.reserve(n + 1)?;
+    rooms.set(n, active, bound);
+    Ok(true)
+}
+
+// A key of pool `p` by `GRAPH TASK DATE WEIGHT SLOTS`, and behind these the number of its graph, which is 0 where none stands there.
 fn key_of(alloc: Global, text: &str) -> Option<Key> {
     let (graph, rest) = text.split_once(' ')?;
     let (task, rest) = rest.split_once(' ')?;
-    let (logical, weight, slots) = rank_of(rest)?;
-    key(alloc, (graph, task), weight, logical, slots)
+    let (logical, weight, slots, room) = rank_of(rest)?;
+    key(alloc, (graph, task), weight, logical, slots, room)
 }
 
-fn rank_of(text: &str) -> Option<(Moment, u64, Slots)> {
+fn rank_of(text: &str) -> Option<(Moment, u64, Slots, usize)> {
     let (date, rest) = text.split_once(' ')?;
-    let (weight, slots) = rest.split_once(' ')?;
+    let (weight, rest) = rest.split_once(' ')?;
+    let (slots, room) = rest.split_once(' ').unwrap_or((rest, "0"));
     let logical = Moment::read(date).ok()?;
     let slots = slots.parse().ok().and_then(Slots::new)?;
-    Some((logical, weight.parse().ok()?, slots))
+    Some((logical, weight.parse().ok()?, slots, room.parse().ok()?))
 }
 
 fn key(
@@ -170,6 +227,7 @@ fn key(
     weight: u64,
     logical: Moment,
     slots: Slots,
+    room: usize,
 ) -> Option<Key> {
     Some(Key {
         weight,
@@ -178,6 +236,7 @@ fn key(
         task: Name::read(alloc, task).ok()?,
         pool: Name::read(alloc, "p").ok()?,
         slots,
+        room,
     })
 }
 
@@ -204,7 +263,7 @@ fn withdraw(rt: &HostRuntime, ready: &mut Ready, text: &str) -> io::Result<()> {
 
 // The graph and the task of the first key in rank that fits.
 fn write_best(rt: &HostRuntime, book: &Book) -> io::Result<()> {
-    match book.ready.best_fitting(&book.pools) {
+    match book.ready.best_fitting(&book.pools, &book.rooms) {
         Some(key) => {
             let (graph, task) = (key.graph.as_str(), key.task.as_str());
             print!(rt; "{graph} {task}")
@@ -215,7 +274,7 @@ fn write_best(rt: &HostRuntime, book: &Book) -> io::Result<()> {
 
 // Hands the best key out: its slots are taken, and it is withdrawn.
 fn hand(rt: &HostRuntime, book: &mut Book) -> io::Result<()> {
-    let Some(best) = book.ready.best_fitting(&book.pools) else {
+    let Some(best) = book.ready.best_fitting(&book.pools, &book.rooms) else {
         return rt.print("none");
     };
     let key = best.copy(rt.alloc())?;

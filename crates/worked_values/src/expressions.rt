@@ -106,14 +106,22 @@ fn write_intervals(rt: &HostRuntime, text: &str) -> io::Result<()> {
     }
 }
 
-// The moment and the timetable of `MOMENT TIMETABLE`.
+// The moment and the timetable of `MOMENT TIMETABLE`: `@once`, `None`, or a cron text, behind the word `trigger` that of a trigger
+// timetable.
 fn asked_timetable(text: &str) -> Option<(Moment, Timetable)> {
     let (at, words) = text.split_once(' ')?;
     let at = Moment::read(at).ok()?;
     match words {
         "@once" => Some((at, Timetable::Once)),
         "None" => Some((at, Timetable::Never)),
-        _ => Some((at, Timetable::Cron(Cron::read(words).ok()?))),
+        _ => Some((at, asked_cron(words)?)),
+    }
+}
+
+fn asked_cron(words: &str) -> Option<Timetable> {
+    match words.strip_prefix("trigger ") {
+        Some(text) => Some(Timetable::Trigger(Cron::read(text).ok()?)),
+        None => Some(Timetable::Cron(Cron::read(words).ok()?)),
     }
 }
 

@@ -93,6 +93,7 @@ fn write_days(rt: &HostRuntime, graph: &GraphSpec) -> io::Result<()> {
 fn write_schedule(rt: &HostRuntime, timetable: &Timetable, from: Moment) -> io::Result<()> {
     let kind = match timetable {
         Timetable::Cron(_) => "cron ",
+        Timetable::Trigger(_) => "trigger ",
         Timetable::Once => "once ",
         Timetable::Never => "never ",
     };

@@ -1,9 +1,10 @@
 //! Jobs.
 ghost use Rattle.std.specs.Prelude.{◌≡◌, ◌+◌, ◌<◌, ℕ, IfOk, vec_len, slice_index_or};
 
+use cron_timetable::Interval;
 use graph_file::{Action, Bounded, Name, Operator, Sequence};
 use moment_core::Moment;
-use sched_state::Job;
+use sched_state::{Job, RunKind};
 use std::alloc::{AllocError, Global};
 
 /// A first try of a task that does nothing, with this serial.
@@ -41,6 +42,8 @@ pub fn job_of(
         serial,
         graph: name(alloc, "page")?,
         logical: Moment::at(0),
+        interval: Interval::empty_at(Moment::at(0)),
+        kind: RunKind::Manual,
         task: name(alloc, "line")?,
         try_number,
         action: action.copy(alloc)?,

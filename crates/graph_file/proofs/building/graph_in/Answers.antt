@@ -1,10 +1,6 @@
 use Rattle.std.proofs.Common.{lit<, lit≤}
 use Rattle.toml.specs.View.{table_view}
 use Rattle.graph_file.specs.Keys.{top_keys}
-use Rattle.graph_file.specs.Schedules.{cron_fault_at}
-use Rattle.graph_file.specs.declared.keys.Key.TheVariants as key
-use Rattle.graph_file.proofs.ListLemmas.{each_none}
-use Rattle.graph_file.proofs.ScheduleLemmas.{schedule_there}
 use Rattle.graph_file.proofs.KeyLemmas.{met, name_there, moment_there, number_there}
 use Rattle.graph_file.proofs.building.graph_in.Goals as goal
 
@@ -15,12 +11,6 @@ name_at-requires c =
 
 pub unwrap-requires : goal.unwrap-requires
 unwrap-requires c =
-    let m = met top_keys (table_view c.args.table.now) 1 c.requires.top (lit< tt) in
-    let read = each_none (cron_fault_at (table_view c.args.table.now)) top_keys 1 key.DagId (lit< tt) c.requires.schedule in
-    rw (c.read_timetable.ensures, c.text_at.ensures) (schedule_there _ _ m.right m.there read)
-
-pub unwrap-requires-2 : goal.unwrap-requires-2
-unwrap-requires-2 c =
     let m = met top_keys (table_view c.args.table.now) 2 c.requires.top (lit< tt) in
     rw c.moment_at.ensures (moment_there _ _ m.right m.there m.good)
 

@@ -39,8 +39,5 @@ read_instance-requires-clause-since c = (known (goal.at.read_instance-requires-c
 pub read_instance-requires-clause-tries : goal.read_instance-requires-clause-tries
 read_instance-requires-clause-tries c = (known (goal.at.read_instance-requires-clause-tries c).After-index-buckets-place).tries
 
-pub read_instance-requires-clause-sound : goal.read_instance-requires-clause-sound
-read_instance-requires-clause-sound c = (known (goal.at.read_instance-requires-clause-sound c).After-index-buckets-place).sound
-
 pub returns : goal.returns
 returns c = subst (λ (i : InstanceValue). IfOk c.read_instance.result (λ made. made ≡ i)) (known (goal.at.returns c).After-index-buckets-place).whole c.read_instance.ensures

@@ -1,4 +1,4 @@
-use Rattle.run_planner.proofs.MemberLemmas.{due_members}
+use Rattle.run_planner.proofs.DueLemmas.{due_members}
 use Rattle.run_planner.proofs.laws.due_intervals_are_intervals.Goals as goal
 
 pub returns : goal.returns
