@@ -1,5 +1,5 @@
 -- The program that a command starts, and the folder that a try of it has.
-use Rattle.std.specs.Prelude.{ℕ, Bool, List, [], ◌∷◌, ◌++◌, map, codes, bytes_eq, if◌then◌else◌}
+use Rattle.std.specs.Prelude.{ℕ, List, [], ◌∷◌, ◌++◌, map, codes, bytes_eq, if◌then◌else◌}
 use Rattle.std.specs.Fmt.{decimal}
 
 -- the path of the folder of the try with this serial, under a base folder

@@ -2,3 +2,4 @@ pub mod Outcomes
 pub mod Commands
 pub mod Progress
 pub mod Kits
+pub mod Variables

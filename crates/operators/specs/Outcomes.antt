@@ -1,5 +1,5 @@
 -- How a try may end under an operator of each kind.
-use Rattle.std.specs.Prelude.{◌≡◌, ℕ, ◌-◌, ◌==◌, min, Bool, true, false, List, [], length, slice_index_or, if◌then◌else◌, Option, Some, None, option_map, unwrap_or, ℤ, pos}
+use Rattle.std.specs.Prelude.{◌≡◌, ℕ, ◌-◌, ◌==◌, min, Bool, true, false, List, [], length, slice_index_or, if◌then◌else◌, Option, Some, option_map, unwrap_or, ℤ, pos}
 use Rattle.graph_file.specs.Operators.{status_of}
 use Rattle.graph_file.specs.declared.operators.Operator.{Operator as Kind}
 use Rattle.graph_file.specs.declared.operators.Operator.TheVariants.{Noop, Command, Exit}

@@ -1,19 +1,37 @@
 //! The program that a command starts, and what the status means with which it ends.
-ghost use Rattle.std.specs.Prelude.{◌≡◌, ℕ, List, [], ◌∷◌, ◌++◌, map, false, None, IfOk, OnOk};
+ghost use Rattle.std.specs.Prelude.{◌≡◌, ℕ, List, [], ◌∷◌, ◌++◌, map, false, None, Some, option_map, IfOk, OnOk};
 ghost use Rattle.std.specs.Process.{command_program, command_args, command_dir, command_var, clears_env};
 ghost use Rattle.std.specs.Process.{SameEnv, SameDir};
 ghost use Rattle.operators.specs.Commands.{with_folder, program_of, arguments_of};
 ghost use Rattle.operators.specs.Outcomes.{code_outcome, status_outcome};
+ghost use Rattle.operators.specs.Variables.{variable_of};
 
+use crate::variables::add_variables;
 use graph_file::Argument;
 use instance_machine::Outcome;
+use sched_state::Job;
 use std::alloc::{AllocError, Global};
 use std::process::Command;
 
-/// The program that the first argument names, with the others as its arguments: for each that is `@scratch` it gets the folder's path.
-/// It gets the environment and the working folder of who starts it. Where there is no argument the program's name is empty, and
-/// nothing can be started.
-pub fn command_of(alloc: Global, argv: &[Argument], folder: &str) -> Result<Command, AllocError>
+/// The program that the first argument of a job names, with the others as its arguments: for each that is `@scratch` it gets the path of
+/// the try's folder. It gets the environment of who starts it, with the variables that say which try it is, and its working folder.
+/// Where there is no argument the program's name is empty, and nothing can be started.
+pub fn command_of(alloc: Global, job: &Job, folder: &str) -> Result<Command, AllocError>
+    ensures program { IfOk result (λ c. command_program c ≡ program_of job.now.action.argv) }
+    ensures arguments { IfOk result (λ c. command_args c
+        ≡ arguments_of folder.now job.now.action.argv) }
+    ensures environment { IfOk result (λ c. (clears_env c ≡ false)
+        × ((name : List ℕ) → command_var c name
+        ≡ option_map (λ v. Some v) (variable_of job.now folder.now name))) }
+    ensures folder { IfOk result (λ c. command_dir c ≡ None) }
+{
+    let mut command = plain_command(alloc, job.action.argv(), folder)?;
+    add_variables(alloc, &mut command, job, folder)?;
+    Ok(command)
+}
+
+// The program with its arguments, in the environment of who starts it.
+fn plain_command(alloc: Global, argv: &[Argument], folder: &str) -> Result<Command, AllocError>
     ensures program { IfOk result (λ c. command_program c ≡ program_of argv.now) }
     ensures arguments { IfOk result (λ c. command_args c ≡ arguments_of folder.now argv.now) }
     ensures environment { IfOk result (λ c. (clears_env c ≡ false)

@@ -6,7 +6,7 @@
 //!
 //! [`Program`], the operator of `command`, starts real programs with real folders. What it does to the system no contract can say: which
 //! program it starts with which arguments is said of [`command_of`], what a status means of [`outcome_of_code`], and the rest is shown by
-//! the program `worked_operators`. Easy to get wrong: an operator that is dropped between `begin` and `finish` gives the job up.
+//! the program `worked_workers`. Easy to get wrong: an operator that is dropped between `begin` and `finish` gives the job up.
 #![tactic(auto)]
 
 mod boxed;
@@ -19,6 +19,7 @@ mod noop;
 mod operators;
 mod programs;
 mod progress;
+mod variables;
 
 pub use boxed::BoxedOperator;
 pub use commands::{command_of, outcome_of_code};

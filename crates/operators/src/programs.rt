@@ -7,7 +7,7 @@ ghost use Rattle.operators.specs.Outcomes.{is_lost};
 use crate::commands::{command_of, outcome_of_code};
 use crate::folders::TryFolder;
 use crate::{BeginFault, Operator, Progress};
-use graph_file::{Argument, Operator as Kind};
+use graph_file::Operator as Kind;
 use instance_machine::Outcome;
 use sched_state::Job;
 use std::alloc::Global;
@@ -82,7 +82,7 @@ impl<R: Files + Processes + Drop> Operator for Program<R> {
 
     fn perform(&mut self, job: &Job) -> Outcome {
         let outcome = match &self.folder {
-            Some(folder) => run(&self.rt, self.alloc, job.action.argv(), folder.path()),
+            Some(folder) => run(&self.rt, self.alloc, job, folder.path()),
             None => unreachable!(),
         };
         self.progress.add_outcome(job.serial, outcome);
@@ -113,10 +113,10 @@ impl<R: Files + Processes + Drop> Drop for Program<R> {
 }
 
 // Starts the program and waits for it to end. One that cannot be started is a failure, for want of memory too.
-fn run<R: Processes>(rt: &R, alloc: Global, argv: &[Argument], folder: &str) -> Outcome
+fn run<R: Processes>(rt: &R, alloc: Global, job: &Job, folder: &str) -> Outcome
     ensures { is_lost result ≡ false }
 {
-    match code_of(rt, alloc, argv, folder) {
+    match code_of(rt, alloc, job, folder) {
         Ok(code) => outcome_of_code(code),
         Err(_) => Outcome::Failed,
     }
@@ -126,10 +126,10 @@ fn run<R: Processes>(rt: &R, alloc: Global, argv: &[Argument], folder: &str) -> 
 fn code_of<R: Processes>(
     rt: &R,
     alloc: Global,
-    argv: &[Argument],
+    job: &Job,
     folder: &str,
 ) -> io::Result<Option<i32>> {
-    let mut command = command_of(alloc, argv, folder)?;
+    let mut command = command_of(alloc, job, folder)?;
     command.stdin(Stdio::null());
     command.stdout(Stdio::null());
     command.stderr(Stdio::null());
