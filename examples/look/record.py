@@ -65,5 +65,12 @@ def state_of(task, instance, tries):
     return "failed" if len(tried) > task.retries else "up_for_retry"
 
 
+def log_of(logs, dag, run, task, number):
+    """The path of the log of a try under the folder of `dagsched run --logs`, or None where there is none."""
+    name = f"{KINDS[run.kind]}__{text_of(run.logical, '%Y-%m-%dT%H:%M:%S+00:00')}"
+    path = pathlib.Path(logs, f"dag_id={dag}", f"run_id={name}", f"task_id={task}", f"attempt={number}.log")
+    return path if path.is_file() else None
+
+
 def text_of(moment, form="%Y-%m-%dT%H:%M:%SZ"):
     return time.strftime(form, time.gmtime(moment))

@@ -31,12 +31,13 @@ time_of text = if bytes_eq text (codes "now") then Ok Now else after (moment_of 
 abbrev pub tick_of : Text → Result Command UsageFault
 tick_of text = after (time_of text) (λ time. Ok (command.Tick time))
 
--- `run [--workers N] [--lanes N] [--scratch DIR]`
+-- `run [--workers N] [--lanes N] [--scratch DIR] [--logs DIR]`
 abbrev pub run_in : List Row → Command
 run_in rows = command.Run (record {
   workers = number_at 1 16 (codes "workers") rows;
   lanes = number_at 0 64 (codes "lanes") rows;
   scratch = text_at (codes "scratch") rows;
+  logs = first_of (codes "logs") rows;
 })
 
 -- `explain DAG LOGICAL TASK`

@@ -67,6 +67,8 @@ pub struct ScriptOptions {
     pub lanes: Bounded<0, 64>,
     /// The folder under which each try of a program has its own, `dagsched-scratch` where no word says it.
     pub scratch: FilePath,
+    /// The folder of the logs of the tries of programs; what they write is lost where no word says it.
+    pub logs: Option<FilePath>,
 }
 
 /// The task instance that is to be explained.

@@ -5,9 +5,8 @@ ghost use Rattle.command_words.specs.Lines as spec;
 
 use crate::commands::{Command, CommandLine, UsageFault};
 use crate::kinds::CommandKind;
-use crate::paths::FilePath;
 use crate::readings::command_in;
-use crate::values::{path_of, value_at};
+use crate::values::{some_path, value_at};
 use clap::ArgMatches;
 use std::alloc::Global;
 
@@ -31,19 +30,6 @@ fn command_at(alloc: Global, matches: &ArgMatches<'_>) -> Result<Command, UsageF
     }
 }
 
-fn record_path_in(alloc: Global, matches: &ArgMatches<'_>) -> Result<Option<FilePath>, UsageFault>
-    ensures ok { IfOk result (λ path. path ≡ first_of (codes "record") (rows_of (found_of matches.now))) }
-    ensures refused { IfErr result (λ e. e ≡ UsageFault.Memory) }
-{
-    match value_at(matches, "record") {
-        Some(path) => {
-            let path = path_of(alloc, path)?;
-            Ok(Some(path))
-        }
-        None => Ok(None),
-    }
-}
-
 /// What the matches say.
 pub(crate) fn line_in(alloc: Global, matches: &ArgMatches<'_>) -> Result<CommandLine, UsageFault>
     ensures ok { IfOk result (λ line. spec.line_at (rows_of (found_of matches.now)) (subcommand_rows_of matches.now) ≡ Ok line) }
@@ -51,7 +37,7 @@ pub(crate) fn line_in(alloc: Global, matches: &ArgMatches<'_>) -> Result<Command
         → spec.line_at (rows_of (found_of matches.now)) (subcommand_rows_of matches.now) ≡ Err e) }
 {
     let command = command_at(alloc, matches)?;
-    let record_path = record_path_in(alloc, matches)?;
+    let record_path = some_path(alloc, value_at(matches, "record"))?;
     Ok(CommandLine {
         record_path,
         command,

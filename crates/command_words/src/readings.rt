@@ -8,7 +8,8 @@ use crate::commands::{
 };
 use crate::kinds::CommandKind;
 use crate::values::{
-    flag_at, moment_at, moment_of, name_at, number_at, path_of, some_name, text_at, value_at,
+    flag_at, moment_at, moment_of, name_at, number_at, path_of, some_name, some_path, text_at,
+    value_at,
 };
 use clap::ArgMatches;
 use graph_file::Bounded;
@@ -57,10 +58,12 @@ fn run_in(alloc: Global, matches: &ArgMatches<'_>) -> Result<Command, UsageFault
     let workers = Bounded::<1, 16>::new(number_at(matches, "workers", 1, 16));
     let lanes = Bounded::<0, 64>::new(number_at(matches, "lanes", 0, 64));
     let scratch = path_of(alloc, text_at(matches, "scratch"))?;
+    let logs = some_path(alloc, value_at(matches, "logs"))?;
     Ok(Command::Run(ScriptOptions {
         workers,
         lanes,
         scratch,
+        logs,
     }))
 }
 

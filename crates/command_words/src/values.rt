@@ -125,3 +125,17 @@ pub(crate) fn path_of(alloc: Global, text: &str) -> Result<FilePath, UsageFault>
         Err(_) => Err(UsageFault::Memory),
     }
 }
+
+/// The path that a text is, where there is one.
+pub(crate) fn some_path(alloc: Global, text: Option<&str>) -> Result<Option<FilePath>, UsageFault>
+    ensures ok { IfOk result (λ path. path ≡ option_map (λ s. s.now) text.entry) }
+    ensures refused { IfErr result (λ e. e ≡ UsageFault.Memory) }
+{
+    match text {
+        Some(text) => {
+            let path = path_of(alloc, text)?;
+            Ok(Some(path))
+        }
+        None => Ok(None),
+    }
+}

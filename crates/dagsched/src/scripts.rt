@@ -1,12 +1,12 @@
 //! A script that is run on a record.
 use crate::records::put_failure;
-use command_words::ScriptOptions;
+use command_words::{FilePath, ScriptOptions};
 use meta_store::Store;
 use script_reader::Script;
 use script_runner::{FileSources, SystemClock, TerminalProgress, operators_for, run_team};
 use sqlite::Alter;
 use std::fs;
-use std::io::{self, BufReader, BufWriter, ErrorKind};
+use std::io::{self, BufReader, BufWriter};
 use std::sync::Wait;
 use std::thread::Threads;
 
@@ -19,8 +19,9 @@ pub fn run_script<S: Alter + Drop, T: Threads + Wait + Sync>(
 ) -> io::Result<(Store<S>, u8)> {
     let alloc = rt.alloc();
     let scratch = options.scratch.as_str();
-    make_scratch(rt, scratch);
-    let team = operators_for(*rt, alloc, options.workers.get(), scratch)?;
+    let logs = options.logs.as_ref().map(FilePath::as_str);
+    make_folders(rt, scratch, logs);
+    let team = operators_for(*rt, alloc, options.workers.get(), scratch, logs)?;
     let script = Script {
         input: BufReader::new(alloc, rt.stdin())?,
         output: BufWriter::new(alloc, rt.stdout())?,
@@ -45,14 +46,22 @@ pub fn run_script<S: Alter + Drop, T: Threads + Wait + Sync>(
     }
 }
 
-// Makes the folder under which each try of a command has one of its own. One that is there is taken; without one each such try fails, which is said.
-fn make_scratch(rt: &HostRuntime, folder: &str) {
-    match fs::create_dir(rt, folder) {
-        Err(error) if error.kind() != ErrorKind::AlreadyExists => {
-            let _ = eprintln!(rt;
-                "dagsched: the folder {folder} cannot be made, so tries of commands will fail"
-            );
-        }
-        Ok(()) | Err(_) => {}
+// Makes the folders that tries of commands need. One that is there is taken; without one each such try fails, which is said.
+fn make_folders(rt: &HostRuntime, scratch: &str, logs: Option<&str>) {
+    say_lacking(rt, scratch, fs::create_dir(rt, scratch));
+    if let Some(logs) = logs {
+        say_lacking(rt, logs, fs::create_dir_all(rt, logs));
+    }
+}
+
+// Says that a folder is not there, where it was not made and none was there before.
+fn say_lacking(rt: &HostRuntime, folder: &str, made: io::Result<()>) {
+    let Err(error) = made else {
+        return;
+    };
+    if !fs::metadata(rt, folder).is_ok_and(|found| found.is_dir()) {
+        let _ = eprintln!(rt;
+            "dagsched: the folder {folder} cannot be made, so tries of commands will fail: {error}"
+        );
     }
 }

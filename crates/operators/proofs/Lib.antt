@@ -1,2 +1,3 @@
 pub mod Times
 pub mod VariableLemmas
+pub mod LogLemmas

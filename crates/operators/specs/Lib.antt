@@ -3,3 +3,4 @@ pub mod Commands
 pub mod Progress
 pub mod Kits
 pub mod Variables
+pub mod Logs

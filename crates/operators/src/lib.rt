@@ -5,8 +5,8 @@
 //! `kit.finish(job.action.operator())`. Out: the outcome, which is reported, and `kit.runs(kind)`.
 //!
 //! [`Program`], the operator of `command`, starts real programs with real folders. What it does to the system no contract can say: which
-//! program it starts with which arguments is said of [`command_of`], what a status means of [`outcome_of_code`], and the rest is shown by
-//! the program `worked_workers`. Easy to get wrong: an operator that is dropped between `begin` and `finish` gives the job up.
+//! program it starts with which arguments is said of [`command_of`], where its log lies of [`log_path_of`], what a status means of
+//! [`outcome_of_code`], and the rest is shown by the program `worked_workers`. Easy to get wrong: an operator that is dropped between `begin` and `finish` gives the job up.
 #![tactic(auto)]
 
 mod boxed;
@@ -15,6 +15,7 @@ mod exit;
 mod folders;
 mod kits;
 mod laws;
+mod logs;
 mod noop;
 mod operators;
 mod programs;
@@ -26,7 +27,8 @@ pub use commands::{command_of, outcome_of_code};
 pub use exit::Exit;
 pub use graph_file::Operator as Kind;
 pub use kits::Kit;
-pub use laws::each_try_of_exit_has_a_status;
+pub use laws::{each_try_has_a_log_of_its_own, each_try_of_exit_has_a_status};
+pub use logs::log_path_of;
 pub use noop::Noop;
 pub use operators::{BeginFault, Operator};
 pub use programs::Program;

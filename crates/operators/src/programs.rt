@@ -6,33 +6,38 @@ ghost use Rattle.operators.specs.Outcomes.{is_lost};
 
 use crate::commands::{command_of, outcome_of_code};
 use crate::folders::TryFolder;
+use crate::logs::{logged_status, open_log};
 use crate::{BeginFault, Operator, Progress};
 use graph_file::Operator as Kind;
 use instance_machine::Outcome;
 use sched_state::Job;
 use std::alloc::Global;
+use std::fs::File;
 use std::io;
-use std::process::{Processes, Stdio};
+use std::process::{Command, ExitStatus, Processes, Stdio};
 use std::rt::Files;
 
 /// Starts the program that a job's arguments name, and waits for it to end. No shell reads the arguments.
 ///
 /// Each try has a folder `try-SERIAL` of its own under the base folder, from `begin` on; one that is there is taken. `finish` and a drop
-/// remove it with all that is in it, as far as the system lets them. The program's standard streams are empty, and what it writes is
-/// lost. Status 0 is success, 99 asks to be skipped; another one, a signal, and a program that cannot be started are failures.
-pub struct Program<R: Files + Processes + Drop> {
+/// remove it with all that is in it, as far as the system lets them. The program's standard input is empty. What it writes goes to the log
+/// of the try ([`log_path_of`](crate::log_path_of)), or is lost where there is no folder for logs. Status 0 is success, 99 asks to be skipped;
+/// another one, a signal, a log that cannot be opened and a program that cannot be started are failures.
+pub struct Program<R: Files<File = File> + Processes + Drop> {
     progress: Progress,
     rt: R,
     alloc: Global,
     base: String,
+    logs: Option<String>,
     // that of the try that is taken up
     folder: Option<TryFolder>,
     ghost has_folder: { folder ≡ option_map (folder_path (string_bytes base)) progress.taken },
 }
 
-impl<R: Files + Processes + Drop> Program<R> {
-    /// An operator that has performed nothing. This takes no memory, and touches no folder.
-    pub fn new(rt: R, alloc: Global, base: String) -> Program<R>
+impl<R: Files<File = File> + Processes + Drop> Program<R> {
+    /// An operator that has performed nothing, with the base folder of the tries' folders, and that of their logs where they have some.
+    /// This takes no memory, and touches no folder.
+    pub fn new(rt: R, alloc: Global, base: String, logs: Option<String>) -> Program<R>
         ensures runs { ⟦<Program<R> as Operator>⟧.runs_of result ≡ [] }
         ensures taken { (⟦<Program<R> as Operator>⟧.taken result ≡ None)
             × (⟦<Program<R> as Operator>⟧.performed result ≡ false) }
@@ -43,12 +48,13 @@ impl<R: Files + Processes + Drop> Program<R> {
             rt,
             alloc,
             base,
+            logs,
             folder: None,
         }
     }
 }
 
-impl<R: Files + Processes + Drop> Operator for Program<R> {
+impl<R: Files<File = File> + Processes + Drop> Operator for Program<R> {
     ghost kind_of = { λ _. kinds.Command };
 
     ghost runs_of = { λ o. o.progress.runs };
@@ -82,7 +88,10 @@ impl<R: Files + Processes + Drop> Operator for Program<R> {
 
     fn perform(&mut self, job: &Job) -> Outcome {
         let outcome = match &self.folder {
-            Some(folder) => run(&self.rt, self.alloc, job, folder.path()),
+            Some(folder) => {
+                let logs = self.logs.as_deref();
+                run(&self.rt, self.alloc, job, folder.path(), logs)
+            }
             None => unreachable!(),
         };
         self.progress.add_outcome(job.serial, outcome);
@@ -97,13 +106,14 @@ impl<R: Files + Processes + Drop> Operator for Program<R> {
     }
 }
 
-impl<R: Files + Processes + Drop> Drop for Program<R> {
+impl<R: Files<File = File> + Processes + Drop> Drop for Program<R> {
     fn drop(self) {
         let Program {
             progress: _,
             rt,
             alloc,
             base: _,
+            logs: _,
             folder,
         } = self;
         if let Some(folder) = folder {
@@ -113,26 +123,41 @@ impl<R: Files + Processes + Drop> Drop for Program<R> {
 }
 
 // Starts the program and waits for it to end. One that cannot be started is a failure, for want of memory too.
-fn run<R: Processes>(rt: &R, alloc: Global, job: &Job, folder: &str) -> Outcome
+fn run<R: Files<File = File> + Processes>(
+    rt: &R,
+    alloc: Global,
+    job: &Job,
+    folder: &str,
+    logs: Option<&str>,
+) -> Outcome
     ensures { is_lost result ≡ false }
 {
-    match code_of(rt, alloc, job, folder) {
+    match code_of(rt, alloc, job, folder, logs) {
         Ok(code) => outcome_of_code(code),
         Err(_) => Outcome::Failed,
     }
 }
 
-// The code with which the program ended, `None` where a signal ended it.
-fn code_of<R: Processes>(
+// The code with which the program ended, `None` where a signal ended it. One whose log cannot be opened is not started.
+fn code_of<R: Files<File = File> + Processes>(
     rt: &R,
     alloc: Global,
     job: &Job,
     folder: &str,
+    logs: Option<&str>,
 ) -> io::Result<Option<i32>> {
     let mut command = command_of(alloc, job, folder)?;
     command.stdin(Stdio::null());
+    let status = match logs {
+        Some(base) => logged_status(rt, &mut command, open_log(rt, alloc, base, job)?)?,
+        None => unheard_status(rt, &mut command)?,
+    };
+    Ok(status.code())
+}
+
+// Starts the program and waits for it to end. What it writes is lost.
+fn unheard_status<R: Processes>(rt: &R, command: &mut Command) -> io::Result<ExitStatus> {
     command.stdout(Stdio::null());
     command.stderr(Stdio::null());
-    let status = command.status(rt)?;
-    Ok(status.code())
+    command.status(rt)
 }

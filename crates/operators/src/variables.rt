@@ -73,8 +73,8 @@ fn names(alloc: Global, job: &Job) -> Result<[Variable; 5], AllocError>
     Ok([graph, task, logical, try_number, run])
 }
 
-// The id of its run.
-fn run_id(alloc: Global, job: &Job) -> Result<String, AllocError>
+/// The id of a job's run.
+pub(crate) fn run_id(alloc: Global, job: &Job) -> Result<String, AllocError>
     ensures { IfOk result (λ id. string_bytes id ≡ run_id_text job.now.kind job.now.logical) }
 {
     let logical = job.logical.to_string(alloc)?;

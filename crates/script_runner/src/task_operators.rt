@@ -9,6 +9,7 @@ use instance_machine::Outcome;
 use operators::{BeginFault, Exit, Noop, Operator, Program};
 use sched_state::Job;
 use std::alloc::{AllocError, Global};
+use std::fs::File;
 use std::process::Processes;
 use std::rt::Files;
 use work::OpenGate;
@@ -76,35 +77,39 @@ impl<P: Operator> Operator for TaskOperator<P> {
     }
 }
 
-/// So many lists of the three operators, one list for each worker, beside gates that are open. The tries of `command` have their folders under this one.
-pub fn operators_for<R: Files + Processes + Copy + Drop>(
+/// So many lists of the three operators, one list for each worker, beside gates that are open. The tries of `command` have their folders under
+/// `scratch`, and their logs under `logs`, where there is one.
+pub fn operators_for<R: Files<File = File> + Processes + Copy + Drop>(
     rt: R,
     alloc: Global,
     workers: u32,
     scratch: &str,
+    logs: Option<&str>,
 ) -> Result<Vec<(Vec<TaskOperator<Program<R>>>, OpenGate)>, AllocError>
     ensures workers { IfOk result (λ team. length team.items ≡ workers) }
     ensures whole { IfOk result (λ team. All (λ w. IsWhole (kind_of (λ _. kinds.Command)) w.0.items) team.items) }
 {
     let mut team = Vec::new(alloc);
     for _worker in 0..workers {
-        team.push((three_operators(rt, alloc, scratch)?, OpenGate))?;
+        team.push((three_operators(rt, alloc, scratch, logs)?, OpenGate))?;
     }
     Ok(team)
 }
 
 // One operator of each kind.
-fn three_operators<R: Files + Processes + Copy + Drop>(
+fn three_operators<R: Files<File = File> + Processes + Copy + Drop>(
     rt: R,
     alloc: Global,
     scratch: &str,
+    logs: Option<&str>,
 ) -> Result<Vec<TaskOperator<Program<R>>>, AllocError>
     ensures { IfOk result (λ operators. IsWhole (kind_of (λ _. kinds.Command)) operators.items) }
 {
     let base = String::from_str(alloc, scratch)?;
+    let logs = logs.map(|base| String::from_str(alloc, base)).transpose()?;
     let mut operators = Vec::new(alloc);
     operators.push(TaskOperator::Noop(Noop::new(alloc)))?;
     operators.push(TaskOperator::Exit(Exit::new(alloc)))?;
-    operators.push(TaskOperator::Command(Program::new(rt, alloc, base)))?;
+    operators.push(TaskOperator::Command(Program::new(rt, alloc, base, logs)))?;
     Ok(operators)
 }

@@ -3,7 +3,7 @@ use Rattle.std.specs.Prelude.{codes, true, List, []}
 use Rattle.std.specs.Borrow.{Bor}
 use Rattle.clap.specs.Words.{App, Shape, Text, new_app, with_rule, with_subcommand}
 use Rattle.clap.specs.declared.builder.value_parser.ValueParser.TheVariants as parser
-use Rattle.word_app.specs.Rules.{word, checked_word, flag, option, dag_word, pool_word, size_word, workers, lanes, scratch}
+use Rattle.word_app.specs.Rules.{word, checked_word, flag, option, dag_word, pool_word, size_word, workers, lanes, scratch, logs}
 
 -- texts, wherever they lie in memory
 abbrev pub Texts : Type 0
@@ -17,8 +17,12 @@ of_dag name = with_rule (new_app name) dag_word
 abbrev pub spanned : Text → App
 spanned name = with_rule (with_rule (of_dag name) (word (codes "from"))) (word (codes "to"))
 
+-- `run` without a folder for logs
+abbrev pub unlogged_run : App
+unlogged_run = with_rule (with_rule (with_rule (new_app (codes "run")) workers) lanes) scratch
+
 abbrev pub run : App
-run = with_rule (with_rule (with_rule (new_app (codes "run")) workers) lanes) scratch
+run = with_rule unlogged_run logs
 
 abbrev pub list : Texts → App
 list names = with_rule (new_app (codes "list")) (checked_word (codes "rows") (parser.Names names))

@@ -3,7 +3,7 @@ use Rattle.std.specs.Prelude.{ℕ, codes, true, [], ◌∷◌, Some, pos}
 use Rattle.clap.specs.Words.{Rule, Text, new_rule}
 use Rattle.clap.specs.declared.builder.ArgAction.TheVariants.{SetTrue}
 use Rattle.clap.specs.declared.builder.value_parser.ValueParser.{ValueParser}
-use Rattle.clap.specs.declared.builder.value_parser.ValueParser.TheVariants.{Signed}
+use Rattle.clap.specs.declared.builder.value_parser.ValueParser.TheVariants.{NonEmptyString, Signed}
 
 -- a word that must be there
 abbrev pub word : Text → Rule
@@ -42,3 +42,6 @@ lanes = count (codes "lanes") 0 64 (codes "4")
 
 abbrev pub scratch : Rule
 scratch = record (option (codes "scratch")) { defaults = codes "dagsched-scratch" ∷ [] }
+
+abbrev pub logs : Rule
+logs = record (option (codes "logs")) { parser = Some NonEmptyString }

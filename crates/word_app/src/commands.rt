@@ -7,14 +7,25 @@ ghost use Rattle.clap.specs.declared.builder.command.Command.TheViews.{out-Comma
 ghost use Rattle.word_app.specs.App as spec;
 
 use crate::rules::{
-    dag_word, lanes_option, pool_word, scratch_option, size_word, word, workers_option,
+    dag_word, lanes_option, logs_option, pool_word, scratch_option, size_word, word, workers_option,
 };
 use clap::Command;
 use std::alloc::{AllocError, Global};
 
-/// `run [--workers N] [--lanes N] [--scratch DIR]`.
+/// `run [--workers N] [--lanes N] [--scratch DIR] [--logs DIR]`.
 pub(crate) fn run_command<'a>(alloc: Global) -> Result<Command<'a>, AllocError>
     ensures app { IfOk result (λ c. app_of c ≡ spec.run) }
+    ensures globals { IfOk result (λ c. (fields_of c).has_globals ≡ false) }
+{
+    let logs = logs_option(alloc);
+    let command = unlogged_run_command(alloc)?;
+    let command = command.arg(logs)?;
+    Ok(command)
+}
+
+// `run [--workers N] [--lanes N] [--scratch DIR]`.
+fn unlogged_run_command<'a>(alloc: Global) -> Result<Command<'a>, AllocError>
+    ensures app { IfOk result (λ c. app_of c ≡ spec.unlogged_run) }
     ensures globals { IfOk result (λ c. (fields_of c).has_globals ≡ false) }
 {
     let workers = workers_option(alloc);

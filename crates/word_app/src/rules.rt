@@ -3,6 +3,7 @@ ghost use Rattle.std.specs.Prelude.{◌≡◌, false};
 ghost use Rattle.clap.specs.Words.{rule_of};
 ghost use Rattle.word_app.specs.Rules as spec;
 
+use clap::builder::ValueParser;
 use clap::{Arg, ArgAction, value_parser};
 use std::alloc::Global;
 
@@ -120,4 +121,18 @@ pub(crate) fn scratch_option<'a>(alloc: Global) -> Arg<'a>
         "Where each try of a program gets a folder",
     );
     scratch.default_value("dagsched-scratch")
+}
+
+/// `--logs DIR`, where DIR is not empty.
+pub(crate) fn logs_option<'a>(alloc: Global) -> Arg<'a>
+    ensures rule { rule_of result ≡ spec.logs }
+    ensures here { result.global ≡ false }
+{
+    let logs = option(
+        alloc,
+        "logs",
+        "DIR",
+        "Where each try of a program gets a log; without it what it writes is lost",
+    );
+    logs.value_parser(ValueParser::NonEmptyString)
 }

@@ -15,7 +15,8 @@
 //! status 0
 //! ```
 //!
-//! WORD is the number of lanes, or says that a script is run in another way, without lanes. `reads`: its reads fail after 0, 1, 2 .. that do not, until a run meets no
+//! WORD is the number of lanes, or says that a script is run in another way. `logs`: with one lane, and a log for each try of a program in the
+//! folder `logs`. The others are without lanes. `reads`: its reads fail after 0, 1, 2 .. that do not, until a run meets no
 //! such read; `writes`: the same of what it writes, a byte at a time. Runs with the same answers, status and clock of the record share a line. `long-COUNT`: each
 //! `~` of the script and the byte before it stand for so many of that byte. `tasks-COUNT`: the script stands below the load of a graph of so many tasks, each after the one before it.
 //! `memory`: not a script, but what is written where memory ran out.
@@ -85,15 +86,16 @@ fn put_run<T: Threads + Wait + Sync, W: Write>(
 ) -> io::Result<()> {
     let alloc = host.alloc();
     match section.kind() {
-        Kind::Lanes(lanes) => put_played(rt, host, lanes, section.script, output),
+        Kind::Lanes(lanes) => put_played(rt, host, lanes, None, section.script, output),
+        Kind::Logged => put_logged(rt, host, section.script, output),
         Kind::Stops(part) => put_stops(rt, host, part, section.script, output),
         Kind::Long(count) => {
             let script = long(alloc, section.script, count)?;
-            put_played(rt, host, 0, script.as_slice(), output)
+            put_played(rt, host, 0, None, script.as_slice(), output)
         }
         Kind::Tasks(count) => {
             let script = with_chain(alloc, section.script, count)?;
-            put_played(rt, host, 0, script.as_slice(), output)
+            put_played(rt, host, 0, None, script.as_slice(), output)
         }
         Kind::Memory => put_lacks(output),
     }
@@ -104,14 +106,26 @@ fn put_played<T: Threads + Wait + Sync, W: Write>(
     rt: &T,
     host: &HostRuntime,
     lanes: u32,
+    logs: Option<&str>,
     script: &[u8],
     output: &mut W,
 ) -> io::Result<()>
     requires { lanes ≤ 64 }
 {
-    let played = play(rt, host, lanes, script, Calls::all())?;
+    let played = play(rt, host, lanes, logs, script, Calls::all())?;
     output.write_all(played.printed.as_slice())?;
     writeln!(output, "status {}", played.status)
+}
+
+// The same of a script whose programs have logs, which are removed then.
+fn put_logged<T: Threads + Wait + Sync, W: Write>(
+    rt: &T,
+    host: &HostRuntime,
+    script: &[u8],
+    output: &mut W,
+) -> io::Result<()> {
+    put_played(rt, host, 1, Some(playing::LOGS), script, output)?;
+    fs::remove_dir_all(host, playing::LOGS)
 }
 
 fn put_line<W: Write>(line: &[u8], output: &mut W) -> io::Result<()> {

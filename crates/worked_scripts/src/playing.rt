@@ -17,6 +17,9 @@ use std::thread::Threads;
 /// Where the tries of `command` have their folders.
 pub const SCRATCH: &str = "tries";
 
+/// Where they have their logs, where they have some.
+pub const LOGS: &str = "logs";
+
 /// What came of a script.
 #[derive(Drop)]
 pub struct Played {
@@ -35,13 +38,14 @@ pub fn play<T: Threads + Wait + Sync>(
     rt: &T,
     host: &HostRuntime,
     lanes: u32,
+    logs: Option<&str>,
     script: &[u8],
     calls: Calls,
 ) -> io::Result<Played>
     requires { lanes ≤ 64 }
 {
     let alloc = host.alloc();
-    let team = operators_for(*host, alloc, 1, SCRATCH)?;
+    let team = operators_for(*host, alloc, 1, SCRATCH, logs)?;
     let mut clock = worked_clock(alloc)?;
     let source = Source {
         text: script,

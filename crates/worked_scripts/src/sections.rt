@@ -15,6 +15,8 @@ pub struct Section<'a> {
 pub enum Kind {
     /// With so many lanes, of 64 at most.
     Lanes(u32),
+    /// With one lane, and a log for each try of `command`.
+    Logged,
     /// With reads or writes that fail.
     Stops(Part),
     /// With so many bytes for each `~` and the byte before it.
@@ -44,6 +46,7 @@ impl Section<'_> {
         match word {
             "reads" => Kind::Stops(Part::Reads),
             "writes" => Kind::Stops(Part::Writes),
+            "logs" => Kind::Logged,
             "memory" => Kind::Memory,
             _ => counted(word),
         }

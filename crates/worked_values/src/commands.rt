@@ -34,7 +34,11 @@ fn write_options(rt: &HostRuntime, options: &ScriptOptions) -> io::Result<()> {
     let workers = options.workers.get();
     let lanes = options.lanes.get();
     let scratch = options.scratch.as_str();
-    print!(rt; "run workers {workers} lanes {lanes} scratch '{scratch}'")
+    print!(rt; "run workers {workers} lanes {lanes} scratch '{scratch}'")?;
+    match &options.logs {
+        Some(logs) => print!(rt; " logs '{}'", logs.as_str()),
+        None => Ok(()),
+    }
 }
 
 fn write_listing(rt: &HostRuntime, listing: Listing) -> io::Result<()> {

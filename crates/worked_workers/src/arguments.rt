@@ -7,9 +7,10 @@ use graph_file::{Action, Argument};
 use instance_machine::Outcome;
 use operators::Program;
 use std::alloc::Global;
+use std::fs::{self, File};
+use std::io;
 use std::process::Processes;
 use std::rt::Files;
-use std::{fs, io};
 
 // The arguments before those that are looked at: a shell that writes those behind its folder.
 const BEFORE: usize = 4;
@@ -21,7 +22,7 @@ const SHELL: &str =
 const BEFORE_BYTES: usize = 71;
 
 /// Writes whether a program gets these arguments, which are TOML's items of an array and its end, as they are.
-pub fn write_answer<R: Files + Processes + Print + Alloc + Copy + Drop>(
+pub fn write_answer<R: Files<File = File> + Processes + Print + Alloc + Copy + Drop>(
     rt: &R,
     alloc: Global,
     base: &str,
@@ -35,7 +36,7 @@ pub fn write_answer<R: Files + Processes + Print + Alloc + Copy + Drop>(
 }
 
 /// The same of one long argument, by which all have so many bytes.
-pub fn write_long<R: Files + Processes + Print + Alloc + Copy + Drop>(
+pub fn write_long<R: Files<File = File> + Processes + Print + Alloc + Copy + Drop>(
     rt: &R,
     alloc: Global,
     base: &str,
@@ -52,14 +53,14 @@ pub fn write_long<R: Files + Processes + Print + Alloc + Copy + Drop>(
     write_answer(rt, alloc, base, items.as_str())
 }
 
-fn write_compared<R: Files + Processes + Print + Alloc + Copy + Drop>(
+fn write_compared<R: Files<File = File> + Processes + Print + Alloc + Copy + Drop>(
     rt: &R,
     alloc: Global,
     base: &str,
     action: &Action,
 ) -> io::Result<()> {
     fs::create_dir(rt, base)?;
-    let program = Program::new(*rt, alloc, String::from_str(alloc, base)?);
+    let program = Program::new(*rt, alloc, String::from_str(alloc, base)?, None);
     let mut hand = Hand::new(program);
     if hand.begin(job_of(alloc, 1, 1, action)?).is_err() {
         return rt.print(" not begun");

@@ -20,6 +20,7 @@ pub fn write_turn<R: Files + Print + Alloc>(
         "locked" => write_done(rt, " locked", lock(rt, path))?,
         "gone" => write_done(rt, " removed", rt.remove_dir_all(alloc, path))?,
         "there" => write_found(rt, path)?,
+        "text" => write_text(rt, path)?,
         _ => return Ok(false),
     }
     Ok(true)
@@ -68,5 +69,14 @@ fn write_found<R: Files + Print>(rt: &R, path: &str) -> io::Result<()> {
         Ok(found) if found.is_dir() => rt.print(" a-folder"),
         Ok(_) => rt.print(" a-file"),
         Err(_) => rt.print(" nothing"),
+    }
+}
+
+// Writes the text of a file, or how many bytes it has where they are many.
+fn write_text<R: Files + Print + Alloc>(rt: &R, path: &str) -> io::Result<()> {
+    match fs::read_to_string(rt, path) {
+        Ok(text) if text.len() < 100 => print!(rt; " {text:?}"),
+        Ok(text) => print!(rt; " {}-bytes", text.len()),
+        Err(_) => rt.print(" no-text"),
     }
 }

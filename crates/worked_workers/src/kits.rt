@@ -12,7 +12,7 @@ pub fn write_answer(rt: &HostRuntime, alloc: Global, base: &str, words: &str) ->
             Some(Kind::Noop) => boxes.push(Box::new(alloc, Noop::new(alloc))?)?,
             Some(Kind::Exit) => boxes.push(Box::new(alloc, Exit::new(alloc))?)?,
             Some(Kind::Command) => {
-                let program = Program::new(*rt, alloc, String::from_str(alloc, base)?);
+                let program = Program::new(*rt, alloc, String::from_str(alloc, base)?, None);
                 boxes.push(Box::new(alloc, program)?)?;
             }
             None => {}

@@ -1,6 +1,6 @@
 //! One word after another with one operator: `begin:SERIAL` and `begin:SERIAL:TRY` begin a job of the line's task, `perform` performs it,
 //! `finish` gives it up, `runs` shows what was performed, and other words change what stands at the base folder. At the end the operator
-//! is dropped.
+//! is dropped. The operator `logged` is `command` with the logs of its tries under `logs` in the base folder.
 use crate::actions::read_action;
 use crate::folders;
 use crate::hands::Hand;
@@ -8,13 +8,14 @@ use crate::jobs::job_of;
 use graph_file::Action;
 use instance_machine::Outcome;
 use operators::{BeginFault, Exit, Kind, Noop, Operator, Program};
-use std::alloc::Global;
+use std::alloc::{AllocError, Global};
+use std::fs::{self, File};
+use std::io;
 use std::process::Processes;
 use std::rt::Files;
-use std::{fs, io};
 
 /// Writes what comes of each word, and for a command whether its try's folder is left when all is done.
-pub fn write_answer<R: Files + Processes + Print + Alloc + Copy + Drop>(
+pub fn write_answer<R: Files<File = File> + Processes + Print + Alloc + Copy + Drop>(
     rt: &R,
     alloc: Global,
     base: &str,
@@ -22,6 +23,8 @@ pub fn write_answer<R: Files + Processes + Print + Alloc + Copy + Drop>(
     rest: &str,
 ) -> io::Result<()> {
     let (argv, words) = rest.rsplit_once(" : ").unwrap_or(("[]", rest));
+    let logs = logs_of(alloc, base, operator)?;
+    let operator = if logs.is_some() { "command" } else { operator };
     let Some(action) = read_action(alloc, operator, argv)? else {
         return rt.print(" no such action");
     };
@@ -29,11 +32,20 @@ pub fn write_answer<R: Files + Processes + Print + Alloc + Copy + Drop>(
         Kind::Noop => write_turns(rt, alloc, base, Noop::new(alloc), &action, words),
         Kind::Exit => write_turns(rt, alloc, base, Exit::new(alloc), &action, words),
         Kind::Command => {
-            let program = Program::new(*rt, alloc, String::from_str(alloc, base)?);
+            let program = Program::new(*rt, alloc, String::from_str(alloc, base)?, logs);
             write_turns(rt, alloc, base, program, &action, words)?;
             write_left(rt, alloc, base)
         }
     }
+}
+
+// The folder of the logs, where the operator has some.
+fn logs_of(alloc: Global, base: &str, operator: &str) -> Result<Option<String>, AllocError> {
+    if operator != "logged" {
+        return Ok(None);
+    }
+    let logs = folders::path_of(alloc, base, "logs")?;
+    Ok(Some(logs))
 }
 
 // Does one word after another, and drops the operator.

@@ -65,7 +65,7 @@ fn commands(
     let mut turns = Vec::new(alloc);
     for thread in 0..threads {
         turns.push(Turn {
-            operator: Program::new(*host, alloc, String::from_str(alloc, base)?),
+            operator: Program::new(*host, alloc, String::from_str(alloc, base)?, None),
             jobs: jobs_of(alloc, action, thread, each)?,
         })?;
     }

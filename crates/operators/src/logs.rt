@@ -1,0 +1,66 @@
+//! The logs of tries: where they lie, and how a program writes into its own.
+ghost use Rattle.std.specs.Prelude.{◌≡◌, IfOk, string_bytes};
+ghost use Rattle.operators.specs.Logs.{log_path};
+
+use crate::variables::run_id;
+use sched_state::Job;
+use std::alloc::{AllocError, Global};
+use std::fs::{self, File};
+use std::io::{self, Write};
+use std::path::Path;
+use std::process::{Command, ExitStatus, Processes};
+use std::rt::Files;
+
+/// The path of the log of a job's try under a base folder: `BASE/dag_id=DAG/run_id=RUNID/task_id=TASK/attempt=N.log`, as Airflow 2 lays
+/// its logs out ("Logging for Tasks"). An `Err` says that memory ran out.
+pub fn log_path_of(alloc: Global, base: &str, job: &Job) -> Result<String, AllocError>
+    ensures { IfOk result (λ path. string_bytes path ≡ log_path base.now job.now) }
+{
+    let run = run_id(alloc, job)?;
+    let number = job.try_number.to_string(alloc)?;
+    let parts = [
+        base,
+        "/dag_id=",
+        job.graph.as_str(),
+        "/run_id=",
+        run.as_str(),
+        "/task_id=",
+        job.task.as_str(),
+        "/attempt=",
+        number.as_str(),
+        ".log",
+    ];
+    parts.concat(alloc)
+}
+
+/// Opens the log of a job's try, to write at its end, and makes it and the folders that it lies in where they are not there.
+pub(crate) fn open_log<R: Files<File = File>>(
+    rt: &R,
+    alloc: Global,
+    base: &str,
+    job: &Job,
+) -> io::Result<File> {
+    let path = log_path_of(alloc, base, job)?;
+    let path = Path::new(path.as_str());
+    if let Some(folder) = path.parent() {
+        fs::create_dir_all(rt, folder)?;
+    }
+    File::options().create(true).append(true).open(rt, path)
+}
+
+/// Starts the program and waits for it to end. What it writes goes to the end of the log, in the order in which it is written; of a
+/// program that cannot be started the log says so.
+pub(crate) fn logged_status<R: Processes>(
+    rt: &R,
+    command: &mut Command,
+    log: File,
+) -> io::Result<ExitStatus> {
+    command.stdout(log.try_clone()?);
+    command.stderr(log.try_clone()?);
+    let status = command.status(rt);
+    if let Err(error) = &status {
+        let mut log = log;
+        let _ = writeln!(log, "dagsched: the program cannot be started: {error}");
+    }
+    status
+}
