@@ -1,0 +1,13 @@
+pub mod PutLemmas
+pub mod EditLemmas
+pub mod RiseLemmas
+pub mod PositionLemmas
+pub mod OverlayLemmas
+pub mod MarkLemmas
+pub mod TouchLemmas
+pub mod WriteLemmas
+pub mod LawLemmas
+pub mod PastLemmas
+pub mod OrderLemmas
+pub mod BeforeLemmas
+pub mod PickLemmas

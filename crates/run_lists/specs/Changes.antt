@@ -1,0 +1,11 @@
+-- What is changed in one run.
+use Rattle.std.specs.Prelude.{ℕ, List, length, option_map, unwrap_or, slice_get}
+use Rattle.sched_state.specs.declared.runs.Run.{Run}
+use Rattle.sched_state.specs.declared.runs.RunPhase.{RunPhase}
+
+abbrev pub in_phase : RunPhase → Run → Run
+in_phase ph r = record r { phase = ph }
+
+-- how many instances the run at the position has: 0 where there is none
+abbrev pub instances_at : ℕ → List Run → ℕ
+instances_at n rs = unwrap_or (option_map (λ (r : Run). length r.instances) (slice_get rs n)) 0

@@ -1,0 +1,9 @@
+pub mod Changes
+pub mod Edits
+pub mod Lending
+pub mod Marks
+pub mod Orders
+pub mod Overlays
+pub mod Past
+pub mod Rooms
+pub mod Touched

@@ -1,0 +1,26 @@
+-- Where a key stands among runs in their order.
+use Rattle.std.specs.Prelude.{◌≡◌, ℕ, ◌<◌, ◌≤◌, Bool, true, false, not, List, length, count_by, Some, slice_get}
+use Rattle.std.specs.Ordering.{nat_cmp, ordering_then}
+use Rattle.sched_state.specs.Lists.{name_cmp, is_less}
+use Rattle.sched_state.specs.declared.runs.Run.{Run}
+use Rattle.sched_model.specs.Schedule.{is_at, run_before}
+
+-- a run of this graph and date would stand before the run
+abbrev pub key_before : List ℕ → ℕ → Run → Bool
+key_before id date r = is_less (ordering_then (name_cmp id r.graph) (nat_cmp date r.logical))
+
+-- where a run of this graph and date would be put in: before the first that it stands before
+pub record IsPositionFor (id : List ℕ) (date : ℕ) (rs : List Run) (position : ℕ) : Type 0 where
+  pub within : position ≤ length rs
+  pub passed : (n : ℕ) (r : Run) → n < position → slice_get rs n ≡ Some r → key_before id date r ≡ false
+  pub reached : (n : ℕ) (r : Run) → position ≤ n → slice_get rs n ≡ Some r → key_before id date r ≡ true
+
+-- the run at the position is of this graph and date
+pub record IsRunAt (id : List ℕ) (date : ℕ) (rs : List Run) (position : ℕ) : Type 0 where
+  pub run : Run
+  pub there : slice_get rs position ≡ Some run
+  pub key : is_at id date run ≡ true
+
+-- the position of a run among others in their order: how many of them are not after it
+abbrev pub position_in_order : Run → List Run → ℕ
+position_in_order r rs = count_by (λ (q : Run). not (run_before r q)) rs

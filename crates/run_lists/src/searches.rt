@@ -1,0 +1,63 @@
+//! Runs by their keys: a binary search over all runs, each of which is found by one among the edits.
+ghost use Rattle.std.specs.Prelude.{◌≡◌, true, false, OnOk, OnErr, MatchOption};
+ghost use Rattle.std.specs.List.{list_any};
+ghost use Rattle.sched_state.specs.Lists.{insert_by};
+ghost use Rattle.sched_model.specs.Lists.{rises};
+ghost use Rattle.sched_model.specs.Schedule.{is_at, run_before};
+ghost use Rattle.run_lists.specs.Orders.{IsPositionFor, IsRunAt, position_in_order};
+ghost use Rattle.run_lists.specs.Touched.{touched_with};
+
+use crate::Overlay;
+use crate::ordering::{has_key, key_before};
+use graph_file::Name;
+use moment_core::Moment;
+use sched_state::Run;
+use std::alloc::AllocError;
+
+impl Overlay<'_> {
+    /// Where a run of this graph and date would be put in: before the first run that it would stand before.
+    pub fn position_for(&self, graph: &Name, logical: Moment) -> usize
+        requires { rises run_before self.now.runs ≡ true }
+        ensures { IsPositionFor graph.now logical self.now.runs result }
+    {
+        let mut low = 0;
+        let mut high = self.len();
+        while low < high {
+            let middle = low + (high - low) / 2;
+            if key_before(graph, logical, self.get(middle)) {
+                high = middle;
+            } else {
+                low = middle + 1;
+            }
+        }
+        low
+    }
+
+    /// The position of the run of this graph and date, and `None` exactly where there is no such run.
+    pub fn find(&self, graph: &Name, logical: Moment) -> Option<usize>
+        requires { rises run_before self.now.runs ≡ true }
+        ensures { MatchOption result (list_any (is_at graph.now logical) self.now.runs ≡ false)
+            (λ position. IsRunAt graph.now logical self.now.runs position) }
+    {
+        let after = self.position_for(graph, logical);
+        if after > 0 && has_key(self.get(after - 1), graph, logical) {
+            Some(after - 1)
+        } else {
+            None
+        }
+    }
+
+    /// A run is put in at its place in the order, and touched; those behind it stand one position further on. Where a run with its key is
+    /// there already it is put in behind it. An `Err` says that memory ran out, and nothing has changed.
+    pub fn add(&mut self, run: Run) -> Result<(), AllocError>
+        requires { rises run_before self.old.runs ≡ true }
+        ensures ok { OnOk result (self.new ≡ record self.old {
+          runs = insert_by run_before run self.old.runs;
+          touched = touched_with (position_in_order run self.old.runs) self.old.touched;
+        }) }
+        ensures err { OnErr result (self.new ≡ self.old) }
+    {
+        let position = self.position_for(&run.graph, run.logical);
+        self.insert(position, run)
+    }
+}
