@@ -9,6 +9,7 @@ use answer_lines::{Shown, put};
 use command_words::{Command, UsageFault};
 use meta_store::Store;
 use script_commands::CommandFault;
+use script_reader::Console;
 use sqlite::Alter;
 use std::alloc::Global;
 use std::io::Write;
@@ -17,19 +18,21 @@ use std::io::Write;
 ///
 /// `trigger`, `backfill`, `clear`, `pause`, `unpause` and `resize` open the record within the greatest limits, without lanes, and step their event.
 /// `list` and `explain` look at what the record holds, and leave it as it is. `run` is the caller's; it and what is for scripts alone, `load`, `tick`
-/// and `drain`, have no place here.
-pub fn run_command<S: Alter + Drop, W: Write>(
+/// and `drain`, have no place here. The console is given why an event was not done or a question not answered, and may tell of it before the output is
+/// flushed.
+pub fn run_command<S: Alter + Drop, W: Write, P: Console>(
     alloc: Global,
     store: Store<S>,
     command: &Command,
     output: &mut W,
+    console: &mut P,
 ) -> (Store<S>, u8)
     ensures { IsDone (state S.Store) store command.now (W.contents output.old) (W.contents output.new) result.0 result.1 }
 {
     match command {
-        Command::Step(event) => step_event(alloc, store, event, output),
-        Command::List(listing) => show_rows(alloc, store, *listing, output),
-        Command::Explain(question) => answer_question(alloc, store, question, output),
+        Command::Step(event) => step_event(alloc, store, event, output, console),
+        Command::List(listing) => show_rows(alloc, store, *listing, output, console),
+        Command::Explain(question) => answer_question(alloc, store, question, output, console),
         Command::Run(_) | Command::Load(_) | Command::Tick(_) | Command::Drain => {
             let fault = CommandFault::Usage(UsageFault::NotHere);
             let put = put(output, Shown::NoCommand(fault));

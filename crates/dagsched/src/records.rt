@@ -2,13 +2,16 @@
 ghost use Rattle.std.specs.Prelude.{◌≡◌, false};
 
 use crate::scripts::run_script;
+use crate::telling::{tell_fault, tell_made, tell_unkept, tell_unopened};
 use answer_lines::{Shown, put};
 use command_runner::run_command;
 use command_words::Command;
 use director::Fault;
 use meta_store::{Store, StoreFault};
 use script_reader::failure_status;
+use script_runner::SentenceConsole;
 use sqlite::{Alter, Connection, Error, ErrorCode};
+use std::fs;
 use std::io::{self, BufWriter, ErrorKind, Write};
 use std::sync::Wait;
 use std::thread::Threads;
@@ -19,10 +22,15 @@ pub fn in_file<T: Threads + Wait + Sync>(
     rt: &HostRuntime,
     path: &str,
     command: &Command,
+    words: String,
 ) -> io::Result<u8> {
+    let was_there = fs::metadata(rt, path).is_ok();
     match Connection::open(rt, path) {
         Ok(conn) => {
-            let (conn, status) = on_connection(threads, rt, conn, command)?;
+            let (conn, status) = on_connection(threads, rt, conn, command, words)?;
+            if !was_there {
+                tell_made(rt, path, command);
+            }
             match conn.close() {
                 Ok(()) => Ok(status),
                 Err(_) => Ok(status.max(3)),
@@ -31,8 +39,9 @@ pub fn in_file<T: Threads + Wait + Sync>(
         Err(Error::SqliteFailure(ErrorCode::OutOfMemory)) => {
             Err(io::Error::from(ErrorKind::OutOfMemory))
         }
-        Err(_) => {
+        Err(error) => {
             put(&mut rt.stdout(), Shown::Unopened)?;
+            tell_unopened(rt, path, error);
             Ok(3)
         }
     }
@@ -43,9 +52,11 @@ pub fn in_memory<T: Threads + Wait + Sync>(
     threads: &T,
     rt: &HostRuntime,
     command: &Command,
+    words: String,
 ) -> io::Result<u8> {
     let conn = Connection::open_in_memory(rt.alloc())?;
-    let (_conn, status) = on_connection(threads, rt, conn, command)?;
+    let (_conn, status) = on_connection(threads, rt, conn, command, words)?;
+    tell_unkept(rt, command);
     Ok(status)
 }
 
@@ -55,12 +66,15 @@ fn on_connection<S: Alter + Drop, T: Threads + Wait + Sync>(
     rt: &HostRuntime,
     conn: Connection<S>,
     command: &Command,
+    words: String,
 ) -> io::Result<(Connection<S>, u8)>
     requires { conn.in_transaction ≡ false }
 {
     match Store::create(rt.alloc(), conn) {
-        Ok(store) => on_store(threads, rt, store, command),
-        Err((conn, StoreFault::NotOurs)) => on_store(threads, rt, Store::adopt(conn), command),
+        Ok(store) => on_store(threads, rt, store, command, words),
+        Err((conn, StoreFault::NotOurs)) => {
+            on_store(threads, rt, Store::adopt(conn), command, words)
+        }
         Err((conn, fault)) => {
             let status = put_failure(rt, &Fault::from(fault))?;
             Ok((conn, status))
@@ -73,10 +87,11 @@ fn on_store<S: Alter + Drop, T: Threads + Wait + Sync>(
     rt: &HostRuntime,
     store: Store<S>,
     command: &Command,
+    words: String,
 ) -> io::Result<(Connection<S>, u8)> {
     let (store, status) = match command {
-        Command::Run(options) => run_script(threads, rt, store, options)?,
-        _ => run_single(rt, store, command)?,
+        Command::Run(options) => run_script(threads, rt, store, options, words)?,
+        _ => run_single(rt, store, command, words)?,
     };
     Ok((store.release(), status))
 }
@@ -86,17 +101,24 @@ fn run_single<S: Alter + Drop>(
     rt: &HostRuntime,
     store: Store<S>,
     command: &Command,
+    words: String,
 ) -> io::Result<(Store<S>, u8)> {
-    let mut output = BufWriter::new(rt.alloc(), rt.stdout())?;
-    let (store, status) = run_command(rt.alloc(), store, command, &mut output);
-    match output.flush() {
+    let alloc = rt.alloc();
+    let mut output = BufWriter::new(alloc, rt.stdout())?;
+    let mut console = SentenceConsole::in_memory(*rt, alloc, words);
+    let (store, status) = run_command(alloc, store, command, &mut output, &mut console);
+    let flushed = output.flush();
+    // a sentence follows the answer
+    let _ = rt.stderr().write_all(console.into_output().as_slice());
+    match flushed {
         Ok(()) => Ok((store, status)),
         Err(_) => Ok((store, 4)),
     }
 }
 
-/// Prints why a record is not opened; the status.
+/// Prints why a record is not opened, and tells it; the status.
 pub fn put_failure(rt: &HostRuntime, fault: &Fault) -> io::Result<u8> {
     put(&mut rt.stdout(), Shown::Failure(fault))?;
+    tell_fault(rt, "", Shown::Failure(fault));
     Ok(failure_status(fault))
 }

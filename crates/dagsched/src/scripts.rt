@@ -1,12 +1,15 @@
 //! A script that is run on a record.
 use crate::records::put_failure;
+use crate::telling::tell;
 use command_words::{FilePath, ScriptOptions};
 use meta_store::Store;
 use script_reader::Script;
-use script_runner::{FileSources, SystemClock, TerminalProgress, operators_for, run_team};
+use script_runner::{FileSources, SentenceConsole, SystemClock, operators_for, run_team};
 use sqlite::Alter;
+use sqlite_disk::{Files, Unknown};
+use sqlite_std_file::{File, OpenError};
 use std::fs;
-use std::io::{self, BufReader, BufWriter};
+use std::io::{self, BufReader, BufWriter, ErrorKind};
 use std::sync::Wait;
 use std::thread::Threads;
 
@@ -16,17 +19,19 @@ pub fn run_script<S: Alter + Drop, T: Threads + Wait + Sync>(
     rt: &HostRuntime,
     store: Store<S>,
     options: &ScriptOptions,
+    words: String,
 ) -> io::Result<(Store<S>, u8)> {
     let alloc = rt.alloc();
     let scratch = options.scratch.as_str();
     let logs = options.logs.as_ref().map(FilePath::as_str);
     make_folders(rt, scratch, logs);
+    let _held = hold(rt, scratch);
     let team = operators_for(*rt, alloc, options.workers.get(), scratch, logs)?;
     let script = Script {
         input: BufReader::new(alloc, rt.stdin())?,
         output: BufWriter::new(alloc, rt.stdout())?,
         sources: FileSources::new(*rt, alloc),
-        progress: TerminalProgress::new(*rt, rt.stderr()),
+        console: SentenceConsole::new(*rt, alloc, words, rt.stderr()),
     };
     let mut clock = SystemClock::new(*rt);
     match run_team(
@@ -54,14 +59,49 @@ fn make_folders(rt: &HostRuntime, scratch: &str, logs: Option<&str>) {
     }
 }
 
-// Says that a folder is not there, where it was not made and none was there before.
+// Says that a folder is not there, where it was not made and none was there before, or that nothing can be made in it.
 fn say_lacking(rt: &HostRuntime, folder: &str, made: io::Result<()>) {
-    let Err(error) = made else {
-        return;
+    let text = match made {
+        Err(error) if !fs::metadata(rt, folder).is_ok_and(|found| found.is_dir()) => {
+            format!(in rt.alloc();
+                "dagsched: the folder {folder} cannot be made, so tries of commands will fail: {error}"
+            )
+        }
+        _ => match try_in(rt, folder) {
+            Err(error) if error.kind() != ErrorKind::OutOfMemory => {
+                format!(in rt.alloc();
+                    "dagsched: nothing can be made in the folder {folder}, so tries of commands will fail: {error}"
+                )
+            }
+            _ => return,
+        },
     };
-    if !fs::metadata(rt, folder).is_ok_and(|found| found.is_dir()) {
-        let _ = eprintln!(rt;
-            "dagsched: the folder {folder} cannot be made, so tries of commands will fail: {error}"
-        );
+    if let Ok(text) = text {
+        tell(rt, text.as_str());
+    }
+}
+
+// Holds the folder of the tries as long as this lives. Where another program holds it, that is said, since each would read what the other's tries write.
+fn hold(rt: &HostRuntime, scratch: &str) -> Option<Files<File>> {
+    let path = format!(in rt.alloc(); "{scratch}/held").ok()?;
+    match sqlite_std_file::open(rt, path.as_str(), Unknown) {
+        Ok(files) => Some(files),
+        Err(OpenError::Busy) => {
+            let text = format!(in rt.alloc();
+                "dagsched: another dagsched has its tries in the folder {scratch}, and each reads what the other's write: give each a folder of its own, by --scratch DIR"
+            );
+            tell(rt, text.ok()?.as_str());
+            None
+        }
+        Err(_) => None,
+    }
+}
+
+// Makes a folder in this one and takes it away.
+fn try_in(rt: &HostRuntime, folder: &str) -> io::Result<()> {
+    let inner = format!(in rt.alloc(); "{folder}/dagsched-try")?;
+    match fs::create_dir(rt, inner.as_str()) {
+        Err(error) if error.kind() != ErrorKind::AlreadyExists => Err(error),
+        _ => fs::remove_dir(rt, inner.as_str()),
     }
 }

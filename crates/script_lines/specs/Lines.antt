@@ -1,5 +1,5 @@
 -- The lines of a text, and what a reader gives of them: its next byte, its next line.
-use Rattle.std.specs.Prelude.{◌≡◌, ℕ, ◌<◌, ◌≤◌, ◌==◌, nat_le, Bool, if◌then◌else◌, List, [], ◌∷◌, length, take, Option, Some, MatchOption}
+use Rattle.std.specs.Prelude.{◌≡◌, ℕ, ◌+◌, ◌<◌, ◌≤◌, ◌==◌, min, nat_le, Bool, if◌then◌else◌, List, [], ◌∷◌, length, take, Option, Some, MatchOption}
 use Rattle.std.specs.List.{list_all}
 use Rattle.text_words.specs.Words.{is_blank}
 use Rattle.script_lines.specs.declared.lines.Found.{Found}
@@ -12,6 +12,15 @@ newline = 10
 -- the most bytes of a line that is told, without its newline
 abbrev pub line_limit : ℕ
 line_limit = 65536
+
+-- what a reader holds: the line that was read last, and its number
+pub record Held : Type 0 where
+  pub line : List ℕ
+  pub number : ℕ
+
+-- the number of the line after the one of this number
+abbrev pub next_number : ℕ → ℕ
+next_number n = min (n + 1) 18446744073709551615
 
 -- one more byte at the front of the first line
 abbrev pub push_first : ℕ → List (List ℕ) → List (List ℕ)

@@ -4,7 +4,7 @@
 ghost use Rattle.std.specs.Prelude.{◌≡◌, ◌≢◌, ◌&&◌, ℕ, ◌≤◌, List, [], ◌∷◌, ◌++◌, length, take, Some, IfOk, IfErr};
 ghost use Rattle.std.specs.IoError.{error_kind};
 ghost use Rattle.text_words.specs.Words as spec;
-ghost use Rattle.script_lines.specs.Lines.{line_limit, found_of, IsNextLine};
+ghost use Rattle.script_lines.specs.Lines.{line_limit, found_of, next_number, IsNextLine};
 
 use crate::bytes::{MOST_READS, next_byte};
 use std::alloc::{AllocError, Global};
@@ -38,19 +38,20 @@ impl Found {
     }
 }
 
-/// A line at a time, in memory that is taken once. Contracts see the line that it holds.
+/// A line at a time, in memory that is taken once. Contracts see the line that it holds, and its number.
 #[derive(Drop)]
 pub struct LineReader {
     line: Vec<u8>,
+    number: u64,
 }
 
 impl Model for LineReader {
-    ghost use Rattle.std.specs.Prelude.{ℕ, List, ◌≤◌, length, vec_capacity};
-    ghost use Rattle.script_lines.specs.Lines.{line_limit};
+    ghost use Rattle.std.specs.Prelude.{◌≤◌, length, vec_capacity};
+    ghost use Rattle.script_lines.specs.Lines.{Held, line_limit};
 
-    ghost Value = { List ℕ };
+    ghost Value = { Held };
 
-    ghost view = { λ r. r.line.items };
+    ghost view = { λ r. record { line = r.line.items; number = r.number } };
 
     ghost invariant = { λ r. (length r.line.items ≤ line_limit) × (line_limit ≤ vec_capacity r.line) };
 }
@@ -58,18 +59,25 @@ impl Model for LineReader {
 impl LineReader {
     /// Takes the memory for a line, so that reading needs none.
     pub fn new(alloc: Global) -> Result<LineReader, AllocError>
-        ensures { IfOk result (λ r. r ≡ []) }
+        ensures { IfOk result (λ r. r ≡ record { line = []; number = 0 }) }
     {
         let line = Vec::with_capacity(alloc, LINE_LIMIT)?;
-        Ok(LineReader { line })
+        Ok(LineReader { line, number: 0 })
     }
 
     /// The line that was read last.
     pub fn line(&self) -> &[u8]
-        ensures value { result.now ≡ self.now }
+        ensures value { result.now ≡ self.now.line }
         ensures bound { length result.now ≤ line_limit }
     {
         self.line.as_slice()
+    }
+
+    /// The number of the line that was read last, from 1. The end has one too, and so does a line that could not be read. Past 2^64 - 1 it stands.
+    pub fn number(&self) -> u64
+        ensures { result ≡ self.now.number }
+    {
+        self.number
     }
 
     /// Reads the next line, and says what was found; the lines after it stay in the input.
@@ -77,10 +85,11 @@ impl LineReader {
     /// After an error a part of a line may be lost. A line of 2^40 bytes ends in an error, and so do 2^40 interrupted reads.
     pub fn read<R: Read>(&mut self, input: &mut R) -> io::Result<Found>
         ensures next { IfOk result (λ found. (bytes : List ℕ) → R.remaining input.old ≡ Some bytes
-            → IsNextLine bytes found self.new (R.remaining input.new)) }
+            → IsNextLine bytes found self.new.line (R.remaining input.new)) }
+        ensures number { self.new.number ≡ next_number self.old.number }
         ensures retried { IfErr result (λ e. error_kind e ≢ ErrorKind.Interrupted) }
     {
-        self.clear();
+        self.begin();
         let mut is_blank = true;
         for length in 0..MOST_READS {
             match next_byte(input)? {
@@ -96,16 +105,18 @@ impl LineReader {
         Err(io::Error::from(ErrorKind::Other))
     }
 
-    // Holds no line.
-    fn clear(&mut self)
-        ensures { self.new ≡ [] }
+    // Holds nothing of the next line.
+    fn begin(&mut self)
+        ensures { self.new ≡ record { line = []; number = next_number self.old.number } }
     {
         self.line.clear();
+        self.number = self.number.saturating_add(1);
     }
 
     // Adds a byte, where there is room.
     fn keep(&mut self, byte: u8)
-        ensures { self.new ≡ take line_limit (self.old ++ byte ∷ []) }
+        ensures line { self.new.line ≡ take line_limit (self.old.line ++ byte ∷ []) }
+        ensures number { self.new.number ≡ self.old.number }
     {
         if self.line.len() < LINE_LIMIT {
             self.line.push_reserved(byte);

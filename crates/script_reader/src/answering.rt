@@ -4,7 +4,7 @@ ghost use Rattle.std.specs.Io.KnownBytes.{Appends};
 ghost use Rattle.answer_lines.specs.RunFaults.{clock_text};
 ghost use Rattle.script_reader.specs.Statuses.{shown_for, status_of};
 
-use crate::progress::Progress;
+use crate::console::{Console, Spot};
 use crate::reader::ScriptReader;
 use crate::sources::Sources;
 use crate::statuses::failure_status;
@@ -15,7 +15,7 @@ use sched_events::{Answer, Event};
 use sessions::{ClockFault, Line, LineFault, Lines};
 use std::io::{self, ErrorKind, Read, Write};
 
-impl<R: Read + Drop, W: Write + Drop, F: Sources, P: Progress> ScriptReader<R, W, F, P> {
+impl<R: Read + Drop, W: Write + Drop, F: Sources, P: Console> ScriptReader<R, W, F, P> {
     // Writes the answer to an event, or why it was not accepted.
     fn put(&mut self, event: &Event, answer: &Result<Answer, Fault>) -> io::Result<()>
         ensures input { self.new.input ≡ self.old.input }
@@ -29,8 +29,16 @@ impl<R: Read + Drop, W: Write + Drop, F: Sources, P: Progress> ScriptReader<R, W
             (shown_for event.now answer.now)) }
     {
         match answer {
-            Ok(answer) => put(&mut self.output, Shown::Answer(event, answer)),
+            Ok(answer) => {
+                let spot = Spot::of(&self.lines);
+                self.console
+                    .put(Some(spot), Some(event), Shown::Answer(event, answer));
+                put(&mut self.output, Shown::Answer(event, answer))
+            }
             Err(fault) => {
+                let spot = Spot::of(&self.lines);
+                self.console
+                    .put(Some(spot), Some(event), Shown::Failure(fault));
                 self.status = self.status.max(failure_status(fault));
                 put(&mut self.output, Shown::Failure(fault))
             }
@@ -69,7 +77,7 @@ fn fault_of(error: &io::Error) -> LineFault {
     }
 }
 
-impl<R: Read + Drop, W: Write + Drop, F: Sources, P: Progress> Lines for ScriptReader<R, W, F, P> {
+impl<R: Read + Drop, W: Write + Drop, F: Sources, P: Console> Lines for ScriptReader<R, W, F, P> {
     ghost use Rattle.script_reader.specs.Readers.{Tells, tells_nothing};
 
     ghost tells = { Tells R.remaining W.contents F.gives };
@@ -107,10 +115,12 @@ impl<R: Read + Drop, W: Write + Drop, F: Sources, P: Progress> Lines for ScriptR
     }
 
     fn waits(&mut self, schedule: &Schedule) {
-        self.progress.show(schedule);
+        self.console.waits(schedule);
     }
 
     fn no_clock(&mut self, fault: ClockFault) -> Result<(), LineFault> {
+        let spot = Spot::of(&self.lines);
+        self.console.put(Some(spot), None, Shown::NoMoment(fault));
         self.status = self.status.max(4);
         let put = put(&mut self.output, Shown::NoMoment(fault));
         self.end(put)

@@ -2,11 +2,11 @@
 //!
 //! A [`ScriptReader`] reads the commands of an input and writes their answers. What asks for rows is answered when it is read, and what is no
 //! command by its fault; an event, a tick at the moment that it is and a drain are left to whoever runs the schedule, by the calls of `Lines`. What
-//! was written is flushed before the next command is read. The texts of `load PATH` come from [`Sources`]; how a drain goes on is shown by a
-//! [`Progress`].
+//! was written is flushed before the next command is read. The texts of `load PATH` come from [`Sources`]; what a person is told beside the answers goes
+//! to a [`Console`].
 //!
 //! ```text
-//! let mut reader = ScriptReader::new(alloc, Script { input, output, sources, progress: NoProgress })?;
+//! let mut reader = ScriptReader::new(alloc, Script { input, output, sources, console: NoConsole })?;
 //! conduct(rt, alloc, director, 4, crews, &mut reader, &mut clock)
 //! ```
 //!
@@ -14,14 +14,14 @@
 #![tactic(auto)]
 
 mod answering;
+mod console;
 mod ending;
-mod progress;
 mod reader;
 mod scripts;
 mod sources;
 mod statuses;
 
-pub use progress::{NoProgress, Progress};
+pub use console::{Console, NoConsole, Spot};
 pub use reader::ScriptReader;
 pub use scripts::Script;
 pub use sources::Sources;

@@ -15,7 +15,7 @@ ghost use Rattle.script_reader.specs.Done.{FileText, HasDone};
 ghost use Rattle.script_reader.specs.Shown.{AnswersDrain, IsWritten};
 ghost use Rattle.script_reader.specs.Statuses as spec;
 
-use crate::progress::Progress;
+use crate::console::{Console, Spot};
 use crate::scripts::Script;
 use crate::sources::Sources;
 use crate::statuses::{command_status, explain_status};
@@ -36,14 +36,14 @@ const MOST_COMMANDS: u64 = 1 << 40;
 
 /// A script that is read command by command, and answered line by line.
 #[derive(Drop)]
-pub struct ScriptReader<R: Read + Drop, W: Write + Drop, F: Sources, P: Progress> {
+pub struct ScriptReader<R: Read + Drop, W: Write + Drop, F: Sources, P: Console> {
     pub(crate) alloc: Global,
     pub(crate) words: CommandReader,
     pub(crate) lines: LineReader,
     pub(crate) input: R,
     pub(crate) output: W,
     pub(crate) sources: F,
-    pub(crate) progress: P,
+    pub(crate) console: P,
     // The greatest status of what was answered.
     pub(crate) status: u8,
     // A drain was read, and is answered before the next command is read.
@@ -52,7 +52,7 @@ pub struct ScriptReader<R: Read + Drop, W: Write + Drop, F: Sources, P: Progress
     pub(crate) is_over: bool,
 }
 
-impl<R: Read + Drop, W: Write + Drop, F: Sources, P: Progress> ScriptReader<R, W, F, P> {
+impl<R: Read + Drop, W: Write + Drop, F: Sources, P: Console> ScriptReader<R, W, F, P> {
     /// A script of which nothing is read yet.
     pub fn new(alloc: Global, script: Script<R, W, F, P>) -> Result<Self, AllocError>
         ensures listed { IfOk result (λ reader. IsListed reader.words.names) }
@@ -69,7 +69,7 @@ impl<R: Read + Drop, W: Write + Drop, F: Sources, P: Progress> ScriptReader<R, W
             input,
             output,
             sources,
-            progress,
+            console,
         } = script;
         Ok(ScriptReader {
             alloc,
@@ -78,7 +78,7 @@ impl<R: Read + Drop, W: Write + Drop, F: Sources, P: Progress> ScriptReader<R, W
             input,
             output,
             sources,
-            progress,
+            console,
             status: 0,
             has_drained: false,
             failed: None,
@@ -99,10 +99,11 @@ impl<R: Read + Drop, W: Write + Drop, F: Sources, P: Progress> ScriptReader<R, W
         ensures drains { self.new.has_drained ≡ reads_drain result }
         ensures line { IfOk result (λ next. IfSome next (λ line. may_be_read line ≡ true)) }
     {
-        self.progress.clear();
+        self.console.wait_is_over();
         self.answer_drain()?;
         for _command in 0..MOST_COMMANDS {
             self.output.flush()?;
+            self.console.tell(Some(schedule));
             match next_command(self.alloc, &self.words, &mut self.lines, &mut self.input)? {
                 None => return Ok(None),
                 Some(request) => match self.do_command(schedule, request)? {
@@ -207,6 +208,9 @@ impl<R: Read + Drop, W: Write + Drop, F: Sources, P: Progress> ScriptReader<R, W
                 self.count(put, 0)
             }
             Err(fault) => {
+                let spot = Spot::of(&self.lines);
+                self.console
+                    .put(Some(spot), None, Shown::Unexplained(fault));
                 let put = put(&mut self.output, Shown::Unexplained(fault));
                 self.count(put, explain_status(fault))
             }
@@ -225,6 +229,8 @@ impl<R: Read + Drop, W: Write + Drop, F: Sources, P: Progress> ScriptReader<R, W
         ensures drains { self.new.has_drained ≡ self.old.has_drained }
         ensures shown { OnOk result (Appends (W.contents self.old.output) (W.contents self.new.output) (command_fault_text fault)) }
     {
+        let spot = Spot::of(&self.lines);
+        self.console.put(Some(spot), None, Shown::NoCommand(fault));
         let put = put(&mut self.output, Shown::NoCommand(fault));
         self.count(put, command_status(fault))
     }

@@ -15,7 +15,7 @@ use director::{Director, Fault};
 use meta_store::Store;
 use operators::Operator;
 use sched_core::{Event, Limits};
-use script_reader::{Progress, Script, ScriptReader, Sources};
+use script_reader::{Console, Script, ScriptReader, Sources};
 use sessions::{Clock, ConductFault};
 use sqlite::Alter;
 use std::alloc::Global;
@@ -51,7 +51,7 @@ pub struct Ran<S: Alter, G: Gate, O: Operator, F: Sources, W: Write + Drop> {
 
 /// Opens a record within the greatest limits, without lanes, and runs a script on it with workers, one for each crew, each on a thread of its own.
 ///
-/// The output is flushed before each command is read. While a drain goes on, the script's progress is shown. An error says why the record is not
+/// The output is flushed before each command is read. The script's console tells a person what the answers do not. An error says why the record is not
 /// opened, and gives it back.
 pub fn run_on<
     S: Alter + Drop,
@@ -60,7 +60,7 @@ pub fn run_on<
     R: BufRead + Drop,
     W: Write + Drop,
     F: Sources,
-    P: Progress,
+    P: Console,
     C: Clock,
     T: Threads + Wait + Sync,
 >(
@@ -115,7 +115,7 @@ fn close<
     R: BufRead + Drop,
     W: Write + Drop,
     F: Sources,
-    P: Progress,
+    P: Console,
 >(reader: ScriptReader<R, W, F, P>, conducted: Conducted<S, G, O>) -> Ran<S, G, O, F, W>
     ensures store { result.store ≡ conducted.director.store }
     ensures status { IsEndStatus reader.status conducted.outcome result.status }
@@ -129,7 +129,7 @@ fn close<
         minutes,
         outcome,
     } = conducted;
-    let (status, sources, output) = reader.close(&outcome);
+    let (status, sources, output) = reader.close(director.schedule(), &outcome);
     Ran {
         store: director.close(),
         status,

@@ -12,7 +12,7 @@ use crate::running::{Ran, RunOptions, run_on};
 use director::Fault;
 use meta_store::Store;
 use operators::{Kit, Operator};
-use script_reader::{Progress, Script, Sources};
+use script_reader::{Console, Script, Sources};
 use sessions::Clock;
 use sqlite::Alter;
 use std::alloc::{AllocError, Global};
@@ -30,7 +30,7 @@ pub fn run_team<
     R: BufRead + Drop,
     W: Write + Drop,
     F: Sources,
-    P: Progress,
+    P: Console,
     C: Clock,
     T: Threads + Wait + Sync,
 >(

@@ -12,7 +12,7 @@ use answer_lines::{Shown, put};
 use crews::Settled;
 use meta_store::Store;
 use sched_core::Event;
-use script_reader::{NoProgress, Script, failure_status};
+use script_reader::{NoConsole, Script, failure_status};
 use script_runner::{FileSources, SystemClock, TaskOperator, run_team};
 use sessions::ConductFault;
 use sqlite::{Alter, Connection};
@@ -134,7 +134,7 @@ fn run_on_record<S: Alter + Drop, T: Threads + Wait + Sync>(
         input: script.as_bytes(),
         output: &mut *printed,
         sources: FileSources::new(*host, alloc),
-        progress: NoProgress,
+        console: NoConsole,
     };
     match run_team(rt, alloc, record, LANES, team, script, &mut clock) {
         Ok(ran) => {

@@ -16,7 +16,7 @@
 //! ```
 //!
 //! WORD is the number of lanes, or says that a script is run in another way. `logs`: with one lane, and a log for each try of a program in the
-//! folder `logs`. The others are without lanes. `reads`: its reads fail after 0, 1, 2 .. that do not, until a run meets no
+//! folder `logs`. `told`: with one lane, and below the answers what a person is told of them, with `! ` before each line. The others are without lanes. `reads`: its reads fail after 0, 1, 2 .. that do not, until a run meets no
 //! such read; `writes`: the same of what it writes, a byte at a time. Runs with the same answers, status and clock of the record share a line. `long-COUNT`: each
 //! `~` of the script and the byte before it stand for so many of that byte. `tasks-COUNT`: the script stands below the load of a graph of so many tasks, each after the one before it.
 //! `memory`: not a script, but what is written where memory ran out.
@@ -53,6 +53,7 @@ fn main(rt: HostRuntime) -> io::Result<()> {
     let mut output = BufWriter::new(alloc, rt.stdout())?;
     run_all(&rt, &rt, text.as_slice(), &mut output)?;
     output.flush()?;
+    fs::remove_file(&rt, playing::TOLD)?;
     fs::remove_dir(&rt, playing::SCRATCH)
 }
 
@@ -69,7 +70,7 @@ fn run_all<T: Threads + Wait + Sync, W: Write>(
             break;
         };
         put_line(section.heading, output)?;
-        echo(section.script, output)?;
+        put_lines(b"> ", section.script, output)?;
         put_run(rt, host, &section, output)?;
         output.write_all(b"\n")?;
         left = rest;
@@ -88,6 +89,7 @@ fn put_run<T: Threads + Wait + Sync, W: Write>(
     match section.kind() {
         Kind::Lanes(lanes) => put_played(rt, host, lanes, None, section.script, output),
         Kind::Logged => put_logged(rt, host, section.script, output),
+        Kind::Told => put_told(rt, host, section.script, output),
         Kind::Stops(part) => put_stops(rt, host, part, section.script, output),
         Kind::Long(count) => {
             let script = long(alloc, section.script, count)?;
@@ -128,17 +130,29 @@ fn put_logged<T: Threads + Wait + Sync, W: Write>(
     fs::remove_dir_all(host, playing::LOGS)
 }
 
+// The same of a script with one lane, and then what a person is told of it, with `! ` before each line.
+fn put_told<T: Threads + Wait + Sync, W: Write>(
+    rt: &T,
+    host: &HostRuntime,
+    script: &[u8],
+    output: &mut W,
+) -> io::Result<()> {
+    put_played(rt, host, 1, None, script, output)?;
+    let told = fs::read(host, playing::TOLD)?;
+    put_lines(b"! ", told.as_slice(), output)
+}
+
 fn put_line<W: Write>(line: &[u8], output: &mut W) -> io::Result<()> {
     output.write_all(line)?;
     output.write_all(b"\n")
 }
 
-// Writes the lines of a script with `> ` before each. A last line may lack its newline.
-fn echo<W: Write>(script: &[u8], output: &mut W) -> io::Result<()> {
-    let mut lines = script.split(|byte| *byte == b'\n').peekable();
+// Writes the lines of a text with these bytes before each. A last line may lack its newline.
+fn put_lines<W: Write>(before: &[u8], text: &[u8], output: &mut W) -> io::Result<()> {
+    let mut lines = text.split(|byte| *byte == b'\n').peekable();
     while let Some(line) = lines.next() {
         if lines.peek().is_some() || !line.is_empty() {
-            output.write_all(b"> ")?;
+            output.write_all(before)?;
             put_line(line, output)?;
         }
     }

@@ -6,10 +6,11 @@ use crate::failing::{Calls, Sink, Source};
 use meta_store::Store;
 use moment_core::Moment;
 use sched_core::Limits;
-use script_reader::{NoProgress, Script};
-use script_runner::{FileSources, operators_for, run_team};
+use script_reader::Script;
+use script_runner::{FileSources, SentenceConsole, operators_for, run_team};
 use sqlite::{Connection, MemStore};
 use std::alloc::Global;
+use std::fs;
 use std::io::{self, BufReader, ErrorKind};
 use std::sync::Wait;
 use std::thread::Threads;
@@ -19,6 +20,9 @@ pub const SCRATCH: &str = "tries";
 
 /// Where they have their logs, where they have some.
 pub const LOGS: &str = "logs";
+
+/// The file that has what a person is told of the script that was run last.
+pub const TOLD: &str = "told";
 
 /// What came of a script.
 #[derive(Drop)]
@@ -51,11 +55,12 @@ pub fn play<T: Threads + Wait + Sync>(
         text: script,
         calls: calls.reads,
     };
+    let told = fs::create(host, TOLD)?;
     let script = Script {
         input: BufReader::with_capacity(alloc, 1, source)?,
         output: Sink::new(alloc, calls.writes),
         sources: FileSources::new(*host, alloc),
-        progress: NoProgress,
+        console: SentenceConsole::new(*host, alloc, String::new(alloc), told),
     };
     let record = new_record(alloc)?;
     match run_team(rt, alloc, record, lanes, team, script, &mut clock) {

@@ -17,6 +17,8 @@ pub enum Kind {
     Lanes(u32),
     /// With one lane, and a log for each try of `command`.
     Logged,
+    /// With one lane, and what a person is told below the answers.
+    Told,
     /// With reads or writes that fail.
     Stops(Part),
     /// With so many bytes for each `~` and the byte before it.
@@ -47,6 +49,7 @@ impl Section<'_> {
             "reads" => Kind::Stops(Part::Reads),
             "writes" => Kind::Stops(Part::Writes),
             "logs" => Kind::Logged,
+            "told" => Kind::Told,
             "memory" => Kind::Memory,
             _ => counted(word),
         }

@@ -10,8 +10,8 @@ pub returns-in-Line-clause-first : goal.returns-in-Line-clause-first
 returns-in-Line-clause-first g c = λ names bytes known.
     let s = c.loop-line.invariant names bytes known in
     let first = rw c.in-Line.is at (c.in_ok-read.ensures.next s.left s.known) in
-    let ends : ends_text c.read.new.self ≡ true = ap ends_text (sym c.line.ensures.value) ∙ sym c.ends_text.ensures ∙ c.if-ends_text.true in
-    text-ended names _ _ _ _ _ c.read.new.self s first.0 ends c.load.ensures.load
+    let ends : ends_text c.read.new.self.line ≡ true = ap ends_text (sym c.line.ensures.value) ∙ sym c.ends_text.ensures ∙ c.if-ends_text.true in
+    text-ended names _ _ _ _ _ c.read.new.self.line s first.0 ends c.load.ensures.load
 
 pub returns-in-End-clause-first : goal.returns-in-End-clause-first
 returns-in-End-clause-first g c = λ names bytes known.
@@ -25,9 +25,9 @@ loop-line-preserved g c = λ names bytes known.
     elim c.match-branch-2.branch [
       | in-Line-2 w ↦
           let first = rw w.in-Line.is at (c.in_ok-read.ensures.next s.left s.known) in
-          let other : ends_text c.read.new.self ≡ false = ap ends_text (sym w.line.ensures.value) ∙ sym w.ends_text.ensures ∙ w.if-ends_text.false in
-          stands-line names _ _ _ _ _ c.read.new.self s first.0 other
-          (λ h. subst (λ (x : Gathered). Gathers (with_line s.text c.read.new.self) x) (sym w.gathered-is)
+          let other : ends_text c.read.new.self.line ≡ false = ap ends_text (sym w.line.ensures.value) ∙ sym w.ends_text.ensures ∙ w.if-ends_text.false in
+          stands-line names _ _ _ _ _ c.read.new.self.line s first.0 other
+          (λ h. subst (λ (x : Gathered). Gathers (with_line s.text c.read.new.self.line) x) (sym w.gathered-is)
           (subst (λ (l : List ℕ). Gathers (with_line s.text l) w.with_line-gathered.result) w.line-in-Line-2.ensures.value
           (w.with_line-gathered.ensures s.text h)))
       | in-LongLine w ↦

@@ -7,7 +7,7 @@ use Rattle.script_commands.proofs.requests.next_meaning.Goals as goal
 pub returns-in-Line-clause-next : goal.returns-in-Line-clause-next
 returns-in-Line-clause-next g c = λ bytes known.
     let next = rw c.in-Line.is at (c.in_ok-read.ensures.next bytes known) in
-    (c.read.new.self, next.0, subst (λ (l : List ℕ). IsReadAs (meaning_of c.args.reader.now.names l) c.meaning_of.result) c.line.ensures.value c.meaning_of.ensures)
+    (c.read.new.self.line, next.0, subst (λ (l : List ℕ). IsReadAs (meaning_of c.args.reader.now.names l) c.meaning_of.result) c.line.ensures.value c.meaning_of.ensures)
 
 pub returns-in-LongLine-clause-next : goal.returns-in-LongLine-clause-next
 returns-in-LongLine-clause-next g c = λ bytes known.

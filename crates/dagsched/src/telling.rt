@@ -1,0 +1,104 @@
+//! What a person is told on standard error.
+use answer_lines::Shown;
+use command_words::Command;
+use fault_sentences::{Asked, note_of, one_line};
+use sqlite::{Error, ErrorCode};
+use std::alloc::AllocError;
+use std::fs;
+
+/// Tells a person this. Where memory runs out for it, it is dropped.
+pub fn tell(rt: &HostRuntime, text: &str) {
+    if let Ok(line) = one_line(rt.alloc(), text) {
+        let _ = eprint!(rt; "{line}");
+    }
+}
+
+/// Tells what is to be told of a fault of the program's own words, or of a record that is not opened.
+pub fn tell_fault(rt: &HostRuntime, words: &str, shown: Shown<'_>) {
+    if let Ok(Some(text)) = fault_text(rt, words, shown) {
+        tell(rt, text.as_str());
+    }
+}
+
+fn fault_text(
+    rt: &HostRuntime,
+    words: &str,
+    shown: Shown<'_>,
+) -> Result<Option<String>, AllocError> {
+    let asked = Asked {
+        number: None,
+        line: words,
+    };
+    let Some(note) = note_of(rt.alloc(), asked, None, shown)? else {
+        return Ok(None);
+    };
+    match note.sentence(rt.alloc(), None)? {
+        Some(text) => Ok(Some(format!(in rt.alloc(); "dagsched: {text}")?)),
+        None => Ok(None),
+    }
+}
+
+/// Tells why SQLite does not open the file at this path.
+pub fn tell_unopened(rt: &HostRuntime, path: &str, error: Error) {
+    let text = match error {
+        Error::SqliteFailure(ErrorCode::DatabaseBusy) => {
+            format!(in rt.alloc(); "dagsched: {path}: another program has it open")
+        }
+        Error::SqliteFailure(ErrorCode::CannotOpen) => unopened_text(rt, path),
+        error => format!(in rt.alloc(); "dagsched: {path}: {error}"),
+    };
+    if let Ok(text) = text {
+        tell(rt, text.as_str());
+    }
+}
+
+// What the system says of a path that cannot be opened.
+fn unopened_text(rt: &HostRuntime, path: &str) -> Result<String, AllocError> {
+    let alloc = rt.alloc();
+    if path.is_empty() {
+        return String::from_str(alloc, "dagsched: the path of the record is empty");
+    }
+    match fs::metadata(rt, path) {
+        Ok(found) if found.is_dir() => format!(in alloc; "dagsched: {path}: it is a folder"),
+        Ok(_) => match fs::open(rt, path) {
+            Ok(_) => format!(in alloc; "dagsched: {path}: it may not be written"),
+            Err(error) => format!(in alloc; "dagsched: {path}: {error}"),
+        },
+        Err(_) => unmade_text(rt, path),
+    }
+}
+
+// Why there is no file at a path, and none can be made.
+fn unmade_text(rt: &HostRuntime, path: &str) -> Result<String, AllocError> {
+    let alloc = rt.alloc();
+    let folder = match path.rsplit_once('/') {
+        Some((folder, _)) => folder,
+        None => ".",
+    };
+    match fs::metadata(rt, folder) {
+        Ok(_) => format!(in alloc; "dagsched: {path}: it is not there, and cannot be made"),
+        Err(error) => format!(in alloc; "dagsched: {path}: the folder {folder}: {error}"),
+    }
+}
+
+/// Tells of a record that was made for a command that looks at one or changes one.
+pub fn tell_made(rt: &HostRuntime, path: &str, command: &Command) {
+    if matches!(command, Command::Run(_)) {
+        return;
+    }
+    if let Ok(text) = format!(in rt.alloc();
+        "dagsched: {path} was not there, so a new record was made"
+    ) {
+        tell(rt, text.as_str());
+    }
+}
+
+/// Tells that a command was done on a record that is gone.
+pub fn tell_unkept(rt: &HostRuntime, command: &Command) {
+    if !matches!(command, Command::Run(_)) {
+        tell(
+            rt,
+            "dagsched: there is no --record PATH before the command, so it was done on a new record in memory, and nothing is kept",
+        );
+    }
+}

@@ -1,0 +1,216 @@
+//! Sentences on words that are no command, and on files without a graph's text.
+use crate::asked::Asked;
+use command_words::{UsageFault, refusal_text};
+use graph_file::is_name;
+use moment_core::{Moment, MomentFault};
+use script_commands::{CommandFault, SourceFault};
+use std::alloc::{AllocError, Global};
+
+// Why a line is no command, or has no text.
+pub fn command_sentence(
+    alloc: Global,
+    asked: Asked<'_>,
+    fault: CommandFault,
+) -> Result<Option<String>, AllocError> {
+    if asked.line.ends_with('\r') {
+        return told(
+            alloc,
+            "the line ends with a carriage return: save the script with plain newlines",
+        );
+    }
+    match fault {
+        CommandFault::Usage(fault) => usage_sentence(alloc, asked, fault),
+        CommandFault::Source(fault) => source_sentence(alloc, asked, fault),
+    }
+}
+
+fn usage_sentence(
+    alloc: Global,
+    asked: Asked<'_>,
+    fault: UsageFault,
+) -> Result<Option<String>, AllocError> {
+    match fault {
+        UsageFault::Words => words_sentence(alloc, asked),
+        UsageFault::BadName => name_sentence(alloc, asked),
+        UsageFault::BadMoment(fault) => moment_sentence(alloc, asked, fault),
+        UsageFault::NotHere if asked.is_in_script() => told(
+            alloc,
+            "run and --record stand on the program's command line, not in a script",
+        ),
+        UsageFault::NotHere => told(
+            alloc,
+            "load, tick and drain stand in a script: echo \"tick now\" | dagsched --record PATH run",
+        ),
+        UsageFault::BadLine => told(
+            alloc,
+            "the line, or one of the graph's text, is longer than 65,536 bytes or is not UTF-8",
+        ),
+        UsageFault::Memory => Ok(None),
+    }
+}
+
+// What clap says of the words, as one line, and what a shell would have done with them.
+fn words_sentence(alloc: Global, asked: Asked<'_>) -> Result<Option<String>, AllocError> {
+    let hint = hint_of(asked);
+    if !asked.is_in_script() {
+        // there the program prints clap's whole text
+        return match hint {
+            Some(hint) => told(alloc, hint),
+            None => Ok(None),
+        };
+    }
+    let parts = asked.words(alloc)?;
+    let mut words = Vec::new(alloc);
+    for word in parts.as_slice() {
+        words.push(String::from_str(alloc, word)?)?;
+    }
+    let Some(said) = refusal_text(alloc, words.as_slice())? else {
+        return Ok(None);
+    };
+    let mut text = String::from_str(alloc, hint.unwrap_or(""))?;
+    for line in said.lines() {
+        push_said(&mut text, line.trim())?;
+    }
+    Ok(Some(text))
+}
+
+// Adds a line of clap's text. What it says of the program's own words is left out.
+fn push_said(text: &mut String, line: &str) -> Result<(), AllocError> {
+    if line.is_empty()
+        || line.starts_with("Usage: dagsched [OPTIONS]")
+        || line.starts_with("For more information")
+    {
+        return Ok(());
+    }
+    if let Some(line) = line.strip_prefix("error: ") {
+        return push_part(text, "; ", line);
+    }
+    if let Some(line) = line.strip_prefix("Usage: dagsched ") {
+        return push_part(text, "; usage: ", line);
+    }
+    let before = if line.starts_with("tip:") { "; " } else { " " };
+    push_part(text, before, line)
+}
+
+// Adds a part, with this before it where it is not the first.
+fn push_part(text: &mut String, before: &str, part: &str) -> Result<(), AllocError> {
+    if !text.is_empty() {
+        text.push_str(before)?;
+    }
+    text.push_str(part)
+}
+
+// What in a line is read in another way than one may think.
+fn hint_of(asked: Asked<'_>) -> Option<&'static str> {
+    let line = asked.line;
+    if asked.is_in_script() && line.contains(" #") {
+        Some("# begins no comment after a command")
+    } else if asked.is_in_script() && has_quote(line) {
+        Some("there are no quotes and no escapes, and a path is one word")
+    } else if line.contains(" --record") {
+        Some("--record PATH stands before the command")
+    } else if line.starts_with("resize ") && line.contains(" -") {
+        Some("SIZE is a number from 0 to 1,000,000")
+    } else {
+        None
+    }
+}
+
+// Whether a shell would take something off the line.
+fn has_quote(line: &str) -> bool {
+    line.chars()
+        .any(|letter| letter == '"' || letter == '\'' || letter == '\\')
+}
+
+// Which word is no name.
+fn name_sentence(alloc: Global, asked: Asked<'_>) -> Result<Option<String>, AllocError> {
+    let words = asked.words(alloc)?;
+    let found = words
+        .as_slice()
+        .iter()
+        .skip(1)
+        .find(|word| is_misnamed(word));
+    said_of(
+        alloc,
+        found.copied(),
+        "no name",
+        "a name has 1 to 250 letters, digits, _, - and ., all ASCII",
+    )
+}
+
+// Whether a word of a command is no option, no moment and no name.
+fn is_misnamed(word: &str) -> bool {
+    !word.starts_with("--") && !is_name(word) && Moment::read(word).is_err()
+}
+
+// Which word is no moment, and what may stand there.
+fn moment_sentence(
+    alloc: Global,
+    asked: Asked<'_>,
+    fault: MomentFault,
+) -> Result<Option<String>, AllocError> {
+    let values = asked.values(alloc)?;
+    let command = values.as_slice().first().copied().unwrap_or("");
+    let first = if command == "tick" { 1 } else { 2 };
+    let found = values
+        .as_slice()
+        .iter()
+        .skip(first)
+        .find(|word| Moment::read(word).err() == Some(fault));
+    let why = match fault {
+        MomentFault::Shape => "write 2024-02-29, its first second, or 2024-02-29T12:30:00Z, in UTC",
+        MomentFault::NoSuchDate => "the calendar has no such day, or the clock no such time",
+        MomentFault::OutOfRange => "moments go from 1970 to the end of 2199",
+    };
+    let order = order_of(command);
+    let why = format!(in alloc; "{why}{order}")?;
+    said_of(alloc, found.copied(), "no moment", why.as_str())
+}
+
+// What is said of a word, where it was found.
+fn said_of(
+    alloc: Global,
+    word: Option<&str>,
+    what: &str,
+    why: &str,
+) -> Result<Option<String>, AllocError> {
+    match word {
+        Some(word) => Ok(Some(format!(in alloc; "\"{word}\" is {what}: {why}")?)),
+        None => told(alloc, why),
+    }
+}
+
+// The order of the words of a command that has moments.
+fn order_of(command: &str) -> &'static str {
+    match command {
+        "explain" => "; the order is explain DAG LOGICAL TASK",
+        "clear" => "; the order is clear DAG FROM TO",
+        "backfill" => "; the order is backfill DAG FROM TO",
+        _ => "",
+    }
+}
+
+// Why there is no text of a graph.
+fn source_sentence(
+    alloc: Global,
+    asked: Asked<'_>,
+    fault: SourceFault,
+) -> Result<Option<String>, AllocError> {
+    let path = asked.path(alloc)?.unwrap_or("");
+    match fault {
+        SourceFault::Unreadable => Ok(Some(format!(in alloc; "{path} cannot be read")?)),
+        SourceFault::NotText => Ok(Some(format!(in alloc; "{path} is not UTF-8")?)),
+        SourceFault::TooLong => Ok(Some(format!(in alloc;
+            "{path} has more than 1,048,576 bytes"
+        )?)),
+        SourceFault::NoEnd => told(
+            alloc,
+            "the script ends within the graph's text that load inline began: a line that is . alone ends it",
+        ),
+        SourceFault::Memory => Ok(None),
+    }
+}
+
+fn told(alloc: Global, text: &str) -> Result<Option<String>, AllocError> {
+    Ok(Some(String::from_str(alloc, text)?))
+}

@@ -1,0 +1,28 @@
+//! Sentences for a person: what is wrong, where it stands, and what would be right.
+//!
+//! The lines of standard output are for programs, and `answer_lines` has them. [`note_of`] makes a sentence of the same fault, [`one_line`] lays it out as
+//! a line that is safe on a terminal, and [`ended_since`] and [`lost_at_restart`] say what became of tries.
+//!
+//! ```text
+//! line 3: shop.toml:14: task "load": its upstream "extrakt" is no task of this file
+//! line 9: the moment lies before 2024-03-04T00:00:00+00:00, which the record's clock has reached: it never goes back
+//! 2 failed: shop 2024-03-01T00:00:00+00:00 load, shop 2024-03-02T00:00:00+00:00 load; 1 waits for a retry until 2024-03-04T00:05:00+00:00
+//! ```
+//!
+//! What a sentence says is shown by stored runs and not proved. Proved is that making one stops at nothing: no index out of range, no number too great, and
+//! it ends. Easy to get wrong: where memory runs out there is no sentence, and that is no fault of the command.
+#![tactic(auto)]
+
+mod asked;
+mod commands;
+mod graphs;
+mod lines;
+mod notes;
+mod records;
+mod refusals;
+mod tries;
+
+pub use asked::Asked;
+pub use lines::one_line;
+pub use notes::{Note, note_of, unreadable_note};
+pub use tries::{ended_since, lost_at_restart};

@@ -1,0 +1,176 @@
+//! What is to be told of a command.
+use crate::asked::Asked;
+use crate::commands::command_sentence;
+use crate::graphs::load_note;
+use crate::records::{clock_sentence, end_sentence, store_sentence};
+use crate::refusals::{refusal_note, unexplained_sentence};
+use answer_lines::Shown;
+use director::Fault;
+use graph_file::Name;
+use moment_core::Moment;
+use sched_core::{LoadedGraph, Schedule};
+use sched_events::Event;
+use std::alloc::{AllocError, Global};
+use std::io;
+
+/// What is to be told of a command, once its answer has reached its reader.
+#[derive(Debug, Drop)]
+pub struct Note {
+    // A sentence, or nothing.
+    pub(crate) text: String,
+    pub(crate) rest: Rest,
+}
+
+/// What the schedule says beside a sentence.
+#[derive(Debug, Drop)]
+pub enum Rest {
+    /// Nothing.
+    Nothing,
+    /// The moment that the clock has reached.
+    Clock,
+    /// The task instance whose try has this serial.
+    Try(u64),
+    /// The first task of this graph that needs more slots than its pool has.
+    Slots(Name),
+}
+
+/// What is to be told of what was put for a command, of an event where it is one. `None` where there is nothing to tell.
+pub fn note_of(
+    alloc: Global,
+    asked: Asked<'_>,
+    event: Option<&Event>,
+    shown: Shown<'_>,
+) -> Result<Option<Note>, AllocError> {
+    match shown {
+        Shown::Answer(Event::Load(text), _) => load_note(alloc, text.as_str()),
+        Shown::Failure(fault) => failure_note(alloc, asked, event, fault),
+        Shown::NoCommand(fault) => alone(command_sentence(alloc, asked, fault)?),
+        Shown::NoMoment(fault) => alone(clock_sentence(alloc, fault)?),
+        Shown::EndedBy(fault) => alone(end_sentence(alloc, fault)?),
+        Shown::Unexplained(fault) => alone(unexplained_sentence(alloc, asked, fault)?),
+        _ => Ok(None),
+    }
+}
+
+/// What is to be told of a file that the system does not give, for this cause.
+pub fn unreadable_note(alloc: Global, path: &str, cause: &io::Error) -> Result<Note, AllocError> {
+    Ok(Note {
+        text: format!(in alloc; "{path} cannot be read: {cause}")?,
+        rest: Rest::Nothing,
+    })
+}
+
+// The note of a sentence that says all.
+fn alone(text: Option<String>) -> Result<Option<Note>, AllocError> {
+    match text {
+        Some(text) => Ok(Some(Note {
+            text,
+            rest: Rest::Nothing,
+        })),
+        None => Ok(None),
+    }
+}
+
+// The note of an event that was not done, or of a record that is not opened.
+fn failure_note(
+    alloc: Global,
+    asked: Asked<'_>,
+    event: Option<&Event>,
+    fault: &Fault,
+) -> Result<Option<Note>, AllocError> {
+    match fault {
+        Fault::Refused(refusal) => refusal_note(alloc, asked, event, refusal),
+        Fault::Store(fault) => alone(store_sentence(alloc, fault)?),
+        Fault::Memory => Ok(None),
+    }
+}
+
+impl Note {
+    /// The sentence, with what this schedule says beside it; `None` where that is nothing.
+    pub fn sentence(
+        &self,
+        alloc: Global,
+        schedule: Option<&Schedule>,
+    ) -> Result<Option<String>, AllocError> {
+        let mut sentence = String::from_str(alloc, self.text.as_str())?;
+        if let Some(schedule) = schedule {
+            self.push_rest(&mut sentence, schedule)?;
+        }
+        if sentence.is_empty() {
+            Ok(None)
+        } else {
+            Ok(Some(sentence))
+        }
+    }
+
+    // Adds what this schedule says beside it.
+    fn push_rest(&self, sentence: &mut String, schedule: &Schedule) -> Result<(), AllocError> {
+        match &self.rest {
+            Rest::Nothing => Ok(()),
+            Rest::Clock => {
+                let now = schedule.now();
+                write!(sentence, "; the record's clock stands at {now}")
+            }
+            Rest::Try(serial) => push_try(sentence, schedule, *serial),
+            Rest::Slots(graph) => match schedule.graph_of(graph) {
+                Some(graph) => push_slots(sentence, schedule, graph),
+                None => Ok(()),
+            },
+        }
+    }
+}
+
+// Adds the task instance whose try has this serial.
+fn push_try(sentence: &mut String, schedule: &Schedule, serial: u64) -> Result<(), AllocError> {
+    match place_of(schedule, serial) {
+        Some((graph, logical, task)) => {
+            let (graph, task) = (graph.as_str(), task.as_str());
+            write!(sentence, ": {graph} {logical} {task} is in flight")
+        }
+        None => Ok(()),
+    }
+}
+
+// The graph, the logical date and the task of the try with this serial.
+fn place_of(schedule: &Schedule, serial: u64) -> Option<(&Name, Moment, &Name)> {
+    for run in schedule.runs() {
+        let graph = schedule.graph_of(&run.graph)?;
+        for (place, instance) in run.instances.as_slice().iter().enumerate() {
+            if place < graph.dag.len() && instance.tries().iter().any(|one| one.serial == serial) {
+                return Some((&run.graph, run.logical, &graph.dag.task(place).task_id));
+            }
+        }
+    }
+    None
+}
+
+// Adds the first task that needs more slots than its pool has.
+fn push_slots(
+    sentence: &mut String,
+    schedule: &Schedule,
+    graph: &LoadedGraph,
+) -> Result<(), AllocError> {
+    for task in graph.dag.spec().tasks.as_slice() {
+        let needed = task.pool_slots.get();
+        let size = size_of(schedule, &task.pool);
+        if size < needed {
+            if !sentence.is_empty() {
+                sentence.push_str("; ")?;
+            }
+            let (id, pool) = (task.task_id.as_str(), task.pool.as_str());
+            return write!(
+                sentence,
+                "task \"{id}\" needs {needed} slots of the pool \"{pool}\", which has {size}: it waits until resize {pool} {needed}"
+            );
+        }
+    }
+    Ok(())
+}
+
+// How many slots a pool has.
+fn size_of(schedule: &Schedule, pool: &Name) -> u32 {
+    schedule
+        .pools()
+        .find(|row| row.name.as_str() == pool.as_str())
+        .map_or(0, |row| row.size)
+}

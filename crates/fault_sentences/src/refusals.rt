@@ -1,0 +1,132 @@
+//! Sentences on events that are refused, and on questions without an answer.
+use crate::asked::Asked;
+use crate::graphs::{dag_sentence, graph_sentence};
+use crate::notes::{Note, Rest};
+use explain::ExplainFault;
+use graph_file::Name;
+use sched_events::{Event, Refusal};
+use std::alloc::{AllocError, Global};
+
+// What is to be told of an event that is refused.
+pub fn refusal_note(
+    alloc: Global,
+    asked: Asked<'_>,
+    event: Option<&Event>,
+    refusal: &Refusal,
+) -> Result<Option<Note>, AllocError> {
+    match sentence_of(alloc, asked, event, refusal)? {
+        Some(text) => Ok(Some(Note {
+            text,
+            rest: rest_of(refusal),
+        })),
+        None => Ok(None),
+    }
+}
+
+// What the schedule says beside it.
+fn rest_of(refusal: &Refusal) -> Rest {
+    match refusal {
+        Refusal::RunExists | Refusal::NoInterval => Rest::Clock,
+        Refusal::InFlight(serial) => Rest::Try(*serial),
+        _ => Rest::Nothing,
+    }
+}
+
+fn sentence_of(
+    alloc: Global,
+    asked: Asked<'_>,
+    event: Option<&Event>,
+    refusal: &Refusal,
+) -> Result<Option<String>, AllocError> {
+    match (refusal, event) {
+        (Refusal::GraphFault(fault), Some(Event::Load(text))) => {
+            graph_sentence(alloc, asked, text.as_str(), *fault)
+        }
+        (Refusal::DagFault(fault), Some(Event::Load(text))) => {
+            dag_sentence(alloc, asked, text.as_str(), fault)
+        }
+        (Refusal::UnknownPool(pool), _) => {
+            let pool = pool.as_str();
+            Ok(Some(format!(in alloc;
+                "there is no pool \"{pool}\": make it first, by resize {pool} SLOTS"
+            )?))
+        }
+        (Refusal::ClockBack(now), _) => Ok(Some(format!(in alloc;
+            "the moment lies before {now}, which the record's clock has reached: it never goes back"
+        )?)),
+        (Refusal::UnknownGraph, Some(event)) => missing(alloc, graph_of(event), "graph"),
+        (Refusal::UnknownTask, Some(Event::Clear(clearing))) => {
+            missing(alloc, clearing.task.as_ref(), "task")
+        }
+        (refusal, _) => match plain(refusal) {
+            Some(text) => Ok(Some(String::from_str(alloc, text)?)),
+            None => Ok(None),
+        },
+    }
+}
+
+// The sentence of a refusal whose cause needs no names.
+fn plain(refusal: &Refusal) -> Option<&'static str> {
+    match refusal {
+        Refusal::TooManyGraphs => {
+            Some("there are 256 graphs, and none is ever taken out: another record has room")
+        }
+        Refusal::GraphDiffers => Some(
+            "the graph has runs, so its text stays as it is: load the new one under another dag_id",
+        ),
+        Refusal::BadSpan => Some("TO lies before FROM: the order is FROM TO"),
+        Refusal::RunExists => Some(
+            "a run by hand has the record's clock as its date, and the graph has a run of that date: there can be another after the next tick",
+        ),
+        Refusal::NoInterval => Some("no interval of the graph's schedule has ended yet"),
+        Refusal::InFlight(_) => {
+            Some("wait until it has ended, as by drain: a task that runs is not set back")
+        }
+        Refusal::PoolFault(_) => Some("there are 64 pools, and none is ever taken out"),
+        Refusal::RecordFull => Some("there are 1,000,000 runs, which is the most of a record"),
+        _ => None,
+    }
+}
+
+// The graph that an event names.
+fn graph_of(event: &Event) -> Option<&Name> {
+    match event {
+        Event::Trigger(graph) | Event::Pause(graph) | Event::Unpause(graph) => Some(graph),
+        Event::Backfill { graph, .. } => Some(graph),
+        Event::Clear(clearing) => Some(&clearing.graph),
+        _ => None,
+    }
+}
+
+// That there is no graph or task of this name.
+fn missing(alloc: Global, name: Option<&Name>, kind: &str) -> Result<Option<String>, AllocError> {
+    match name {
+        Some(name) => {
+            let name = name.as_str();
+            Ok(Some(format!(in alloc; "there is no {kind} \"{name}\"")?))
+        }
+        None => Ok(None),
+    }
+}
+
+// Why a question has no answer. Its words are `explain DAG LOGICAL TASK`.
+pub fn unexplained_sentence(
+    alloc: Global,
+    asked: Asked<'_>,
+    fault: ExplainFault,
+) -> Result<Option<String>, AllocError> {
+    let values = asked.values(alloc)?;
+    let [_, graph, logical, task, ..] = values.as_slice() else {
+        return Ok(None);
+    };
+    match fault {
+        ExplainFault::UnknownGraph => Ok(Some(format!(in alloc; "there is no graph \"{graph}\"")?)),
+        ExplainFault::UnknownRun => Ok(Some(format!(in alloc;
+            "the graph \"{graph}\" has no run of the date {logical}: list runs shows those it has; a day alone is its first second"
+        )?)),
+        ExplainFault::UnknownTask => {
+            Ok(Some(format!(in alloc; "the graph \"{graph}\" has no task \"{task}\"")?))
+        }
+        ExplainFault::Memory => Ok(None),
+    }
+}

@@ -1,0 +1,239 @@
+//! What a person is told beside the answers: sentences, and a line on a terminal that says how a drain goes on.
+use crate::totals::Totals;
+use answer_lines::Shown;
+use fault_sentences::{
+    Asked, Note, ended_since, lost_at_restart, note_of, one_line, unreadable_note,
+};
+use sched_core::{Event, Schedule};
+use script_commands::{CommandFault, SourceFault};
+use script_reader::{Console, Spot};
+use std::alloc::{AllocError, Global};
+use std::io::{self, IsTerminal, Read, Write};
+use std::rt::{Clock, Files};
+use std::time::{Duration, Instant};
+use std::{fs, str};
+
+// How many milliseconds a line stands before it is written anew.
+const PAUSE: u64 = 100;
+
+/// Sentences on what was not done and on tries that failed, each a line; and to a terminal a line that says how many tries are in flight, and how many
+/// task instances are done, failed and wait. That line is written over at most ten times a second.
+///
+/// Where memory runs out for a sentence, or it cannot be written, it is dropped.
+#[derive(Drop)]
+pub struct SentenceConsole<R: Clock + Files + Drop, W: Write + Drop> {
+    rt: R,
+    alloc: Global,
+    // The program's own words.
+    words: String,
+    output: W,
+    is_terminal: bool,
+    // When the line was written that stands there.
+    written: Option<Instant>,
+    // What is to be told of the command that was read last, with the number of its line.
+    note: Option<(Option<u64>, Note)>,
+    // The first serial of the tries of which nothing was told; none before the first command.
+    next_serial: Option<u64>,
+    has_waited: bool,
+}
+
+impl<R: Clock + Files + Drop, W: Write + IsTerminal + Drop> SentenceConsole<R, W> {
+    /// With nothing told yet. These are the program's own words.
+    pub fn new(rt: R, alloc: Global, words: String, output: W) -> SentenceConsole<R, W> {
+        let is_terminal = output.is_terminal();
+        SentenceConsole::over(rt, alloc, words, output, is_terminal)
+    }
+}
+
+impl<R: Clock + Files + Drop> SentenceConsole<R, Vec<u8>> {
+    /// The same, with what is told kept in memory, and without the line on a terminal.
+    pub fn in_memory(rt: R, alloc: Global, words: String) -> SentenceConsole<R, Vec<u8>> {
+        SentenceConsole::over(rt, alloc, words, Vec::new(alloc), false)
+    }
+}
+
+impl<R: Clock + Files + Drop, W: Write + Drop> SentenceConsole<R, W> {
+    fn over(
+        rt: R,
+        alloc: Global,
+        words: String,
+        output: W,
+        is_terminal: bool,
+    ) -> SentenceConsole<R, W> {
+        SentenceConsole {
+            rt,
+            alloc,
+            words,
+            output,
+            is_terminal,
+            written: None,
+            note: None,
+            next_serial: None,
+            has_waited: false,
+        }
+    }
+
+    /// Where it has told what it told.
+    pub fn into_output(self) -> W {
+        let SentenceConsole { output, .. } = self;
+        output
+    }
+
+    // Whether the line that stands there is to stand on.
+    fn stands_on(&self, now: Instant) -> bool {
+        match self.written {
+            Some(written) => now.duration_since(written) < Duration::from_millis(PAUSE),
+            None => false,
+        }
+    }
+
+    // Writes the line over the one that stands there.
+    fn put_totals(&mut self, schedule: &Schedule) -> io::Result<()> {
+        let Totals {
+            in_flight,
+            done,
+            failed,
+            waiting,
+        } = Totals::of(schedule);
+        write!(
+            self.output,
+            "\r{in_flight} in flight, {done} done, {failed} failed, {waiting} waiting\x1b[K"
+        )
+    }
+
+    // What is to be told of what was put for the command at this spot.
+    fn note_at(
+        &self,
+        spot: Option<Spot<'_>>,
+        event: Option<&Event>,
+        shown: Shown<'_>,
+    ) -> Result<Option<Note>, AllocError> {
+        match spot {
+            Some(spot) => {
+                let line = str::from_utf8(spot.line).unwrap_or("");
+                self.note_on(Some(spot.number), line, event, shown)
+            }
+            None => self.note_on(None, self.words.as_str(), event, shown),
+        }
+    }
+
+    // The same of a command of this line, or of the program's own words.
+    fn note_on(
+        &self,
+        number: Option<u64>,
+        line: &str,
+        event: Option<&Event>,
+        shown: Shown<'_>,
+    ) -> Result<Option<Note>, AllocError> {
+        let asked = Asked { number, line };
+        if is_unreadable(shown) && !line.ends_with('\r') {
+            let path = asked.path(self.alloc)?.unwrap_or("");
+            if let Some(cause) = self.why_unreadable(path) {
+                return Ok(Some(unreadable_note(self.alloc, path, &cause)?));
+            }
+        }
+        note_of(self.alloc, asked, event, shown)
+    }
+
+    // Why the system does not give this file.
+    fn why_unreadable(&self, path: &str) -> Option<io::Error> {
+        match fs::open(&self.rt, path) {
+            Ok(file) => {
+                let mut file = file;
+                let mut byte = [0];
+                file.read(&mut byte).err()
+            }
+            Err(error) => Some(error),
+        }
+    }
+
+    // Writes the sentence of a note.
+    fn put_note(
+        &mut self,
+        number: Option<u64>,
+        note: &Note,
+        schedule: Option<&Schedule>,
+    ) -> io::Result<()> {
+        match note.sentence(self.alloc, schedule)? {
+            Some(text) => self.put_sentence(number, text.as_str()),
+            None => Ok(()),
+        }
+    }
+
+    // Writes a sentence, with the number of the line that it is of.
+    fn put_sentence(&mut self, number: Option<u64>, text: &str) -> io::Result<()> {
+        let text = match number {
+            Some(number) => format!(in self.alloc; "line {number}: {text}")?,
+            None => format!(in self.alloc; "dagsched: {text}")?,
+        };
+        let line = one_line(self.alloc, text.as_str())?;
+        self.output.write_all(line.as_bytes())
+    }
+
+    // Says what became of tries: at first of those that the restart has lost, and after each wait of those that ended since.
+    fn put_tries(&mut self, schedule: &Schedule) -> io::Result<()> {
+        let said = match self.next_serial {
+            None => lost_at_restart(self.alloc, schedule)?,
+            Some(serial) if self.has_waited => ended_since(self.alloc, schedule, serial)?,
+            Some(_) => return Ok(()),
+        };
+        self.has_waited = false;
+        self.next_serial = Some(schedule.next_serial());
+        match said {
+            Some(text) => self.put_sentence(None, text.as_str()),
+            None => Ok(()),
+        }
+    }
+}
+
+// Whether this says that a file cannot be read.
+fn is_unreadable(shown: Shown<'_>) -> bool {
+    matches!(
+        shown,
+        Shown::NoCommand(CommandFault::Source(SourceFault::Unreadable))
+    )
+}
+
+impl<R: Clock + Files + Drop, W: Write + Drop> Console for SentenceConsole<R, W> {
+    // A terminal that takes no line changes nothing else.
+    fn waits(&mut self, schedule: &Schedule) {
+        self.has_waited = true;
+        if !self.is_terminal {
+            return;
+        }
+        let Ok(now) = Instant::now(&self.rt) else {
+            return;
+        };
+        if self.stands_on(now) {
+            return;
+        }
+        let _ = self.put_totals(schedule);
+        // from the end of the work on, of which a great schedule asks much
+        self.written = match Instant::now(&self.rt) {
+            Ok(later) => Some(later),
+            Err(_) => Some(now),
+        };
+    }
+
+    fn wait_is_over(&mut self) {
+        if self.written.take().is_some() {
+            let _ = self.output.write_all(b"\r\x1b[K");
+        }
+    }
+
+    fn put(&mut self, spot: Option<Spot<'_>>, event: Option<&Event>, shown: Shown<'_>) {
+        self.note = match self.note_at(spot, event, shown) {
+            Ok(Some(note)) => Some((spot.map(|spot| spot.number), note)),
+            _ => None,
+        };
+    }
+
+    fn tell(&mut self, schedule: Option<&Schedule>) {
+        if let Some((number, note)) = self.note.take() {
+            let _ = self.put_note(number, &note, schedule);
+        }
+        if let Some(schedule) = schedule {
+            let _ = self.put_tries(schedule);
+        }
+    }
+}
