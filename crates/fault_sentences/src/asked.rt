@@ -30,7 +30,7 @@ impl<'a> Asked<'a> {
         Ok(words.as_slice().get(1).copied())
     }
 
-    /// The words that are no options and no values of `--task`.
+    /// The words that are no options and no values of `--record` and `--task`.
     pub(crate) fn values(self, alloc: Global) -> Result<Vec<&'a str>, AllocError> {
         let mut values = Vec::new(alloc);
         let mut is_value = false;
@@ -39,7 +39,7 @@ impl<'a> Asked<'a> {
             if !is_value && !word.starts_with("--") {
                 values.push(*word)?;
             }
-            is_value = *word == "--task";
+            is_value = *word == "--record" || *word == "--task";
         }
         Ok(values)
     }

@@ -124,8 +124,8 @@ fn has_quote(line: &str) -> bool {
 
 // Which word is no name.
 fn name_sentence(alloc: Global, asked: Asked<'_>) -> Result<Option<String>, AllocError> {
-    let words = asked.words(alloc)?;
-    let found = words
+    let values = asked.values(alloc)?;
+    let found = values
         .as_slice()
         .iter()
         .skip(1)
@@ -138,9 +138,9 @@ fn name_sentence(alloc: Global, asked: Asked<'_>) -> Result<Option<String>, Allo
     )
 }
 
-// Whether a word of a command is no option, no moment and no name.
+// Whether a word of a command is no moment and no name.
 fn is_misnamed(word: &str) -> bool {
-    !word.starts_with("--") && !is_name(word) && Moment::read(word).is_err()
+    !is_name(word) && Moment::read(word).is_err()
 }
 
 // Which word is no moment, and what may stand there.
