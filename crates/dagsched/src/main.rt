@@ -14,6 +14,7 @@ mod records;
 mod scripts;
 mod telling;
 mod usage;
+mod volatile;
 
 use crate::records::{in_file, in_memory};
 use crate::usage::put_usage;

@@ -1,8 +1,9 @@
 //! The record on which a command is done.
-ghost use Rattle.std.specs.Prelude.{◌≡◌, false};
+ghost use Rattle.std.specs.Prelude.{◌≡◌, false, IfOk};
 
 use crate::scripts::run_script;
 use crate::telling::{tell_fault, tell_made, tell_unkept, tell_unopened};
+use crate::volatile::Volatile;
 use answer_lines::{Shown, put};
 use command_runner::run_command;
 use command_words::Command;
@@ -10,7 +11,8 @@ use director::Fault;
 use meta_store::{Store, StoreFault};
 use script_reader::failure_status;
 use script_runner::SentenceConsole;
-use sqlite::{Alter, Connection, Error, ErrorCode};
+use sqlite::{Alter, Connection, Error, ErrorCode, FileStore, Files, Options};
+use std::alloc::Global;
 use std::fs;
 use std::io::{self, BufWriter, ErrorKind, Write};
 use std::sync::Wait;
@@ -54,10 +56,27 @@ pub fn in_memory<T: Threads + Wait + Sync>(
     command: &Command,
     words: String,
 ) -> io::Result<u8> {
-    let conn = Connection::open_in_memory(rt.alloc())?;
+    let conn = new_database(rt.alloc())?;
     let (_conn, status) = on_connection(threads, rt, conn, command, words)?;
     tell_unkept(rt, command);
     Ok(status)
+}
+
+// A database in files that are gone with the program.
+fn new_database(alloc: Global) -> io::Result<Connection<FileStore<Volatile>>>
+    ensures { IfOk result (λ conn. conn.in_transaction ≡ false) }
+{
+    let files = Files {
+        log: Volatile::new(alloc),
+        db: Volatile::new(alloc),
+    };
+    match Connection::open_files(alloc, files, Options::new(1)) {
+        Ok(conn) => Ok(conn),
+        Err((Error::SqliteFailure(ErrorCode::OutOfMemory), _)) => {
+            Err(io::Error::from(ErrorKind::OutOfMemory))
+        }
+        Err(_) => Err(io::Error::other("no database is made")),
+    }
 }
 
 // Makes a record, or takes the one that is there, and does the command on it.
