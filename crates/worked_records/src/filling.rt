@@ -30,6 +30,17 @@ pub struct Round {
     pub loaded: (usize, Duration),
 }
 
+/// A record without rows of its own yet, and its schedule.
+pub fn begin<S: Alter + Drop>(alloc: Global, conn: Connection<S>) -> io::Result<Timed<S>>
+    requires { conn.in_transaction ≡ false }
+{
+    let Ok(store) = Store::create(alloc, conn) else {
+        return Err(io::Error::other("no record is made"));
+    };
+    let schedule = Schedule::new(alloc, Limits::full())?;
+    Ok(Timed { store, schedule })
+}
+
 /// Makes so many runs in a new record, then reports the starts and ends of so many tries, one after another.
 pub fn fill<S: Alter + Drop, R: Clock>(
     rt: &R,
@@ -40,11 +51,7 @@ pub fn fill<S: Alter + Drop, R: Clock>(
 ) -> io::Result<Round>
     requires { conn.in_transaction ≡ false }
 {
-    let Ok(store) = Store::create(alloc, conn) else {
-        return Err(io::Error::other("no record is made"));
-    };
-    let schedule = Schedule::new(alloc, Limits::full())?;
-    let mut timed = Timed { store, schedule };
+    let mut timed = begin(alloc, conn)?;
     prepare(rt, alloc, &mut timed)?;
     let backfills = make_runs(rt, alloc, &mut timed, runs)?;
     let (starts, ends) = report(rt, alloc, &mut timed, tries)?;

@@ -9,10 +9,13 @@
 //! the other has done the rest.
 //!
 //! With the words `time RUNS` no question is read: a new record is filled with so many runs of 256 tasks and then loaded, and it is printed how long that took.
+//! With `costs RUNS` it is filled with so many runs of one task, and it is printed how long each kind of event takes then: its plan, the room that is made for it,
+//! its write and its commit.
 #![tactic(auto)]
 
 mod asking;
 mod callers;
+mod costs;
 mod counts;
 mod events;
 mod files;
@@ -39,6 +42,7 @@ mod times;
 mod totals;
 
 use crate::asking::write_line;
+use crate::costs::write_costs;
 use crate::times::write_times;
 use std::sync::Wait;
 use std::thread::Threads;
@@ -46,10 +50,12 @@ use std::{env, io};
 
 fn main(rt: HostRuntime) -> io::Result<()> {
     let mut words = env::args(&rt)?;
-    if words.nth(1).is_some_and(|word| word.as_str() == "time") {
-        return write_times(&rt, words.next());
+    let word = words.nth(1);
+    match word.as_ref().map_or("", |word| word.as_str()) {
+        "time" => write_times(&rt, words.next()),
+        "costs" => write_costs(&rt, words.next()),
+        _ => write_page(&rt, &rt),
     }
-    write_page(&rt, &rt)
 }
 
 fn write_page<T: Threads + Wait + Sync>(rt: &T, host: &HostRuntime) -> io::Result<()> {

@@ -1,7 +1,8 @@
 //! One step, timed in its parts.
-ghost use Rattle.std.specs.Prelude.{◌≡◌, IfOk};
+ghost use Rattle.std.specs.Prelude.{◌≡◌, IfOk, OnOk};
+ghost use Rattle.sched_core.specs.Changes.{HasRoom};
 
-use crate::totals::Work;
+use crate::totals::{Parts, Work};
 use meta_store::Store;
 use record_rows::Rows;
 use sched_core::{Change, Event, Schedule};
@@ -29,9 +30,17 @@ impl<S: Alter> Timed<S> {
     ) -> io::Result<()> {
         let (change, planning) = plan(rt, alloc, &self.schedule, event)?;
         let rows = count(change.rows());
+        let reserving = reserve(rt, &mut self.schedule, &change)?;
         let writing = write(rt, &mut self.store, &change)?;
-        work.add(rows, planning, writing);
-        commit(&mut self.schedule, change)
+        let committing = commit(rt, &mut self.schedule, change)?;
+        let parts = Parts {
+            planning,
+            reserving,
+            writing,
+            committing,
+        };
+        work.add(rows, parts);
+        Ok(())
     }
 }
 
@@ -64,12 +73,24 @@ fn write<S: Alter, R: Clock>(
     }
 }
 
-fn commit(schedule: &mut Schedule, change: Change) -> io::Result<()>
-    requires { change.before ≡ schedule.old.content }
+// Makes room for a change: how long that took.
+fn reserve<R: Clock>(rt: &R, schedule: &mut Schedule, change: &Change) -> io::Result<Duration>
+    ensures content { schedule.new.content ≡ schedule.old.content }
+    ensures room { OnOk result (HasRoom change.now schedule.new) }
 {
-    schedule.reserve(&change)?;
+    let start = Instant::now(rt)?;
+    schedule.reserve(change)?;
+    start.elapsed(rt)
+}
+
+// Does a change in memory: how long that took.
+fn commit<R: Clock>(rt: &R, schedule: &mut Schedule, change: Change) -> io::Result<Duration>
+    requires planned { change.before ≡ schedule.old.content }
+    requires room { HasRoom change schedule.old }
+{
+    let start = Instant::now(rt)?;
     let _answer = schedule.commit(change);
-    Ok(())
+    start.elapsed(rt)
 }
 
 fn count(rows: &Rows) -> u64 {

@@ -1,13 +1,21 @@
 //! Steps, counted and timed.
 use std::time::Duration;
 
-/// Steps that were made: how many, how many rows they changed, and how long they took to plan and to write.
+/// How long the parts of a step took: to plan it, to make room for it in memory, to write it, and to do it in memory.
+#[derive(Clone, Copy)]
+pub struct Parts {
+    pub planning: Duration,
+    pub reserving: Duration,
+    pub writing: Duration,
+    pub committing: Duration,
+}
+
+/// Steps that were made: how many, how many rows they changed, and how long their parts took.
 #[derive(Clone, Copy)]
 pub struct Work {
     pub steps: u64,
     pub rows: u64,
-    pub planning: Duration,
-    pub writing: Duration,
+    pub parts: Parts,
 }
 
 impl Work {
@@ -16,17 +24,25 @@ impl Work {
         Work {
             steps: 0,
             rows: 0,
-            planning: Duration::ZERO,
-            writing: Duration::ZERO,
+            parts: Parts {
+                planning: Duration::ZERO,
+                reserving: Duration::ZERO,
+                writing: Duration::ZERO,
+                committing: Duration::ZERO,
+            },
         }
     }
 
     /// Counts a step.
-    pub fn add(&mut self, rows: u64, planning: Duration, writing: Duration) {
+    pub fn add(&mut self, rows: u64, parts: Parts) {
         self.steps = self.steps.saturating_add(1);
         self.rows = self.rows.saturating_add(rows);
-        self.planning = self.planning.saturating_add(planning);
-        self.writing = self.writing.saturating_add(writing);
+        self.parts = Parts {
+            planning: self.parts.planning.saturating_add(parts.planning),
+            reserving: self.parts.reserving.saturating_add(parts.reserving),
+            writing: self.parts.writing.saturating_add(parts.writing),
+            committing: self.parts.committing.saturating_add(parts.committing),
+        };
     }
 }
 
