@@ -19,7 +19,6 @@ mod volatile;
 use crate::records::{in_file, in_memory};
 use crate::usage::put_usage;
 use command_words::{Command, CommandLine, UsageFault, read_command};
-use std::alloc::{AllocError, Global};
 use std::env;
 use std::io::{self, ErrorKind};
 use std::process::ExitCode;
@@ -49,15 +48,14 @@ fn run_words<T: Threads + Wait + Sync>(threads: &T, rt: &HostRuntime) -> io::Res
         Ok(words) => words,
         // a word that is not UTF-8
         Err(error) if error.kind() == ErrorKind::InvalidData => {
-            return put_usage(rt, UsageFault::Words, &[], "");
+            return put_usage(rt, UsageFault::Words, &[]);
         }
         Err(error) => return Err(error),
     };
-    let text = joined(rt.alloc(), words.as_slice())?;
     match read_command(rt.alloc(), words.as_slice()) {
-        Ok(line) => do_line(threads, rt, line, text),
+        Ok(line) => do_line(threads, rt, line, words),
         Err(UsageFault::Memory) => Err(io::Error::from(ErrorKind::OutOfMemory)),
-        Err(fault) => put_usage(rt, fault, words.as_slice(), text.as_str()),
+        Err(fault) => put_usage(rt, fault, words.as_slice()),
     }
 }
 
@@ -68,31 +66,19 @@ fn own_words(rt: &HostRuntime) -> io::Result<Vec<String>> {
     Ok(words.collect::<Vec<String>>(rt.alloc())?)
 }
 
-// The words with blanks between them.
-fn joined(alloc: Global, words: &[String]) -> Result<String, AllocError> {
-    let mut text = String::new(alloc);
-    for word in words {
-        if !text.is_empty() {
-            text.push(' ')?;
-        }
-        text.push_str(word.as_str())?;
-    }
-    Ok(text)
-}
-
 // Does the command, if it has its place here.
 fn do_line<T: Threads + Wait + Sync>(
     threads: &T,
     rt: &HostRuntime,
     line: CommandLine,
-    words: String,
+    words: Vec<String>,
 ) -> io::Result<u8> {
     let CommandLine {
         record_path,
         command,
     } = line;
     if is_of_scripts(&command) {
-        return put_usage(rt, UsageFault::NotHere, &[], words.as_str());
+        return put_usage(rt, UsageFault::NotHere, words.as_slice());
     }
     match record_path {
         Some(path) => in_file(threads, rt, path.as_str(), &command, words),

@@ -24,7 +24,7 @@ pub fn in_file<T: Threads + Wait + Sync>(
     rt: &HostRuntime,
     path: &str,
     command: &Command,
-    words: String,
+    words: Vec<String>,
 ) -> io::Result<u8> {
     let was_there = fs::metadata(rt, path).is_ok();
     match Connection::open(rt, path) {
@@ -54,7 +54,7 @@ pub fn in_memory<T: Threads + Wait + Sync>(
     threads: &T,
     rt: &HostRuntime,
     command: &Command,
-    words: String,
+    words: Vec<String>,
 ) -> io::Result<u8> {
     let conn = new_database(rt.alloc())?;
     let (_conn, status) = on_connection(threads, rt, conn, command, words)?;
@@ -85,7 +85,7 @@ fn on_connection<S: Alter + Drop, T: Threads + Wait + Sync>(
     rt: &HostRuntime,
     conn: Connection<S>,
     command: &Command,
-    words: String,
+    words: Vec<String>,
 ) -> io::Result<(Connection<S>, u8)>
     requires { conn.in_transaction ≡ false }
 {
@@ -106,7 +106,7 @@ fn on_store<S: Alter + Drop, T: Threads + Wait + Sync>(
     rt: &HostRuntime,
     store: Store<S>,
     command: &Command,
-    words: String,
+    words: Vec<String>,
 ) -> io::Result<(Connection<S>, u8)> {
     let (store, status) = match command {
         Command::Run(options) => run_script(threads, rt, store, options, words)?,
@@ -120,7 +120,7 @@ fn run_single<S: Alter + Drop>(
     rt: &HostRuntime,
     store: Store<S>,
     command: &Command,
-    words: String,
+    words: Vec<String>,
 ) -> io::Result<(Store<S>, u8)> {
     let alloc = rt.alloc();
     let mut output = BufWriter::new(alloc, rt.stdout())?;
@@ -138,6 +138,6 @@ fn run_single<S: Alter + Drop>(
 /// Prints why a record is not opened, and tells it; the status.
 pub fn put_failure(rt: &HostRuntime, fault: &Fault) -> io::Result<u8> {
     put(&mut rt.stdout(), Shown::Failure(fault))?;
-    tell_fault(rt, "", Shown::Failure(fault));
+    tell_fault(rt, &[], Shown::Failure(fault));
     Ok(failure_status(fault))
 }

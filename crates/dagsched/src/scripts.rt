@@ -19,7 +19,7 @@ pub fn run_script<S: Alter + Drop, T: Threads + Wait + Sync>(
     rt: &HostRuntime,
     store: Store<S>,
     options: &ScriptOptions,
-    words: String,
+    words: Vec<String>,
 ) -> io::Result<(Store<S>, u8)> {
     let alloc = rt.alloc();
     let scratch = options.scratch.as_str();

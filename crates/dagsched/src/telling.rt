@@ -5,6 +5,7 @@ use fault_sentences::{Asked, note_of, one_line};
 use sqlite::{Error, ErrorCode};
 use std::alloc::AllocError;
 use std::fs;
+use std::io::ErrorKind;
 
 /// Tells a person this. Where memory runs out for it, it is dropped.
 pub fn tell(rt: &HostRuntime, text: &str) {
@@ -14,7 +15,7 @@ pub fn tell(rt: &HostRuntime, text: &str) {
 }
 
 /// Tells what is to be told of a fault of the program's own words, or of a record that is not opened.
-pub fn tell_fault(rt: &HostRuntime, words: &str, shown: Shown<'_>) {
+pub fn tell_fault(rt: &HostRuntime, words: &[String], shown: Shown<'_>) {
     if let Ok(Some(text)) = fault_text(rt, words, shown) {
         tell(rt, text.as_str());
     }
@@ -22,14 +23,10 @@ pub fn tell_fault(rt: &HostRuntime, words: &str, shown: Shown<'_>) {
 
 fn fault_text(
     rt: &HostRuntime,
-    words: &str,
+    words: &[String],
     shown: Shown<'_>,
 ) -> Result<Option<String>, AllocError> {
-    let asked = Asked {
-        number: None,
-        line: words,
-    };
-    let Some(note) = note_of(rt.alloc(), asked, None, shown)? else {
+    let Some(note) = note_of(rt.alloc(), Asked::Own(words), None, shown)? else {
         return Ok(None);
     };
     match note.sentence(rt.alloc(), None)? {
@@ -42,7 +39,9 @@ fn fault_text(
 pub fn tell_unopened(rt: &HostRuntime, path: &str, error: Error) {
     let text = match error {
         Error::SqliteFailure(ErrorCode::DatabaseBusy) => {
-            format!(in rt.alloc(); "dagsched: {path}: another program has it open")
+            format!(in rt.alloc();
+                "dagsched: {path}: another program has it open: wait until it ends, or give it this command as a line of its script"
+            )
         }
         Error::SqliteFailure(ErrorCode::CannotOpen) => unopened_text(rt, path),
         error => format!(in rt.alloc(); "dagsched: {path}: {error}"),
@@ -64,6 +63,9 @@ fn unopened_text(rt: &HostRuntime, path: &str) -> Result<String, AllocError> {
             Ok(_) => format!(in alloc; "dagsched: {path}: it may not be written"),
             Err(error) => format!(in alloc; "dagsched: {path}: {error}"),
         },
+        Err(error) if error.kind() != ErrorKind::NotFound => {
+            format!(in alloc; "dagsched: {path}: {error}")
+        }
         Err(_) => unmade_text(rt, path),
     }
 }

@@ -5,19 +5,14 @@ use command_words::{UsageFault, refusal_text};
 use script_commands::CommandFault;
 use std::io;
 
-/// Says on standard error why the words are no command, and how to use the program where clap refuses them; the status. The text is that of the words.
-pub fn put_usage(
-    rt: &HostRuntime,
-    fault: UsageFault,
-    words: &[String],
-    text: &str,
-) -> io::Result<u8> {
+/// Says on standard error why the words are no command, and how to use the program where clap refuses them; the status.
+pub fn put_usage(rt: &HostRuntime, fault: UsageFault, words: &[String]) -> io::Result<u8> {
     let fault_line = CommandFault::Usage(fault);
     put(&mut rt.stderr(), Shown::NoCommand(fault_line))?;
     if fault == UsageFault::Words {
         put_text(rt, words)?;
     }
-    tell_fault(rt, text, Shown::NoCommand(fault_line));
+    tell_fault(rt, words, Shown::NoCommand(fault_line));
     Ok(2)
 }
 

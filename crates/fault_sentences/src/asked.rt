@@ -3,25 +3,20 @@ use std::alloc::{AllocError, Global};
 
 /// A command as a person wrote it.
 #[derive(Clone, Copy)]
-pub struct Asked<'a> {
-    /// The number of its line in a script, from 1; `None` for the program's own words.
-    pub number: Option<u64>,
-    /// Its line, or the program's own words with blanks between them.
-    pub line: &'a str,
+pub enum Asked<'a> {
+    /// A line of a script: its number, from 1, and its text.
+    Line(u64, &'a str),
+    /// The program's own words.
+    Own(&'a [String]),
 }
 
 impl<'a> Asked<'a> {
-    /// The words of the line.
+    /// Its words.
     pub(crate) fn words(self, alloc: Global) -> Result<Vec<&'a str>, AllocError> {
-        let mut words = Vec::new(alloc);
-        for part in self.line.split(' ') {
-            for word in part.split('\t') {
-                if !word.is_empty() {
-                    words.push(word)?;
-                }
-            }
+        match self {
+            Asked::Line(_, line) => words_of_line(alloc, line),
+            Asked::Own(words) => own_words(alloc, words),
         }
-        Ok(words)
     }
 
     /// The word after the first, where it is that of a file.
@@ -46,6 +41,38 @@ impl<'a> Asked<'a> {
 
     /// Whether it is in a script.
     pub(crate) fn is_in_script(self) -> bool {
-        self.number.is_some()
+        match self {
+            Asked::Line(_, _) => true,
+            Asked::Own(_) => false,
+        }
     }
+
+    /// Its line in a script, or nothing.
+    pub(crate) fn line(self) -> &'a str {
+        match self {
+            Asked::Line(_, line) => line,
+            Asked::Own(_) => "",
+        }
+    }
+}
+
+// What stands between blanks and tabs.
+fn words_of_line(alloc: Global, line: &str) -> Result<Vec<&str>, AllocError> {
+    let mut words = Vec::new(alloc);
+    for part in line.split(' ') {
+        for word in part.split('\t') {
+            if !word.is_empty() {
+                words.push(word)?;
+            }
+        }
+    }
+    Ok(words)
+}
+
+fn own_words(alloc: Global, own: &[String]) -> Result<Vec<&str>, AllocError> {
+    let mut words = Vec::new(alloc);
+    for word in own {
+        words.push(word.as_str())?;
+    }
+    Ok(words)
 }

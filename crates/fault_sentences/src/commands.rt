@@ -1,5 +1,7 @@
 //! Sentences on words that are no command, and on files without a graph's text.
 use crate::asked::Asked;
+use crate::moments::moment_text;
+use crate::records::told;
 use command_words::{UsageFault, refusal_text};
 use graph_file::is_name;
 use moment_core::{Moment, MomentFault};
@@ -12,7 +14,7 @@ pub fn command_sentence(
     asked: Asked<'_>,
     fault: CommandFault,
 ) -> Result<Option<String>, AllocError> {
-    if asked.line.ends_with('\r') {
+    if asked.line().ends_with('\r') {
         return told(
             alloc,
             "the line ends with a carriage return: save the script with plain newlines",
@@ -51,7 +53,11 @@ fn usage_sentence(
 
 // What clap says of the words, as one line, and what a shell would have done with them.
 fn words_sentence(alloc: Global, asked: Asked<'_>) -> Result<Option<String>, AllocError> {
-    let hint = hint_of(asked);
+    if let Some(sentence) = size_sentence(alloc, asked)? {
+        return Ok(Some(sentence));
+    }
+    let parts = asked.words(alloc)?;
+    let hint = hint_of(asked, parts.as_slice());
     if !asked.is_in_script() {
         // there the program prints clap's whole text
         return match hint {
@@ -59,7 +65,6 @@ fn words_sentence(alloc: Global, asked: Asked<'_>) -> Result<Option<String>, All
             None => Ok(None),
         };
     }
-    let parts = asked.words(alloc)?;
     let mut words = Vec::new(alloc);
     for word in parts.as_slice() {
         words.push(String::from_str(alloc, word)?)?;
@@ -72,6 +77,17 @@ fn words_sentence(alloc: Global, asked: Asked<'_>) -> Result<Option<String>, All
         push_said(&mut text, line.trim())?;
     }
     Ok(Some(text))
+}
+
+// That the size of a pool is none.
+fn size_sentence(alloc: Global, asked: Asked<'_>) -> Result<Option<String>, AllocError> {
+    let values = asked.values(alloc)?;
+    match values.as_slice() {
+        ["resize", _, size] if size.parse::<u32>().is_err() => Ok(Some(format!(in alloc;
+            "\"{size}\" is no size: SIZE is a whole number from 0 to 1000000"
+        )?)),
+        _ => Ok(None),
+    }
 }
 
 // Adds a line of clap's text. What it says of the program's own words is left out.
@@ -100,17 +116,15 @@ fn push_part(text: &mut String, before: &str, part: &str) -> Result<(), AllocErr
     text.push_str(part)
 }
 
-// What in a line is read in another way than one may think.
-fn hint_of(asked: Asked<'_>) -> Option<&'static str> {
-    let line = asked.line;
-    if asked.is_in_script() && line.contains(" #") {
+// What in a command is read in another way than one may think.
+fn hint_of(asked: Asked<'_>, words: &[&str]) -> Option<&'static str> {
+    let line = asked.line();
+    if line.contains(" #") {
         Some("# begins no comment after a command")
-    } else if asked.is_in_script() && has_quote(line) {
+    } else if has_quote(line) {
         Some("there are no quotes and no escapes, and a path is one word")
-    } else if line.contains(" --record") {
-        Some("--record PATH stands before the command")
-    } else if line.starts_with("resize ") && line.contains(" -") {
-        Some("SIZE is a number from 0 to 1,000,000")
+    } else if words.iter().skip(1).any(|word| *word == "--record") {
+        Some("--record stands first: dagsched --record PATH COMMAND")
     } else {
         None
     }
@@ -157,12 +171,12 @@ fn moment_sentence(
         .iter()
         .skip(first)
         .find(|word| Moment::read(word).err() == Some(fault));
-    let why = match fault {
-        MomentFault::Shape => "write 2024-02-29, its first second, or 2024-02-29T12:30:00Z, in UTC",
-        MomentFault::NoSuchDate => "the calendar has no such day, or the clock no such time",
-        MomentFault::OutOfRange => "moments go from 1970 to the end of 2199",
+    let why = moment_text(Some(fault));
+    let order = if fault == MomentFault::Shape {
+        order_of(command)
+    } else {
+        ""
     };
-    let order = order_of(command);
     let why = format!(in alloc; "{why}{order}")?;
     said_of(alloc, found.copied(), "no moment", why.as_str())
 }
@@ -186,6 +200,7 @@ fn order_of(command: &str) -> &'static str {
         "explain" => "; the order is explain DAG LOGICAL TASK",
         "clear" => "; the order is clear DAG FROM TO",
         "backfill" => "; the order is backfill DAG FROM TO",
+        "tick" => ", or now",
         _ => "",
     }
 }
@@ -209,8 +224,4 @@ fn source_sentence(
         ),
         SourceFault::Memory => Ok(None),
     }
-}
-
-fn told(alloc: Global, text: &str) -> Result<Option<String>, AllocError> {
-    Ok(Some(String::from_str(alloc, text)?))
 }

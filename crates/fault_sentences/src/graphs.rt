@@ -1,10 +1,13 @@
 //! Sentences on the texts of graphs.
 use crate::asked::Asked;
+use crate::keys::{key_sentence, unknown_sentence};
 use crate::notes::{Note, Rest};
+use crate::places::{file_text, line_of_task, place_text};
+use cron_timetable::CronFault;
 use dag_check::DagFault;
-use graph_file::{GraphFault, Name, Place, TaskSpec, read_graph};
+use graph_file::{GraphFault, Key, Name, Place, TaskSpec, faulty_key, read_graph, unknown_name};
 use std::alloc::{AllocError, Global};
-use toml::{Table, Value};
+use toml::Table;
 
 // Why a text is no graph file.
 pub fn graph_sentence(
@@ -14,66 +17,28 @@ pub fn graph_sentence(
     fault: GraphFault,
 ) -> Result<Option<String>, AllocError> {
     match fault {
-        GraphFault::NotToml => toml_sentence(alloc, asked, text),
-        GraphFault::UnknownKey(place) => {
-            placed(
-                alloc,
-                asked,
-                text,
-                place,
-                "it has a key that is not one of its keys",
-            )
-        }
-        GraphFault::WrongType(place) => placed(
-            alloc,
-            asked,
-            text,
-            place,
-            "a value is not of its key's type: words and dates stand in quotes, numbers, true and false do not, and lists stand in [ ]",
-        ),
-        GraphFault::MissingKey(place) => {
-            placed(
-                alloc,
-                asked,
-                text,
-                place,
-                "a key that has to be there is not",
-            )
-        }
-        GraphFault::BadName(place) => placed(
-            alloc,
-            asked,
-            text,
-            place,
-            "a name has 1 to 250 letters, digits, _, - and ., all ASCII",
-        ),
-        GraphFault::BadValue(place) => {
-            placed(
-                alloc,
-                asked,
-                text,
-                place,
-                "a value is not one that its key takes",
-            )
-        }
-        GraphFault::Cron(fault) => {
-            let file = file_of(alloc, asked, None)?;
-            Ok(Some(format!(in alloc; "{file}schedule: {fault}")?))
-        }
-        GraphFault::NoTask => {
-            let file = file_of(alloc, asked, None)?;
-            Ok(Some(format!(in alloc;
-                "{file}the graph has no task: write [[task]], and the keys of the task below it"
-            )?))
-        }
-        GraphFault::TooMany => {
-            let file = file_of(alloc, asked, None)?;
-            Ok(Some(format!(in alloc;
-                "{file}there are more than 1,048,576 bytes, 256 tasks or 4,096 upstream names"
-            )?))
-        }
         GraphFault::Memory => Ok(None),
+        GraphFault::TooMany => of_file(
+            alloc,
+            asked,
+            "there are more than 1,048,576 bytes, 256 tasks or 4,096 upstream names",
+        ),
+        GraphFault::NoTask => of_file(
+            alloc,
+            asked,
+            "the graph has no task: write [[task]], and the keys of the task below it",
+        ),
+        _ => match toml::table_from_str(alloc, text) {
+            Ok(file) => placed_sentence(alloc, asked, text, fault, &file),
+            Err(error) => toml_sentence(alloc, asked, text, &error),
+        },
     }
+}
+
+// What is said of a whole file.
+fn of_file(alloc: Global, asked: Asked<'_>, said: &str) -> Result<Option<String>, AllocError> {
+    let file = file_text(alloc, asked, None)?;
+    Ok(Some(format!(in alloc; "{file}{said}")?))
 }
 
 // What the reader of TOML says of a text, and where.
@@ -81,77 +46,83 @@ fn toml_sentence(
     alloc: Global,
     asked: Asked<'_>,
     text: &str,
+    error: &toml::de::Error,
 ) -> Result<Option<String>, AllocError> {
-    let Err(error) = toml::table_from_str(alloc, text) else {
+    let Some(span) = error.span() else {
         return Ok(None);
-    };
-    let start = match error.span() {
-        Some(span) => span.start,
-        None => return Ok(None),
     };
     let newlines = text
         .bytes()
-        .take(start)
+        .take(span.start)
         .filter(|byte| *byte == b'\n')
         .count();
-    let file = file_of(alloc, asked, Some(newlines.saturating_add(1)))?;
+    let file = file_text(alloc, asked, Some(newlines.saturating_add(1)))?;
     let said = error.message();
     Ok(Some(format!(in alloc; "{file}this is no TOML: {said}")?))
 }
 
-// What is said of the top of a text, or of one of its tasks.
-fn placed(
+// What is said of a fault at a place, of a text that is this table.
+fn placed_sentence(
     alloc: Global,
     asked: Asked<'_>,
     text: &str,
+    fault: GraphFault,
+    file: &Table,
+) -> Result<Option<String>, AllocError> {
+    match fault {
+        GraphFault::Cron(cron) => cron_sentence(alloc, asked, text, cron, file),
+        GraphFault::UnknownKey(place) => match unknown_name(place, file) {
+            Some(name) => {
+                let said = unknown_sentence(alloc, place, name)?;
+                at_key(alloc, asked, text, file, place, name, said.as_str())
+            }
+            None => Ok(None),
+        },
+        GraphFault::WrongType(place)
+        | GraphFault::MissingKey(place)
+        | GraphFault::BadName(place)
+        | GraphFault::BadValue(place) => {
+            match (faulty_key(fault, file), place.table_in(file)) {
+                (Some(key), Some(table)) => {
+                    let said = key_sentence(alloc, fault, key, table)?;
+                    at_key(alloc, asked, text, file, place, key.name(), said.as_str())
+                }
+                _ => Ok(None),
+            }
+        }
+        _ => Ok(None),
+    }
+}
+
+// That the schedule is refused.
+fn cron_sentence(
+    alloc: Global,
+    asked: Asked<'_>,
+    text: &str,
+    fault: CronFault,
+    file: &Table,
+) -> Result<Option<String>, AllocError> {
+    let name = Key::Schedule.name();
+    let schedule = match file.get(name) {
+        Some(value) => value.as_str().unwrap_or(""),
+        None => "",
+    };
+    let said = format!(in alloc; "{name} \"{schedule}\": {fault}")?;
+    at_key(alloc, asked, text, file, Place::Top, name, said.as_str())
+}
+
+// What is said of a key at a place.
+fn at_key(
+    alloc: Global,
+    asked: Asked<'_>,
+    text: &str,
+    file: &Table,
     place: Place,
+    key: &str,
     said: &str,
 ) -> Result<Option<String>, AllocError> {
-    let Place::Task(place) = place else {
-        let file = file_of(alloc, asked, None)?;
-        return Ok(Some(format!(in alloc; "{file}above the tasks: {said} (docs/GRAPH_FILES.md)")?));
-    };
-    let place = place as usize;
-    let file = file_of(alloc, asked, line_of_task(text, place))?;
-    let Ok(table) = toml::table_from_str(alloc, text) else {
-        return Ok(None);
-    };
-    match id_of_task(&table, place) {
-        Some(id) => Ok(Some(format!(in alloc;
-            "{file}task \"{id}\": {said} (docs/GRAPH_FILES.md)"
-        )?)),
-        None => Ok(Some(format!(in alloc;
-            "{file}task {place}, counted from 0: {said} (docs/GRAPH_FILES.md)"
-        )?)),
-    }
-}
-
-// The line, from 1, that begins the task at this place, where tasks stand below `[[task]]`.
-fn line_of_task(text: &str, place: usize) -> Option<usize> {
-    let (line, _) = text
-        .lines()
-        .enumerate()
-        .filter(|(_, line)| line.trim_start().starts_with("[[task]]"))
-        .nth(place)?;
-    Some(line.saturating_add(1))
-}
-
-// The `task_id` of the task at this place.
-fn id_of_task(table: &Table, place: usize) -> Option<&str> {
-    let tasks = table.get("task")?.as_array()?;
-    let task: &Value = tasks.as_slice().get(place)?;
-    task.as_table()?.get("task_id")?.as_str()
-}
-
-// Where the text stands: the path of its file and perhaps a line of it.
-fn file_of(alloc: Global, asked: Asked<'_>, line: Option<usize>) -> Result<String, AllocError> {
-    let words = asked.words(alloc)?;
-    match (words.as_slice().get(1), line) {
-        (Some(path), Some(line)) => format!(in alloc; "{path}:{line}: "),
-        (Some(path), None) => format!(in alloc; "{path}: "),
-        (None, Some(line)) => format!(in alloc; "line {line} of the graph's text: "),
-        (None, None) => Ok(String::new(alloc)),
-    }
+    let place = place_text(alloc, asked, text, file, place, key)?;
+    Ok(Some(format!(in alloc; "{place}{said}")?))
 }
 
 // Why the tasks of a text are no graph without cycles.
@@ -223,7 +194,7 @@ fn task_sentence(
         return Ok(None);
     };
     let id = task.task_id.as_str();
-    let file = file_of(alloc, asked, line_of_task(text, place))?;
+    let file = file_text(alloc, asked, line_of_task(text, tasks.len(), place))?;
     match upstream {
         Some(upstream) => {
             let upstream = upstream.as_str();
@@ -258,7 +229,7 @@ fn cycle_sentence(
     asked: Asked<'_>,
     names: &[Name],
 ) -> Result<Option<String>, AllocError> {
-    let mut text = file_of(alloc, asked, None)?;
+    let mut text = file_text(alloc, asked, None)?;
     text.push_str("these tasks wait for each other in a circle:")?;
     for name in names {
         text.push(' ')?;

@@ -16,8 +16,11 @@
 mod asked;
 mod commands;
 mod graphs;
+mod keys;
 mod lines;
+mod moments;
 mod notes;
+mod places;
 mod records;
 mod refusals;
 mod tries;

@@ -60,6 +60,7 @@ pub fn end_sentence(alloc: Global, fault: &ConductFault) -> Result<Option<String
     }
 }
 
-fn told(alloc: Global, text: &str) -> Result<Option<String>, AllocError> {
+// A sentence that is always the same.
+pub fn told(alloc: Global, text: &str) -> Result<Option<String>, AllocError> {
     Ok(Some(String::from_str(alloc, text)?))
 }

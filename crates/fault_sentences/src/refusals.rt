@@ -76,14 +76,16 @@ fn plain(refusal: &Refusal) -> Option<&'static str> {
         ),
         Refusal::BadSpan => Some("TO lies before FROM: the order is FROM TO"),
         Refusal::RunExists => Some(
-            "a run by hand has the record's clock as its date, and the graph has a run of that date: there can be another after the next tick",
+            "the graph has a run of this date already: a run by hand has the record's clock as its date, and only a tick moves it",
         ),
         Refusal::NoInterval => Some("no interval of the graph's schedule has ended yet"),
         Refusal::InFlight(_) => {
             Some("wait until it has ended, as by drain: a task that runs is not set back")
         }
         Refusal::PoolFault(_) => Some("there are 64 pools, and none is ever taken out"),
-        Refusal::RecordFull => Some("there are 1,000,000 runs, which is the most of a record"),
+        Refusal::RecordFull => Some(
+            "the record would have more than 1,000,000 runs, which is the most",
+        ),
         _ => None,
     }
 }

@@ -152,7 +152,11 @@ impl Tally {
     fn sentence(self, alloc: Global) -> Result<Option<String>, AllocError> {
         let mut text = String::new(alloc);
         push_count(&mut text, self.failed, "failed")?;
-        push_count(&mut text, self.lost, "lost when the scheduler was stopped")?;
+        push_count(
+            &mut text,
+            self.lost,
+            "lost when the scheduler was stopped (the programs may still run)",
+        )?;
         push_count(&mut text, self.retries, "up for a retry")?;
         if text.is_empty() {
             return Ok(None);

@@ -1,5 +1,5 @@
 -- What the code sees of a table and of an array, beside their data.
-use Rattle.std.proofs.Common.{◌≡◌, ℕ, Bool, true, List, [], ◌∷◌, ◌++◌, take, ◌&&◌, ◌||◌, map, refl, ap, sym, ◌∙◌, ◌+◌, sum_by, position, length, zero, suc, get_or, nat_le, is_some, ◌<◌, not, arith, String, string_bytes, Global}
+use Rattle.std.proofs.Common.{◌≡◌, ℕ, Bool, true, List, [], ◌∷◌, ◌++◌, take, ◌&&◌, ◌||◌, map, refl, ap, sym, ◌∙◌, ◌+◌, sum_by, position, length, zero, suc, get_or, nat_le, is_some, ◌<◌, not, arith, String, string_bytes, Global, false, Option, Some, find, option_map, if◌then◌else◌}
 use Rattle.std.proofs.lemmas.Bool.{and_parts}
 use Rattle.std.proofs.lemmas.List.Sums.{sum_by-cons}
 use Rattle.std.specs.List.{list_all, list_any, prefix_len}
@@ -23,6 +23,14 @@ some_item-view p (v ∷ vs) = ap (λ b. p (view v) || b) (some_item-view p vs)
 pub keys_in-view : (p : List ℕ → Bool) (es : List (String Global × Value)) → list_any (λ name. p (string_bytes name)) (keys_of es) ≡ list_any p (keys_in (members_view es))
 keys_in-view p [] = refl
 keys_in-view p (e ∷ es) = ap (λ b. p (string_bytes e.0) || b) (keys_in-view p es)
+
+found-if : {X Y : Type 0} (f : X → Y) (b : Bool) (x : X) (o : Option X) (o' : Option Y) → option_map f o ≡ o' → option_map f (if b then Some x else o) ≡ (if b then Some (f x) else o')
+found-if f true x o o' e = refl
+found-if f false x o o' e = e
+
+pub find-view : (p : List ℕ → Bool) (es : List (String Global × Value)) → option_map string_bytes (find (λ name. p (string_bytes name)) (keys_of es)) ≡ find p (keys_in (members_view es))
+find-view p [] = refl
+find-view p (e ∷ es) = found-if string_bytes (p (string_bytes e.0)) e.0 _ _ (find-view p es)
 
 pub list_of-view : (vs : List Value) → map view vs ≡ list_of (items_view vs)
 list_of-view [] = refl

@@ -94,13 +94,22 @@ is_unfit _ t = false
 abbrev pub is_bad : Key → Members → Bool
 is_bad k t = holds_at (is_outside (row_of k).role) (member_at k t) || is_unfit (row_of k).role t
 
+-- the class is that of unknown keys, and the table has one
+abbrev pub has_unknown : Class → List Key → Members → Bool
+has_unknown class.UnknownKey keys t = list_any (λ name. not (is_key keys name)) (keys_in t)
+has_unknown _ keys t = false
+
+-- a fault of the class stands at the key; an unknown key is none of these
+abbrev pub is_faulty : Class → Key → Members → Bool
+is_faulty class.UnknownKey k t = false
+is_faulty class.WrongType k t = is_wrong k t
+is_faulty class.MissingKey k t = is_missing k t
+is_faulty class.BadName k t = is_misnamed k t
+is_faulty class.BadValue k t = is_bad k t
+
 -- the table has a fault of the class
 abbrev pub has_fault : Class → List Key → Members → Bool
-has_fault class.UnknownKey keys t = list_any (λ name. not (is_key keys name)) (keys_in t)
-has_fault class.WrongType keys t = list_any (λ k. is_wrong k t) keys
-has_fault class.MissingKey keys t = list_any (λ k. is_missing k t) keys
-has_fault class.BadName keys t = list_any (λ k. is_misnamed k t) keys
-has_fault class.BadValue keys t = list_any (λ k. is_bad k t) keys
+has_fault c keys t = has_unknown c keys t || list_any (λ k. is_faulty c k t) keys
 
 -- the table has a fault of no class
 abbrev pub is_faultless : List Key → Members → Bool

@@ -1,5 +1,6 @@
 pub mod Names
 pub mod Lists
+pub mod Mistakes
 pub mod Operators
 pub mod Rules
 pub mod Keys
@@ -11,3 +12,4 @@ pub mod TaskLists
 pub mod Faults
 pub mod Graphs
 pub mod Lending
+pub mod Words

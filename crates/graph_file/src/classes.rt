@@ -43,12 +43,36 @@ pub const CLASSES: [Class; 5] = [
 pub fn has_fault(class: Class, keys: &[Key], table: &Table) -> bool
     ensures { result ≡ spec.has_fault class keys.now (table_view table.now) }
 {
+    has_unknown(class, keys, table) || has_faulty(class, keys, table)
+}
+
+// Whether a fault of the class stands at one of these keys.
+fn has_faulty(class: Class, keys: &[Key], table: &Table) -> bool
+    ensures { result ≡ list_any (λ key. spec.is_faulty class key (table_view table.now)) keys.now }
+{
+    keys.iter().any(|key| is_faulty(class, *key, table))
+}
+
+// Whether a fault of the class stands at the key. An unknown key is none of these.
+pub fn is_faulty(class: Class, key: Key, table: &Table) -> bool
+    ensures { result ≡ spec.is_faulty class key (table_view table.now) }
+{
+    match class {
+        Class::UnknownKey => false,
+        Class::WrongType => is_wrong(key, table),
+        Class::MissingKey => is_missing(key, table),
+        Class::BadName => is_misnamed(key, table),
+        Class::BadValue => is_bad(key, table),
+    }
+}
+
+// Whether the class is that of unknown keys, and the table has one.
+fn has_unknown(class: Class, keys: &[Key], table: &Table) -> bool
+    ensures { result ≡ spec.has_unknown class keys.now (table_view table.now) }
+{
     match class {
         Class::UnknownKey => has_unknown_key(keys, table),
-        Class::WrongType => has_wrong_type(keys, table),
-        Class::MissingKey => has_missing_key(keys, table),
-        Class::BadName => has_bad_name(keys, table),
-        Class::BadValue => has_bad_value(keys, table),
+        Class::WrongType | Class::MissingKey | Class::BadName | Class::BadValue => false,
     }
 }
 
@@ -63,7 +87,7 @@ pub fn task_has_fault(class: Class, task: &Value) -> bool
 }
 
 fn has_unknown_key(keys: &[Key], table: &Table) -> bool
-    ensures { result ≡ spec.has_fault Class.UnknownKey keys.now (table_view table.now) }
+    ensures { result ≡ spec.has_unknown Class.UnknownKey keys.now (table_view table.now) }
 {
     has_other_name(keys, table)
 }
@@ -75,16 +99,11 @@ fn has_other_name(keys: &[Key], table: &Table) -> bool
     table.keys().any(|name| !is_key(keys, name.as_str()))
 }
 
-fn is_key(keys: &[Key], name: &str) -> bool
+// Whether the name is one of these keys.
+pub fn is_key(keys: &[Key], name: &str) -> bool
     ensures { result ≡ spec.is_key keys.now name.now }
 {
     keys.iter().any(|key| key.name() == name)
-}
-
-fn has_wrong_type(keys: &[Key], table: &Table) -> bool
-    ensures { result ≡ spec.has_fault Class.WrongType keys.now (table_view table.now) }
-{
-    keys.iter().any(|key| is_wrong(*key, table))
 }
 
 fn is_wrong(key: Key, table: &Table) -> bool
@@ -127,22 +146,10 @@ fn are_tables(items: &[Value]) -> bool
     items.iter().all(|item| item.as_table().is_some())
 }
 
-fn has_missing_key(keys: &[Key], table: &Table) -> bool
-    ensures { result ≡ spec.has_fault Class.MissingKey keys.now (table_view table.now) }
-{
-    keys.iter().any(|key| is_missing(*key, table))
-}
-
 fn is_missing(key: Key, table: &Table) -> bool
     ensures { result ≡ spec.is_missing key (table_view table.now) }
 {
     matches!(key.absent(), Absent::Refused) && value_at(table, key).is_none()
-}
-
-fn has_bad_name(keys: &[Key], table: &Table) -> bool
-    ensures { result ≡ spec.has_fault Class.BadName keys.now (table_view table.now) }
-{
-    keys.iter().any(|key| is_misnamed(*key, table))
 }
 
 fn is_misnamed(key: Key, table: &Table) -> bool
@@ -181,12 +188,6 @@ fn has_no_name(items: &[Value]) -> bool
     ensures { result ≡ list_any (λ v. spec.is_no_name (view v)) items.now }
 {
     items.iter().any(|item| is_no_name(item))
-}
-
-fn has_bad_value(keys: &[Key], table: &Table) -> bool
-    ensures { result ≡ spec.has_fault Class.BadValue keys.now (table_view table.now) }
-{
-    keys.iter().any(|key| is_bad(*key, table))
 }
 
 fn is_bad(key: Key, table: &Table) -> bool

@@ -25,7 +25,7 @@ pub struct SentenceConsole<R: Clock + Files + Drop, W: Write + Drop> {
     rt: R,
     alloc: Global,
     // The program's own words.
-    words: String,
+    words: Vec<String>,
     output: W,
     is_terminal: bool,
     // When the line was written that stands there.
@@ -39,7 +39,7 @@ pub struct SentenceConsole<R: Clock + Files + Drop, W: Write + Drop> {
 
 impl<R: Clock + Files + Drop, W: Write + IsTerminal + Drop> SentenceConsole<R, W> {
     /// With nothing told yet. These are the program's own words.
-    pub fn new(rt: R, alloc: Global, words: String, output: W) -> SentenceConsole<R, W> {
+    pub fn new(rt: R, alloc: Global, words: Vec<String>, output: W) -> SentenceConsole<R, W> {
         let is_terminal = output.is_terminal();
         SentenceConsole::over(rt, alloc, words, output, is_terminal)
     }
@@ -47,7 +47,7 @@ impl<R: Clock + Files + Drop, W: Write + IsTerminal + Drop> SentenceConsole<R, W
 
 impl<R: Clock + Files + Drop> SentenceConsole<R, Vec<u8>> {
     /// The same, with what is told kept in memory, and without the line on a terminal.
-    pub fn in_memory(rt: R, alloc: Global, words: String) -> SentenceConsole<R, Vec<u8>> {
+    pub fn in_memory(rt: R, alloc: Global, words: Vec<String>) -> SentenceConsole<R, Vec<u8>> {
         SentenceConsole::over(rt, alloc, words, Vec::new(alloc), false)
     }
 }
@@ -56,7 +56,7 @@ impl<R: Clock + Files + Drop, W: Write + Drop> SentenceConsole<R, W> {
     fn over(
         rt: R,
         alloc: Global,
-        words: String,
+        words: Vec<String>,
         output: W,
         is_terminal: bool,
     ) -> SentenceConsole<R, W> {
@@ -111,24 +111,22 @@ impl<R: Clock + Files + Drop, W: Write + Drop> SentenceConsole<R, W> {
         match spot {
             Some(spot) => {
                 let line = str::from_utf8(spot.line).unwrap_or("");
-                self.note_on(Some(spot.number), line, event, shown)
+                self.note_on(Asked::Line(spot.number, line), event, shown)
             }
-            None => self.note_on(None, self.words.as_str(), event, shown),
+            None => note_of(self.alloc, Asked::Own(self.words.as_slice()), event, shown),
         }
     }
 
-    // The same of a command of this line, or of the program's own words.
+    // The same of a line of a script.
     fn note_on(
         &self,
-        number: Option<u64>,
-        line: &str,
+        asked: Asked<'_>,
         event: Option<&Event>,
         shown: Shown<'_>,
     ) -> Result<Option<Note>, AllocError> {
-        let asked = Asked { number, line };
-        if is_unreadable(shown) && !line.ends_with('\r') {
+        if is_unreadable(shown) {
             let path = asked.path(self.alloc)?.unwrap_or("");
-            if let Some(cause) = self.why_unreadable(path) {
+            if let (false, Some(cause)) = (path.ends_with('\r'), self.why_unreadable(path)) {
                 return Ok(Some(unreadable_note(self.alloc, path, &cause)?));
             }
         }

@@ -60,7 +60,7 @@ pub fn play<T: Threads + Wait + Sync>(
         input: BufReader::with_capacity(alloc, 1, source)?,
         output: Sink::new(alloc, calls.writes),
         sources: FileSources::new(*host, alloc),
-        console: SentenceConsole::new(*host, alloc, String::new(alloc), told),
+        console: SentenceConsole::new(*host, alloc, Vec::new(alloc), told),
     };
     let record = new_record(alloc)?;
     match run_team(rt, alloc, record, lanes, team, script, &mut clock) {

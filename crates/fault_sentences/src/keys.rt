@@ -1,0 +1,194 @@
+//! Sentences on the keys of a graph's text and their values.
+use crate::moments::moment_text;
+use graph_file::{GraphFault, Key, Kind, Operator, Place, Role, is_name};
+use moment_core::Moment;
+use std::alloc::{AllocError, Global};
+use strsim::levenshtein;
+use toml::{Table, Value};
+
+// How many letters of a word may be others than those that were probably meant, and how many it may have to be compared.
+const MOST_EDITS: usize = 2;
+
+const MOST_LETTERS: usize = 64;
+
+// What is said of the first name at a place that is no key there.
+pub fn unknown_sentence(alloc: Global, place: Place, name: &str) -> Result<String, AllocError> {
+    if let Some(said) = other_place(place, name) {
+        return format!(in alloc; "\"{name}\" {said}");
+    }
+    let mut keys = Vec::new(alloc);
+    for key in place.keys() {
+        keys.push(key.name())?;
+    }
+    let hint = hint_of(alloc, name, keys.as_slice())?;
+    let hint = hint.as_str();
+    format!(in alloc; "unknown key \"{name}\"{hint}")
+}
+
+// What is said of a key that stands at the wrong place.
+fn other_place(place: Place, name: &str) -> Option<&'static str> {
+    match place {
+        Place::Top if is_key_of(Place::Task(0), name) => {
+            Some("is a key of a task: it stands below a [[task]]")
+        }
+        Place::Task(_) if is_key_of(Place::Top, name) => {
+            Some("is a key of the graph: it stands above the first [[task]]")
+        }
+        _ => None,
+    }
+}
+
+fn is_key_of(place: Place, name: &str) -> bool {
+    place.keys().iter().any(|key| key.name() == name)
+}
+
+// Which of these words was probably meant.
+fn hint_of(alloc: Global, word: &str, words: &[&str]) -> Result<String, AllocError> {
+    if word.len() <= MOST_LETTERS {
+        for other in words {
+            if levenshtein(alloc, word, other)? <= MOST_EDITS {
+                return format!(in alloc; "; did you mean \"{other}\"?");
+            }
+        }
+    }
+    Ok(String::new(alloc))
+}
+
+// What is said of the value at a key, or of its lack.
+pub fn key_sentence(
+    alloc: Global,
+    fault: GraphFault,
+    key: Key,
+    table: &Table,
+) -> Result<String, AllocError> {
+    let name = key.name();
+    match (fault, table.get(name)) {
+        (GraphFault::MissingKey(_), _) => format!(in alloc; "{name} is missing"),
+        (GraphFault::WrongType(_), Some(value)) => kind_sentence(alloc, key, value),
+        (GraphFault::BadName(_), Some(value)) => {
+            let word = misnamed(value);
+            format!(in alloc;
+                "{name}: \"{word}\" is no name: a name has 1 to 250 letters, digits, _, - and ., all ASCII"
+            )
+        }
+        (_, value) => value_sentence(alloc, key, value, table),
+    }
+}
+
+// That a value is of another type than its key's.
+fn kind_sentence(alloc: Global, key: Key, value: &Value) -> Result<String, AllocError> {
+    let name = key.name();
+    let wanted = match key.kind() {
+        Kind::Text => "a string",
+        Kind::Flag => "true or false",
+        Kind::Whole => "a whole number",
+        Kind::Texts => "an array of strings",
+        Kind::Tables => "an array of tables",
+    };
+    match value {
+        Value::String(text) => {
+            let text = text.as_str();
+            format!(in alloc; "{name}: {wanted} is wanted, and \"{text}\" is a string")
+        }
+        Value::Integer(number) => {
+            format!(in alloc; "{name}: {wanted} is wanted, and {number} is an integer")
+        }
+        Value::Boolean(flag) => {
+            format!(in alloc; "{name}: {wanted} is wanted, and {flag} is a boolean")
+        }
+        Value::Datetime(_) => {
+            format!(in alloc; "{name}: {wanted} is wanted, and this is a date: put it in quotes")
+        }
+        Value::Float(_) | Value::Array(_) | Value::Table(_) => {
+            let found = value.type_str();
+            format!(in alloc; "{name}: {wanted} is wanted, and this is another {found}")
+        }
+    }
+}
+
+// The text, or the first of the texts, that is no name.
+fn misnamed(value: &Value) -> &str {
+    match value.as_array() {
+        Some(items) => match items.as_slice().iter().find(|item| is_misnamed(item)) {
+            Some(item) => item.as_str().unwrap_or(""),
+            None => "",
+        },
+        None => value.as_str().unwrap_or(""),
+    }
+}
+
+fn is_misnamed(item: &Value) -> bool {
+    item.as_str().is_some_and(|text| !is_name(text))
+}
+
+// That a value is none of those that its key takes.
+fn value_sentence(
+    alloc: Global,
+    key: Key,
+    value: Option<&Value>,
+    table: &Table,
+) -> Result<String, AllocError> {
+    let name = key.name();
+    match key.role() {
+        Role::Range(low, high) => {
+            let number = match value {
+                Some(value) => value.as_integer().unwrap_or(0),
+                None => 0,
+            };
+            format!(in alloc; "{name}: {number} is not from {low} to {high}")
+        }
+        Role::Moment => {
+            let text = text_of(value);
+            let why = moment_text(Moment::read(text).err());
+            format!(in alloc; "{name}: \"{text}\" is no moment: {why}")
+        }
+        Role::Arguments => {
+            let why = arguments_text(table);
+            format!(in alloc; "{name}: {why}")
+        }
+        role => word_sentence(alloc, name, text_of(value), role.words()),
+    }
+}
+
+fn text_of(value: Option<&Value>) -> &str {
+    match value {
+        Some(value) => value.as_str().unwrap_or(""),
+        None => "",
+    }
+}
+
+// Which arguments the operator of a task takes.
+fn arguments_text(table: &Table) -> &'static str {
+    match Operator::read(text_of(table.get(Key::Operator.name()))) {
+        Some(Operator::Noop) => "noop takes no arguments",
+        Some(Operator::Command) => {
+            "command takes 1 to 64 arguments of at most 65,536 bytes in all, without NUL bytes, the first of which is the program"
+        }
+        Some(Operator::Exit) => "exit takes 1 to 16 arguments, each a status from 0 to 255",
+        None => "these arguments do not fit the operator",
+    }
+}
+
+// That a word is none of these, and which was probably meant; or that it does not fit the schedule.
+fn word_sentence(
+    alloc: Global,
+    name: &str,
+    word: &str,
+    words: &[&str],
+) -> Result<String, AllocError> {
+    if words.iter().any(|other| *other == word) {
+        return format!(in alloc;
+            "{name}: \"{word}\" wants a schedule that has ticks, and None and @once have none"
+        );
+    }
+    let mut list = String::new(alloc);
+    for other in words {
+        if !list.is_empty() {
+            list.push_str(", ")?;
+        }
+        list.push_str(other)?;
+    }
+    let hint = hint_of(alloc, word, words)?;
+    let (hint, list) = (hint.as_str(), list.as_str());
+    format!(in alloc; "{name}: \"{word}\" is none of {list}{hint}")
+}
