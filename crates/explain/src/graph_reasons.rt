@@ -9,7 +9,7 @@ use crate::reasons::Reason;
 use crate::subjects::Subject;
 use instance_machine::past_gate;
 use sched_core::Schedule;
-use sched_settling::{active_runs, previous, state_in, upstream_counts};
+use sched_settling::{state_in, upstream_counts};
 use sched_state::{Run, RunPhase};
 use std::alloc::{AllocError, Global};
 use trigger_rules::{State, Verdict, verdict_of};
@@ -54,7 +54,7 @@ pub fn run_queued(schedule: &Schedule, subject: &Subject<'_>) -> Option<Reason>
     }
     let graph = subject.graph;
     Some(Reason::RunQueued {
-        active: active_runs(schedule.runs(), &run.graph),
+        active: schedule.active_runs(&run.graph),
         limit: graph.dag.spec().max_active_runs.get(),
     })
 }
@@ -167,5 +167,5 @@ pub fn past(schedule: &Schedule, subject: &Subject<'_>) -> Option<Reason>
     if !is_undecided(subject) || !task.depends_on_past {
         return None;
     }
-    past_in(subject, previous(schedule.runs(), subject.run)?)
+    past_in(subject, schedule.previous_run(subject.run)?)
 }

@@ -7,3 +7,5 @@ pub mod CollectLemmas
 pub mod FitLemmas
 pub mod PoolLemmas
 pub mod WholeLemmas
+pub mod KeptLemmas
+pub mod TouchedLemmas

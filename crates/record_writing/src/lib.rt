@@ -1,13 +1,14 @@
-//! The rows of the record that one schedule has and another lacks, made of its parts.
+//! The rows of the record that a draft has and the schedule under it lacks.
 //!
-//! In: two schedules over the same graphs, as [`Parts`] that borrow their pools, graphs and runs. Out: rows as `record_rows` has them, those of the
-//! second schedule that are not among those of the first ([`rows_between`]). Task instances and tries are put in the order of their tables as
-//! entries that point into the runs, and only what differs is copied.
+//! In: a schedule by its parts (`sched_draft::Base`), and a draft over it, which knows the positions of its touched runs. Out: rows as
+//! `record_rows` has them, those of the draft that are not among those of the schedule ([`rows_of`]). Only touched runs are looked at, since
+//! any other run has its rows already. Task instances and tries are put in the order of their tables as entries that point into the runs,
+//! and only what differs is copied.
 //! Easy to get wrong: the instances of a run stand by the place of their tasks, and their rows by the task's id; tries stand by instance, and their
 //! rows by serial.
 //!
 //! ```text
-//! rows_between(alloc, &before, &after, dags)?   // `dags`: the rows of graphs that differ, as `dag_lacked` gives them
+//! rows_of(alloc, &before, &draft, dags)?   // `dags`: the rows of graphs that differ, as `dag_lacked` gives them
 //! ```
 #![tactic(auto)]
 
@@ -22,12 +23,10 @@ mod instances;
 mod laws;
 mod making;
 mod metas;
-mod parts;
 mod pools;
 mod runs;
 mod sorting;
 
-pub use between::rows_between;
+pub use between::rows_of;
 pub use dags::dag_lacked;
 pub use laws::sound_schedules_fit;
-pub use parts::Parts;

@@ -6,32 +6,32 @@ ghost use Rattle.sched_model.specs.Handout.{last_serial};
 ghost use Rattle.sched_model.specs.Tables.{tables, meta_row};
 
 use crate::making::meta_row;
-use crate::parts::Parts;
 use record_rows::MetaRow;
+use sched_draft::{Base, Draft};
 use std::alloc::{AllocError, Global};
 
-/// The row of `meta` that one schedule has and another lacks: none where both have seen the same moment and the same serials, and have as
+/// The row of `meta` that a draft has and a schedule lacks: none where both have seen the same moment and the same serials, and have as
 /// many lanes.
 pub fn metas_lacked(
     alloc: Global,
-    before: &Parts<'_>,
-    after: &Parts<'_>,
+    before: &Base<'_>,
+    draft: &Draft<'_>,
 ) -> Result<Vec<MetaRow>, AllocError>
-    requires { after.now.next ≤ last_serial + 1 }
+    requires { draft.now.content.next ≤ last_serial + 1 }
     ensures { IfOk result (λ rows. rows.items ≡ lacked same_meta_row (tables before.now).metas
-        (tables after.now).metas) }
+        (tables draft.now.content).metas) }
 {
     let mut rows = Vec::new(alloc);
-    if !is_same(before, after) {
-        rows.push(meta_row(after.clock, after.next, after.lanes))?;
+    if !is_same(before, draft) {
+        rows.push(meta_row(draft.clock(), draft.next_serial(), draft.lanes()))?;
     }
     Ok(rows)
 }
 
-fn is_same(before: &Parts<'_>, after: &Parts<'_>) -> bool
-    ensures { result ≡ same_meta_row (meta_row after.now) (meta_row before.now) }
+fn is_same(before: &Base<'_>, draft: &Draft<'_>) -> bool
+    ensures { result ≡ same_meta_row (meta_row draft.now.content) (meta_row before.now) }
 {
-    after.clock.secs() == before.clock.secs()
-        && after.next == before.next
-        && after.lanes == before.lanes
+    draft.clock().secs() == before.clock.secs()
+        && draft.next_serial() == before.next
+        && draft.lanes() == before.lanes
 }

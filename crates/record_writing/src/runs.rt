@@ -1,41 +1,51 @@
 //! The rows of runs that a record lacks.
-ghost use Rattle.std.specs.Prelude.{◌≡◌, true, map, IfOk};
+ghost use Rattle.std.specs.Prelude.{◌≡◌, true, map, Some, slice_get, IfOk};
 ghost use Rattle.std.specs.List.{list_any};
 ghost use Rattle.record_rules.specs.Between.{lacked};
 ghost use Rattle.record_changes.specs.Changes.{same_run_row};
+ghost use Rattle.run_lists.specs.Overlays.{AreAllTouched};
 ghost use Rattle.sched_model.specs.Lists.{rises};
 ghost use Rattle.sched_model.specs.Schedule.{run_before};
 ghost use Rattle.sched_model.specs.Tables.{run_row};
 
 use crate::codes::{kind_code, phase_code, seconds};
-use crate::finding::run_like;
 use crate::making::run_row;
 use record_rows::RunRow;
+use sched_draft::Draft;
 use sched_state::Run;
 use std::alloc::{AllocError, Global};
 
-/// The rows of the runs `after` that the rows of the runs `before` lack, in order. Each takes a binary search.
-pub fn runs_lacked(alloc: Global, before: &[Run], after: &[Run]) -> Result<Vec<RunRow>, AllocError>
-    requires { rises run_before before.now ≡ true }
-    ensures { IfOk result (λ rows. rows.items ≡ lacked same_run_row (map run_row before.now)
-        (map run_row after.now)) }
+/// The rows of the draft's runs that the rows of the runs under it lack, in order. Only the touched runs are looked at.
+pub fn runs_lacked(
+    alloc: Global,
+    draft: &Draft<'_>,
+    touched: &[usize],
+) -> Result<Vec<RunRow>, AllocError>
+    requires before { rises run_before draft.now.base.runs ≡ true }
+    requires order { rises run_before draft.now.content.runs ≡ true }
+    requires touched { AreAllTouched touched.now draft.now.base.runs draft.now.content.runs }
+    ensures { IfOk result (λ rows. rows.items ≡ lacked same_run_row (map run_row draft.now.base.runs)
+        (map run_row draft.now.content.runs)) }
 {
     let mut rows = Vec::new(alloc);
-    for run in after {
-        if !is_among(before, run) {
+    for position in touched {
+        let run = draft.run(*position);
+        if !is_kept(draft, *position, run) {
             rows.push(run_row(alloc, run)?)?;
         }
     }
     Ok(rows)
 }
 
-// Whether the run's row is one of theirs.
-fn is_among(runs: &[Run], run: &Run) -> bool
-    requires { rises run_before runs.now ≡ true }
-    ensures { result ≡ list_any (same_run_row (run_row run.now)) (map run_row runs.now) }
+// Whether the row of the run at a position is one of the runs under the draft.
+fn is_kept(draft: &Draft<'_>, position: usize, run: &Run) -> bool
+    requires before { rises run_before draft.now.base.runs ≡ true }
+    requires order { rises run_before draft.now.content.runs ≡ true }
+    requires run { slice_get draft.now.content.runs position ≡ Some run.now }
+    ensures { result ≡ list_any (same_run_row (run_row run.now)) (map run_row draft.now.base.runs) }
 {
-    match run_like(runs, run) {
-        Some(other) => is_same(run, other),
+    match draft.before(position) {
+        Some(old) => is_same(run, old),
         None => false,
     }
 }

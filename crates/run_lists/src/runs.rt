@@ -1,8 +1,6 @@
 //! The runs of a schedule, and how edits are written into them.
 ghost use Rattle.std.specs.Prelude.{◌≡◌, ◌+◌, ◌^◌, ◌<◌, ◌≤◌, [], true, false, length, OnOk, MatchOption, Some, slice_get};
-ghost use Rattle.std.specs.Iterator.Adapters.{IterYieldsInOrder};
 ghost use Rattle.std.specs.List.{list_any};
-ghost use Rattle.std.specs.Slice.Iter.{iter_rest};
 ghost use Rattle.sched_state.specs.declared.runs.Run.{Run};
 ghost use Rattle.sched_model.specs.Lists.{rises};
 ghost use Rattle.sched_model.specs.Schedule.{is_at, run_before};
@@ -17,7 +15,6 @@ use moment_core::Moment;
 use sched_state::Run;
 use std::alloc::{AllocError, Global};
 use std::marker::Model;
-use std::slice::Iter;
 
 /// The runs of a schedule, by graph and logical date.
 ///
@@ -70,11 +67,10 @@ impl Runs {
     }
 
     /// The runs, in their order.
-    pub fn iter(&self) -> Iter<'_, Run>
-        ensures rest { iter_rest result ≡ self.now.runs }
-        ensures runs { IterYieldsInOrder Run }
+    pub fn as_slice(&self) -> &[Run]
+        ensures { result.now ≡ self.now.runs }
     {
-        self.runs.iter()
+        self.runs.as_slice()
     }
 
     /// Where a run of this graph and date would be put in: before the first run that it would stand before. It is found by a binary search.

@@ -8,7 +8,8 @@ use Rattle.sched_state.specs.declared.graphs.LoadedGraph.{LoadedGraph}
 use Rattle.sched_state.specs.declared.runs.Run.{Run}
 use Rattle.sched_state.proofs.NameLemmas.{same_itself}
 use Rattle.sched_model.specs.Lists.{rises}
-use Rattle.sched_model.specs.Schedule.{Schedule, dag_among}
+use Rattle.sched_model.specs.Schedule.{Schedule, dag_among, run_before}
+use Rattle.sched_model.specs.Sound.{IsSound}
 use Rattle.sched_model.specs.Tables.{tables, dag_row, instance_row, instance_rows, attempt_rows, sort_by, task_before, serial_before}
 use Rattle.sched_model.specs.Changes.{with_graph}
 use Rattle.sched_model.specs.Handout.{hand_out}
@@ -22,8 +23,10 @@ use Rattle.record_rules.proofs.NumberLemmas.{number_itself}
 use Rattle.record_changes.specs.Changes.{rows_between, same_meta_row, same_pool_row, same_dag_row, same_run_row, same_instance_row, same_attempt_row, same_if}
 use Rattle.record_writing.specs.Ranges.{FitsTables}
 use Rattle.record_writing.proofs.LackedLemmas.{lacked_itself}
-use Rattle.sched_core.specs.Effects.{changed, HaveSameDags}
-use Rattle.sched_core.specs.Inside.{IsLast}
+use Rattle.sched_draft.specs.Drafts.{HaveSameDags, SameDags}
+use Rattle.record_writing.proofs.FitLemmas.{fits_tables}
+use Rattle.sched_core.specs.Effects.{changed}
+use Rattle.sched_core.specs.Inside.{IsOver, IsLast, drafted, completed}
 use Rattle.sched_core.specs.declared.changes.GraphChange.{GraphChange}
 use Rattle.sched_core.specs.declared.changes.GraphChange.TheVariants as graphs
 
@@ -119,3 +122,35 @@ pub last_after : (g : GraphChange) (b : Schedule) → IsLast g b → IsLast g (h
 last_after graphs.Same b last = tt
 last_after (graphs.Load text dag) b last = no_runs_after b dag.spec.dag_id ∙ last
 last_after (graphs.Pause id paused) b last = tt
+
+-- ---- a draft, and what it is made into
+drafted_dags : (g : GraphChange) (gs : List LoadedGraph) (rs : List Run) → HaveSameDags gs (drafted g gs) rs
+drafted_dags graphs.Same gs rs = λ n r e. refl
+drafted_dags (graphs.Load text dag) gs rs = λ n r e. refl
+drafted_dags (graphs.Pause id paused) gs rs = λ n r e. same_dag_paused id paused gs r.graph
+
+drafted_alike : (g : GraphChange) (gs : List LoadedGraph) (b : Schedule) → IsLast g b → HaveSameDags (drafted g gs) (changed g gs) b.runs
+drafted_alike graphs.Same gs b last = λ n r e. refl
+drafted_alike (graphs.Load text dag) gs b last = alike_dags (graphs.Load text dag) gs b last
+drafted_alike (graphs.Pause id paused) gs b last = λ n r e. refl
+
+completed_over : (g : GraphChange) (a d : Schedule) → IsOver g a d → completed g d ≡ record d { graphs = changed g a.graphs }
+completed_over graphs.Same a d over = ap (λ gs. record d { graphs = gs }) over.graphs
+completed_over (graphs.Load text dag) a d over = ap (λ gs. record d { graphs = with_graph text dag gs }) over.graphs
+completed_over (graphs.Pause id paused) a d over = ap (λ gs. record d { graphs = gs }) over.graphs
+
+pub draft_dags : (g : GraphChange) (a d : Schedule) → IsOver g a d → SameDags a d
+draft_dags g a d over = subst (λ (gs : List LoadedGraph). HaveSameDags a.graphs gs d.runs) (sym over.graphs) (drafted_dags g a.graphs d.runs)
+
+draft_alike : (g : GraphChange) (a d : Schedule) → IsOver g a d → IsLast g d → HaveSameDags d.graphs (changed g a.graphs) d.runs
+draft_alike g a d over last = subst (λ (gs : List LoadedGraph). HaveSameDags gs (changed g a.graphs) d.runs) (sym over.graphs) (drafted_alike g a.graphs d last)
+
+pub draft_order : (g : GraphChange) (a d : Schedule) → IsOver g a d → IsSound (completed g d) → rises run_before d.runs ≡ true
+draft_order g a d over sound = subst (λ (s : Schedule). rises run_before s.runs ≡ true) (completed_over g a d over) sound.runs_by_key
+
+pub draft_fits : (g : GraphChange) (a d : Schedule) → IsOver g a d → IsLast g d → IsSound (completed g d) → FitsTables d
+draft_fits g a d over last sound = fits_over d (changed g a.graphs) (draft_alike g a d over last) (subst FitsTables (completed_over g a d over) (fits_tables (completed g d) sound))
+
+pub draft_rows : (g : GraphChange) (a d : Schedule) (ds : List DagRow) → IsOver g a d → IsLast g d → ds ≡ lacked same_dag_row (map dag_row a.graphs) (map dag_row (changed g a.graphs))
+    → record (rows_between a d) { dags = ds } ≡ rows_between a (completed g d)
+draft_rows g a d ds over last e = rest_rows a d (changed g a.graphs) ds (draft_alike g a d over last) e ∙ ap (rows_between a) (sym (completed_over g a d over))

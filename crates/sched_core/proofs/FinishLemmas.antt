@@ -80,3 +80,6 @@ finished_held g b es sound counted last kept book =
       counted = counted_same end (completed g end) tries low;
       taken = λ name p there. taken name p there ∙ ap (sum_by (slots_in name)) (sym tries);
     }
+
+pub finished_over : (g : GraphChange) (a b : Schedule) → IsOver g a b → IsOver g a (hand_out (settle b))
+finished_over g a b over = record { limits = finished_limits b ∙ over.limits; graphs = out_graphs (settle b) ∙ (settle_graphs b ∙ over.graphs) }

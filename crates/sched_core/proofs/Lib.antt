@@ -14,3 +14,7 @@ pub mod TriggerLemmas
 pub mod RepairLemmas
 pub mod DagRowLemmas
 pub mod ChangedRowLemmas
+pub mod LoseLemmas
+pub mod ReportLemmas
+pub mod RoomLemmas
+pub mod PastLemmas

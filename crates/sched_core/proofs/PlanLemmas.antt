@@ -170,6 +170,9 @@ pub record IsDraftOf (e : Event) (a b : Schedule) : Type 0 where
   pub kept : IsSoundAndSaid a
   pub is : b ≡ add_runs (named_by e a) (change_by e a)
 
+pub draft_is : {e : Event} {a b : Schedule} (c : Schedule) → IsDraftOf e a b → c ≡ b → IsDraftOf e a c
+draft_is c d is = record { ranged = d.ranged; accepted = d.accepted; kept = d.kept; is = is ∙ d.is }
+
 pub draft_sound : {e : Event} {a b : Schedule} → IsDraftOf e a b → IsSound b
 draft_sound {e} {a} {b} d = subst IsSound (sym d.is) (added_sound e a d.ranged d.accepted d.kept (change_kept e a d.ranged d.accepted d.kept).0)
 

@@ -1,5 +1,5 @@
 -- What is planned for a backfill and for a clear.
-use Rattle.std.proofs.Common.{◌≡◌, ◌∙◌, inr, refl, sym, ap, subst, ℕ, ◌+◌, ◌-◌, ◌≤◌, List, [], ◌∷◌, Bool, true, false, map, length, nat_lt, Option, Some, None, Result, Ok, Err, option_map, option_and_then, arith}
+use Rattle.std.proofs.Common.{◌≡◌, ◌∙◌, inl, inr, refl, sym, ap, subst, ℕ, ◌+◌, ◌-◌, ◌≤◌, List, [], ◌∷◌, Bool, true, false, map, length, nat_lt, Option, Some, None, Result, Ok, Err, option_map, option_and_then, arith}
 use Rattle.std.proofs.lemmas.Bool.Decides.{nat_tests}
 use Rattle.std.proofs.lemmas.List.{take_all}
 use Rattle.graph_file.specs.Lists.{when, first_some}
@@ -51,7 +51,8 @@ clear_still : (a : Schedule) (c : Clearing) (n : SelectionParts) (o : Option Ref
 clear_still a c n o h e = subst (λ (m : Selection). still_open (Some m) a ≡ o) h.2 e
 
 pub clear_waits : (a d b : Schedule) (c : Clearing) (n : SelectionParts) (r : Refusal) → d ≡ a → IsClear a c (Ok n) → nat_lt c.to c.from ≡ false → IsSetBack (Some (selection_of n)) d b (Err r) → IsRefusal a (Clear c) r
-clear_waits a d b c n r draft h good e =
+clear_waits a d b c n r draft h good (inl memory) = inl memory
+clear_waits a d b c n r draft h good (inr e) =
     let flight : in_flight a (Clear c) ≡ Some r = clear_still a c n (Some r) h (ap (still_open (Some (selection_of n))) (sym draft) ∙ e) in
     flight_of (IsRefusal a (Clear c)) (least_in_flight a (cleared_by a c)) r flight
     (λ m f. inr (record { first = by_clear a c false false false (Some (refusal.InFlight m)) h.0 h.1 good (ap (option_map refusal.InFlight) f); shown = tt }))
@@ -93,14 +94,19 @@ reset_told : (a d e : Schedule) (id : List ℕ) (from to most : ℕ) (reset : Bo
 reset_told a d e id from to most reset b r draft h s =
     subst (λ (m : Option Selection). IsSetBack m a e r) (ap (reset_of reset id) h.1.present ∙ reset_is a id from to reset) (subst (λ (x : Schedule). IsSetBack (reset_of reset id b.present.items) x e r) draft s)
 
-pub back_waits : (a d e : Schedule) (id : List ℕ) (from to most : ℕ) (reset : Bool) (b : Found) (r : Refusal) → d ≡ a → IsBackfillOf a id from to most (Some b) → nat_lt to from ≡ false
-    → IsSetBack (reset_of reset id b.present.items) d e (Err r) → IsRefusal a (Backfill id from to reset) r
-back_waits a d e id from to most reset b r draft h good s =
-    flight_of (IsRefusal a (Backfill id from to reset)) (option_and_then (least_in_flight a) (set_back_by (Backfill id from to reset) a)) r (reset_told a d e id from to most reset b (Err r) draft h s)
+back_refused : (a e : Schedule) (id : List ℕ) (from to most : ℕ) (reset : Bool) (b : Found) (r : Refusal) → IsBackfillOf a id from to most (Some b) → nat_lt to from ≡ false
+    → IsSetBack (set_back_by (Backfill id from to reset) a) a e (Err r) → IsRefusal a (Backfill id from to reset) r
+back_refused a e id from to most reset b r h good (inl memory) = inl memory
+back_refused a e id from to most reset b r h good (inr waits) =
+    flight_of (IsRefusal a (Backfill id from to reset)) (option_and_then (least_in_flight a) (set_back_by (Backfill id from to reset) a)) r waits
     (λ n f. inr (record {
       first = by_back a id from to reset false false (Some (refusal.InFlight n)) (is_full_with a (named_by_backfill a id from to)) h.0 good (ap (option_map refusal.InFlight) f) refl;
       shown = tt;
     }))
+
+pub back_waits : (a d e : Schedule) (id : List ℕ) (from to most : ℕ) (reset : Bool) (b : Found) (r : Refusal) → d ≡ a → IsBackfillOf a id from to most (Some b) → nat_lt to from ≡ false
+    → IsSetBack (reset_of reset id b.present.items) d e (Err r) → IsRefusal a (Backfill id from to reset) r
+back_waits a d e id from to most reset b r draft h good s = back_refused a e id from to most reset b r h good (reset_told a d e id from to most reset b (Err r) draft h s)
 
 -- ---- room for its runs
 room_is : (most limit held wanted : ℕ) (b : Bool) → most ≡ limit - held → held ≤ limit → nat_lt most wanted ≡ b → nat_lt limit (held + wanted) ≡ b

@@ -17,7 +17,7 @@ content_inside s = record {
   now = s.clock;
   lanes = s.lanes;
   next = s.next;
-  runs = s.runs.items;
+  runs = s.runs.runs;
 }
 
 -- of no pool more slots are taken than a book counts

@@ -3,9 +3,10 @@ use Rattle.std.specs.Prelude.{ℕ, ◌+◌, ◌≤◌, length}
 use Rattle.sched_model.specs.Schedule.{Schedule}
 use Rattle.sched_events.specs.declared.answers.Answer.{Answer}
 
--- how many graphs can be added without memory
+-- how many graphs and runs can be added without memory
 pub record Room : Type 0 where
   pub graphs : ℕ
+  pub runs : ℕ
 
 -- a schedule in memory: what it holds, and the room for more
 pub record ScheduleValue : Type 0 where
@@ -19,5 +20,6 @@ pub record Planned : Type 0 where
   pub answer : Answer
 
 -- there is room for what a change adds
-abbrev pub HasRoom : Planned → ScheduleValue → Type 0
-HasRoom c h = length c.after.graphs ≤ length c.before.graphs + h.room.graphs
+pub record HasRoom (c : Planned) (h : ScheduleValue) : Type 0 where
+  pub graphs : length c.after.graphs ≤ length c.before.graphs + h.room.graphs
+  pub runs : length c.after.runs ≤ length c.before.runs + h.room.runs

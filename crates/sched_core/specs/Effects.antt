@@ -1,9 +1,9 @@
 -- What the effect of a change makes of a schedule and of the book of its pools.
-use Rattle.std.specs.Prelude.{◌≡◌, ℕ, Bool, true, false, List, Option, Some, None, map, slice_get}
+use Rattle.std.specs.Prelude.{◌≡◌, Bool, true, false, List, Option, Some, None, map}
 use Rattle.pool_book.specs.Pools.{Entries}
 use Rattle.sched_state.specs.declared.graphs.LoadedGraph.{LoadedGraph}
-use Rattle.sched_state.specs.declared.runs.Run.{Run}
-use Rattle.sched_model.specs.Schedule.{Schedule, dag_among, has_runs}
+use Rattle.run_lists.specs.Edits.{AreEditsOf, edited}
+use Rattle.sched_model.specs.Schedule.{Schedule, has_runs}
 use Rattle.sched_model.specs.Changes.{with_graph, pause_graph}
 use Rattle.sched_draft.specs.Books.{pools_in}
 use Rattle.record_rows.specs.Rows.{Rows}
@@ -20,10 +20,6 @@ changed graphs.Same gs = gs
 changed (graphs.Load text dag) gs = with_graph text dag gs
 changed (graphs.Pause id paused) gs = map (pause_graph id paused) gs
 
--- the tasks and edges of each run's graph are the same among both
-abbrev pub HaveSameDags : List LoadedGraph → List LoadedGraph → List Run → Type 0
-HaveSameDags gs hs rs = (n : ℕ) (r : Run) → slice_get rs n ≡ Some r → dag_among hs r.graph ≡ dag_among gs r.graph
-
 -- and of a schedule
 abbrev pub with_change : GraphChange → Schedule → Schedule
 with_change g a = record a { graphs = changed g a.graphs }
@@ -31,7 +27,12 @@ with_change g a = record a { graphs = changed g a.graphs }
 -- the rest, where it is another
 abbrev pub with_rest : Option Rest → Schedule → Schedule
 with_rest None a = a
-with_rest (Some n) a = record a { pools = pools_in n.pools.pools; now = n.clock; lanes = n.lanes; next = n.serial; runs = n.runs.items }
+with_rest (Some n) a = record a { pools = pools_in n.pools.pools; now = n.clock; lanes = n.lanes; next = n.serial; runs = edited n.edits a.runs }
+
+-- its edits are of the runs that are there
+abbrev pub AreOfRuns : Option Rest → Schedule → Type 0
+AreOfRuns None a = Unit {0}
+AreOfRuns (Some n) a = AreEditsOf a.runs n.edits
 
 abbrev pub applied : Effect → Schedule → Schedule
 applied e a = with_rest e.rest (with_change e.graphs a)
@@ -45,9 +46,10 @@ book_after (Some n) es = n.pools.pools
 abbrev pub KeepsAgreement : Effect → Schedule → Type 0
 KeepsAgreement e a = (es : Entries) (is_settled : Bool) → AgreesWithBook is_settled a es → AgreesWithBook true (applied e a) (book_after e.rest es)
 
--- so it keeps the agreement, and these are the rows that the schedule lacks after it
+-- so it keeps the agreement, its edits are of the schedule's runs, and these are the rows that the schedule lacks after it
 pub record IsEffect (e : Effect) (rows : Rows) (a : Schedule) : Type 0 where
   pub keeps : KeepsAgreement e a
+  pub edits : AreOfRuns e.rest a
   pub rows_are : rows ≡ rows_between a (applied e a)
 
 -- the change enables nothing in a schedule: a text takes in a graph without runs, or a graph is paused

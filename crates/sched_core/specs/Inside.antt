@@ -9,6 +9,8 @@ use Rattle.dag_check.specs.declared.faults.DagFault.{DagFault}
 use Rattle.pool_book.specs.Pools.{Entries, PoolUse}
 use Rattle.sched_model.specs.Sound.{Says}
 use Rattle.sched_draft.specs.Books.{pools_in}
+use Rattle.sched_draft.specs.Drafts.{DraftValue}
+use Rattle.sched_draft.specs.Parts.{with_pause}
 use Rattle.sched_core.specs.declared.changes.GraphChange.{GraphChange}
 use Rattle.sched_core.specs.declared.changes.GraphChange.TheVariants as graphs
 use Rattle.sched_events.specs.Causes.{exceeds, unknown_pool}
@@ -80,6 +82,10 @@ pub record IsOver (g : GraphChange) (a b : Schedule) : Type 0 where
   pub limits : b.limits ≡ a.limits
   pub graphs : b.graphs ≡ drafted g a.graphs
 
+-- the schedule as a draft over itself, in which the graph that is named is paused or not as is said
+abbrev pub drafted_as : Option (List ℕ) → Bool → Schedule → DraftValue
+drafted_as named paused a = record { base = a; content = record a { graphs = with_pause named paused a.graphs }; touched = [] }
+
 -- what a settled draft is made into
 abbrev pub completed : GraphChange → Schedule → Schedule
 completed graphs.Same b = b
@@ -99,6 +105,10 @@ over es a = record a { pools = pools_in es }
 -- how many tries of a run are without an end
 abbrev pub open_in : Run → ℕ
 open_in r = sum_by (λ (i : InstanceValue). count_by is_open i.tries) r.instances
+
+-- whether a try of a run is without an end
+abbrev pub has_open : Run → Bool
+has_open r = list_any (λ (i : InstanceValue). list_any is_open i.tries) r.instances
 
 -- ---- the search for the next row
 -- the first of two

@@ -1,5 +1,5 @@
 -- What the core's own functions say of repairs.
-use Rattle.std.specs.Prelude.{◌≡◌, ℕ, Bool, true, false, List, Option, Some, None, option_map, option_and_then, Result, Ok, Err}
+use Rattle.std.specs.Prelude.{◌≡◌, ℕ, Bool, true, false, List, Option, Some, None, option_map, option_and_then, Result, Ok, Err, ◌⊎◌}
 use Rattle.sched_clearing.specs.declared.selections.ClearFault.{ClearFault}
 use Rattle.sched_clearing.specs.declared.selections.ClearFault.TheVariants as fault
 use Rattle.sched_model.specs.Causes.{least_in_flight}
@@ -24,7 +24,7 @@ reset_of false id dates = None
 abbrev pub still_open : Option Selection → Schedule → Option Refusal
 still_open named a = option_map refusal.InFlight (option_and_then (least_in_flight a) named)
 
--- what is named has been set back, so many of it were not none, and none of it had a try without an end; or one had
+-- what is named has been set back, so many of it were not none, and none of it had a try without an end; or memory ran out, or one had
 abbrev pub IsSetBack : Option Selection → Schedule → Schedule → Result ℕ Refusal → Type 0
 IsSetBack named a b (Ok count) = (still_open named a ≡ None) × (b ≡ set_back named a) × (count ≡ count_in named a)
-IsSetBack named a b (Err r) = still_open named a ≡ Some r
+IsSetBack named a b (Err r) = (r ≡ refusal.Memory) ⊎ (still_open named a ≡ Some r)

@@ -1,5 +1,5 @@
 //! Planning a backfill: the runs of a span that are missing, and the others set back where it resets.
-ghost use Rattle.std.specs.Prelude.{◌≡◌, ◌≤◌, length, IfOk, IfErr};
+ghost use Rattle.std.specs.Prelude.{◌≡◌, ◌≤◌, length, IfOk, IfErr, OnOk};
 ghost use Rattle.sched_events.specs.Outcomes.{IsRefusal};
 ghost use Rattle.sched_events.specs.declared.events.Event.TheVariants.{Backfill};
 ghost use Rattle.sched_model.specs.Sound.{IsSound};
@@ -34,7 +34,7 @@ impl Schedule {
         ensures refused { IfErr result (IsRefusal self.now.content
             (Backfill graph.now from to reset)) }
     {
-        let mut draft = self.draft(alloc, None, false)?;
+        let mut draft = self.draft(alloc, None, false);
         let room = (self.limits.runs() as usize).saturating_sub(self.runs.len());
         let Some(named) = named_by_backfill(alloc, &draft, graph, from, to, room)? else {
             return Err(Refusal::UnknownGraph);
@@ -42,7 +42,7 @@ impl Schedule {
         if to < from {
             return Err(Refusal::BadSpan);
         }
-        let cleared = reset_if(&mut draft, reset, graph, &named.present)?;
+        let cleared = reset_if(alloc, &mut draft, reset, graph, &named.present)?;
         if named.more {
             return Err(Refusal::RecordFull);
         }
@@ -59,18 +59,20 @@ impl Schedule {
 
 // All instances of the graph's runs with these logical dates are set back, if they are to be reset: how many of them were not none.
 fn reset_if(
+    alloc: Global,
     draft: &mut Draft<'_>,
     wanted: bool,
     graph: &Name,
     dates: &[Moment],
 ) -> Result<u32, Refusal>
-    requires sound { IsSound draft.old }
-    requires few { length draft.old.runs ≤ ceilings.runs }
-    ensures { IsSetBack (reset_of wanted graph.now dates.now) draft.old draft.new result }
+    requires sound { IsSound draft.old.content }
+    requires few { length draft.old.content.runs ≤ ceilings.runs }
+    ensures base { OnOk result (draft.new.base ≡ draft.old.base) }
+    ensures back { IsSetBack (reset_of wanted graph.now dates.now) draft.old.content draft.new.content result }
 {
     if !wanted {
         return Ok(0);
     }
     let selection = named_by_reset(graph, dates);
-    set_back(draft, &selection)
+    set_back(alloc, draft, &selection)
 }

@@ -1,5 +1,5 @@
 //! The rows of the record that a change makes differ.
-ghost use Rattle.std.specs.Prelude.{◌≡◌, [], true, false, map, option_map, unwrap_or, IfOk, Some};
+ghost use Rattle.std.specs.Prelude.{◌≡◌, [], true, false, map, option_map, unwrap_or, IfOk};
 ghost use Rattle.sched_model.specs.Lists.{rises};
 ghost use Rattle.sched_model.specs.Schedule.{graph_before, graph_among};
 ghost use Rattle.sched_state.specs.declared.graphs.LoadedGraph.{LoadedGraph as Graph};
@@ -7,62 +7,67 @@ ghost use Rattle.sched_model.specs.Sound.{IsSound};
 ghost use Rattle.sched_model.specs.Tables.{dag_row};
 ghost use Rattle.record_rules.specs.Between.{lacked};
 ghost use Rattle.record_changes.specs.Changes.{rows_between, same_dag_row};
-ghost use Rattle.sched_core.specs.Effects.{changed, with_rest, applied, HaveSameDags};
+ghost use Rattle.sched_draft.specs.Drafts.{HaveSameDags};
+ghost use Rattle.sched_core.specs.Effects.{changed, with_change};
+ghost use Rattle.sched_core.specs.Inside.{IsOver, IsLast, completed};
 
-use crate::changes::{Effect, GraphChange, Rest};
+use crate::changes::GraphChange;
 use crate::lookups::graph_named;
 use crate::schedules::Schedule;
 use graph_file::Name;
 use record_rows::{DagRow, Rows};
-use record_writing::{Parts, dag_lacked, rows_between};
+use record_writing::{dag_lacked, rows_of};
+use sched_draft::{Base, Draft};
 use sched_state::LoadedGraph;
 use std::alloc::{AllocError, Global};
 
 impl Schedule {
     // The schedule by its parts.
-    fn parts(&self) -> Parts<'_>
+    pub(crate) fn base(&self) -> Base<'_>
         ensures { result ≡ self.now.content }
     {
-        Parts {
+        Base {
             limits: self.limits,
             graphs: self.graphs.as_slice(),
             pools: &self.pools,
             clock: self.clock,
             lanes: self.lanes,
             next: self.next,
-            runs: self.runs.as_slice(),
+            runs: &self.runs,
         }
     }
 
-    // The same with what an event leaves in the place of its own, but for the graphs.
-    fn parts_with<'a>(&'a self, rest: &'a Rest) -> Parts<'a>
-        ensures { result ≡ with_rest (Some rest.now) self.now.content }
-    {
-        Parts {
-            limits: self.limits,
-            graphs: self.graphs.as_slice(),
-            pools: &rest.pools,
-            clock: rest.clock,
-            lanes: rest.lanes,
-            next: rest.serial,
-            runs: rest.runs.as_slice(),
-        }
-    }
-
-    // The rows that the schedule lacks after an effect.
-    pub(crate) fn rows_changed(&self, alloc: Global, effect: &Effect) -> Result<Rows, AllocError>
-        requires sound { IsSound (applied effect.now self.now.content) }
-        requires alike { HaveSameDags self.now.content.graphs
-            (changed effect.now.graphs self.now.content.graphs)
-            (applied effect.now self.now.content).runs }
+    // The rows that the schedule lacks after a draft over it and a change of its graphs.
+    pub(crate) fn rows_changed(
+        &self,
+        alloc: Global,
+        draft: &Draft<'_>,
+        graphs: &GraphChange,
+    ) -> Result<Rows, AllocError>
+        requires based { draft.now.base ≡ self.now.content }
+        requires over { IsOver graphs.now self.now.content draft.now.content }
+        requires last { IsLast graphs.now draft.now.content }
+        requires sound { IsSound (completed graphs.now draft.now.content) }
         ensures { IfOk result (λ rows. rows ≡ rows_between self.now.content
-            (applied effect.now self.now.content)) }
+            (completed graphs.now draft.now.content)) }
     {
-        let dags = dags_changed(alloc, self.graphs.as_slice(), &effect.graphs)?;
-        match &effect.rest {
-            Some(rest) => rows_between(alloc, &self.parts(), &self.parts_with(rest), dags),
-            None => Ok(only(alloc, dags)),
-        }
+        let dags = dags_changed(alloc, self.graphs.as_slice(), graphs)?;
+        rows_of(alloc, &self.base(), draft, dags)
+    }
+
+    // The rows that it lacks after a change of its graphs alone.
+    pub(crate) fn rows_of_graphs(
+        &self,
+        alloc: Global,
+        graphs: &GraphChange,
+    ) -> Result<Rows, AllocError>
+        requires { HaveSameDags self.now.content.graphs
+            (changed graphs.now self.now.content.graphs) self.now.content.runs }
+        ensures { IfOk result (λ rows. rows ≡ rows_between self.now.content
+            (with_change graphs.now self.now.content)) }
+    {
+        let dags = dags_changed(alloc, self.graphs.as_slice(), graphs)?;
+        Ok(only(alloc, dags))
     }
 }
 

@@ -8,8 +8,9 @@ use graph_file::Name;
 use moment_core::Moment;
 use pool_book::Pools;
 use record_rows::Rows;
+use run_lists::Edits;
 use sched_events::Answer;
-use sched_state::{GraphText, Run};
+use sched_state::GraphText;
 use std::marker::Model;
 use std::snapshot::Snapshot;
 
@@ -40,7 +41,8 @@ pub struct Rest {
     pub lanes: u32,
     // The serial of the next try.
     pub serial: u64,
-    pub runs: Vec<Run>,
+    // What becomes of the runs.
+    pub edits: Edits,
 }
 
 /// What an accepted event will do: it is made by `Schedule::plan`, and done by `Schedule::commit`.

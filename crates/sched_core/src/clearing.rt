@@ -1,5 +1,5 @@
 //! Planning a clear: task instances that are set back.
-ghost use Rattle.std.specs.Prelude.{◌≡◌, ◌≤◌, length, Some, IfOk, IfErr};
+ghost use Rattle.std.specs.Prelude.{◌≡◌, ◌≤◌, length, Some, IfOk, IfErr, OnOk};
 ghost use Rattle.sched_clearing.specs.Selections.{selection_of};
 ghost use Rattle.sched_events.specs.Outcomes.{IsRefusal};
 ghost use Rattle.sched_events.specs.declared.events.Event.TheVariants.{Clear};
@@ -23,7 +23,7 @@ impl Schedule {
         ensures accepted { IfOk result (IsPlanned self.now.content (Clear clearing.now)) }
         ensures refused { IfErr result (IsRefusal self.now.content (Clear clearing.now)) }
     {
-        let mut draft = self.draft(alloc, None, false)?;
+        let mut draft = self.draft(alloc, None, false);
         let selection = match named_by_clear(alloc, &draft, clearing) {
             Ok(selection) => selection,
             Err(fault) => return Err(refusal_of(fault)),
@@ -32,7 +32,7 @@ impl Schedule {
             return Err(Refusal::BadSpan);
         }
         let _limit = self.limits.runs();
-        let cleared = set_back(&mut draft, &selection)?;
+        let cleared = set_back(alloc, &mut draft, &selection)?;
         let answer = Answer {
             cleared,
             ..quiet_answer(alloc)
@@ -42,14 +42,19 @@ impl Schedule {
 }
 
 // The named instances are set back, unless one of them has a try without an end: how many of them were not none.
-pub(crate) fn set_back(draft: &mut Draft<'_>, selection: &Selection<'_>) -> Result<u32, Refusal>
-    requires sound { IsSound draft.old }
-    requires few { length draft.old.runs ≤ ceilings.runs }
-    ensures { IsSetBack (Some (selection_of selection.now)) draft.old draft.new result }
+pub(crate) fn set_back(
+    alloc: Global,
+    draft: &mut Draft<'_>,
+    selection: &Selection<'_>,
+) -> Result<u32, Refusal>
+    requires sound { IsSound draft.old.content }
+    requires few { length draft.old.content.runs ≤ ceilings.runs }
+    ensures base { OnOk result (draft.new.base ≡ draft.old.base) }
+    ensures back { IsSetBack (Some (selection_of selection.now)) draft.old.content draft.new.content result }
 {
     match least_in_flight(draft, selection) {
         Some(serial) => Err(Refusal::InFlight(serial)),
-        None => Ok(clear(draft, selection)),
+        None => Ok(clear(alloc, draft, selection)?),
     }
 }
 

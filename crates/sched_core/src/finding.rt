@@ -1,12 +1,23 @@
 //! Tries, found by their serials.
-ghost use Rattle.std.specs.Prelude.{◌≡◌, ◌&&◌, ◌==◌, find, flat_map};
+ghost use Rattle.std.specs.Prelude.{◌≡◌, ◌&&◌, ◌==◌, find, flat_map, option_map, IfSome};
 ghost use Rattle.std.specs.Option.{option_copied};
 ghost use Rattle.instance_machine.specs.Instances.{InstanceValue};
 ghost use Rattle.sched_state.specs.declared.runs.Run.{Run as RunRecord};
 ghost use Rattle.sched_model.specs.States.{is_open};
+ghost use Rattle.sched_core.specs.Finding.{IsFoundIn, IsFoundAt};
 
 use instance_machine::{Instance, Try};
 use sched_state::Run;
+
+// A try, and where it stands.
+#[derive(Clone, Copy)]
+pub struct Found {
+    // That of its run.
+    pub position: usize,
+    // That of its instance.
+    pub place: usize,
+    pub one: Try,
+}
 
 // Whether the try has no end, and this serial.
 fn is_open_as(one: &Try, serial: u64) -> bool
@@ -22,28 +33,34 @@ fn open_among(tries: &[Try], serial: u64) -> Option<&Try>
     tries.iter().find(|one| is_open_as(one, serial))
 }
 
-// The same, among the tries of these instances.
-fn open_in(instances: &[Instance], serial: u64) -> Option<Try>
-    ensures { result ≡ find (λ t. is_open t && t.serial == serial)
+// The same, among the tries of these instances, with the place of its instance.
+fn open_in(instances: &[Instance], serial: u64) -> Option<(usize, Try)>
+    ensures one { option_map (λ f. f.1) result ≡ find (λ t. is_open t && t.serial == serial)
         (flat_map (λ (i : InstanceValue). i.tries) instances.now) }
+    ensures place { IfSome result (IsFoundIn serial instances.now) }
 {
-    for instance in instances {
-        if let Some(found) = open_among(instance.tries(), serial) {
-            return Some(*found);
+    for (place, instance) in instances.iter().enumerate() {
+        if let Some(one) = open_among(instance.tries(), serial) {
+            return Some((place, *one));
         }
     }
     None
 }
 
 // The try without an end that has this serial.
-pub fn open_try(runs: &[Run], serial: u64) -> Option<Try>
-    ensures { result ≡ find (λ t. is_open t && t.serial == serial)
+pub fn open_try(runs: &[Run], serial: u64) -> Option<Found>
+    ensures one { option_map (λ f. f.one) result ≡ find (λ t. is_open t && t.serial == serial)
         (flat_map (λ (r : RunRecord). flat_map (λ (i : InstanceValue). i.tries) r.instances)
         runs.now) }
+    ensures place { IfSome result (IsFoundAt serial runs.now) }
 {
-    for run in runs {
-        if let Some(found) = open_in(run.instances.as_slice(), serial) {
-            return Some(found);
+    for (position, run) in runs.iter().enumerate() {
+        if let Some((place, one)) = open_in(run.instances.as_slice(), serial) {
+            return Some(Found {
+                position,
+                place,
+                one,
+            });
         }
     }
     None

@@ -15,6 +15,7 @@ mod default_pools;
 mod finding;
 mod loading;
 mod lookups;
+mod losing;
 mod ordering;
 mod pausing;
 mod planning;

@@ -40,7 +40,7 @@ impl Schedule {
                 if self.graphs[place].text.is_same(text) {
                     return Ok(self.graph_change(alloc, GraphChange::Same)?);
                 }
-                if has_runs(&self.runs, id) {
+                if has_runs(self.runs.as_slice(), id) {
                     return Err(Refusal::GraphDiffers);
                 }
                 self.taken_in(alloc, text, dag)

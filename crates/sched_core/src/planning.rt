@@ -1,7 +1,7 @@
 //! Planning an event: refused for its first cause, or a change that does exactly its step.
-ghost use Rattle.std.specs.Prelude.{◌≡◌, IfOk, IfErr, map};
+ghost use Rattle.std.specs.Prelude.{◌≡◌, IfOk, IfErr, OnOk, map};
 ghost use Rattle.std.specs.Option.{option_copied};
-ghost use Rattle.sched_draft.specs.Parts.{with_pause};
+ghost use Rattle.sched_draft.specs.Drafts.{SameDags};
 ghost use Rattle.sched_model.specs.Settle.{settle};
 ghost use Rattle.sched_model.specs.Handout.{hand_out};
 ghost use Rattle.sched_model.specs.Jobs.{handed};
@@ -12,11 +12,12 @@ ghost use Rattle.sched_events.specs.declared.events.Event.TheVariants.{Tick, Pau
 ghost use Rattle.sched_core.specs.Plans.{IsPlanned, no_runs, run_id};
 ghost use Rattle.sched_core.specs.Books.{IsCounted};
 ghost use Rattle.sched_core.specs.Effects.{with_change, IsQuiet};
-ghost use Rattle.sched_core.specs.Inside.{IsOver, IsLast, completed, over};
+ghost use Rattle.sched_core.specs.Inside.{IsOver, IsLast, completed, drafted_as, over};
 
 use crate::changes::{Change, Effect, GraphChange, Rest};
 use crate::finding::open_try;
 use crate::lookups::graph_named;
+use crate::losing::lose_all;
 use crate::schedules::Schedule;
 use graph_file::{Name, Sequence};
 use instance_machine::Stage;
@@ -26,7 +27,7 @@ use sched_creation::{add, named_by_tick};
 use sched_draft::Draft;
 use sched_events::{Answer, Event, Refusal, RunId};
 use sched_handout::hand_out;
-use sched_settling::settle;
+use sched_settling::{settle, settle_touched};
 use sched_state::Run;
 use std::alloc::{AllocError, Global};
 use std::snapshot::Snapshot;
@@ -71,11 +72,10 @@ impl Schedule {
           answer = no_runs;
         }) }
     {
-        let effect = Effect { graphs, rest: None };
-        let rows = self.rows_changed(alloc, &effect)?;
+        let rows = self.rows_of_graphs(alloc, &graphs)?;
         Ok(Change {
             before: Snapshot::of(self),
-            effect,
+            effect: Effect { graphs, rest: None },
             answer: quiet_answer(alloc),
             rows,
         })
@@ -102,7 +102,7 @@ impl Schedule {
         if self.is_settled {
             return self.quiet_change(alloc, graphs);
         }
-        let draft = self.draft(alloc, None, false)?;
+        let draft = self.draft(alloc, None, false);
         self.finish(alloc, draft, graphs, quiet_answer(alloc))
     }
 
@@ -112,36 +112,25 @@ impl Schedule {
         alloc: Global,
         named: Option<&'d Name>,
         paused: bool,
-    ) -> Result<Draft<'d>, AllocError>
-        ensures { IfOk result (λ draft. draft ≡ record self.now.content
-            { graphs = with_pause (option_copied named.entry) paused self.now.content.graphs }) }
+    ) -> Draft<'d>
+        ensures { result ≡ drafted_as (option_copied named.entry) paused self.now.content }
     {
-        self.draft_over(alloc, &self.pools, named, paused)
+        Draft::over(alloc, self.base(), named, paused)
     }
 
-    // The same over the pools of another book.
-    fn draft_over<'d>(
-        &'d self,
-        alloc: Global,
-        pools: &'d Pools,
-        named: Option<&'d Name>,
-        paused: bool,
-    ) -> Result<Draft<'d>, AllocError>
-        ensures { IfOk result (λ draft. draft ≡ record (over pools.now.pools self.now.content)
-            { graphs = with_pause (option_copied named.entry) paused self.now.content.graphs }) }
+    // A draft over the schedule is settled: it looks at the runs that were touched, where the schedule is settled.
+    fn settle_draft(&self, alloc: Global, draft: &mut Draft<'_>) -> Result<(), AllocError>
+        requires based { draft.old.base ≡ self.now.content }
+        requires sound { IsSound draft.old.content }
+        requires dags { SameDags draft.old.base draft.old.content }
+        ensures base { OnOk result (draft.new.base ≡ draft.old.base) }
+        ensures settled { OnOk result (draft.new.content ≡ settle draft.old.content) }
     {
-        let runs = copied(alloc, &self.runs)?;
-        Ok(Draft::new(
-            self.limits,
-            &self.graphs,
-            named,
-            paused,
-            pools,
-            self.clock,
-            self.lanes,
-            self.next,
-            runs,
-        ))
+        if self.is_settled {
+            settle_touched(alloc, draft)
+        } else {
+            settle(alloc, draft)
+        }
     }
 
     // The change that ends in this draft, settled and handed out, with this answer and the tries that are handed out. A text is taken in
@@ -153,36 +142,36 @@ impl Schedule {
         graphs: GraphChange,
         answer: Answer,
     ) -> Result<Change, AllocError>
-        requires sound { IsSound draft }
-        requires over { IsOver graphs self.now.content draft }
-        requires last { IsLast graphs draft }
-        requires kept { IsSettledAndSound (completed graphs (hand_out (settle draft))) }
-        requires counted { IsCounted draft }
+        requires based { draft.base ≡ self.now.content }
+        requires sound { IsSound draft.content }
+        requires over { IsOver graphs self.now.content draft.content }
+        requires last { IsLast graphs draft.content }
+        requires kept { IsSettledAndSound (completed graphs (hand_out (settle draft.content))) }
+        requires counted { IsCounted draft.content }
         ensures { IfOk result (λ change. change ≡ record {
           before = self.now.content;
-          after = completed graphs (hand_out (settle draft.entry));
-          answer = record answer { jobs = handed self.now.content (hand_out (settle draft.entry)) };
+          after = completed graphs (hand_out (settle draft.entry.content));
+          answer = record answer { jobs = handed self.now.content (hand_out (settle draft.entry.content)) };
         }) }
     {
         let mut draft = draft;
-        settle(&mut draft);
+        self.settle_draft(alloc, &mut draft)?;
         let pools = hand_out(alloc, &mut draft)?;
         let jobs = draft.jobs_from(alloc, self.next)?;
+        let rows = self.rows_changed(alloc, &draft, &graphs)?;
         let rest = Rest {
             pools,
             clock: draft.clock(),
             lanes: draft.lanes(),
             serial: draft.next_serial(),
-            runs: draft.into_runs(),
+            edits: draft.into_edits(),
         };
-        let effect = Effect {
-            graphs,
-            rest: Some(rest),
-        };
-        let rows = self.rows_changed(alloc, &effect)?;
         Ok(Change {
             before: Snapshot::of(self),
-            effect,
+            effect: Effect {
+                graphs,
+                rest: Some(rest),
+            },
             answer: Answer { jobs, ..answer },
             rows,
         })
@@ -195,7 +184,7 @@ impl Schedule {
         if moment.secs() < self.clock.secs() {
             return Err(Refusal::ClockBack(self.clock));
         }
-        let mut draft = self.draft(alloc, None, false)?;
+        let mut draft = self.draft(alloc, None, false);
         let named = named_by_tick(alloc, &draft, moment)?;
         if (self.limits.runs() as usize) < self.runs.len() + named.runs.len() {
             return Err(Refusal::RecordFull);
@@ -222,7 +211,7 @@ impl Schedule {
         if self.is_settled {
             return Ok(self.quiet_change(alloc, change)?);
         }
-        let draft = self.draft(alloc, Some(id), true)?;
+        let draft = self.draft(alloc, Some(id), true);
         Ok(self.finish(alloc, draft, change, quiet_answer(alloc))?)
     }
 
@@ -233,7 +222,7 @@ impl Schedule {
         if graph_named(self.graphs.as_slice(), id).is_none() {
             return Err(Refusal::UnknownGraph);
         }
-        let draft = self.draft(alloc, Some(id), false)?;
+        let draft = self.draft(alloc, Some(id), false);
         let change = GraphChange::Pause(id.copy(alloc)?, false);
         Ok(self.finish(alloc, draft, change, quiet_answer(alloc))?)
     }
@@ -265,7 +254,8 @@ impl Schedule {
           answer = record no_runs { jobs = handed self.now.content (hand_out (settle (over pools.now.pools self.now.content))) };
         }) }
     {
-        let draft = self.draft_over(alloc, pools, None, false)?;
+        let mut draft = self.draft(alloc, None, false);
+        draft.set_pools(pools);
         self.finish(alloc, draft, GraphChange::Same, quiet_answer(alloc))
     }
 
@@ -273,14 +263,15 @@ impl Schedule {
         ensures accepted { IfOk result (IsPlanned self.now.content (Report serial stage)) }
         ensures refused { IfErr result (IsRefusal self.now.content (Report serial stage)) }
     {
-        let Some(one) = open_try(&self.runs, serial) else {
+        let Some(found) = open_try(self.runs.as_slice(), serial) else {
             return Err(Refusal::NotInFlight(serial));
         };
-        if !one.takes(stage) {
+        if !found.one.takes(stage) {
             return Err(Refusal::OutOfTurn(serial));
         }
-        let mut draft = self.draft(alloc, None, false)?;
-        draft.report(serial, stage);
+        let mut draft = self.draft(alloc, None, false);
+        draft.own(alloc, found.position)?;
+        draft.report_at(found.position, found.place, serial, stage);
         Ok(self.finish(alloc, draft, GraphChange::Same, quiet_answer(alloc))?)
     }
 
@@ -291,8 +282,9 @@ impl Schedule {
         if self.limits.lanes() < lanes {
             return Err(Refusal::LanesTooMany);
         }
-        let mut draft = self.draft(alloc, None, false)?;
-        draft.restart(lanes);
+        let mut draft = self.draft(alloc, None, false);
+        lose_all(alloc, &mut draft)?;
+        draft.set_lanes(lanes);
         Ok(self.finish(alloc, draft, GraphChange::Same, quiet_answer(alloc))?)
     }
 }
@@ -322,15 +314,4 @@ pub(crate) fn ids_of(alloc: Global, runs: &[Run]) -> Result<Sequence<RunId>, All
         })?;
     }
     Ok(Sequence::new(ids))
-}
-
-// The same runs.
-fn copied(alloc: Global, runs: &[Run]) -> Result<Vec<Run>, AllocError>
-    ensures { IfOk result (λ copies. copies.items ≡ runs.now) }
-{
-    let mut copies = Vec::new(alloc);
-    for run in runs {
-        copies.push(run.copy(alloc)?)?;
-    }
-    Ok(copies)
 }

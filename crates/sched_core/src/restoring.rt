@@ -7,6 +7,7 @@ ghost use Rattle.record_restoring.specs.Results.{IsFault};
 
 use crate::schedules::Schedule;
 use record_restoring::{KeyedRows, RestoreFault, ScheduleParts, restore_parts};
+use run_lists::Runs;
 use sched_state::Limits;
 use std::alloc::Global;
 
@@ -40,7 +41,7 @@ impl Schedule {
             clock,
             lanes,
             next,
-            runs,
+            runs: Runs::of(runs),
             is_settled: false,
         })
     }

@@ -2,8 +2,9 @@
 //!
 //! A change is planned against the schedule as it is, room is reserved for it, and it is committed: only the first two can fail,
 //! and neither changes what the schedule holds.
-ghost use Rattle.std.specs.Prelude.{◌≡◌, ◌≤◌, length, IfOk, IfErr, OnOk, true, vec_capacity};
+ghost use Rattle.std.specs.Prelude.{◌≡◌, ◌+◌, ◌-◌, ◌≤◌, List, length, IfOk, IfErr, OnOk, true, vec_capacity, vec_len};
 ghost use Rattle.std.specs.Option.{option_copied};
+ghost use Rattle.sched_state.specs.declared.graphs.LoadedGraph as states;
 ghost use Rattle.sched_model.specs.Lists.{rises};
 ghost use Rattle.sched_model.specs.Schedule.{empty_schedule, graph_before, graph_named};
 ghost use Rattle.sched_model.specs.Changes.{with_graph};
@@ -21,6 +22,7 @@ use dag_check::Graph;
 use graph_file::Name;
 use moment_core::Moment;
 use pool_book::Pools;
+use run_lists::Runs;
 use sched_events::{Answer, Event, Refusal};
 use sched_state::{GraphText, Limits, LoadedGraph, Run};
 use std::alloc::{AllocError, Global};
@@ -39,7 +41,7 @@ pub struct Schedule {
     pub(crate) lanes: u32,
     // The serial of the next try.
     pub(crate) next: u64,
-    pub(crate) runs: Vec<Run>,
+    pub(crate) runs: Runs,
     // Neither a move nor a hand-out is possible: so each commit leaves it. One that was read from a record may be unsettled.
     pub(crate) is_settled: bool,
 }
@@ -53,7 +55,7 @@ impl Model for Schedule {
 
     ghost view = { λ s. record {
       content = content_inside s;
-      room = record { graphs = vec_capacity s.graphs - vec_len s.graphs };
+      room = record { graphs = vec_capacity s.graphs - vec_len s.graphs; runs = s.runs.room };
     } };
 
     ghost invariant = { λ s. AgreesWithBook s.is_settled (content_inside s) s.pools.pools };
@@ -72,7 +74,7 @@ impl Schedule {
             clock: Moment::at(0),
             lanes: 0,
             next: 1,
-            runs: Vec::new(alloc),
+            runs: Runs::new(alloc),
             is_settled: true,
         })
     }
@@ -125,9 +127,10 @@ impl Schedule {
         ensures content { self.new.content ≡ self.old.content }
         ensures room { OnOk result (HasRoom change.now self.new) }
     {
-        match &change.effect.graphs {
-            GraphChange::Load(_, _) => self.graphs.reserve(1),
-            GraphChange::Same | GraphChange::Pause(_, _) => Ok(()),
+        room_for_graphs(&mut self.graphs, &change.effect.graphs)?;
+        match &change.effect.rest {
+            Some(rest) => self.runs.reserve(&rest.edits),
+            None => Ok(()),
         }
     }
 
@@ -150,7 +153,7 @@ impl Schedule {
             self.clock = rest.clock;
             self.lanes = rest.lanes;
             self.next = rest.serial;
-            self.runs = rest.runs;
+            self.runs.write(rest.edits);
         }
         self.is_settled = true;
         answer
@@ -165,6 +168,17 @@ impl Schedule {
         let change = self.plan(alloc, event)?;
         self.reserve(&change)?;
         Ok(self.commit(change))
+    }
+}
+
+// Makes room for the graph that a change takes in.
+fn room_for_graphs(graphs: &mut Vec<LoadedGraph>, change: &GraphChange) -> Result<(), AllocError>
+    ensures graphs { graphs.new.items ≡ graphs.old.items }
+    ensures room { OnOk result ((gs : List LoadedGraph) → length (changed change.now gs) ≤ length gs + (vec_capacity graphs.new - vec_len graphs.new)) }
+{
+    match change {
+        GraphChange::Load(_, _) => graphs.reserve(1),
+        GraphChange::Same | GraphChange::Pause(_, _) => Ok(()),
     }
 }
 

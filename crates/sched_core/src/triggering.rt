@@ -19,7 +19,7 @@ impl Schedule {
         ensures accepted { IfOk result (IsPlanned self.now.content (Trigger id.now)) }
         ensures refused { IfErr result (IsRefusal self.now.content (Trigger id.now)) }
     {
-        let mut draft = self.draft(alloc, None, false)?;
+        let mut draft = self.draft(alloc, None, false);
         let Some(planned) = named_by_hand(alloc, &draft, id)? else {
             return Err(Refusal::UnknownGraph);
         };

@@ -11,7 +11,7 @@ use Rattle.run_planner.specs.Due.{due_intervals, last_alone, without_runs}
 use Rattle.run_planner.specs.Index.{has_date}
 use Rattle.run_planner.specs.Spans.{span_intervals, with_runs, starts, IsBackfill}
 use Rattle.run_planner.specs.declared.by_hand.PlanFault.{PlanFault}
-use Rattle.run_planner.specs.declared.by_hand.PlanFault.TheVariants.{RunExists, NoInterval}
+use Rattle.run_planner.specs.declared.by_hand.PlanFault.TheVariants.{RunExists}
 use Rattle.run_planner.specs.declared.spans.Backfill as spans
 use Rattle.sched_state.specs.declared.runs.Run.{Run}
 use Rattle.sched_state.specs.declared.runs.RunKind.TheVariants as kind

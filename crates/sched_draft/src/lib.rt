@@ -1,16 +1,20 @@
-//! The schedule that an event is making: its runs and their instances in memory, over the graphs of the schedule that is there.
+//! The schedule that an event is making, over the schedule that is there: of its runs it holds those alone that are changed or added.
 //!
 //! A `Draft` is the abstract schedule of `sched_model` with small changes, each exactly one of its definitions: what decides which of
-//! them are made, and in which order, stands in the crates above.
+//! them are made, and in which order, stands in the crates above. Contracts see the schedule that is there (`base`), the one that is made
+//! of it (`content`), and the positions of the runs that may be changed (`touched`).
 //!
-//! In comes a schedule by its parts (`Draft::new`), out go its runs (`Draft::into_runs`), the clock, the lanes and the next serial. In
-//! between each call is one change: `draft.decide(position, place, Verdict::Run)` decides one instance.
+//! In comes a schedule by its parts (`Base`, `Draft::over`), out go the edits of its runs (`Draft::into_edits`), the clock, the lanes
+//! and the next serial. A change of a run has two steps: `draft.own(alloc, position)?` copies the run, where it isn't the draft's own yet,
+//! and `draft.decide(position, place, Verdict::Run)` decides one instance, which cannot fail.
 #![tactic(auto)]
 
+mod bases;
 mod drafts;
 mod graphs;
 mod jobs;
-mod ordering;
-mod reporting;
+mod laws;
 
+pub use bases::Base;
 pub use drafts::Draft;
+pub use laws::tries_are_changed_at_one_place;

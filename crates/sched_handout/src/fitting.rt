@@ -20,7 +20,7 @@ use sched_state::{LAST_SERIAL, Run, RunPhase};
 
 /// Whether a lane is free and a serial is left.
 pub fn has_lane(draft: &Draft<'_>, room: &Room) -> bool
-    ensures { result ≡ (nat_lt 0 room.now.lanes && nat_le draft.now.next last_serial) }
+    ensures { result ≡ (nat_lt 0 room.now.lanes && nat_le draft.now.content.next last_serial) }
 {
     room.lanes > 0 && draft.next_serial() <= LAST_SERIAL
 }
@@ -35,8 +35,8 @@ fn has_slots(room: &Room, offer: &Offer<'_>) -> bool
 
 // Whether the offer can be handed out.
 fn fits(draft: &Draft<'_>, room: &Room, offer: &Offer<'_>) -> bool
-    requires { IsRoomIn draft.now room.now }
-    ensures { result ≡ model.fits draft.now offer.now }
+    requires { IsRoomIn draft.now.content room.now }
+    ensures { result ≡ model.fits draft.now.content offer.now }
 {
     has_slots(room, offer) && has_lane(draft, room)
 }
@@ -48,8 +48,8 @@ fn choose<'d>(
     offer: Offer<'d>,
     best: Option<Offer<'d>>,
 ) -> Option<Offer<'d>>
-    requires { IsRoomIn draft.now room.now }
-    ensures { result ≡ choices.choose draft.now offer.entry best.entry }
+    requires { IsRoomIn draft.now.content room.now }
+    ensures { result ≡ choices.choose draft.now.content offer.entry best.entry }
 {
     if fits(draft, room, &offer) {
         better(offer, best)
@@ -68,11 +68,11 @@ fn choose_in_run<'d>(
     weights: &[u64],
     best: Option<Offer<'d>>,
 ) -> Option<Offer<'d>>
-    requires room { IsRoomIn draft.now room.now }
-    requires dag { dag.now ≡ dag_named draft.now run.now.graph }
+    requires room { IsRoomIn draft.now.content room.now }
+    requires dag { dag.now ≡ dag_named draft.now.content run.now.graph }
     requires weights { WeighTasks dag.now weights.now }
-    ensures { result ≡ choices.choose_all draft.now
-        (flat_map (model.offers_at draft.now position run.now)
+    ensures { result ≡ choices.choose_all draft.now.content
+        (flat_map (model.offers_at draft.now.content position run.now)
         (enumerate_from 0 (zip dag.now.tasks run.now.instances))) best.entry }
 {
     let mut best = best;
@@ -94,14 +94,14 @@ fn choose_at<'d>(
     position: usize,
     best: Option<Offer<'d>>,
 ) -> Option<Offer<'d>>
-    requires room { IsRoomIn draft.now room.now }
-    requires weights { WeighGraphs draft.now.graphs weights.now }
-    requires position { position < length draft.now.runs }
-    ensures { (r : runs.Run) → slice_get draft.now.runs position ≡ Some r
-        → result ≡ choices.choose_all draft.now (model.offers_in draft.now (position, r))
+    requires room { IsRoomIn draft.now.content room.now }
+    requires weights { WeighGraphs draft.now.content.graphs weights.now }
+    requires position { position < length draft.now.content.runs }
+    ensures { (r : runs.Run) → slice_get draft.now.content.runs position ≡ Some r
+        → result ≡ choices.choose_all draft.now.content (model.offers_in draft.now.content (position, r))
         best.entry }
 {
-    let run = &draft.runs()[position];
+    let run = draft.run(position);
     if !matches!(run.phase, RunPhase::Running) {
         return best;
     }
@@ -117,12 +117,12 @@ fn choose_at<'d>(
 
 /// The first in rank of the offers that fit.
 pub fn best_offer<'d>(draft: &'d Draft<'_>, room: &Room, weights: &[Vec<u64>]) -> Option<Offer<'d>>
-    requires room { IsRoomIn draft.now room.now }
-    requires weights { WeighGraphs draft.now.graphs weights.now }
-    ensures { result ≡ model.best_offer draft.now }
+    requires room { IsRoomIn draft.now.content room.now }
+    requires weights { WeighGraphs draft.now.content.graphs weights.now }
+    ensures { result ≡ model.best_offer draft.now.content }
 {
     let mut best = None;
-    let mut position = draft.runs().len();
+    let mut position = draft.run_count();
     while position > 0 {
         position -= 1;
         best = choose_at(draft, room, weights, position, best);

@@ -1,43 +1,30 @@
 -- What a decision looks at, and one sweep of decisions.
-use Rattle.std.proofs.Common.{◌≡◌, ◌∙◌, refl, sym, ap, ℕ, zero, suc, ◌+◌, ◌<◌, ◌≤◌, List, [], ◌∷◌, ◌++◌, Bool, true, false, not, ◌||◌, map, take, drop, length, get_or, slice_get, Option, Some, None, option_map, option_and_then, unwrap_or}
+use Rattle.std.proofs.Common.{◌≡◌, ◌∙◌, refl, sym, ap, ℕ, zero, suc, ◌+◌, List, [], ◌∷◌, Bool, true, false, map, length, slice_get, Option, Some, None, option_map, option_and_then, unwrap_or}
 use Rattle.graph_file.specs.declared.task_specs.TaskSpec.{TaskSpec}
 use Rattle.graph_file.specs.Lists.{when}
 use Rattle.dag_check.specs.Graphs.{Dag, ups}
-use Rattle.std.proofs.lemmas.List.{length-map, take_more, drop_all}
+use Rattle.std.proofs.lemmas.List.{length-map}
 use Rattle.std.proofs.lemmas.Option.{slice_get-map}
 use Rattle.trigger_rules.specs.Rules.{rule_verdict}
 use Rattle.trigger_rules.specs.declared.verdicts.Verdict.{Verdict}
 use Rattle.instance_machine.specs.Instances.{InstanceValue}
-use Rattle.instance_machine.specs.States.{opens_gate}
-use Rattle.sched_state.specs.Lists.{same}
 use Rattle.sched_state.specs.declared.runs.Run.{Run}
-use Rattle.sched_state.proofs.NameLemmas.{same_is}
 use Rattle.sched_model.specs.Lists.{at, last_passing, or_else}
-use Rattle.sched_model.specs.Schedule.{Schedule, dag_named}
-use Rattle.sched_model.specs.States.{is_earlier, past_is_open, state_at}
-use Rattle.sched_model.specs.Settle.{decided_verdict, decides, upstream_states}
+use Rattle.sched_model.specs.Schedule.{Schedule, dag_named, graph_named, tasks_of, is_running, no_dag}
+use Rattle.sched_model.specs.States.{past_is_open}
+use Rattle.sched_model.specs.Settle.{decided_verdict, decides, upstream_states, decide_instance, decide_task}
 use Rattle.sched_model.specs.Handout.{in_instance}
-use Rattle.sched_laws.specs.Sweep.{decision_in, decision, decide_at, put, sweep_places, sweep_runs}
-use Rattle.sched_laws.proofs.DecisionLemmas.{at_known}
+use Rattle.sched_laws.specs.Sweep.{decision_in, decision, decide_at, put, sweep_places}
+use Rattle.sched_laws.proofs.DecisionLemmas.{at_known, none_guard}
+use Rattle.sched_laws.proofs.LookLemmas.{get_at}
+use Rattle.instance_machine.specs.declared.tries.Try.{Try}
+use Rattle.sched_state.specs.declared.graphs.LoadedGraph.{LoadedGraph}
+use Rattle.sched_settling.specs.Marks.{dag_at}
 use Rattle.sched_laws.proofs.SweepLemmas.{lens, put_lens}
 use Rattle.sched_draft.specs.Parts.{decided_as, instances_at}
 use Rattle.sched_settling.specs.States.{state_in, Decides}
-use Rattle.sched_state.proofs.OrderLemmas.{and_left}
-use Rattle.sched_state.proofs.ElementLemmas.{drop_at, element_at}
 
 -- ---- the past
-or_chain : {X : Type 0} (a b c : Option X) → or_else (or_else a b) c ≡ or_else a (or_else b c)
-or_chain (Some a) b c = refl
-or_chain None b c = refl
-
-or_none : {X : Type 0} (b : Bool) (x : X) → or_else None (when b x) ≡ or_else (when b x) None
-or_none true x = refl
-or_none false x = refl
-
-pub last_more : {X : Type 0} (p : X → Bool) (xs : List X) (x : X) → last_passing p (xs ++ x ∷ []) ≡ or_else (when (p x) x) (last_passing p xs)
-last_more p [] x = or_none (p x) x
-last_more p (y ∷ xs) x = ap (λ o. or_else o (when (p y) y)) (last_more p xs x) ∙ or_chain (when (p x) x) (last_passing p xs) (when (p y) y)
-
 when_passes : {X : Type 0} (p : X → Bool) (b : Bool) (y x : X) → p y ≡ b → when b y ≡ Some x → p x ≡ true
 when_passes {X} p true y x f g = let c : ◌≡◌ {A = Option X} (Some y) (Some x) = g in let i : y ≡ x = cc in ap p (sym i) ∙ f
 when_passes {X} p false y x f g = absurd (let c : ◌≡◌ {A = Option X} None (Some x) = g in cc)
@@ -48,32 +35,6 @@ last_passes {X} p (y ∷ xs) x e = elim (last_passing p xs) as (λ o. last_passi
   | Some z ↦ λ f g. let c : ◌≡◌ {A = Option X} (Some z) (Some x) = g in let i : z ≡ x = cc in last_passes p xs x (f ∙ ap (λ w. Some w) i)
   | None ↦ λ f g. when_passes p (p y) y x refl g
 ] refl e
-
--- one turn of a search for the last
-pub last_found : {X : Type 0} (p : X → Bool) (xs : List X) (i : ℕ) (x d : X) → i < length xs → x ≡ get_or xs i d → true ≡ p x → Some x ≡ last_passing p (take (i + 1) xs)
-last_found p xs i x d inside read passes =
-    let more = take_more xs i d inside in
-    sym (ap (last_passing p) (more ∙ ap (λ y. take i xs ++ y ∷ []) (sym read)) ∙ (last_more p (take i xs) x ∙ ap (λ b. or_else (when b x) (last_passing p (take i xs))) (sym passes)))
-
-pub last_kept : {X : Type 0} (p : X → Bool) (xs : List X) (i : ℕ) (x d : X) (o : Option X) → i < length xs → x ≡ get_or xs i d → false ≡ p x → o ≡ last_passing p (take i xs)
-    → o ≡ last_passing p (take (i + 1) xs)
-last_kept p xs i x d o inside read passes so_far =
-    let more = take_more xs i d inside in
-    so_far ∙ sym (ap (last_passing p) (more ∙ ap (λ y. take i xs ++ y ∷ []) (sym read)) ∙ (last_more p (take i xs) x ∙ ap (λ b. or_else (when b x) (last_passing p (take i xs))) (sym passes)))
-
-held_back : (b c d : Bool) → b ≡ true → c ≡ d → c ≡ (not b || d)
-held_back true c d e f = f
-held_back false c d e f = absurd (let n : ◌≡◌ {A = Bool} false true = e in cc)
-
--- the past, where there is a run before
-pub past_some : (a : Schedule) (r q : Run) (g : Dag) (t : TaskSpec) (p : ℕ) → t.depends_on_past ≡ true → Some q ≡ last_passing (is_earlier r) a.runs → dag_named a r.graph ≡ g
-    → opens_gate (Some (state_in g q p)) ≡ past_is_open a r t p
-past_some a r q g t p looks before is =
-    let earlier : is_earlier r q ≡ true = last_passes (is_earlier r) a.runs q (sym before) in
-    let named : q.graph ≡ r.graph = same_is q.graph r.graph (and_left _ _ earlier) in
-    let dag : g ≡ dag_named a q.graph = sym is ∙ ap (dag_named a) (sym named) in
-    held_back t.depends_on_past _ _ looks
-    (ap (λ (h : Dag). opens_gate (Some (state_in h q p))) dag ∙ ap (λ (o : Option Run). opens_gate (option_map (λ (x : Run). state_at a x p) o)) before)
 
 -- ---- the verdict
 pub verdict_is : (a : Schedule) (r : Run) (g : Dag) (t : TaskSpec) (p : ℕ) (v : Verdict) (b : Bool) → dag_named a r.graph ≡ g → v ≡ rule_verdict t.trigger_rule (map (state_in g r) (ups g p))
@@ -125,18 +86,47 @@ places_lens zero n p a = refl
 places_lens (suc k) n p a = places_lens k n (p + 1) (decide_at n p a) ∙ decide_lens a n p
 
 -- ---- all runs
-long_at : (n : ℕ) (a : Schedule) → instances_at n a ≡ unwrap_or (slice_get (lens a) n) 0
+pub long_at : (n : ℕ) (a : Schedule) → instances_at n a ≡ unwrap_or (slice_get (lens a) n) 0
 long_at n a = ap (λ o. unwrap_or o 0) (sym (slice_get-map (λ (r : Run). length r.instances) a.runs n))
 
-pub run_step : (rs : List Run) (n : ℕ) (start a b : Schedule) → rs ≡ start.runs → n < length rs → lens a ≡ lens start → b ≡ sweep_places (instances_at n a) n 0 a
-    → sweep_runs (drop (n + 1) rs) (n + 1) b ≡ sweep_runs (drop n rs) n a
-run_step rs n start a b these inside same is =
-    let t = element_at rs n inside in
-    let long : instances_at n a ≡ length (t.0).instances =
-    long_at n a ∙ (ap (λ ls. unwrap_or (slice_get ls n) 0) same
-    ∙ (sym (long_at n start) ∙ ap (λ (o : Option Run). unwrap_or (option_map (λ (r : Run). length r.instances) o) 0) (ap (λ xs. slice_get xs n) (sym these) ∙ t.1))) in
-    ap (sweep_runs (drop (n + 1) rs) (n + 1)) (is ∙ ap (λ (k : ℕ). sweep_places k n 0 a) long)
-    ∙ ap (λ (xs : List Run). sweep_runs xs n a) (sym (drop_at rs n t.0 t.1))
+-- ---- the graph of a run
+dag_in : (a : Schedule) (g : Run → Run) (o : Option Run) → ((r : Run) → (g r).graph ≡ r.graph) → option_map (λ (r : Run). dag_named a r.graph) (option_map g o) ≡ option_map (λ (r : Run). dag_named a r.graph) o
+dag_in a g None h = refl
+dag_in a g (Some r) h = ap (λ id. Some (dag_named a id)) (h r)
 
-pub runs_over : (rs : List Run) (n : ℕ) (a : Schedule) → length rs ≤ n → a ≡ sweep_runs (drop n rs) n a
-runs_over rs n a l = ap (λ (xs : List Run). sweep_runs xs n a) (sym (drop_all n rs l))
+pub decide_dag : (a : Schedule) (n p : ℕ) → dag_at n (decide_at n p a) ≡ dag_at n a
+decide_dag a n p = elim (decision a n p) as (λ o. decision a n p ≡ o → dag_at n (decide_at n p a) ≡ dag_at n a) [
+  | Some j ↦ λ e. rw (e, decide_at) (ap (option_map (λ (r : Run). dag_named a r.graph)) (get_at (in_instance (λ i. j) p) n a.runs) ∙ dag_in a (in_instance (λ i. j) p) (slice_get a.runs n) (λ r. refl))
+  | None ↦ λ e. rw (e, decide_at) refl
+] refl
+
+pub dag_there : (a : Schedule) (n : ℕ) (r : Run) (g : Dag) → slice_get a.runs n ≡ Some r → dag_at n a ≡ Some g → dag_named a r.graph ≡ g
+dag_there a n r g e f = let c : ◌≡◌ {A = Option Dag} (Some (dag_named a r.graph)) (Some g) = sym (ap (option_map (λ (x : Run). dag_named a x.graph)) e) ∙ f in cc
+
+-- a run whose graph is not there is decided nowhere
+no_task : (a : Schedule) (r : Run) (q : ℕ) (v : Option Verdict) (s : ℕ) (ts : List Try) → tasks_of a r ≡ [] → decide_instance a r q (record { verdict = v; since = s; tries = ts }) ≡ None
+no_task a r q (Some v) s ts e = refl
+no_task a r q None s ts e = ap (λ xs. option_and_then (decide_task a r q (record { verdict = None; since = s; tries = ts })) (slice_get xs q)) e
+
+no_decisions : (a : Schedule) (r : Run) (q : ℕ) (o : Option InstanceValue) → tasks_of a r ≡ [] → option_and_then (decide_instance a r q) o ≡ None
+no_decisions a r q None e = refl
+no_decisions a r q (Some i) e = no_task a r q i.verdict i.since i.tries e
+
+not_decided : (a : Schedule) (n q : ℕ) (r : Run) → slice_get a.runs n ≡ Some r → dag_named a r.graph ≡ no_dag → decision a n q ≡ None
+not_decided a n q r e d =
+    ap (option_and_then (decision_in a q)) e
+    ∙ none_guard (is_running r.phase) (option_and_then (decide_instance a r q) (slice_get r.instances q)) (no_decisions a r q (slice_get r.instances q) (ap (λ (g : Dag). g.tasks) d))
+
+places_still : (k n p : ℕ) (a : Schedule) → ((q : ℕ) → decision a n q ≡ None) → a ≡ sweep_places k n p a
+places_still zero n p a h = refl
+places_still (suc k) n p a h =
+    let e : decision a n p ≡ None = h p in
+    let same : decide_at n p a ≡ a = rw (e, decide_at) refl in
+    places_still k n (p + 1) a h ∙ ap (sweep_places k n (p + 1)) (sym same)
+
+pub no_graph : (a : Schedule) (n : ℕ) (r : Run) → slice_get a.runs n ≡ Some r → graph_named a r.graph ≡ None → a ≡ sweep_places (instances_at n a) n 0 a
+no_graph a n r e f =
+    places_still (instances_at n a) n 0 a (λ q. not_decided a n q r e (ap (λ (o : Option LoadedGraph). unwrap_or (option_map (λ (g : LoadedGraph). g.dag) o) no_dag) f))
+
+pub found_dag : (a : Schedule) (n : ℕ) (r : Run) (d : Dag) → slice_get a.runs n ≡ Some r → option_map (λ (g : LoadedGraph). g.dag) (graph_named a r.graph) ≡ Some d → dag_at n a ≡ Some d
+found_dag a n r d e f = ap (option_map (λ (x : Run). dag_named a x.graph)) e ∙ ap (λ (o : Option Dag). Some (unwrap_or o no_dag)) f

@@ -1,16 +1,22 @@
 //! Ends of runs.
-ghost use Rattle.std.specs.Prelude.{◌≡◌, ◌&&◌, MatchOption, Some, None};
+ghost use Rattle.std.specs.Prelude.{◌≡◌, ◌<◌, ◌&&◌, true, length, MatchOption, OnOk, Some, None};
 ghost use Rattle.std.specs.List.{list_all, list_any};
 ghost use Rattle.trigger_rules.specs.States.{is_finished, is_bad};
-ghost use Rattle.sched_model.specs.Lists.{map_places};
+ghost use Rattle.sched_model.specs.Lists.{map_places, rises};
+ghost use Rattle.sched_model.specs.Schedule.{graph_before};
 ghost use Rattle.sched_model.specs.Settle.{is_leaf, finish_run};
-ghost use Rattle.sched_laws.specs.Stages.{finish_every, in_phase};
+ghost use Rattle.sched_laws.specs.Stages.{finish_every, in_phase, CoversEnds};
+ghost use Rattle.dag_check.specs.Orders.{is_in};
+ghost use Rattle.sched_settling.specs.Marks.{IsKeyed, IsEndedAt, AreLines, are_within, one_fewer, IsCountedDown};
 ghost use Rattle.sched_settling.specs.States.{states_in};
 
+use crate::lines::Line;
 use crate::states::{dag_of, state_in};
 use dag_check::Graph;
+use graph_file::Name;
 use sched_draft::Draft;
 use sched_state::{Run, RunPhase};
+use std::alloc::{AllocError, Global};
 use trigger_rules::State;
 
 // Whether all instances of the run are finished.
@@ -47,8 +53,8 @@ fn has_bad_leaf(dag: &Graph, run: &Run) -> bool
 
 // The phase in which the run ends, where it can.
 fn end_of(draft: &Draft<'_>, run: &Run) -> Option<RunPhase>
-    ensures { MatchOption result (finish_run draft.now run.now ≡ None)
-        (λ phase. finish_run draft.now run.now ≡ Some (in_phase phase run.now)) }
+    ensures { MatchOption result (finish_run draft.now.content run.now ≡ None)
+        (λ phase. finish_run draft.now.content run.now ≡ Some (in_phase phase run.now)) }
 {
     if !matches!(run.phase, RunPhase::Running) {
         return None;
@@ -67,13 +73,63 @@ fn end_of(draft: &Draft<'_>, run: &Run) -> Option<RunPhase>
     }
 }
 
-// Each run ends that can.
-pub fn end_all(draft: &mut Draft<'_>)
-    ensures { draft.new ≡ finish_every draft.old }
+// One running run fewer.
+fn count_one(line: &mut Line<'_>)
+    ensures { line.new ≡ one_fewer line.old }
 {
-    for position in 0..draft.runs().len() {
-        if let Some(phase) = end_of(draft, &draft.runs()[position]) {
-            draft.set_phase(position, phase);
-        }
+    line.active = line.active.saturating_sub(1);
+}
+
+// One running run of the graph fewer, where the graph is there.
+pub fn count_down(draft: &Draft<'_>, lines: &mut Vec<Line<'_>>, id: &Name)
+    requires graphs { rises graph_before draft.now.content.graphs ≡ true }
+    requires long { length lines.old.items ≡ length draft.now.content.graphs }
+    ensures { IsCountedDown draft.now.content.graphs id.now lines.old.items lines.new.items }
+{
+    if let Some(position) = draft.position_of(id) {
+        count_one(&mut lines[position]);
     }
+}
+
+// The run at a position ends, if it can.
+fn end_at(
+    alloc: Global,
+    draft: &mut Draft<'_>,
+    lines: &mut Vec<Line<'_>>,
+    position: usize,
+) -> Result<(), AllocError>
+    requires keyed { IsKeyed draft.old.content }
+    requires within { position < length draft.old.content.runs }
+    requires lines { AreLines lines.old.items draft.old.content }
+    ensures base { OnOk result (draft.new.base ≡ draft.old.base) }
+    ensures ended { OnOk result (IsEndedAt position draft.old.content draft.new.content) }
+    ensures lines { OnOk result (AreLines lines.new.items draft.new.content) }
+{
+    if let Some(phase) = end_of(draft, draft.run(position)) {
+        draft.own(alloc, position)?;
+        count_down(draft, lines, &draft.run(position).graph);
+        draft.set_phase(position, phase);
+    }
+    Ok(())
+}
+
+// Each run ends that can, where those are among the positions.
+pub fn end_marked(
+    alloc: Global,
+    draft: &mut Draft<'_>,
+    lines: &mut Vec<Line<'_>>,
+    marks: &[usize],
+) -> Result<(), AllocError>
+    requires keyed { IsKeyed draft.old.content }
+    requires within { are_within (length draft.old.content.runs) marks.now ≡ true }
+    requires endings { CoversEnds (is_in marks.now) draft.old.content }
+    requires lines { AreLines lines.old.items draft.old.content }
+    ensures base { OnOk result (draft.new.base ≡ draft.old.base) }
+    ensures ended { OnOk result (draft.new.content ≡ finish_every draft.old.content) }
+    ensures lines { OnOk result (AreLines lines.new.items draft.new.content) }
+{
+    for position in marks {
+        end_at(alloc, draft, lines, *position)?;
+    }
+    Ok(())
 }

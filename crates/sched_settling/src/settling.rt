@@ -1,31 +1,72 @@
-//! Settling by stages.
-ghost use Rattle.std.specs.Prelude.{◌≡◌};
+//! Settling by stages, from marked runs.
+ghost use Rattle.std.specs.Prelude.{◌≡◌, OnOk, [], ◌∷◌};
 ghost use Rattle.sched_model.specs.Settle.{settle};
 ghost use Rattle.sched_laws.specs.Sweep.{sweep};
-ghost use Rattle.sched_laws.specs.Stages.{IsOrdered, finish_every};
+ghost use Rattle.sched_laws.specs.Stages.{finish_every};
+ghost use Rattle.sched_settling.specs.Marks.{AreLines, IsCovered, IsKeyed};
 
-use crate::deciding::decide_all;
-use crate::ending::end_all;
+use crate::deciding::decide_marked;
+use crate::ending::end_marked;
+use crate::lines::Line;
 use crate::starting::start_first;
 use sched_draft::Draft;
+use std::alloc::{AllocError, Global};
+use std::collections::VecDeque;
 
 // All decisions, then all ends.
-fn decide_and_end(draft: &mut Draft<'_>)
-    ensures { draft.new ≡ finish_every (sweep draft.old) }
+fn decide_and_end(
+    alloc: Global,
+    draft: &mut Draft<'_>,
+    marks: VecDeque<usize>,
+    lines: &mut Vec<Line<'_>>,
+) -> Result<(), AllocError>
+    requires keyed { IsKeyed draft.old.content }
+    requires covered { IsCovered marks.items draft.old.content }
+    requires lines { AreLines lines.old.items draft.old.content }
+    ensures base { OnOk result (draft.new.base ≡ draft.old.base) }
+    ensures ended { OnOk result (draft.new.content ≡ finish_every (sweep draft.old.content)) }
+    ensures lines { OnOk result (AreLines lines.new.items draft.new.content) }
 {
-    decide_all(draft);
-    end_all(draft);
+    let seen = decide_marked(alloc, draft, marks)?;
+    end_marked(alloc, draft, lines, seen.as_slice())
 }
 
-/// Makes moves until none is possible: instances are decided, finished runs end and queued runs start (Airflow 2, "DAG Runs").
-///
-/// The runs stand in the order of their keys, and upstreams at lower places than their tasks, as in each sound schedule.
-pub fn settle(draft: &mut Draft<'_>)
-    requires { IsOrdered draft.old }
-    ensures { draft.new ≡ settle draft.old }
+// The same, where the run at the position is the marked one.
+fn decide_and_end_at(
+    alloc: Global,
+    draft: &mut Draft<'_>,
+    position: usize,
+    lines: &mut Vec<Line<'_>>,
+) -> Result<(), AllocError>
+    requires keyed { IsKeyed draft.old.content }
+    requires covered { IsCovered (position ∷ []) draft.old.content }
+    requires lines { AreLines lines.old.items draft.old.content }
+    ensures base { OnOk result (draft.new.base ≡ draft.old.base) }
+    ensures ended { OnOk result (draft.new.content ≡ finish_every (sweep draft.old.content)) }
+    ensures lines { OnOk result (AreLines lines.new.items draft.new.content) }
 {
-    decide_and_end(draft);
-    while start_first(draft) {
-        decide_and_end(draft);
+    let mut marks = VecDeque::new(alloc);
+    marks.push_front(position)?;
+    decide_and_end(alloc, draft, marks, lines)
+}
+
+// Moves are made until none is possible, beginning at the marked runs.
+pub fn settle_from(
+    alloc: Global,
+    draft: &mut Draft<'_>,
+    marks: VecDeque<usize>,
+    lines: &mut Vec<Line<'_>>,
+) -> Result<(), AllocError>
+    requires keyed { IsKeyed draft.old.content }
+    requires covered { IsCovered marks.items draft.old.content }
+    requires lines { AreLines lines.old.items draft.old.content }
+    ensures base { OnOk result (draft.new.base ≡ draft.old.base) }
+    ensures settled { OnOk result (draft.new.content ≡ settle draft.old.content) }
+    ensures lines { OnOk result (AreLines lines.new.items draft.new.content) }
+{
+    decide_and_end(alloc, draft, marks, lines)?;
+    while let Some(position) = start_first(alloc, draft, lines)? {
+        decide_and_end_at(alloc, draft, position, lines)?;
     }
+    Ok(())
 }

@@ -1,93 +1,104 @@
 //! Starts of runs.
-ghost use Rattle.std.specs.Prelude.{◌≡◌, ◌&&◌, false, count_by, IfSome};
-ghost use Rattle.std.specs.Option.{option_copied};
-ghost use Rattle.sched_state.specs.Lists.{same};
-ghost use Rattle.sched_model.specs.Schedule.{is_running};
-ghost use Rattle.sched_model.specs.Settle.{can_start};
-ghost use Rattle.sched_settling.specs.States.{IsFirstStart, IsFirstThatCan, takes_runs};
+ghost use Rattle.std.specs.Prelude.{◌≡◌, ◌<◌, ◌&&◌, true, length, nat_lt, slice_get, IfOk, IfSome, MatchOption, OnOk, Some, is_some};
+ghost use Rattle.sched_model.specs.Lists.{rises};
+ghost use Rattle.sched_model.specs.Schedule.{is_queued, run_before};
+ghost use Rattle.sched_settling.specs.Marks.{AreLines, DatesRise, IsKeyed, IsLine, IsQueue, IsFirstQueued, IsQueuedOn, NoneQueued, NoneQueuedOn, IsStartIn, NoStartIn, IsStartAt};
+ghost use Rattle.sched_settling.specs.States.{IsFirstStart};
+ghost use Rattle.sched_state.specs.declared.graphs.LoadedGraph as states;
 
+use crate::lines::{Line, take_date};
 use graph_file::Name;
+use moment_core::Moment;
 use sched_draft::Draft;
 use sched_state::{Run, RunPhase};
+use std::alloc::{AllocError, Global};
 
-// Whether this is a running run of the graph.
-fn is_active(run: &Run, id: &Name) -> bool
-    ensures { result ≡ (same run.now.graph id.now && is_running run.now.phase) }
+// Whether the run is queued.
+fn is_queued(run: &Run) -> bool
+    ensures { result ≡ is_queued run.now.phase }
 {
-    run.graph == *id && matches!(run.phase, RunPhase::Running)
+    matches!(run.phase, RunPhase::Queued)
 }
 
-/// How many runs of the graph are running.
-pub fn active_runs(runs: &[Run], id: &Name) -> usize
-    ensures { result ≡ count_by (λ r. same r.graph id.now && is_running r.phase) runs.now }
+// The position of the graph's run with this date, where it is a queued one.
+fn queued_on(draft: &Draft<'_>, id: &Name, date: Moment) -> Option<usize>
+    requires { rises run_before draft.now.content.runs ≡ true }
+    ensures { MatchOption result (NoneQueuedOn draft.now.content id.now date) (IsQueuedOn draft.now.content id.now date) }
 {
-    runs.iter().filter(|run| is_active(run, id)).count()
-}
-
-// Whether a queued run of the graph can start now.
-fn takes_runs(draft: &Draft<'_>, id: &Name) -> bool
-    ensures { result ≡ takes_runs draft.now id.now }
-{
-    if draft.is_paused(id) {
-        return false;
-    }
-    match draft.dag(id) {
-        Some(dag) => active_runs(draft.runs(), id) < dag.spec().max_active_runs.get() as usize,
-        None => false,
+    let Some(position) = draft.find(id, date) else {
+        return None;
+    };
+    if is_queued(draft.run(position)) {
+        Some(position)
+    } else {
+        None
     }
 }
 
-// Whether the run can start now. The given graph, if any, takes no run.
-fn can_start(draft: &Draft<'_>, run: &Run, full: Option<&Name>) -> bool
-    requires { IfSome (option_copied full) (λ id. takes_runs draft.now id ≡ false) }
-    ensures { result ≡ can_start draft.now run.now }
+// The first queued run of the graph, whose date is taken out of the line.
+fn take_queued(draft: &Draft<'_>, id: &Name, line: &mut Line<'_>) -> Option<usize>
+    requires ordered { rises run_before draft.now.content.runs ≡ true }
+    requires queue { IsQueue draft.now.content id.now line.old }
+    ensures active { line.new.active ≡ line.old.active }
+    ensures rise { DatesRise line.new }
+    ensures found { MatchOption result (NoneQueued draft.now.content id.now) (IsFirstQueued draft.now.content id.now line.new) }
 {
-    if !matches!(run.phase, RunPhase::Queued) {
-        return false;
-    }
-    match full {
-        Some(id) if run.graph == *id => false,
-        _ => takes_runs(draft, &run.graph),
-    }
-}
-
-// A graph that takes no run, where this run cannot start: its own if it is queued.
-fn full_graph<'a>(draft: &Draft<'_>, run: &'a Run, full: Option<&'a Name>) -> Option<&'a Name>
-    requires cannot { can_start draft.now run.now ≡ false }
-    requires full { IfSome (option_copied full) (λ id. takes_runs draft.now id ≡ false) }
-    ensures { IfSome (option_copied result) (λ id. takes_runs draft.now id ≡ false) }
-{
-    match run.phase {
-        RunPhase::Queued => Some(&run.graph),
-        _ => full,
-    }
-}
-
-// Where the first run stands that can start. The running runs of a graph are counted once for all its queued runs that follow one another.
-fn first_start(draft: &Draft<'_>) -> Option<usize>
-    ensures { IsFirstThatCan draft.now result }
-{
-    let runs = draft.runs();
-    let mut full = None;
-    for position in 0..runs.len() {
-        let run = &runs[position];
-        if can_start(draft, run, full) {
+    while let Some(date) = take_date(line) {
+        if let Some(position) = queued_on(draft, id, date) {
             return Some(position);
         }
-        full = full_graph(draft, run, full);
     }
     None
 }
 
-// The first run that can start does, and whether there was one.
-pub fn start_first(draft: &mut Draft<'_>) -> bool
-    ensures { IsFirstStart draft.old draft.new result }
+// The first queued run of the graph at a position starts, if one can, and where it stands.
+fn start_in(
+    alloc: Global,
+    draft: &mut Draft<'_>,
+    line: &mut Line<'_>,
+    graph: usize,
+) -> Result<Option<usize>, AllocError>
+    requires within { graph < length draft.old.content.graphs }
+    requires keyed { IsKeyed draft.old.content }
+    requires line { (h : states.LoadedGraph) → slice_get draft.old.content.graphs graph ≡ Some h
+        → IsLine draft.old.content h.dag.spec.dag_id line.old }
+    ensures base { OnOk result (draft.new.base ≡ draft.old.base) }
+    ensures started { (h : states.LoadedGraph) → slice_get draft.old.content.graphs graph ≡ Some h
+        → IfOk result (λ started. MatchOption started
+        (NoStartIn h.dag.spec.dag_id line.new draft.old.content draft.new.content)
+        (IsStartIn h.dag.spec.dag_id line.new draft.old.content draft.new.content)) }
 {
-    match first_start(draft) {
-        Some(position) => {
-            draft.set_phase(position, RunPhase::Running);
-            true
-        }
-        None => false,
+    let dag = draft.dag_at(graph);
+    let most = dag.spec().max_active_runs.get() as usize;
+    if draft.is_paused_at(graph) || most <= line.active {
+        return Ok(None);
     }
+    let Some(position) = take_queued(draft, &dag.spec().dag_id, line) else {
+        return Ok(None);
+    };
+    draft.own(alloc, position)?;
+    line.active += 1;
+    draft.set_phase(position, RunPhase::Running);
+    Ok(Some(position))
+}
+
+// The first run that can start does, and where it stands.
+pub fn start_first(
+    alloc: Global,
+    draft: &mut Draft<'_>,
+    lines: &mut Vec<Line<'_>>,
+) -> Result<Option<usize>, AllocError>
+    requires keyed { IsKeyed draft.old.content }
+    requires lines { AreLines lines.old.items draft.old.content }
+    ensures base { OnOk result (draft.new.base ≡ draft.old.base) }
+    ensures first { IfOk result (λ started. IsFirstStart draft.old.content draft.new.content (is_some started)) }
+    ensures started { IfOk result (λ started. IfSome started (IsStartAt draft.old.content draft.new.content)) }
+    ensures lines { OnOk result (AreLines lines.new.items draft.new.content) }
+{
+    for graph in 0..lines.len() {
+        if let Some(position) = start_in(alloc, draft, &mut lines[graph], graph)? {
+            return Ok(Some(position));
+        }
+    }
+    Ok(None)
 }

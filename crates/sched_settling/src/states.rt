@@ -10,8 +10,8 @@ use trigger_rules::State;
 
 // The tasks and edges of the run's graph.
 pub fn dag_of<'a>(draft: &'a Draft<'_>, run: &Run) -> Option<&'a Graph>
-    ensures { MatchOption result (dag_named draft.now run.now.graph ≡ no_dag)
-        (λ dag. dag_named draft.now run.now.graph ≡ dag.now) }
+    ensures { MatchOption result (dag_named draft.now.content run.now.graph ≡ no_dag)
+        (λ dag. dag_named draft.now.content run.now.graph ≡ dag.now) }
 {
     draft.dag(&run.graph)
 }

@@ -1,8 +1,7 @@
-use Rattle.std.proofs.Common.{◌≡◌, map, take}
-use Rattle.record_rules.specs.Between.{lacked}
-use Rattle.record_changes.specs.Changes.{same_run_row}
-use Rattle.sched_model.specs.Tables.{run_row}
+use Rattle.std.proofs.Common.{◌≡◌, take, flat_map}
+use Rattle.run_lists.proofs.PickLemmas.{picked}
+use Rattle.record_writing.proofs.TouchedLemmas.{run_lacked}
 use Rattle.record_writing.proofs.runs.runs_lacked.Given as goal
 
-abbrev pub invariant-loop-run : goal.invariant-loop-run
-invariant-loop-run l = l.rows.items ≡ lacked same_run_row (map run_row l.before) (map run_row (take l.run-index l.after))
+abbrev pub invariant-loop-position : goal.invariant-loop-position
+invariant-loop-position l = l.rows.items ≡ flat_map (run_lacked l.draft.base.runs) (picked l.draft.content.runs (take l.position-index l.touched))

@@ -4,5 +4,5 @@ use Rattle.sched_state.specs.declared.runs.Run.{Run}
 use Rattle.sched_model.specs.States.{is_open}
 use Rattle.sched_core.proofs.finding.open_try.Given as goal
 
-abbrev pub invariant-loop-run : goal.invariant-loop-run
-invariant-loop-run l = find (λ t. is_open t && t.serial == l.serial) (flat_map (λ (r : Run). flat_map (λ (i : InstanceValue). i.tries) r.instances) (take l.run-index l.runs)) ≡ None
+abbrev pub invariant-loop-position : goal.invariant-loop-position
+invariant-loop-position l = find (λ t. is_open t && t.serial == l.serial) (flat_map (λ (r : Run). flat_map (λ (i : InstanceValue). i.tries) r.instances) (take l.position l.runs)) ≡ None

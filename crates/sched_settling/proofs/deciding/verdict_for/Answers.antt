@@ -13,7 +13,7 @@ use Rattle.sched_settling.proofs.deciding.verdict_for.Goals as goal
 
 pub returns-in-Wait-clause-verdict : goal.returns-in-Wait-clause-verdict
 returns-in-Wait-clause-verdict c =
-    let a : Schedule = c.args.draft.now in
+    let a : Schedule = c.args.draft.now.content in
     let r : Run = c.args.run.now in
     let g : Dag = c.args.dag.now in
     let p : ℕ = c.args.place in
@@ -25,7 +25,7 @@ returns-in-Wait-clause-verdict c =
 
 pub returns-then-past_is_open-clause-verdict : goal.returns-then-past_is_open-clause-verdict
 returns-then-past_is_open-clause-verdict c =
-    let a : Schedule = c.args.draft.now in
+    let a : Schedule = c.args.draft.now.content in
     let r : Run = c.args.run.now in
     let g : Dag = c.args.dag.now in
     let p : ℕ = c.args.place in
@@ -37,7 +37,7 @@ returns-then-past_is_open-clause-verdict c =
 
 pub returns-else-past_is_open-clause-verdict : goal.returns-else-past_is_open-clause-verdict
 returns-else-past_is_open-clause-verdict c =
-    let a : Schedule = c.args.draft.now in
+    let a : Schedule = c.args.draft.now.content in
     let r : Run = c.args.run.now in
     let g : Dag = c.args.dag.now in
     let p : ℕ = c.args.place in
@@ -49,7 +49,7 @@ returns-else-past_is_open-clause-verdict c =
 
 pub returns-in-Skip-clause-verdict : goal.returns-in-Skip-clause-verdict
 returns-in-Skip-clause-verdict c =
-    let a : Schedule = c.args.draft.now in
+    let a : Schedule = c.args.draft.now.content in
     let r : Run = c.args.run.now in
     let g : Dag = c.args.dag.now in
     let p : ℕ = c.args.place in
@@ -61,7 +61,7 @@ returns-in-Skip-clause-verdict c =
 
 pub returns-in-UpstreamFailed-clause-verdict : goal.returns-in-UpstreamFailed-clause-verdict
 returns-in-UpstreamFailed-clause-verdict c =
-    let a : Schedule = c.args.draft.now in
+    let a : Schedule = c.args.draft.now.content in
     let r : Run = c.args.run.now in
     let g : Dag = c.args.dag.now in
     let p : ℕ = c.args.place in

@@ -1,9 +1,10 @@
-use Rattle.std.proofs.Common.{◌≡◌, ap, subst, sym, [], nat_lt, false, Ok, arith}
+use Rattle.std.proofs.Common.{◌≡◌, ◌∙◌, ap, subst, sym, [], nat_lt, false, Ok, arith}
 use Rattle.std.proofs.lemmas.Bool.Decides.{nat_tests}
 use Rattle.std.proofs.lemmas.Result.{err_from_is_err_and}
 use Rattle.sched_state.specs.declared.clearings.Clearing.{Clearing}
 use Rattle.sched_model.specs.Schedule.{Schedule}
 use Rattle.sched_clearing.specs.Selections.{SelectionParts, IsClear}
+use Rattle.sched_draft.specs.Drafts.{DraftValue}
 use Rattle.sched_events.specs.Events.{set_back_by}
 use Rattle.sched_events.specs.SettledAndSound.{IsSoundAndSaid}
 use Rattle.sched_events.specs.Outcomes.{IsRefusal}
@@ -22,26 +23,35 @@ returns-in_err-cleared-clause-refused c =
     let a : Schedule = c.args.self.now.content in
     let x : Clearing = c.args.clearing.now in
     let n : SelectionParts = c.in-Ok.selection in
-    let h : IsClear a x (Ok n) = cleared_is a c.in_ok-draft.draft x n c.in_ok-draft.ensures (subst (IsClear c.in_ok-draft.draft x) c.in-Ok.is c.named_by_clear.ensures) in
+    let h : IsClear a x (Ok n) = cleared_is a c.draft-draft.result.content x n (ap (λ (v : DraftValue). v.content) c.draft-draft.ensures) (subst (IsClear c.draft-draft.result.content x) c.in-Ok.is c.named_by_clear.ensures) in
     let good : nat_lt x.to x.from ≡ false = grind (arith, nat_tests, c.lt.ensures, c.if-lt.false) in
-    let waits : IsRefusal a (Clear x) c.in_err-cleared.field-0.0 = clear_waits a c.in_ok-draft.draft c.set_back.new.draft x n c.in_err-cleared.field-0.0 c.in_ok-draft.ensures h good c.in_err-cleared.ensures in
-    let shown = err_from_is_err_and c.from_residual-in_err-cleared.result c.from_residual-in_err-cleared.ensures.1 in
+    let waits : IsRefusal a (Clear x) c.in_err-cleared.field-0.0 = clear_waits a c.draft-draft.result.content c.set_back.new.draft.content x n c.in_err-cleared.field-0.0 (ap (λ (v : DraftValue). v.content) c.draft-draft.ensures) h good c.in_err-cleared.ensures.back in
+    let shown = err_from_is_err_and c.from_residual.result c.from_residual.ensures.1 in
     rw shown.1 (subst (IsRefusal a (Clear x)) (sym shown.2) waits)
 
 -- the draft, with the instances set back
-cleared : (c : In_ok-cleared) → IsCleared c.args.self.now.content c.args.clearing.now c.set_back.new.draft c.in_ok-cleared.cleared
+cleared : (c : In_ok-cleared) → IsCleared c.args.self.now.content c.args.clearing.now c.set_back.new.draft.content c.in_ok-cleared.cleared
 cleared c =
     let a : Schedule = c.args.self.now.content in
     let x : Clearing = c.args.clearing.now in
     let n : SelectionParts = c.in-Ok.selection in
-    let h : IsClear a x (Ok n) = cleared_is a c.in_ok-draft.draft x n c.in_ok-draft.ensures (subst (IsClear c.in_ok-draft.draft x) c.in-Ok.is c.named_by_clear.ensures) in
+    let h : IsClear a x (Ok n) = cleared_is a c.draft-draft.result.content x n (ap (λ (v : DraftValue). v.content) c.draft-draft.ensures) (subst (IsClear c.draft-draft.result.content x) c.in-Ok.is c.named_by_clear.ensures) in
     let good : nat_lt x.to x.from ≡ false = grind (arith, nat_tests, c.lt.ensures, c.if-lt.false) in
-    clear_done a c.in_ok-draft.draft c.set_back.new.draft x n c.in_ok-cleared.cleared c.in_ok-draft.ensures h good c.in_ok-cleared.ensures
+    clear_done a c.draft-draft.result.content c.set_back.new.draft.content x n c.in_ok-cleared.cleared (ap (λ (v : DraftValue). v.content) c.draft-draft.ensures) h good c.in_ok-cleared.ensures.back
 
-drafted : (c : In_ok-cleared) → IsDraftOf (Clear c.args.clearing.now) c.args.self.now.content c.set_back.new.draft
+drafted : (c : In_ok-cleared) → IsDraftOf (Clear c.args.clearing.now) c.args.self.now.content c.set_back.new.draft.content
 drafted c =
     let done = cleared c in
     record { ranged = tt; accepted = done.accepted; kept = subst (λ (s : ScheduleValue). IsSoundAndSaid s.content) c.self.view_is c.self.invariant.kept; is = done.is }
+
+pub finish-requires-clause-based : goal.finish-requires-clause-based
+finish-requires-clause-based c = c.in_ok-cleared.ensures.base ∙ ap (λ (v : DraftValue). v.base) c.draft-draft.ensures
+
+pub finish-requires-clause-over : goal.finish-requires-clause-over
+finish-requires-clause-over c = record {
+  limits = ap (λ (s : Schedule). s.limits) c.in_ok-cleared.ensures.back.1 ∙ ap (λ (v : DraftValue). v.content.limits) c.draft-draft.ensures;
+  graphs = ap (λ (s : Schedule). s.graphs) c.in_ok-cleared.ensures.back.1 ∙ ap (λ (v : DraftValue). v.content.graphs) c.draft-draft.ensures;
+}
 
 pub finish-requires-clause-sound : goal.finish-requires-clause-sound
 finish-requires-clause-sound c = draft_sound (drafted (goal.at.finish-requires-clause-sound c).In_ok-cleared)

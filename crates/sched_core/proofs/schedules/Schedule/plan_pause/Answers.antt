@@ -1,6 +1,7 @@
 use Rattle.std.proofs.Common.{◌≡◌, ◌∙◌, refl, ap, subst, sym, is_none, inr, false, true, List, ℕ}
 use Rattle.sched_model.specs.Changes.{set_paused}
 use Rattle.sched_model.specs.Schedule.{Schedule, graph_named}
+use Rattle.sched_draft.specs.Drafts.{DraftValue}
 use Rattle.sched_events.specs.SettledAndSound.{IsSoundAndSaid, IsSettled}
 use Rattle.sched_events.specs.declared.events.Event.TheVariants.{Pause}
 use Rattle.sched_core.specs.Books.{IsCounted}
@@ -10,7 +11,7 @@ use Rattle.sched_core.specs.declared.changes.GraphChange.TheVariants as graphs
 use Rattle.sched_core.proofs.BookLemmas.{pause_counted}
 use Rattle.sched_core.proofs.EffectLemmas.{quiet_whole}
 use Rattle.sched_core.proofs.PlanLemmas.{looked_up, pause_unknown, pause_accepted, pause_draft, change_held, IsDraftOf, draft_sound, draft_kept, draft_planned}
-use Rattle.sched_core.proofs.schedules.Schedule.plan_pause.Goals.{In_ok-draft}
+use Rattle.sched_core.proofs.schedules.Schedule.plan_pause.Goals.{After-quiet_answer}
 use Rattle.sched_core.proofs.schedules.Schedule.plan_pause.Goals as goal
 
 pub returns-then-is_none-clause-refused : goal.returns-then-is_none-clause-refused
@@ -47,7 +48,7 @@ returns-then-self-clause-accepted c =
     (quiet_whole (graphs.Pause id true) a c.in_ok-quiet_change.field-0 refl still is)
 
 -- the draft, in which the graph is paused
-drafted : (c : In_ok-draft) → IsDraftOf (Pause c.args.id.now) c.args.self.now.content c.in_ok-draft.draft
+drafted : (c : After-quiet_answer) → IsDraftOf (Pause c.args.id.now) c.args.self.now.content c.draft-draft.result.content
 drafted c =
     let a : Schedule = c.args.self.now.content in
     let there : is_none (graph_named a c.args.id.now) ≡ false =
@@ -57,20 +58,20 @@ drafted c =
       ranged = tt;
       accepted = pause_accepted a c.args.id.now there;
       kept = subst (λ (h : ScheduleValue). IsSoundAndSaid h.content) c.self.view_is c.self.invariant.kept;
-      is = pause_draft a c.in_ok-draft.draft c.args.id.now c.in_ok-draft.ensures;
+      is = pause_draft a c.draft-draft.result.content c.args.id.now (ap (λ (v : DraftValue). v.content) c.draft-draft.ensures);
     }
 
 pub finish-requires-clause-sound : goal.finish-requires-clause-sound
-finish-requires-clause-sound c = draft_sound (drafted (goal.at.finish-requires-clause-sound c).In_ok-draft)
+finish-requires-clause-sound c = draft_sound (drafted (goal.at.finish-requires-clause-sound c).After-quiet_answer)
 
 pub finish-requires-clause-kept : goal.finish-requires-clause-kept
-finish-requires-clause-kept c = draft_kept (drafted (goal.at.finish-requires-clause-kept c).In_ok-draft)
+finish-requires-clause-kept c = draft_kept (drafted (goal.at.finish-requires-clause-kept c).After-quiet_answer)
 
 pub finish-requires-clause-counted : goal.finish-requires-clause-counted
 finish-requires-clause-counted c =
     let a : Schedule = c.args.self.now.content in
     let counted : IsCounted a = subst (λ (h : ScheduleValue). IsCounted h.content) c.self.view_is c.self.invariant.counted in
-    subst IsCounted (sym c.in_ok-draft.ensures) (pause_counted c.args.id.now true a counted)
+    subst IsCounted (sym (ap (λ (v : DraftValue). v.content) c.draft-draft.ensures)) (pause_counted c.args.id.now true a counted)
 
 pub returns-clause-accepted : goal.returns-clause-accepted
-returns-clause-accepted c = draft_planned c.quiet_answer.result c.in_ok-finish.field-0 (drafted (goal.at.returns-clause-accepted c).In_ok-draft) c.quiet_answer.ensures c.in_ok-finish.ensures
+returns-clause-accepted c = draft_planned c.quiet_answer.result c.in_ok-finish.field-0 (drafted (goal.at.returns-clause-accepted c).After-quiet_answer) c.quiet_answer.ensures c.in_ok-finish.ensures

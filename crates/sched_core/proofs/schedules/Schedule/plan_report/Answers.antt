@@ -1,53 +1,96 @@
-use Rattle.std.proofs.Common.{◌≡◌, ◌∙◌, sym, ap, subst, inr, is_some, true, false}
-use Rattle.instance_machine.specs.Reports.{report_try}
+use Rattle.std.proofs.Common.{◌≡◌, ◌∙◌, refl, sym, ap, subst, inr, is_some, true, false, ◌<◌, List, Some, None, option_map, length}
+use Rattle.std.specs.Prelude.{IfSome}
+use Rattle.instance_machine.specs.Instances.{map_tries}
+use Rattle.instance_machine.specs.Reports.{report_try, reported_try}
+use Rattle.sched_draft.specs.Drafts.{DraftValue}
 use Rattle.sched_model.specs.Changes.{report}
+use Rattle.sched_model.specs.Handout.{in_instance}
+use Rattle.sched_model.specs.Lists.{at}
 use Rattle.sched_model.specs.Schedule.{Schedule}
+use Rattle.sched_state.specs.declared.runs.Run.{Run}
 use Rattle.sched_events.specs.SettledAndSound.{IsSoundAndSaid}
 use Rattle.sched_events.specs.declared.events.Event.TheVariants.{Report}
 use Rattle.sched_core.specs.Books.{IsCounted}
 use Rattle.sched_core.specs.Changes.{ScheduleValue}
+use Rattle.sched_core.specs.Finding.{IsFoundAt}
+use Rattle.sched_core.specs.declared.finding.Found.{Found}
 use Rattle.sched_core.proofs.BookLemmas.{report_counted}
 use Rattle.sched_core.proofs.PlanLemmas.{found_try, not_in_flight, out_of_turn, in_turn, report_draft, IsDraftOf, draft_sound, draft_kept, draft_planned}
-use Rattle.sched_core.proofs.schedules.Schedule.plan_report.Goals.{After-report}
+use Rattle.sched_core.proofs.ReportLemmas.{report_at, found_run, found_instance}
+use Rattle.sched_core.proofs.schedules.Schedule.plan_report.Goals.{In-Some, After-report_at}
 use Rattle.sched_core.proofs.schedules.Schedule.plan_report.Goals as goal
 
 pub returns-in_default-clause-refused : goal.returns-in_default-clause-refused
 returns-in_default-clause-refused c =
     let a : Schedule = c.args.self.now.content in
-    let found = found_try a c.args.serial c.deref.result.now c.open_try.result (c.deref.ensures.value ∙ ap (λ (h : ScheduleValue). h.content.runs) c.self.view_is) c.open_try.ensures in
-    inr (record { first = not_in_flight a c.args.serial c.args.stage (sym c.in_default.is ∙ found); shown = tt })
+    let found = found_try a c.args.serial c.as_slice.result.now (option_map (λ (f : Found). f.one) c.open_try.result) (c.as_slice.ensures ∙ ap (λ (h : ScheduleValue). h.content.runs) c.self.view_is) c.open_try.ensures.one in
+    inr (record { first = not_in_flight a c.args.serial c.args.stage (sym (ap (option_map (λ (f : Found). f.one)) c.in_default.is) ∙ found); shown = tt })
 
 pub returns-then-not-takes-clause-refused : goal.returns-then-not-takes-clause-refused
 returns-then-not-takes-clause-refused c =
     let a : Schedule = c.args.self.now.content in
-    let found = found_try a c.args.serial c.deref.result.now c.open_try.result (c.deref.ensures.value ∙ ap (λ (h : ScheduleValue). h.content.runs) c.self.view_is) c.open_try.ensures in
-    let turn : is_some (report_try c.args.stage a.now c.in-Some.one) ≡ false = sym (c.if-not-takes.ensures a.now) in
-    inr (record { first = out_of_turn a c.args.serial c.args.stage c.in-Some.one (sym c.in-Some.is ∙ found) turn; shown = tt })
+    let found = found_try a c.args.serial c.as_slice.result.now (option_map (λ (f : Found). f.one) c.open_try.result) (c.as_slice.ensures ∙ ap (λ (h : ScheduleValue). h.content.runs) c.self.view_is) c.open_try.ensures.one in
+    let turn : is_some (report_try c.args.stage a.now c.in-Some.found.one) ≡ false = sym (c.if-not-takes.ensures a.now) in
+    inr (record { first = out_of_turn a c.args.serial c.args.stage c.in-Some.found.one (sym (ap (option_map (λ (f : Found). f.one)) c.in-Some.is) ∙ found) turn; shown = tt })
+
+-- where the try stands
+stands : (c : In-Some) → IsFoundAt c.args.serial c.args.self.now.content.runs c.in-Some.found
+stands c =
+    subst (λ (rs : List Run). IsFoundAt c.args.serial rs c.in-Some.found) (c.as_slice.ensures ∙ ap (λ (h : ScheduleValue). h.content.runs) c.self.view_is)
+    (subst (λ o. IfSome o (IsFoundAt c.args.serial c.as_slice.result.now)) c.in-Some.is c.open_try.ensures.place)
+
+pub own-requires : goal.own-requires
+own-requires c =
+    let a : Schedule = c.args.self.now.content in
+    subst (λ (v : DraftValue). c.in-Some.found.position < length v.content.runs) (sym c.draft-draft.ensures) (found_run c.args.serial a.runs c.in-Some.found (stands (goal.at.own-requires c).In-Some))
+
+pub report_at-requires-clause-instance : goal.report_at-requires-clause-instance
+report_at-requires-clause-instance c =
+    found_instance c.args.serial c.args.self.now.content c.own.new.self.content c.in-Some.found (ap (λ (v : DraftValue). v.content) c.in_ok-own.ensures.ok ∙ ap (λ (v : DraftValue). v.content) c.draft-draft.ensures)
+    (stands (goal.at.report_at-requires-clause-instance c).In-Some)
 
 -- the draft, with what is reported
-drafted : (c : After-report) → IsDraftOf (Report c.args.serial c.args.stage) c.args.self.now.content c.report.new.self
-drafted c =
+reported : (c : After-report_at) → IsFoundAt c.args.serial c.args.self.now.content.runs c.in-Some.found → c.report_at.new.self.content ≡ report c.args.serial c.args.stage c.args.self.now.content
+reported c found =
     let a : Schedule = c.args.self.now.content in
-    let found = found_try a c.args.serial c.deref.result.now c.open_try.result (c.deref.ensures.value ∙ ap (λ (h : ScheduleValue). h.content.runs) c.self.view_is) c.open_try.ensures in
-    let turn : is_some (report_try c.args.stage a.now c.in-Some.one) ≡ true = sym (c.if-not-takes.ensures a.now) in
+    let own : c.own.new.self.content ≡ a = ap (λ (v : DraftValue). v.content) c.in_ok-own.ensures.ok ∙ ap (λ (v : DraftValue). v.content) c.draft-draft.ensures in
+    report_at c.args.serial c.args.stage a c.report_at.new.self.content c.in-Some.found (subst (λ (h : ScheduleValue). IsSoundAndSaid h.content) c.self.view_is c.self.invariant.kept).sound found
+    (ap (λ (v : DraftValue). v.content) c.report_at.ensures
+    ∙ ap (λ (s : Schedule). record s { runs = at (in_instance (map_tries (reported_try c.args.serial c.args.stage s.now)) c.in-Some.found.place) c.in-Some.found.position s.runs }) own)
+
+drafted : (c : After-report_at) → IsFoundAt c.args.serial c.args.self.now.content.runs c.in-Some.found → IsDraftOf (Report c.args.serial c.args.stage) c.args.self.now.content c.report_at.new.self.content
+drafted c place =
+    let a : Schedule = c.args.self.now.content in
+    let found = found_try a c.args.serial c.as_slice.result.now (option_map (λ (f : Found). f.one) c.open_try.result) (c.as_slice.ensures ∙ ap (λ (h : ScheduleValue). h.content.runs) c.self.view_is) c.open_try.ensures.one in
+    let turn : is_some (report_try c.args.stage a.now c.in-Some.found.one) ≡ true = sym (c.if-not-takes.ensures a.now) in
     record {
       ranged = tt;
-      accepted = in_turn a c.args.serial c.args.stage c.in-Some.one (sym c.in-Some.is ∙ found) turn;
+      accepted = in_turn a c.args.serial c.args.stage c.in-Some.found.one (sym (ap (option_map (λ (f : Found). f.one)) c.in-Some.is) ∙ found) turn;
       kept = subst (λ (h : ScheduleValue). IsSoundAndSaid h.content) c.self.view_is c.self.invariant.kept;
-      is = report_draft a c.in_ok-draft.draft c.report.new.self c.args.serial c.args.stage c.in_ok-draft.ensures c.report.ensures;
+      is = report_draft a a c.report_at.new.self.content c.args.serial c.args.stage refl (reported c place);
     }
 
+pub finish-requires-clause-based : goal.finish-requires-clause-based
+finish-requires-clause-based c = ap (λ (v : DraftValue). v.base) c.report_at.ensures ∙ (ap (λ (v : DraftValue). v.base) c.in_ok-own.ensures.ok ∙ ap (λ (v : DraftValue). v.base) c.draft-draft.ensures)
+
+pub finish-requires-clause-over : goal.finish-requires-clause-over
+finish-requires-clause-over c = record {
+  limits = ap (λ (v : DraftValue). v.content.limits) c.report_at.ensures ∙ (ap (λ (v : DraftValue). v.content.limits) c.in_ok-own.ensures.ok ∙ ap (λ (v : DraftValue). v.content.limits) c.draft-draft.ensures);
+  graphs = ap (λ (v : DraftValue). v.content.graphs) c.report_at.ensures ∙ (ap (λ (v : DraftValue). v.content.graphs) c.in_ok-own.ensures.ok ∙ ap (λ (v : DraftValue). v.content.graphs) c.draft-draft.ensures);
+}
+
 pub finish-requires-clause-sound : goal.finish-requires-clause-sound
-finish-requires-clause-sound c = draft_sound (drafted (goal.at.finish-requires-clause-sound c).After-report)
+finish-requires-clause-sound c = draft_sound (let at = goal.at.finish-requires-clause-sound c in drafted at.After-report_at (stands at.In-Some))
 
 pub finish-requires-clause-kept : goal.finish-requires-clause-kept
-finish-requires-clause-kept c = draft_kept (drafted (goal.at.finish-requires-clause-kept c).After-report)
+finish-requires-clause-kept c = draft_kept (let at = goal.at.finish-requires-clause-kept c in drafted at.After-report_at (stands at.In-Some))
 
 pub finish-requires-clause-counted : goal.finish-requires-clause-counted
 finish-requires-clause-counted c =
     let a : Schedule = c.args.self.now.content in
     let counted : IsCounted a = subst (λ (h : ScheduleValue). IsCounted h.content) c.self.view_is c.self.invariant.counted in
-    subst IsCounted (sym (c.report.ensures ∙ ap (report c.args.serial c.args.stage) c.in_ok-draft.ensures)) (report_counted c.args.serial c.args.stage a counted)
+    subst IsCounted (sym (let at = goal.at.finish-requires-clause-counted c in reported at.After-report_at (stands at.In-Some))) (report_counted c.args.serial c.args.stage a counted)
 
 pub returns-clause-accepted : goal.returns-clause-accepted
-returns-clause-accepted c = draft_planned c.quiet_answer.result c.in_ok-finish.field-0 (drafted (goal.at.returns-clause-accepted c).After-report) c.quiet_answer.ensures c.in_ok-finish.ensures
+returns-clause-accepted c =
+    draft_planned c.quiet_answer.result c.in_ok-finish.field-0 (let at = goal.at.returns-clause-accepted c in drafted at.After-report_at (stands at.In-Some)) c.quiet_answer.ensures c.in_ok-finish.ensures

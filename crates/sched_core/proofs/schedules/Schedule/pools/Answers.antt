@@ -9,5 +9,5 @@ use Rattle.sched_core.proofs.schedules.Schedule.pools.Goals as goal
 
 pub returns : goal.returns
 returns c =
-    let a : Schedule = record { limits = c.self.inside.limits; graphs = c.self.inside.graphs.items; pools = pools_in c.self.inside.pools.pools; now = c.self.inside.clock; lanes = c.self.inside.lanes; next = c.self.inside.next; runs = c.self.inside.runs.items } in
+    let a : Schedule = record { limits = c.self.inside.limits; graphs = c.self.inside.graphs.items; pools = pools_in c.self.inside.pools.pools; now = c.self.inside.clock; lanes = c.self.inside.lanes; next = c.self.inside.next; runs = c.self.inside.runs.runs } in
     ap (map row_in) c.iter.ensures.rest ∙ (rows_held c.self.inside.is_settled a c.self.inside.pools.pools refl c.self.invariant ∙ ap (λ (h : ScheduleValue). pool_rows h.content) c.self.view_is)

@@ -1,0 +1,15 @@
+use Rattle.std.proofs.Common.{◌≤◌, ◌+◌, ◌-◌, length, subst, sym, arith, vec_len, vec_capacity, List}
+use Rattle.std.proofs.lemmas.Result.{on_ok_weaker}
+use Rattle.sched_state.specs.declared.graphs.LoadedGraph.{LoadedGraph}
+use Rattle.sched_core.specs.declared.changes.GraphChange.{GraphChange}
+use Rattle.sched_core.specs.Effects.{changed}
+use Rattle.sched_core.proofs.TakeInLemmas.{length-with_graph}
+use Rattle.sched_core.proofs.schedules.room_for_graphs.Goals as goal
+
+pub returns-in-Load-clause-room : goal.returns-in-Load-clause-room
+returns-in-Load-clause-room c =
+    on_ok_weaker c.reserve.result
+    (λ (made : vec_len c.reserve.new.self + 1 ≤ vec_capacity c.reserve.new.self) (gs : List LoadedGraph).
+    subst (λ (g : GraphChange). length (changed g gs) ≤ length gs + (vec_capacity c.reserve.new.self - vec_len c.reserve.new.self)) (sym c.in-Load.is)
+    (omega (arith, length-with_graph c.in-Load.field-0 c.in-Load.field-1 gs)))
+    c.reserve.ensures.ok

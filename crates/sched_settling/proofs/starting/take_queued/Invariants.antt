@@ -1,0 +1,12 @@
+use Rattle.std.proofs.Common.{◌≡◌}
+use Rattle.sched_settling.specs.Marks.{IsQueue, dates_left}
+use Rattle.sched_settling.proofs.starting.take_queued.Given as goal
+
+abbrev pub invariant-loop-date : goal.invariant-loop-date
+invariant-loop-date l = record {
+  queue : IsQueue l.draft.content l.id l.line;
+  active : l.line.active ≡ l.fn.line.active;
+}
+
+abbrev pub decreases-loop-date : goal.decreases-loop-date
+decreases-loop-date l = dates_left l.line
