@@ -1,5 +1,5 @@
--- A schedule beside the book of its pools: what changes of what is taken, a pool that gets another size, and rows.
-use Rattle.std.proofs.Common.{◌≡◌, ◌∙◌, refl, sym, ap, subst, ℕ, ◌-ℤ◌, pos, ◌≤◌, List, [], ◌∷◌, Bool, true, false, cond, ◌||◌, map, filter, find, is_some, sum_by, Option, Some, None, option_map, unwrap_or, arith, leb-true, true≢false}
+-- A schedule beside its numbers: what changes leave of them, a pool that gets another size, and rows.
+use Rattle.std.proofs.Common.{◌≡◌, ◌∙◌, refl, sym, ap, subst, ℕ, ◌-ℤ◌, pos, ◌≤◌, List, [], ◌∷◌, Bool, true, false, cond, ◌||◌, length, map, min, filter, find, is_some, sum_by, Option, Some, None, option_map, unwrap_or, arith, leb-true, true≢false}
 use Rattle.std.specs.BTreeMap.{insert_entry}
 use Rattle.std.specs.List.{list_all, list_any}
 use Rattle.std.specs.Ordering.{is_eq, match_ordering}
@@ -10,31 +10,36 @@ use Rattle.std.proofs.Math.Nat.{min-eq_left}
 use Rattle.std.proofs.lemmas.Cmp.{nat_list_cmp_total}
 use Rattle.std.proofs.lemmas.Map.Text.{is_eq-slice_cmp}
 use Rattle.graph_file.specs.Names.{is_name}
+use Rattle.graph_file.specs.declared.task_specs.TaskSpec.{TaskSpec}
 use Rattle.instance_machine.specs.Reports.{reported_try}
 use Rattle.instance_machine.specs.declared.tries.Stage.{Stage}
+use Rattle.instance_machine.specs.declared.tries.Try.{Try}
 use Rattle.pool_book.specs.Limits.{most_taken}
-use Rattle.pool_book.specs.Pools.{Entries, PoolUse, pool_of, resized, occupied_of}
+use Rattle.pool_book.specs.Pools.{Entries, PoolUse, pool_of, resized, occupied_of, vacated}
+use Rattle.pool_book.proofs.PoolLemmas.{pool_of-put}
 use Rattle.sched_state.specs.Lists.{same, name_cmp, is_less, insert_by}
 use Rattle.sched_state.proofs.NameLemmas.{same_is, same_itself}
 use Rattle.sched_state.proofs.OrderLemmas.{and_left, and_right, or_left, or_right}
-use Rattle.sched_model.specs.Changes.{resize_pool, new_pool, with_pool, set_now, set_paused, resize, report, restart}
+use Rattle.sched_model.specs.Changes.{resize_pool, new_pool, with_pool, resize, report, restart}
 use Rattle.sched_model.specs.Clearing.{Selection}
 use Rattle.sched_model.specs.Handout.{hand_out}
 use Rattle.sched_model.specs.Lists.{rises}
 use Rattle.sched_model.specs.NamedRuns.{NamedRun, add_runs}
-use Rattle.sched_model.specs.Schedule.{Schedule, Pool, pool_before}
+use Rattle.sched_model.specs.Schedule.{Schedule, Pool, has_pool, pool_before}
 use Rattle.sched_model.specs.Settle.{settle}
 use Rattle.sched_model.specs.Sound.{IsSound, is_sound_pool}
-use Rattle.sched_model.specs.States.{open_tries, slots_in, occupied}
-use Rattle.sched_laws.proofs.OccupyingLemmas.{open_paused, open_cleared, open_added, open_restarted, ended_by, occupied_reported}
-use Rattle.sched_laws.proofs.SlotLemmas.{open_settled, out_filled}
+use Rattle.sched_model.specs.States.{in_flight, open_tries, slots_in, occupied}
+use Rattle.sched_laws.proofs.OccupyingLemmas.{open_cleared, open_added, open_restarted, ended_by, occupied_reported}
+use Rattle.sched_laws.proofs.SlotLemmas.{open_settled, out_filled, none_occupied}
 use Rattle.sched_laws.proofs.SoundLemmas.{settle_sound}
 use Rattle.sched_events.specs.Events.{set_back}
 use Rattle.sched_events.specs.SettledAndSound.{IsSoundAndSaid, IsSettled}
 use Rattle.sched_events.specs.Rows.{PoolLine}
 use Rattle.sched_draft.specs.Books.{pools_in, Takes, IsBookOf}
 use Rattle.sched_draft.proofs.BookLemmas.{has_is}
-use Rattle.sched_core.specs.Books.{IsCounted, AgreesWithBook}
+use Rattle.sched_handout.specs.Occupied.{AreOccupied}
+use Rattle.sched_handout.specs.declared.occupied.Occupied.{Occupied}
+use Rattle.sched_core.specs.Books.{IsCounted, IsHeldWith}
 use Rattle.sched_core.specs.Inside.{row_in}
 use Rattle.sched_core.specs.Views.{pool_row, pool_rows}
 use Rattle.sched_laws.proofs.RankLemmas.{less_is}
@@ -44,30 +49,38 @@ use Rattle.sched_laws.proofs.ResizeLemmas.{resize_other}
 pub counted_same : (a b : Schedule) → open_tries b ≡ open_tries a → IsCounted a → IsCounted b
 counted_same a b e counted name = subst (λ n. n ≤ most_taken) (ap (sum_by (slots_in name)) (sym e)) (counted name)
 
-pub quiet_held : (a b : Schedule) (es : Entries) (was : Bool) → IsSoundAndSaid b → IsSettled b → open_tries b ≡ open_tries a → AgreesWithBook was a es → AgreesWithBook true b es
-quiet_held a b es was kept still e held = record {
+-- and so are the numbers, where the pools are the same
+pub occupied_as : (a b : Schedule) (t u : Occupied) → open_tries b ≡ open_tries a → b.pools ≡ a.pools → u.in_flight ≡ t.in_flight → u.pools.pools ≡ t.pools.pools → AreOccupied a t → AreOccupied b u
+occupied_as a b t u e pools flight book h = record {
+  in_flight = flight ∙ (h.in_flight ∙ ap (λ (es : List (TaskSpec × Try)). length es) (sym e));
+  pools = subst (IsBookOf b) (sym book) (record {
+    pools = h.pools.pools ∙ sym pools;
+    taken = λ name p there. h.pools.taken name p there ∙ ap (λ (es : List (TaskSpec × Try)). min (sum_by (slots_in name) es) most_taken) (sym e);
+  });
+}
+
+pub quiet_held : (a b : Schedule) (t : Occupied) (was : Bool) → IsSoundAndSaid b → IsSettled b → open_tries b ≡ open_tries a → b.pools ≡ a.pools → IsHeldWith was a t → IsHeldWith true b t
+quiet_held a b t was kept still e pools held = record {
   kept = kept;
   settled = λ known. still;
   counted = counted_same a b e held.counted;
-  taken = λ name p there. held.taken name p there ∙ ap (sum_by (slots_in name)) (sym e);
+  occupied = occupied_as a b t t e pools refl refl held.occupied;
 }
 
--- ---- what events leave is counted
-pub tick_counted : (t : ℕ) (ns : List NamedRun) (a : Schedule) → IsCounted a → IsCounted (add_runs ns (set_now t a))
-tick_counted t ns a counted = counted_same a (add_runs ns (set_now t a)) (open_added ns (set_now t a)) counted
-
-pub trigger_counted : (ns : List NamedRun) (a : Schedule) → IsCounted a → IsCounted (add_runs ns a)
-trigger_counted ns a counted = counted_same a (add_runs ns a) (open_added ns a) counted
-
+-- ---- what events leave
 open_back : (named : Option Selection) (a : Schedule) → open_tries (set_back named a) ≡ open_tries a
 open_back None a = refl
 open_back (Some named) a = open_cleared named a
 
-pub repair_counted : (ns : List NamedRun) (named : Option Selection) (a : Schedule) → IsCounted a → IsCounted (add_runs ns (set_back named a))
-repair_counted ns named a counted = counted_same a (add_runs ns (set_back named a)) (open_added ns (set_back named a) ∙ open_back named a) counted
+pools_back : (named : Option Selection) (a : Schedule) → (set_back named a).pools ≡ a.pools
+pools_back None a = refl
+pools_back (Some named) a = refl
 
-pub pause_counted : (id : List ℕ) (paused : Bool) (a : Schedule) → IsCounted a → IsCounted (set_paused id paused a)
-pause_counted id paused a counted = counted_same a (set_paused id paused a) (open_paused id paused a) counted
+pub repair_open : (ns : List NamedRun) (named : Option Selection) (a : Schedule) → open_tries (add_runs ns (set_back named a)) ≡ open_tries a
+repair_open ns named a = open_added ns (set_back named a) ∙ open_back named a
+
+pub repair_pools : (ns : List NamedRun) (named : Option Selection) (a : Schedule) → (add_runs ns (set_back named a)).pools ≡ a.pools
+repair_pools ns named a = pools_back named a
 
 pub report_counted : (serial : ℕ) (stage : Stage) (a : Schedule) → IsCounted a → IsCounted (report serial stage a)
 report_counted serial stage a counted name =
@@ -98,6 +111,48 @@ end_counted b sound counted name =
 -- a book that counts no further than the most says what is taken, where that is no more
 pub book_taken : (a : Schedule) (es : Entries) → IsCounted a → IsBookOf a es → Takes (occupied a) es
 book_taken a es counted book name p there = book.taken name p there ∙ min-eq_left (counted name)
+
+-- the numbers of a schedule that was read, whose tries were counted
+pub read_occupied : (a : Schedule) (t : Occupied) → IsCounted a → t.in_flight ≡ in_flight a → pools_in t.pools.pools ≡ a.pools → Takes (occupied a) t.pools.pools → AreOccupied a t
+read_occupied a t counted flight pools taken = record { in_flight = flight; pools = record { pools = pools; taken = λ name p there. taken name p there ∙ sym (min-eq_left (counted name)) } }
+
+-- ---- after a restart nothing is taken
+vacated_pools : (es : Entries) → pools_in (vacated es) ≡ pools_in es
+vacated_pools [] = refl
+vacated_pools (e ∷ es) = ap (λ (qs : List Pool). record { name = e.0; size = e.1.size } ∷ qs) (vacated_pools es)
+
+vacant : (name : List ℕ) (p : PoolUse) (es : Entries) → pool_of name (vacated es) ≡ Some p → p.occupied ≡ 0
+vacant name p [] e = absurd (let c : ◌≡◌ {A = Option PoolUse} None (Some p) = e in cc)
+vacant name p (e ∷ es) f = elim (same name e.0) as (λ b. cond b (Some (record e.1 { occupied = 0 })) (pool_of name (vacated es)) ≡ Some p → p.occupied ≡ 0) [
+  | true ↦ λ g. let c : ◌≡◌ {A = Option PoolUse} (Some (record e.1 { occupied = 0 })) (Some p) = g in let is : record e.1 { occupied = 0 } ≡ p = cc in ap (λ (q : PoolUse). q.occupied) (sym is)
+  | false ↦ λ g. vacant name p es g
+] f
+
+pub restart_occupied : (lanes : ℕ) (a : Schedule) (t u : Occupied) → pools_in t.pools.pools ≡ a.pools → u.in_flight ≡ 0 → u.pools.pools ≡ vacated t.pools.pools → AreOccupied (restart lanes a) u
+restart_occupied lanes a t u pools flight book = record {
+  in_flight = flight ∙ ap (λ (es : List (TaskSpec × Try)). length es) (sym (open_restarted lanes a));
+  pools = subst (IsBookOf (restart lanes a)) (sym book) (record {
+    pools = vacated_pools t.pools.pools ∙ pools;
+    taken = λ name p there. vacant name p t.pools.pools there ∙ ap (λ (es : List (TaskSpec × Try)). min (sum_by (slots_in name) es) most_taken) (sym (open_restarted lanes a));
+  });
+}
+
+-- ---- of a pool that is resized as much is taken
+pub resized_taken : (a : Schedule) (name : List ℕ) (size : ℕ) (es new : Entries) → IsSound a → IsBookOf a es → new ≡ resized name size es → Takes (λ other. min (occupied a other) most_taken) new
+resized_taken a name size es new sound book is other p there = by (same name other) refl (sym (pool_of-put name (record { size = size; occupied = occupied_of name es }) other es) ∙ (ap (pool_of other) (sym is) ∙ there))
+  where
+    known : (o : Option PoolUse) → pool_of name es ≡ o → unwrap_or (option_map (λ (q : PoolUse). q.occupied) o) 0 ≡ min (occupied a name) most_taken
+    known None e =
+        let none : has_pool a name ≡ false = has_is a es name book.pools ∙ ap is_some e in
+        sym (ap (λ n. min n most_taken) (none_occupied a name sound none))
+    known (Some q) e = book.taken name q e
+
+    by : (b : Bool) → same name other ≡ b → cond b (Some (record { size = size; occupied = occupied_of name es })) (pool_of other es) ≡ Some p → p.occupied ≡ min (occupied a other) most_taken
+    by true e found =
+        let c : ◌≡◌ {A = Option PoolUse} (Some (record { size = size; occupied = occupied_of name es })) (Some p) = found in
+        let u : record { size = size; occupied = occupied_of name es } ≡ p = cc in
+        ap (λ (q : PoolUse). q.occupied) (sym u) ∙ (known (pool_of name es) refl ∙ ap (λ n. min (occupied a n) most_taken) (same_is name other e))
+    by false e found = book.taken other p found
 
 -- ---- pools by name
 apart_by : (x y : List ℕ) (k : Ordering) → name_cmp x y ≡ k → same x y ≡ is_eq k
@@ -193,5 +248,8 @@ rows_in a (e ∷ es) order h =
     ap (λ (n : ℕ). let w : PoolLine = record { name = e.0; size = e.1.size; occupied = n; open_slots = pos e.1.size -ℤ pos n } in w ∷ map row_in es) here ∙ ap (λ (ws : List PoolLine). pool_row a (line e) ∷ ws) rest
 
 -- the rows of the book are those of the schedule
-pub rows_held : (is_settled : Bool) (a : Schedule) (es : Entries) → pools_in es ≡ a.pools → AgreesWithBook is_settled a es → map row_in es ≡ pool_rows a
-rows_held is_settled a es pools held = rows_in a es (ap (rises pool_before) pools ∙ held.kept.sound.pools_by_name) held.taken ∙ ap (map (pool_row a)) pools
+pub rows_held : (is_settled : Bool) (a : Schedule) (t : Occupied) → IsHeldWith is_settled a t → map row_in t.pools.pools ≡ pool_rows a
+rows_held is_settled a t held =
+    let es : Entries = t.pools.pools in
+    let book : IsBookOf a es = held.occupied.pools in
+    rows_in a es (ap (rises pool_before) book.pools ∙ held.kept.sound.pools_by_name) (book_taken a es held.counted book) ∙ ap (map (pool_row a)) book.pools

@@ -1,6 +1,5 @@
 -- What the effect of a change makes of a schedule that is held.
 use Rattle.std.proofs.Common.{◌≡◌, ◌∙◌, refl, sym, ap, subst, Bool, true, Option, Some, None}
-use Rattle.pool_book.specs.Pools.{Entries}
 use Rattle.sched_model.specs.Changes.{set_paused}
 use Rattle.sched_model.specs.Handout.{hand_out}
 use Rattle.sched_model.specs.Schedule.{Schedule}
@@ -15,10 +14,11 @@ use Rattle.sched_laws.proofs.PauseLemmas.{pause_still, pause_no_hand}
 use Rattle.sched_laws.proofs.SettleLemmas.{settle_still}
 use Rattle.sched_events.specs.SettledAndSound.{IsSoundAndSaid, IsSettled}
 use Rattle.sched_events.specs.declared.answers.Answer.{Answer}
-use Rattle.sched_core.specs.Books.{AgreesWithBook}
+use Rattle.sched_handout.specs.declared.occupied.Occupied.{Occupied}
+use Rattle.sched_core.specs.Books.{IsHeldWith}
 use Rattle.sched_core.specs.Changes.{Planned}
 use Rattle.sched_core.specs.Plans.{no_runs}
-use Rattle.sched_core.specs.Effects.{with_change, with_rest, applied, book_after, KeepsAgreement, IsQuiet}
+use Rattle.sched_core.specs.Effects.{with_change, with_rest, applied, numbers_after, KeepsHold, IsQuiet}
 use Rattle.sched_core.specs.Inside.{IsOver, IsLast, completed}
 use Rattle.sched_core.specs.declared.changes.Effect.{Effect}
 use Rattle.sched_core.specs.declared.changes.Rest.{Rest}
@@ -28,8 +28,8 @@ use Rattle.sched_core.proofs.BookLemmas.{quiet_held}
 use Rattle.sched_core.proofs.PlanLemmas.{no_jobs}
 
 -- what an effect keeps, where it is this one and the schedule this
-pub done_held : (e f : Effect) (a b : Schedule) (es : Entries) (was : Bool) → KeepsAgreement e a → e ≡ f → a ≡ b → AgreesWithBook was b es → AgreesWithBook true (applied f b) (book_after f.rest es)
-done_held e f a b es was keeps is there held = subst (λ (g : Effect). KeepsAgreement g b) is (subst (KeepsAgreement e) there keeps) es was held
+pub done_held : (e f : Effect) (a b : Schedule) (t : Occupied) (was : Bool) → KeepsHold e a → e ≡ f → a ≡ b → IsHeldWith was b t → IsHeldWith true (applied f b) (numbers_after f.rest t)
+done_held e f a b t was keeps is there held = subst (λ (g : Effect). KeepsHold g b) is (subst (KeepsHold e) there keeps) t was held
 
 -- the graphs are those that the change makes
 pub rest_graphs : (o : Option Rest) (a : Schedule) → (with_rest o a).graphs ≡ a.graphs
@@ -48,8 +48,8 @@ quiet_open graphs.Same a quiet = refl
 quiet_open (graphs.Load text dag) a quiet = load_open text dag a quiet
 quiet_open (graphs.Pause id paused) a quiet = open_paused id paused a
 
-pub quiet_keeps : (g : GraphChange) (a : Schedule) → IsSoundAndSaid (with_change g a) → IsQuiet g a → IsSettled a → KeepsAgreement (record { graphs = g; rest = None }) a
-quiet_keeps g a sound quiet still es was held = quiet_held a (with_change g a) es was sound (quiet_settled g a quiet still) (quiet_open g a quiet) held
+pub quiet_keeps : (g : GraphChange) (a : Schedule) → IsSoundAndSaid (with_change g a) → IsQuiet g a → IsSettled a → KeepsHold (record { graphs = g; rest = None }) a
+quiet_keeps g a sound quiet still t was held = quiet_held a (with_change g a) t was sound (quiet_settled g a quiet still) (quiet_open g a quiet) refl held
 
 -- nothing follows of them in a schedule that is settled
 pub quiet_step : (g : GraphChange) (a : Schedule) → IsQuiet g a → IsSettled a → hand_out (settle (with_change g a)) ≡ with_change g a

@@ -1,5 +1,5 @@
--- A draft that is settled and handed out stays over the same limits and graphs, and its book is true.
-use Rattle.std.proofs.Common.{◌≡◌, ◌∙◌, refl, sym, ap, ℕ, List, Some, sum_by, true}
+-- A draft that is settled and handed out stays over the same limits and graphs, and its numbers are true.
+use Rattle.std.proofs.Common.{◌≡◌, ◌∙◌, refl, sym, ap, ℕ, List, Some, true}
 use Rattle.sched_state.specs.Limits.{Bounds}
 use Rattle.sched_state.specs.declared.graphs.LoadedGraph.{LoadedGraph}
 use Rattle.sched_state.specs.declared.runs.Run.{Run}
@@ -10,17 +10,18 @@ use Rattle.sched_laws.proofs.SettleLemmas.{map_some}
 use Rattle.sched_laws.proofs.BesideLemmas.{no_runs_after}
 use Rattle.sched_laws.proofs.LoadLemmas.{load_open}
 use Rattle.sched_events.proofs.StepLemmas.{repeat_keeps, settle_graphs, out_graphs, without_settled}
-use Rattle.pool_book.specs.Pools.{Entries}
 use Rattle.sched_model.specs.Sound.{IsSound}
 use Rattle.sched_events.specs.SettledAndSound.{IsSettledAndSound}
-use Rattle.sched_draft.specs.Books.{IsBookOf}
-use Rattle.sched_core.specs.Books.{IsCounted, AgreesWithBook}
-use Rattle.sched_core.proofs.BookLemmas.{counted_same, end_counted, book_taken}
+use Rattle.sched_handout.specs.Occupied.{AreOccupied}
+use Rattle.sched_handout.specs.declared.occupied.Occupied.{Occupied}
+use Rattle.sched_core.specs.Books.{IsCounted, IsHeldWith}
+use Rattle.sched_core.proofs.BookLemmas.{counted_same, end_counted, occupied_as}
+use Rattle.sched_laws.proofs.SlotLemmas.{open_settled}
 use Rattle.sched_core.specs.Inside.{IsOver, IsLast, drafted, completed}
 use Rattle.sched_core.specs.Effects.{changed}
 use Rattle.sched_core.specs.declared.changes.GraphChange.{GraphChange}
 use Rattle.sched_core.specs.declared.changes.GraphChange.TheVariants as graphs
-use Rattle.sched_model.specs.States.{open_tries, slots_in}
+use Rattle.sched_model.specs.States.{open_tries}
 
 move_limits : (a b : Schedule) → move a ≡ Some b → b.limits ≡ a.limits
 move_limits a b e = let t = map_some (with_runs a) (move_runs a) b e in ap (λ (c : Schedule). c.limits) (sym t.2)
@@ -66,19 +67,29 @@ completed_open graphs.Same b last = refl
 completed_open (graphs.Load text dag) b last = load_open text dag (hand_out (settle b)) (no_runs_after b dag.spec.dag_id ∙ last)
 completed_open (graphs.Pause id paused) b last = refl
 
--- the book of the hand-outs is true of it
-pub finished_held : (g : GraphChange) (b : Schedule) (es : Entries) → IsSound b → IsCounted b → IsLast g b → IsSettledAndSound (completed g (hand_out (settle b))) → IsBookOf (hand_out (settle b)) es
-    → AgreesWithBook true (completed g (hand_out (settle b))) es
-finished_held g b es sound counted last kept book =
+completed_pools : (g : GraphChange) (b : Schedule) → (completed g b).pools ≡ b.pools
+completed_pools graphs.Same b = refl
+completed_pools (graphs.Load text dag) b = refl
+completed_pools (graphs.Pause id paused) b = refl
+
+-- settling leaves the numbers
+move_pools : (a b : Schedule) → move a ≡ Some b → b.pools ≡ a.pools
+move_pools a b e = let t = map_some (with_runs a) (move_runs a) b e in ap (λ (c : Schedule). c.pools) (sym t.2)
+
+pub settled_occupied : (b : Schedule) (t : Occupied) → AreOccupied b t → AreOccupied (settle b) t
+settled_occupied b t h = occupied_as b (settle b) t t (open_settled b) (repeat_keeps (λ (c : Schedule). c.pools) move move_pools (moves_left b) b) refl refl h
+
+-- and those of the hand-outs are true of what is completed
+pub finished_held : (g : GraphChange) (b : Schedule) (t : Occupied) → IsSound b → IsCounted b → IsLast g b → IsSettledAndSound (completed g (hand_out (settle b))) → AreOccupied (hand_out (settle b)) t
+    → IsHeldWith true (completed g (hand_out (settle b))) t
+finished_held g b t sound counted last kept numbers =
     let end : Schedule = hand_out (settle b) in
-    let low = end_counted b sound counted in
-    let taken = book_taken end es low book in
     let tries = completed_open g b last in
     record {
       kept = without_settled (completed g end) kept;
       settled = λ known. record { settled = kept.settled; handed = kept.handed };
-      counted = counted_same end (completed g end) tries low;
-      taken = λ name p there. taken name p there ∙ ap (sum_by (slots_in name)) (sym tries);
+      counted = counted_same end (completed g end) tries (end_counted b sound counted);
+      occupied = occupied_as end (completed g end) t t tries (completed_pools g end) refl refl numbers;
     }
 
 pub finished_over : (g : GraphChange) (a b : Schedule) → IsOver g a b → IsOver g a (hand_out (settle b))

@@ -18,3 +18,4 @@ pub mod LoseLemmas
 pub mod ReportLemmas
 pub mod RoomLemmas
 pub mod PastLemmas
+pub mod EndedLemmas

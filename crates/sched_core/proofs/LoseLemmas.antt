@@ -1,9 +1,8 @@
 -- Open tries that are lost, one instance and one run after another.
-use Rattle.std.proofs.Common.{◌≡◌, ◌∙◌, refl, sym, ap, subst, ℕ, zero, suc, ◌+◌, ◌≤◌, List, [], ◌∷◌, Bool, true, false, is_none, length, map, Option, Some, None, option_map, unwrap_or, slice_get, true≢false, arith}
+use Rattle.std.proofs.Common.{◌≡◌, ◌∙◌, refl, sym, ap, subst, ℕ, zero, suc, ◌+◌, ◌≤◌, List, [], ◌∷◌, Bool, false, is_none, length, map, Option, Some, None, option_map, unwrap_or, slice_get, true≢false, arith}
 use Rattle.std.specs.List.{list_any}
 use Rattle.instance_machine.specs.Instances.{InstanceValue, map_tries}
 use Rattle.instance_machine.specs.Reports.{lost_try, lost_if}
-use Rattle.instance_machine.specs.declared.tries.End.{End}
 use Rattle.instance_machine.specs.declared.tries.Try.{Try}
 use Rattle.sched_state.specs.declared.runs.Run.{Run}
 use Rattle.sched_state.proofs.OrderLemmas.{or_left, or_right}

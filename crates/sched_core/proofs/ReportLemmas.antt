@@ -1,7 +1,6 @@
 -- A report is a change of the one instance that has the try with its serial.
-use Rattle.std.proofs.Common.{◌≡◌, ◌∙◌, refl, sym, ap, subst, ℕ, zero, suc, ◌+◌, ◌<◌, ◌≤◌, List, [], ◌∷◌, ◌++◌, Bool, true, false, cond, ◌&&◌, ◌==◌, find, flat_map, map, take, length, Option, Some, None, option_map, unwrap_or, slice_get, true≢false, arith}
+use Rattle.std.proofs.Common.{◌≡◌, ◌∙◌, refl, sym, ap, subst, ℕ, zero, suc, ◌+◌, ◌<◌, List, [], ◌∷◌, ◌++◌, Bool, true, false, cond, ◌&&◌, ◌==◌, find, flat_map, length, Option, Some, None, option_map, unwrap_or, slice_get, arith}
 use Rattle.std.proofs.lemmas.Bool.{eqb-true}
-use Rattle.std.proofs.lemmas.List.{length-append}
 use Rattle.std.proofs.lemmas.Option.{slice_get-map, slice_get_within}
 use Rattle.instance_machine.specs.Instances.{InstanceValue, map_tries}
 use Rattle.instance_machine.specs.Reports.{reported_try, report_try}
@@ -81,9 +80,9 @@ try_at a m q k r i t e f g =
     slice_get-map (λ (u : Try). u.serial) (tries_of a) (place a m q k r) ∙ ap (option_map (λ (u : Try). u.serial)) outer
 
 -- a try with the serial of another is that one
-one_place : (a : Schedule) (m q k n p j : ℕ) (r x : Run) (i y : InstanceValue) (t u : Try) → IsSound a
+pub one_place : (a : Schedule) (m q k n p j : ℕ) (r x : Run) (i y : InstanceValue) (t u : Try) → IsSound a
     → slice_get a.runs m ≡ Some r → slice_get r.instances q ≡ Some i → slice_get i.tries k ≡ Some t
-    → slice_get a.runs n ≡ Some x → slice_get x.instances p ≡ Some y → slice_get y.tries j ≡ Some u → t.serial ≡ u.serial → (m ≡ n) × (q ≡ p)
+    → slice_get a.runs n ≡ Some x → slice_get x.instances p ≡ Some y → slice_get y.tries j ≡ Some u → t.serial ≡ u.serial → ((m ≡ n) × (q ≡ p)) × (k ≡ j)
 unfolding tries_in
 one_place a m q k n p j r x i y t u sound e f g h v w s =
     let one = try_at a m q k r i t e f g in
@@ -95,29 +94,29 @@ one_place a m q k n p j r x i y t u sound e f g h v w s =
     let is : x ≡ r = cc in
     let inner = flat_same (λ (i : InstanceValue). i.tries) r.instances q p k j i y t u f (ap (λ (o : Run). slice_get o.instances p) (sym is) ∙ v) g w
     (outer.1 ∙ ap (λ (o : Run). offset (λ (i : InstanceValue). i.tries) p o.instances + j) is) in
-    (outer.0, inner.0)
+    ((outer.0, inner.0), inner.1)
 
 -- ---- the report
-other_serial : (serial : ℕ) (stage : Stage) (now : ℕ) (t : Try) → (t.serial ≡ serial → ⊥) → reported_try serial stage now t ≡ t
+pub other_serial : (serial : ℕ) (stage : Stage) (now : ℕ) (t : Try) → (t.serial ≡ serial → ⊥) → reported_try serial stage now t ≡ t
 other_serial serial stage now t h = elim (t.serial == serial) as (λ b. (t.serial == serial) ≡ b → cond b (unwrap_or (report_try stage now t) t) t ≡ t) [
   | true ↦ λ e. absurd (h (eqb-true t.serial serial e))
   | false ↦ λ e. refl
 ] refl
 
-found_in : {X : Type 0} (p : X → Bool) (xs : List X) (x : X) → find p xs ≡ Some x → (k : ℕ) × (slice_get xs k ≡ Some x)
+pub found_in : {X : Type 0} (p : X → Bool) (xs : List X) (x : X) → find p xs ≡ Some x → (k : ℕ) × (slice_get xs k ≡ Some x)
 found_in {X} p [] x e = absurd (let c : ◌≡◌ {A = Option X} None (Some x) = e in cc)
 found_in {X} p (y ∷ xs) x e = elim (p y) as (λ b. cond b (Some y) (find p xs) ≡ Some x → (k : ℕ) × (slice_get (y ∷ xs) k ≡ Some x)) [
   | true ↦ λ f. (0, f)
   | false ↦ λ f. let t = found_in p xs x f in (suc t.0, t.1)
 ] e
 
-all_at : (serial : ℕ) (stage : Stage) (a : Schedule) (f : Found) → IsSound a → IsFoundAt serial a.runs f → AreAllAt (reported_try serial stage a.now) f.position f.place a
+pub all_at : (serial : ℕ) (stage : Stage) (a : Schedule) (f : Found) → IsSound a → IsFoundAt serial a.runs f → AreAllAt (reported_try serial stage a.now) f.position f.place a
 all_at serial stage a f sound found = λ m q k r i t e g h apart.
     let own : Bool = is_open f.one && f.one.serial == serial in
     let tries = found_in (λ (t : Try). is_open t && t.serial == serial) found.instance.instance.tries f.one found.instance.first in
     let passes : (is_open f.one && f.one.serial == serial) ≡ true = find_passes (λ (t : Try). is_open t && t.serial == serial) found.instance.instance.tries f.one found.instance.first in
     let is : f.one.serial ≡ serial = eqb-true f.one.serial serial (and_right (is_open f.one) (f.one.serial == serial) passes) in
-    other_serial serial stage a.now t (λ s. apart (one_place a m q k f.position f.place tries.0 r found.run i found.instance.instance t f.one sound e g h found.there found.instance.there tries.1 (s ∙ sym is)))
+    other_serial serial stage a.now t (λ s. apart (one_place a m q k f.position f.place tries.0 r found.run i found.instance.instance t f.one sound e g h found.there found.instance.there tries.1 (s ∙ sym is)).0)
 
 pub report_at : (serial : ℕ) (stage : Stage) (a b : Schedule) (f : Found) → IsSound a → IsFoundAt serial a.runs f
     → b ≡ record a { runs = at (in_instance (map_tries (reported_try serial stage a.now)) f.place) f.position a.runs } → b ≡ report serial stage a

@@ -1,10 +1,11 @@
--- A schedule beside the book of its pools.
+-- A schedule beside the numbers of what its tries without an end occupy.
 use Rattle.std.specs.Prelude.{◌≡◌, ℕ, ◌≤◌, Bool, true, List}
 use Rattle.pool_book.specs.Limits.{most_taken}
-use Rattle.pool_book.specs.Pools.{Entries}
 use Rattle.sched_model.specs.Schedule.{Schedule}
 use Rattle.sched_model.specs.States.{occupied}
-use Rattle.sched_draft.specs.Books.{Takes, pools_in}
+use Rattle.sched_draft.specs.Books.{pools_in}
+use Rattle.sched_handout.specs.Occupied.{AreOccupied}
+use Rattle.sched_handout.specs.declared.occupied.Occupied.{Occupied}
 use Rattle.sched_events.specs.SettledAndSound.{IsSoundAndSaid, IsSettled}
 use Rattle.sched_core.specs.declared.schedules.Schedule.TheInside.{Inside}
 
@@ -13,7 +14,7 @@ abbrev pub content_inside : Inside → Schedule
 content_inside s = record {
   limits = s.limits;
   graphs = s.graphs.items;
-  pools = pools_in s.pools.pools;
+  pools = pools_in s.occupied.pools.pools;
   now = s.clock;
   lanes = s.lanes;
   next = s.next;
@@ -24,9 +25,9 @@ content_inside s = record {
 abbrev pub IsCounted : Schedule → Type 0
 IsCounted a = (name : List ℕ) → occupied a name ≤ most_taken
 
--- the schedule is sound and said by its texts, and settled where it is known to be; and the book says what is taken of each of its pools
-pub record AgreesWithBook (is_settled : Bool) (a : Schedule) (es : Entries) : Type 0 where
+-- the schedule is sound and said by its texts, and settled where it is known to be; and these are its numbers
+pub record IsHeldWith (is_settled : Bool) (a : Schedule) (t : Occupied) : Type 0 where
   pub kept : IsSoundAndSaid a
   pub settled : is_settled ≡ true → IsSettled a
   pub counted : IsCounted a
-  pub taken : Takes (occupied a) es
+  pub occupied : AreOccupied a t

@@ -1,14 +1,14 @@
--- What the effect of a change makes of a schedule and of the book of its pools.
+-- What the effect of a change makes of a schedule, and of what is occupied in it.
 use Rattle.std.specs.Prelude.{◌≡◌, Bool, true, false, List, Option, Some, None, map}
-use Rattle.pool_book.specs.Pools.{Entries}
 use Rattle.sched_state.specs.declared.graphs.LoadedGraph.{LoadedGraph}
 use Rattle.run_lists.specs.Edits.{AreEditsOf, edited}
 use Rattle.sched_model.specs.Schedule.{Schedule, has_runs}
 use Rattle.sched_model.specs.Changes.{with_graph, pause_graph}
 use Rattle.sched_draft.specs.Books.{pools_in}
+use Rattle.sched_handout.specs.declared.occupied.Occupied.{Occupied}
 use Rattle.record_rows.specs.Rows.{Rows}
 use Rattle.record_changes.specs.Changes.{rows_between}
-use Rattle.sched_core.specs.Books.{AgreesWithBook}
+use Rattle.sched_core.specs.Books.{IsHeldWith}
 use Rattle.sched_core.specs.declared.changes.Effect.{Effect}
 use Rattle.sched_core.specs.declared.changes.GraphChange.{GraphChange}
 use Rattle.sched_core.specs.declared.changes.GraphChange.TheVariants as graphs
@@ -27,7 +27,7 @@ with_change g a = record a { graphs = changed g a.graphs }
 -- the rest, where it is another
 abbrev pub with_rest : Option Rest → Schedule → Schedule
 with_rest None a = a
-with_rest (Some n) a = record a { pools = pools_in n.pools.pools; now = n.clock; lanes = n.lanes; next = n.serial; runs = edited n.edits a.runs }
+with_rest (Some n) a = record a { pools = pools_in n.occupied.pools.pools; now = n.clock; lanes = n.lanes; next = n.serial; runs = edited n.edits a.runs }
 
 -- its edits are of the runs that are there
 abbrev pub AreOfRuns : Option Rest → Schedule → Type 0
@@ -37,18 +37,18 @@ AreOfRuns (Some n) a = AreEditsOf a.runs n.edits
 abbrev pub applied : Effect → Schedule → Schedule
 applied e a = with_rest e.rest (with_change e.graphs a)
 
--- the book after it: its own, or that of before
-abbrev pub book_after : Option Rest → Entries → Entries
-book_after None es = es
-book_after (Some n) es = n.pools.pools
+-- the numbers after it: its own, or those of before
+abbrev pub numbers_after : Option Rest → Occupied → Occupied
+numbers_after None t = t
+numbers_after (Some n) t = n.occupied
 
--- whatever book the schedule is held beside, settled or not, after the effect it is settled, and held beside the book of then
-abbrev pub KeepsAgreement : Effect → Schedule → Type 0
-KeepsAgreement e a = (es : Entries) (is_settled : Bool) → AgreesWithBook is_settled a es → AgreesWithBook true (applied e a) (book_after e.rest es)
+-- with whatever numbers the schedule is held, settled or not, after the effect it is settled, and held with the numbers of then
+abbrev pub KeepsHold : Effect → Schedule → Type 0
+KeepsHold e a = (t : Occupied) (is_settled : Bool) → IsHeldWith is_settled a t → IsHeldWith true (applied e a) (numbers_after e.rest t)
 
--- so it keeps the agreement, its edits are of the schedule's runs, and these are the rows that the schedule lacks after it
+-- so it keeps the hold, its edits are of the schedule's runs, and these are the rows that the schedule lacks after it
 pub record IsEffect (e : Effect) (rows : Rows) (a : Schedule) : Type 0 where
-  pub keeps : KeepsAgreement e a
+  pub keeps : KeepsHold e a
   pub edits : AreOfRuns e.rest a
   pub rows_are : rows ≡ rows_between a (applied e a)
 

@@ -29,7 +29,7 @@ impl Schedule {
         Base {
             limits: self.limits,
             graphs: self.graphs.as_slice(),
-            pools: &self.pools,
+            pools: &self.occupied.pools,
             clock: self.clock,
             lanes: self.lanes,
             next: self.next,

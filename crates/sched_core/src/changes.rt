@@ -6,10 +6,10 @@ use crate::schedules::Schedule;
 use dag_check::Graph;
 use graph_file::Name;
 use moment_core::Moment;
-use pool_book::Pools;
 use record_rows::Rows;
 use run_lists::Edits;
 use sched_events::Answer;
+use sched_handout::Occupied;
 use sched_state::GraphText;
 use std::marker::Model;
 use std::snapshot::Snapshot;
@@ -35,8 +35,8 @@ pub enum GraphChange {
 // What an event leaves, but for the graphs.
 #[derive(Drop)]
 pub struct Rest {
-    // The pools, with what is taken of each.
-    pub pools: Pools,
+    // What the tries without an end take, and the pools.
+    pub occupied: Occupied,
     pub clock: Moment,
     pub lanes: u32,
     // The serial of the next try.

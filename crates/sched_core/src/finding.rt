@@ -1,13 +1,21 @@
-//! Tries, found by their serials.
-ghost use Rattle.std.specs.Prelude.{◌≡◌, ◌&&◌, ◌==◌, find, flat_map, option_map, IfSome};
+//! Tries, found by their serials, and what they give back when they end.
+ghost use Rattle.std.specs.Prelude.{◌≡◌, ◌&&◌, ◌==◌, true, find, flat_map, is_some, option_map, IfOk, IfSome};
 ghost use Rattle.std.specs.Option.{option_copied};
 ghost use Rattle.instance_machine.specs.Instances.{InstanceValue};
 ghost use Rattle.sched_state.specs.declared.runs.Run.{Run as RunRecord};
+ghost use Rattle.instance_machine.specs.Reports.{report_try};
+ghost use Rattle.sched_handout.specs.Occupied.{AreOccupied};
+ghost use Rattle.sched_model.specs.Changes.{report};
 ghost use Rattle.sched_model.specs.States.{is_open};
 ghost use Rattle.sched_core.specs.Finding.{IsFoundIn, IsFoundAt};
 
-use instance_machine::{Instance, Try};
+use crate::lookups::graph_named;
+use crate::schedules::Schedule;
+use instance_machine::{Instance, Stage, Try};
+use pool_book::Slots;
+use sched_handout::Occupied;
 use sched_state::Run;
+use std::alloc::{AllocError, Global};
 
 // A try, and where it stands.
 #[derive(Clone, Copy)]
@@ -64,4 +72,31 @@ pub fn open_try(runs: &[Run], serial: u64) -> Option<Found>
         }
     }
     None
+}
+
+impl Schedule {
+    // What is occupied after a report on the try that was found: a try that ends gives its lane and its slots back.
+    pub(crate) fn occupied_after(
+        &self,
+        alloc: Global,
+        found: &Found,
+        serial: u64,
+        stage: Stage,
+    ) -> Result<Occupied, AllocError>
+        requires found { IsFoundAt serial self.now.content.runs found.now }
+        requires turn { is_some (report_try stage self.now.content.now found.now.one) ≡ true }
+        ensures { IfOk result (AreOccupied (report serial stage self.now.content)) }
+    {
+        let mut occupied = self.occupied.copy(alloc)?;
+        let Stage::Ended(_) = stage else {
+            return Ok(occupied);
+        };
+        let run = self.runs.get(found.position);
+        let Some(graph) = graph_named(self.graphs.as_slice(), &run.graph) else {
+            return Ok(occupied);
+        };
+        let task = graph.dag.task(found.place);
+        occupied.give_back(&task.pool, Slots::of(found.one.slots.get()));
+        Ok(occupied)
+    }
 }

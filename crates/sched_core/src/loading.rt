@@ -58,7 +58,7 @@ impl Schedule {
             return Err(Refusal::GraphFault(GraphFault::TooMany));
         }
         let dag = checked(alloc, spec)?;
-        match unknown_pool(&self.pools, dag.spec().tasks.as_slice()) {
+        match unknown_pool(&self.occupied.pools, dag.spec().tasks.as_slice()) {
             None => Ok(dag),
             Some(pool) => Err(Refusal::UnknownPool(pool.copy(alloc)?)),
         }

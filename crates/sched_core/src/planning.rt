@@ -10,6 +10,9 @@ ghost use Rattle.sched_events.specs.SettledAndSound.{IsSoundAndSaid, IsSettled, 
 ghost use Rattle.sched_events.specs.Outcomes.{IsRefusal};
 ghost use Rattle.sched_events.specs.declared.events.Event.TheVariants.{Tick, Pause, Unpause, Resize, Report, Restart};
 ghost use Rattle.sched_core.specs.Plans.{IsPlanned, no_runs, run_id};
+ghost use Rattle.sched_model.specs.States.{open_tries};
+ghost use Rattle.sched_handout.specs.Occupied.{AreOccupied};
+ghost use Rattle.sched_draft.specs.Books.{IsBookOf};
 ghost use Rattle.sched_core.specs.Books.{IsCounted};
 ghost use Rattle.sched_core.specs.Effects.{with_change, IsQuiet};
 ghost use Rattle.sched_core.specs.Inside.{IsOver, IsLast, completed, drafted_as, over};
@@ -26,7 +29,7 @@ use pool_book::{PoolFault, Pools, Slots};
 use sched_creation::{add, named_by_tick};
 use sched_draft::Draft;
 use sched_events::{Answer, Event, Refusal, RunId};
-use sched_handout::hand_out;
+use sched_handout::{Occupied, hand_out};
 use sched_settling::{settle, settle_touched};
 use sched_state::Run;
 use std::alloc::{AllocError, Global};
@@ -134,7 +137,7 @@ impl Schedule {
     }
 
     // The change that ends in this draft, settled and handed out, with this answer and the tries that are handed out. A text is taken in
-    // after that, a pause stands in the draft already.
+    // after that, a pause stands in the draft already. The tries without an end are those of the schedule.
     pub(crate) fn finish(
         &self,
         alloc: Global,
@@ -147,7 +150,34 @@ impl Schedule {
         requires over { IsOver graphs self.now.content draft.content }
         requires last { IsLast graphs draft.content }
         requires kept { IsSettledAndSound (completed graphs (hand_out (settle draft.content))) }
+        requires pools { draft.content.pools ≡ self.now.content.pools }
+        requires open { open_tries draft.content ≡ open_tries self.now.content }
+        ensures { IfOk result (λ change. change ≡ record {
+          before = self.now.content;
+          after = completed graphs (hand_out (settle draft.entry.content));
+          answer = record answer { jobs = handed self.now.content (hand_out (settle draft.entry.content)) };
+        }) }
+    {
+        let occupied = self.occupied.copy(alloc)?;
+        self.finish_with(alloc, draft, occupied, graphs, answer)
+    }
+
+    // The same, where these are the numbers of the draft.
+    fn finish_with(
+        &self,
+        alloc: Global,
+        draft: Draft<'_>,
+        occupied: Occupied,
+        graphs: GraphChange,
+        answer: Answer,
+    ) -> Result<Change, AllocError>
+        requires based { draft.base ≡ self.now.content }
+        requires sound { IsSound draft.content }
+        requires over { IsOver graphs self.now.content draft.content }
+        requires last { IsLast graphs draft.content }
+        requires kept { IsSettledAndSound (completed graphs (hand_out (settle draft.content))) }
         requires counted { IsCounted draft.content }
+        requires occupied { AreOccupied draft.content occupied }
         ensures { IfOk result (λ change. change ≡ record {
           before = self.now.content;
           after = completed graphs (hand_out (settle draft.entry.content));
@@ -155,12 +185,13 @@ impl Schedule {
         }) }
     {
         let mut draft = draft;
+        let mut occupied = occupied;
         self.settle_draft(alloc, &mut draft)?;
-        let pools = hand_out(alloc, &mut draft)?;
+        hand_out(alloc, &mut draft, &mut occupied)?;
         let jobs = draft.jobs_from(alloc, self.next)?;
         let rows = self.rows_changed(alloc, &draft, &graphs)?;
         let rest = Rest {
-            pools,
+            occupied,
             clock: draft.clock(),
             lanes: draft.lanes(),
             serial: draft.next_serial(),
@@ -231,10 +262,11 @@ impl Schedule {
         ensures accepted { IfOk result (IsPlanned self.now.content (Resize name.now size)) }
         ensures refused { IfErr result (IsRefusal self.now.content (Resize name.now size)) }
     {
-        if self.pools.size(name).is_none() && self.limits.pools() as usize <= self.pools.len() {
+        let pools = &self.occupied.pools;
+        if pools.size(name).is_none() && self.limits.pools() as usize <= pools.len() {
             return Err(Refusal::PoolFault(PoolFault::TooManyPools));
         }
-        let mut pools = self.pools.copy(alloc)?;
+        let mut pools = pools.copy(alloc)?;
         // The name and the size are in their ranges, as those of each pool are.
         let (_name, _size) = (name.as_str(), size.get());
         let name = name.copy(alloc)?;
@@ -247,7 +279,7 @@ impl Schedule {
         requires sound { IsSound (over pools.now.pools self.now.content) }
         requires kept { IsSettledAndSound (hand_out
             (settle (over pools.now.pools self.now.content))) }
-        requires counted { IsCounted self.now.content }
+        requires book { IsBookOf (over pools.now.pools self.now.content) pools.now.pools }
         ensures { IfOk result (λ change. change ≡ record {
           before = self.now.content;
           after = hand_out (settle (over pools.now.pools self.now.content));
@@ -256,7 +288,17 @@ impl Schedule {
     {
         let mut draft = self.draft(alloc, None, false);
         draft.set_pools(pools);
-        self.finish(alloc, draft, GraphChange::Same, quiet_answer(alloc))
+        let occupied = Occupied {
+            in_flight: self.occupied.in_flight,
+            pools: pools.copy(alloc)?,
+        };
+        self.finish_with(
+            alloc,
+            draft,
+            occupied,
+            GraphChange::Same,
+            quiet_answer(alloc),
+        )
     }
 
     fn plan_report(&self, alloc: Global, serial: u64, stage: Stage) -> Result<Change, Refusal>
@@ -272,7 +314,14 @@ impl Schedule {
         let mut draft = self.draft(alloc, None, false);
         draft.own(alloc, found.position)?;
         draft.report_at(found.position, found.place, serial, stage);
-        Ok(self.finish(alloc, draft, GraphChange::Same, quiet_answer(alloc))?)
+        let occupied = self.occupied_after(alloc, &found, serial, stage)?;
+        Ok(self.finish_with(
+            alloc,
+            draft,
+            occupied,
+            GraphChange::Same,
+            quiet_answer(alloc),
+        )?)
     }
 
     fn plan_restart(&self, alloc: Global, lanes: u32) -> Result<Change, Refusal>
@@ -285,7 +334,14 @@ impl Schedule {
         let mut draft = self.draft(alloc, None, false);
         lose_all(alloc, &mut draft)?;
         draft.set_lanes(lanes);
-        Ok(self.finish(alloc, draft, GraphChange::Same, quiet_answer(alloc))?)
+        let occupied = self.occupied.vacant(alloc)?;
+        Ok(self.finish_with(
+            alloc,
+            draft,
+            occupied,
+            GraphChange::Same,
+            quiet_answer(alloc),
+        )?)
     }
 }
 

@@ -15,7 +15,7 @@ impl Schedule {
         ensures { result ≡ pool_rows self.now.content }
     {
         PoolRows {
-            rest: self.pools.iter(),
+            rest: self.occupied.pools.iter(),
         }
     }
 }

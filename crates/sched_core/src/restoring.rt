@@ -6,8 +6,10 @@ ghost use Rattle.record_rules.specs.Faults.{record_fault};
 ghost use Rattle.record_restoring.specs.Results.{IsFault};
 
 use crate::schedules::Schedule;
+use crate::views::open_in_all;
 use record_restoring::{KeyedRows, RestoreFault, ScheduleParts, restore_parts};
 use run_lists::Runs;
+use sched_handout::Occupied;
 use sched_state::Limits;
 use std::alloc::Global;
 
@@ -37,7 +39,10 @@ impl Schedule {
         Ok(Schedule {
             limits,
             graphs,
-            pools,
+            occupied: Occupied {
+                in_flight: open_in_all(&runs),
+                pools,
+            },
             clock,
             lanes,
             next,

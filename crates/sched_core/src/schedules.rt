@@ -21,9 +21,9 @@ use crate::pausing::set_paused;
 use dag_check::Graph;
 use graph_file::Name;
 use moment_core::Moment;
-use pool_book::Pools;
 use run_lists::Runs;
 use sched_events::{Answer, Event, Refusal};
+use sched_handout::Occupied;
 use sched_state::{GraphText, Limits, LoadedGraph, Run};
 use std::alloc::{AllocError, Global};
 use std::marker::Model;
@@ -35,8 +35,8 @@ use std::marker::Model;
 pub struct Schedule {
     pub(crate) limits: Limits,
     pub(crate) graphs: Vec<LoadedGraph>,
-    // By name, with what tries without an end take of each.
-    pub(crate) pools: Pools,
+    // What the tries without an end take, and the pools.
+    pub(crate) occupied: Occupied,
     pub(crate) clock: Moment,
     pub(crate) lanes: u32,
     // The serial of the next try.
@@ -48,7 +48,7 @@ pub struct Schedule {
 
 impl Model for Schedule {
     ghost use Rattle.std.specs.Prelude.{◌-◌, vec_len, vec_capacity};
-    ghost use Rattle.sched_core.specs.Books.{AgreesWithBook, content_inside};
+    ghost use Rattle.sched_core.specs.Books.{IsHeldWith, content_inside};
     ghost use Rattle.sched_core.specs.Changes.{ScheduleValue};
 
     ghost Value = { ScheduleValue };
@@ -58,7 +58,7 @@ impl Model for Schedule {
       room = record { graphs = vec_capacity s.graphs - vec_len s.graphs; runs = s.runs.room };
     } };
 
-    ghost invariant = { λ s. AgreesWithBook s.is_settled (content_inside s) s.pools.pools };
+    ghost invariant = { λ s. IsHeldWith s.is_settled (content_inside s) s.occupied };
 }
 
 impl Schedule {
@@ -70,7 +70,10 @@ impl Schedule {
         Ok(Schedule {
             limits,
             graphs: Vec::new(alloc),
-            pools: default_pools(alloc)?,
+            occupied: Occupied {
+                in_flight: 0,
+                pools: default_pools(alloc)?,
+            },
             clock: Moment::at(0),
             lanes: 0,
             next: 1,
@@ -149,7 +152,7 @@ impl Schedule {
         } = change;
         change_graphs(&mut self.graphs, graphs);
         if let Some(rest) = rest {
-            self.pools = rest.pools;
+            self.occupied = rest.occupied;
             self.clock = rest.clock;
             self.lanes = rest.lanes;
             self.next = rest.serial;

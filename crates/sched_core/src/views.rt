@@ -20,7 +20,7 @@ impl Schedule {
     pub fn in_flight(&self) -> usize
         ensures { result ≡ in_flight self.now.content }
     {
-        open_in_all(self.runs.as_slice())
+        self.occupied.in_flight
     }
 
     /// The run of a graph with this logical date, if there is one.
@@ -104,7 +104,7 @@ fn instance_at(instances: &[Instance], place: usize) -> Option<&Instance>
 }
 
 // How many tries of the runs are without an end.
-fn open_in_all(runs: &[Run]) -> usize
+pub fn open_in_all(runs: &[Run]) -> usize
     requires { sum_by open_in runs.now ≤ last_serial + 1 }
     ensures { result ≡ sum_by open_in runs.now }
 {

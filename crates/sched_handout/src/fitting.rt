@@ -1,16 +1,16 @@
 //! The best of the offers.
-ghost use Rattle.std.specs.Prelude.{◌≡◌, ◌<◌, ◌+◌, ◌&&◌, Some, length, nat_le, nat_lt, slice_get, flat_map};
+ghost use Rattle.std.specs.Prelude.{◌≡◌, ◌^◌, ◌<◌, ◌+◌, ◌&&◌, true, Some, length, nat_le, nat_lt, slice_get, flat_map};
 ghost use Rattle.std.specs.List.{enumerate_from, zip};
 ghost use Rattle.sched_model.specs.Handout.{last_serial};
 ghost use Rattle.sched_model.specs.Schedule.{Schedule, dag_named, size_of};
 ghost use Rattle.sched_model.specs.States.{occupied};
 ghost use Rattle.sched_model.specs.Handout as model;
-ghost use Rattle.sched_handout.specs.Rooms.{IsRoomIn};
+ghost use Rattle.sched_handout.specs.Occupied.{AreOccupied};
 ghost use Rattle.sched_handout.specs.Choices as choices;
 ghost use Rattle.sched_handout.specs.Weighing.{WeighTasks, WeighGraphs};
 ghost use Rattle.sched_state.specs.declared.runs.Run as runs;
 
-use crate::counting::Room;
+use crate::occupied::Occupied;
 use crate::offering::offer_at;
 use crate::ranking::{Offer, better};
 use dag_check::Graph;
@@ -19,39 +19,41 @@ use sched_draft::Draft;
 use sched_state::{LAST_SERIAL, Run, RunPhase};
 
 /// Whether a lane is free and a serial is left.
-pub fn has_lane(draft: &Draft<'_>, room: &Room) -> bool
-    ensures { result ≡ (nat_lt 0 room.now.lanes && nat_le draft.now.content.next last_serial) }
+pub fn has_lane(draft: &Draft<'_>, taken: &Occupied) -> bool
+    ensures lane { result ≡ (nat_lt taken.now.in_flight draft.now.content.lanes
+        && nat_le draft.now.content.next last_serial) }
+    ensures few { result ≡ true → taken.now.in_flight < 2 ^ 32 }
 {
-    room.lanes > 0 && draft.next_serial() <= LAST_SERIAL
+    taken.in_flight < draft.lanes() as usize && draft.next_serial() <= LAST_SERIAL
 }
 
 // Whether the slots of the offer are open in its pool.
-fn has_slots(room: &Room, offer: &Offer<'_>) -> bool
-    ensures { (a : Schedule) → IsRoomIn a room.now
+fn has_slots(taken: &Occupied, offer: &Offer<'_>) -> bool
+    ensures { (a : Schedule) → AreOccupied a taken.now
         → result ≡ nat_le (occupied a offer.now.pool + offer.now.slots) (size_of a offer.now.pool) }
 {
-    room.pools.fits(offer.pool, Slots::of(offer.slots.get()))
+    taken.pools.fits(offer.pool, Slots::of(offer.slots.get()))
 }
 
 // Whether the offer can be handed out.
-fn fits(draft: &Draft<'_>, room: &Room, offer: &Offer<'_>) -> bool
-    requires { IsRoomIn draft.now.content room.now }
+fn fits(draft: &Draft<'_>, taken: &Occupied, offer: &Offer<'_>) -> bool
+    requires { AreOccupied draft.now.content taken.now }
     ensures { result ≡ model.fits draft.now.content offer.now }
 {
-    has_slots(room, offer) && has_lane(draft, room)
+    has_slots(taken, offer) && has_lane(draft, taken)
 }
 
 // The offer, where it fits and what was chosen does not rank before it.
 fn choose<'d>(
     draft: &Draft<'_>,
-    room: &Room,
+    taken: &Occupied,
     offer: Offer<'d>,
     best: Option<Offer<'d>>,
 ) -> Option<Offer<'d>>
-    requires { IsRoomIn draft.now.content room.now }
+    requires { AreOccupied draft.now.content taken.now }
     ensures { result ≡ choices.choose draft.now.content offer.entry best.entry }
 {
-    if fits(draft, room, &offer) {
+    if fits(draft, taken, &offer) {
         better(offer, best)
     } else {
         best
@@ -61,14 +63,14 @@ fn choose<'d>(
 // The best of the offers of a run of an unpaused graph, and of what was chosen after them.
 fn choose_in_run<'d>(
     draft: &'d Draft<'_>,
-    room: &Room,
+    taken: &Occupied,
     position: usize,
     run: &'d Run,
     dag: &'d Graph,
     weights: &[u64],
     best: Option<Offer<'d>>,
 ) -> Option<Offer<'d>>
-    requires room { IsRoomIn draft.now.content room.now }
+    requires taken { AreOccupied draft.now.content taken.now }
     requires dag { dag.now ≡ dag_named draft.now.content run.now.graph }
     requires weights { WeighTasks dag.now weights.now }
     ensures { result ≡ choices.choose_all draft.now.content
@@ -80,7 +82,7 @@ fn choose_in_run<'d>(
     while place > 0 {
         place -= 1;
         if let Some(offer) = offer_at(draft.clock(), position, run, dag, weights, place) {
-            best = choose(draft, room, offer, best);
+            best = choose(draft, taken, offer, best);
         }
     }
     best
@@ -89,12 +91,12 @@ fn choose_in_run<'d>(
 // The best of the offers of the run at a position, and of what was chosen after them.
 fn choose_at<'d>(
     draft: &'d Draft<'_>,
-    room: &Room,
+    taken: &Occupied,
     weights: &[Vec<u64>],
     position: usize,
     best: Option<Offer<'d>>,
 ) -> Option<Offer<'d>>
-    requires room { IsRoomIn draft.now.content room.now }
+    requires taken { AreOccupied draft.now.content taken.now }
     requires weights { WeighGraphs draft.now.content.graphs weights.now }
     requires position { position < length draft.now.content.runs }
     ensures { (r : runs.Run) → slice_get draft.now.content.runs position ≡ Some r
@@ -112,12 +114,16 @@ fn choose_at<'d>(
         return best;
     }
     let dag = draft.dag_at(index);
-    choose_in_run(draft, room, position, run, dag, &weights[index], best)
+    choose_in_run(draft, taken, position, run, dag, &weights[index], best)
 }
 
 /// The first in rank of the offers that fit.
-pub fn best_offer<'d>(draft: &'d Draft<'_>, room: &Room, weights: &[Vec<u64>]) -> Option<Offer<'d>>
-    requires room { IsRoomIn draft.now.content room.now }
+pub fn best_offer<'d>(
+    draft: &'d Draft<'_>,
+    taken: &Occupied,
+    weights: &[Vec<u64>],
+) -> Option<Offer<'d>>
+    requires taken { AreOccupied draft.now.content taken.now }
     requires weights { WeighGraphs draft.now.content.graphs weights.now }
     ensures { result ≡ model.best_offer draft.now.content }
 {
@@ -125,7 +131,7 @@ pub fn best_offer<'d>(draft: &'d Draft<'_>, room: &Room, weights: &[Vec<u64>]) -
     let mut position = draft.run_count();
     while position > 0 {
         position -= 1;
-        best = choose_at(draft, room, weights, position, best);
+        best = choose_at(draft, taken, weights, position, best);
     }
     best
 }

@@ -1,6 +1,5 @@
-use Rattle.std.proofs.Common.{◌≡◌, ◌∙◌, refl, sym, ap, subst, ◌<◌, ℕ, length, arith}
+use Rattle.std.proofs.Common.{◌∙◌, refl, sym, ap, length, arith}
 use Rattle.sched_draft.specs.Drafts.{DraftValue}
-use Rattle.sched_model.specs.Schedule.{Schedule}
 use Rattle.sched_core.proofs.LoseLemmas.{losing_long, losing_turn, losing_pass, losing_over}
 use Rattle.sched_core.proofs.losing.lose_all.Goals.{then-has_open+in_ok-own, else-has_open}
 use Rattle.sched_core.proofs.losing.lose_all.Goals as goal

@@ -1,6 +1,5 @@
-use Rattle.std.proofs.Common.{◌≡◌, ◌∙◌, refl, sym, ap, subst, ◌<◌, ℕ, arith}
+use Rattle.std.proofs.Common.{◌∙◌, refl, ap, arith}
 use Rattle.sched_draft.specs.Drafts.{DraftValue}
-use Rattle.sched_model.specs.Schedule.{Schedule}
 use Rattle.dag_check.specs.Orders.{is_in}
 use Rattle.sched_core.proofs.LoseLemmas.{lose_begins, lose_turn, lose_count, lose_over}
 use Rattle.sched_core.proofs.losing.lose_in.Goals as goal

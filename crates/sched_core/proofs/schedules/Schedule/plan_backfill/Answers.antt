@@ -12,11 +12,11 @@ use Rattle.sched_events.specs.Outcomes.{IsRefusal}
 use Rattle.sched_events.specs.declared.answers.Answer.{Answer}
 use Rattle.sched_events.specs.declared.events.Event.TheVariants.{Backfill}
 use Rattle.sched_events.specs.declared.refusals.Refusal.{Refusal}
-use Rattle.sched_core.specs.Books.{IsCounted}
 use Rattle.sched_core.specs.Changes.{ScheduleValue}
 use Rattle.sched_core.specs.Plans.{run_id}
 use Rattle.sched_core.specs.Repairs.{IsSetBack, reset_of}
-use Rattle.sched_core.proofs.BookLemmas.{repair_counted}
+use Rattle.sched_model.specs.States.{open_tries}
+use Rattle.sched_core.proofs.BookLemmas.{repair_open, repair_pools}
 use Rattle.sched_core.proofs.PlanLemmas.{IsDraftOf, draft_is, draft_sound, draft_kept, draft_planned, told_by}
 use Rattle.sched_core.proofs.RepairLemmas.{found_is, back_waits, back_room, IsFilled, back_done}
 use Rattle.sched_core.proofs.schedules.Schedule.plan_backfill.Goals.{In-Some, In_ok-made}
@@ -86,14 +86,19 @@ pub finish-requires-clause-kept : goal.finish-requires-clause-kept
 unfolding added
 finish-requires-clause-kept c = draft_kept (let at = goal.at.finish-requires-clause-kept c in draft_is c.add.new.draft.content (drafted at.In_ok-made (found at.In-Some)) c.in_ok-add.ensures.added)
 
-pub finish-requires-clause-counted : goal.finish-requires-clause-counted
+pub finish-requires-clause-pools : goal.finish-requires-clause-pools
 unfolding added
-finish-requires-clause-counted c =
+finish-requires-clause-pools c =
     let a : Schedule = c.args.self.now.content in
-    let id : List ℕ = c.args.graph.now in
-    let counted : IsCounted a = subst (λ (s : ScheduleValue). IsCounted s.content) c.self.view_is c.self.invariant.counted in
-    subst IsCounted (sym (let at = goal.at.finish-requires-clause-counted c in draft_is c.add.new.draft.content (drafted at.In_ok-made (found at.In-Some)) c.in_ok-add.ensures.added).is)
-    (repair_counted (named_by_backfill a id c.args.from c.args.to) (set_back_by (Backfill id c.args.from c.args.to c.args.reset) a) a counted)
+    ap (λ (s : Schedule). s.pools) (let at = goal.at.finish-requires-clause-pools c in draft_is c.add.new.draft.content (drafted at.In_ok-made (found at.In-Some)) c.in_ok-add.ensures.added).is
+    ∙ repair_pools (named_by_backfill a c.args.graph.now c.args.from c.args.to) (set_back_by (Backfill c.args.graph.now c.args.from c.args.to c.args.reset) a) a
+
+pub finish-requires-clause-open : goal.finish-requires-clause-open
+unfolding added
+finish-requires-clause-open c =
+    let a : Schedule = c.args.self.now.content in
+    ap (λ (s : Schedule). open_tries s) (let at = goal.at.finish-requires-clause-open c in draft_is c.add.new.draft.content (drafted at.In_ok-made (found at.In-Some)) c.in_ok-add.ensures.added).is
+    ∙ repair_open (named_by_backfill a c.args.graph.now c.args.from c.args.to) (set_back_by (Backfill c.args.graph.now c.args.from c.args.to c.args.reset) a) a
 
 pub returns-clause-accepted : goal.returns-clause-accepted
 unfolding added

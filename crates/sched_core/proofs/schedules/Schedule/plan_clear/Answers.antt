@@ -10,9 +10,9 @@ use Rattle.sched_events.specs.SettledAndSound.{IsSoundAndSaid}
 use Rattle.sched_events.specs.Outcomes.{IsRefusal}
 use Rattle.sched_events.specs.declared.answers.Answer.{Answer}
 use Rattle.sched_events.specs.declared.events.Event.TheVariants.{Clear}
-use Rattle.sched_core.specs.Books.{IsCounted}
 use Rattle.sched_core.specs.Changes.{ScheduleValue}
-use Rattle.sched_core.proofs.BookLemmas.{repair_counted}
+use Rattle.sched_model.specs.States.{open_tries}
+use Rattle.sched_core.proofs.BookLemmas.{repair_open, repair_pools}
 use Rattle.sched_core.proofs.PlanLemmas.{IsDraftOf, draft_sound, draft_kept, draft_planned, told_by}
 use Rattle.sched_core.proofs.RepairLemmas.{cleared_is, clear_waits, IsCleared, clear_done}
 use Rattle.sched_core.proofs.schedules.Schedule.plan_clear.Goals.{In_ok-cleared}
@@ -59,11 +59,15 @@ finish-requires-clause-sound c = draft_sound (drafted (goal.at.finish-requires-c
 pub finish-requires-clause-kept : goal.finish-requires-clause-kept
 finish-requires-clause-kept c = draft_kept (drafted (goal.at.finish-requires-clause-kept c).In_ok-cleared)
 
-pub finish-requires-clause-counted : goal.finish-requires-clause-counted
-finish-requires-clause-counted c =
+pub finish-requires-clause-pools : goal.finish-requires-clause-pools
+finish-requires-clause-pools c =
     let a : Schedule = c.args.self.now.content in
-    let counted : IsCounted a = subst (λ (s : ScheduleValue). IsCounted s.content) c.self.view_is c.self.invariant.counted in
-    subst IsCounted (sym (drafted (goal.at.finish-requires-clause-counted c).In_ok-cleared).is) (repair_counted [] (set_back_by (Clear c.args.clearing.now) a) a counted)
+    ap (λ (s : Schedule). s.pools) (drafted (goal.at.finish-requires-clause-pools c).In_ok-cleared).is ∙ repair_pools [] (set_back_by (Clear c.args.clearing.now) a) a
+
+pub finish-requires-clause-open : goal.finish-requires-clause-open
+finish-requires-clause-open c =
+    let a : Schedule = c.args.self.now.content in
+    ap (λ (s : Schedule). open_tries s) (drafted (goal.at.finish-requires-clause-open c).In_ok-cleared).is ∙ repair_open [] (set_back_by (Clear c.args.clearing.now) a) a
 
 pub returns-clause-accepted : goal.returns-clause-accepted
 returns-clause-accepted c =

@@ -21,7 +21,7 @@ use Rattle.sched_core.proofs.schedules.Schedule.plan_load.Goals as goal
 
 pub returns-then-graphs-len-clause-refused : goal.returns-then-graphs-len-clause-refused
 returns-then-graphs-len-clause-refused c =
-    let a : Schedule = record { limits = c.self.inside.limits; graphs = c.self.inside.graphs.items; pools = pools_in c.self.inside.pools.pools; now = c.self.inside.clock; lanes = c.self.inside.lanes; next = c.self.inside.next; runs = c.self.inside.runs.runs } in
+    let a : Schedule = record { limits = c.self.inside.limits; graphs = c.self.inside.graphs.items; pools = pools_in c.self.inside.occupied.pools.pools; now = c.self.inside.clock; lanes = c.self.inside.lanes; next = c.self.inside.next; runs = c.self.inside.runs.runs } in
     let dag = c.in_ok-dag.dag in
     let taken = subst (λ (h : ScheduleValue). IsTaken h.content c.args.text.now dag) (sym c.self.view_is) c.in_ok-dag.ensures.taken in
     let unknown = subst (λ (s : GraphSpec). list_any (λ (g : LoadedGraph). same g.dag.spec.dag_id s.dag_id) a.graphs ≡ false) c.spec.ensures.spec
@@ -30,7 +30,7 @@ returns-then-graphs-len-clause-refused c =
 
 pub taken_in-requires-clause-quiet : goal.taken_in-requires-clause-quiet
 taken_in-requires-clause-quiet c =
-    let a : Schedule = record { limits = c.self.inside.limits; graphs = c.self.inside.graphs.items; pools = pools_in c.self.inside.pools.pools; now = c.self.inside.clock; lanes = c.self.inside.lanes; next = c.self.inside.next; runs = c.self.inside.runs.runs } in
+    let a : Schedule = record { limits = c.self.inside.limits; graphs = c.self.inside.graphs.items; pools = pools_in c.self.inside.occupied.pools.pools; now = c.self.inside.clock; lanes = c.self.inside.lanes; next = c.self.inside.next; runs = c.self.inside.runs.runs } in
     let dag = c.in_ok-dag.dag in
     let taken = subst (λ (h : ScheduleValue). IsTaken h.content c.args.text.now dag) (sym c.self.view_is) c.in_ok-dag.ensures.taken in
     let unknown = subst (λ (s : GraphSpec). list_any (λ (g : LoadedGraph). same g.dag.spec.dag_id s.dag_id) a.graphs ≡ false) c.spec.ensures.spec
@@ -39,7 +39,7 @@ taken_in-requires-clause-quiet c =
 
 pub taken_in-requires-clause-accepted : goal.taken_in-requires-clause-accepted
 taken_in-requires-clause-accepted c =
-    let a : Schedule = record { limits = c.self.inside.limits; graphs = c.self.inside.graphs.items; pools = pools_in c.self.inside.pools.pools; now = c.self.inside.clock; lanes = c.self.inside.lanes; next = c.self.inside.next; runs = c.self.inside.runs.runs } in
+    let a : Schedule = record { limits = c.self.inside.limits; graphs = c.self.inside.graphs.items; pools = pools_in c.self.inside.occupied.pools.pools; now = c.self.inside.clock; lanes = c.self.inside.lanes; next = c.self.inside.next; runs = c.self.inside.runs.runs } in
     let dag = c.in_ok-dag.dag in
     let taken = subst (λ (h : ScheduleValue). IsTaken h.content c.args.text.now dag) (sym c.self.view_is) c.in_ok-dag.ensures.taken in
     let unknown = subst (λ (s : GraphSpec). list_any (λ (g : LoadedGraph). same g.dag.spec.dag_id s.dag_id) a.graphs ≡ false) c.spec.ensures.spec
@@ -53,7 +53,7 @@ graph_change-requires-clause-sound c = subst (λ (h : ScheduleValue). IsSoundAnd
 
 pub returns-then-is_same-clause-accepted : goal.returns-then-is_same-clause-accepted
 returns-then-is_same-clause-accepted c =
-    let a : Schedule = record { limits = c.self.inside.limits; graphs = c.self.inside.graphs.items; pools = pools_in c.self.inside.pools.pools; now = c.self.inside.clock; lanes = c.self.inside.lanes; next = c.self.inside.next; runs = c.self.inside.runs.runs } in
+    let a : Schedule = record { limits = c.self.inside.limits; graphs = c.self.inside.graphs.items; pools = pools_in c.self.inside.occupied.pools.pools; now = c.self.inside.clock; lanes = c.self.inside.lanes; next = c.self.inside.next; runs = c.self.inside.runs.runs } in
     let dag = c.in_ok-dag.dag in
     let taken = subst (λ (h : ScheduleValue). IsTaken h.content c.args.text.now dag) (sym c.self.view_is) c.in_ok-dag.ensures.taken in
     let g = c.index.result.now in
@@ -69,7 +69,7 @@ returns-then-is_same-clause-accepted c =
 
 pub returns-then-has_runs-clause-refused : goal.returns-then-has_runs-clause-refused
 returns-then-has_runs-clause-refused c =
-    let a : Schedule = record { limits = c.self.inside.limits; graphs = c.self.inside.graphs.items; pools = pools_in c.self.inside.pools.pools; now = c.self.inside.clock; lanes = c.self.inside.lanes; next = c.self.inside.next; runs = c.self.inside.runs.runs } in
+    let a : Schedule = record { limits = c.self.inside.limits; graphs = c.self.inside.graphs.items; pools = pools_in c.self.inside.occupied.pools.pools; now = c.self.inside.clock; lanes = c.self.inside.lanes; next = c.self.inside.next; runs = c.self.inside.runs.runs } in
     let dag = c.in_ok-dag.dag in
     let taken = subst (λ (h : ScheduleValue). IsTaken h.content c.args.text.now dag) (sym c.self.view_is) c.in_ok-dag.ensures.taken in
     let g = c.index.result.now in
@@ -83,7 +83,7 @@ returns-then-has_runs-clause-refused c =
 
 pub taken_in-requires-in-Some-clause-accepted : goal.taken_in-requires-in-Some-clause-accepted
 taken_in-requires-in-Some-clause-accepted c =
-    let a : Schedule = record { limits = c.self.inside.limits; graphs = c.self.inside.graphs.items; pools = pools_in c.self.inside.pools.pools; now = c.self.inside.clock; lanes = c.self.inside.lanes; next = c.self.inside.next; runs = c.self.inside.runs.runs } in
+    let a : Schedule = record { limits = c.self.inside.limits; graphs = c.self.inside.graphs.items; pools = pools_in c.self.inside.occupied.pools.pools; now = c.self.inside.clock; lanes = c.self.inside.lanes; next = c.self.inside.next; runs = c.self.inside.runs.runs } in
     let dag = c.in_ok-dag.dag in
     let taken = subst (λ (h : ScheduleValue). IsTaken h.content c.args.text.now dag) (sym c.self.view_is) c.in_ok-dag.ensures.taken in
     let g = c.index.result.now in
@@ -98,7 +98,7 @@ taken_in-requires-in-Some-clause-accepted c =
 
 pub taken_in-requires-in-Some-clause-quiet : goal.taken_in-requires-in-Some-clause-quiet
 taken_in-requires-in-Some-clause-quiet c =
-    let a : Schedule = record { limits = c.self.inside.limits; graphs = c.self.inside.graphs.items; pools = pools_in c.self.inside.pools.pools; now = c.self.inside.clock; lanes = c.self.inside.lanes; next = c.self.inside.next; runs = c.self.inside.runs.runs } in
+    let a : Schedule = record { limits = c.self.inside.limits; graphs = c.self.inside.graphs.items; pools = pools_in c.self.inside.occupied.pools.pools; now = c.self.inside.clock; lanes = c.self.inside.lanes; next = c.self.inside.next; runs = c.self.inside.runs.runs } in
     let dag = c.in_ok-dag.dag in
     let taken = subst (λ (h : ScheduleValue). IsTaken h.content c.args.text.now dag) (sym c.self.view_is) c.in_ok-dag.ensures.taken in
     let runs = subst (λ (s : GraphSpec). has_runs a s.dag_id ≡ false) c.spec.ensures.spec

@@ -4,11 +4,11 @@ use Rattle.sched_model.specs.Schedule.{Schedule, graph_named}
 use Rattle.sched_draft.specs.Drafts.{DraftValue}
 use Rattle.sched_events.specs.SettledAndSound.{IsSoundAndSaid, IsSettled}
 use Rattle.sched_events.specs.declared.events.Event.TheVariants.{Pause}
-use Rattle.sched_core.specs.Books.{IsCounted}
 use Rattle.sched_core.specs.Changes.{ScheduleValue, Planned}
 use Rattle.sched_core.specs.Plans.{no_runs}
 use Rattle.sched_core.specs.declared.changes.GraphChange.TheVariants as graphs
-use Rattle.sched_core.proofs.BookLemmas.{pause_counted}
+use Rattle.sched_model.specs.States.{open_tries}
+use Rattle.sched_laws.proofs.OccupyingLemmas.{open_paused}
 use Rattle.sched_core.proofs.EffectLemmas.{quiet_whole}
 use Rattle.sched_core.proofs.PlanLemmas.{looked_up, pause_unknown, pause_accepted, pause_draft, change_held, IsDraftOf, draft_sound, draft_kept, draft_planned}
 use Rattle.sched_core.proofs.schedules.Schedule.plan_pause.Goals.{After-quiet_answer}
@@ -67,11 +67,10 @@ finish-requires-clause-sound c = draft_sound (drafted (goal.at.finish-requires-c
 pub finish-requires-clause-kept : goal.finish-requires-clause-kept
 finish-requires-clause-kept c = draft_kept (drafted (goal.at.finish-requires-clause-kept c).After-quiet_answer)
 
-pub finish-requires-clause-counted : goal.finish-requires-clause-counted
-finish-requires-clause-counted c =
+pub finish-requires-clause-open : goal.finish-requires-clause-open
+finish-requires-clause-open c =
     let a : Schedule = c.args.self.now.content in
-    let counted : IsCounted a = subst (λ (h : ScheduleValue). IsCounted h.content) c.self.view_is c.self.invariant.counted in
-    subst IsCounted (sym (ap (λ (v : DraftValue). v.content) c.draft-draft.ensures)) (pause_counted c.args.id.now true a counted)
+    ap (λ (v : DraftValue). open_tries v.content) c.draft-draft.ensures ∙ open_paused c.args.id.now true a
 
 pub returns-clause-accepted : goal.returns-clause-accepted
 returns-clause-accepted c = draft_planned c.quiet_answer.result c.in_ok-finish.field-0 (drafted (goal.at.returns-clause-accepted c).After-quiet_answer) c.quiet_answer.ensures c.in_ok-finish.ensures

@@ -1,4 +1,4 @@
-use Rattle.std.proofs.Common.{◌≡◌, ◌∙◌, refl, sym, ap, subst, inr, is_some, true, false, ◌<◌, List, Some, None, option_map, length}
+use Rattle.std.proofs.Common.{◌≡◌, ◌∙◌, refl, sym, ap, subst, inr, is_some, true, false, ◌<◌, List, option_map, length}
 use Rattle.std.specs.Prelude.{IfSome}
 use Rattle.instance_machine.specs.Instances.{map_tries}
 use Rattle.instance_machine.specs.Reports.{report_try, reported_try}
@@ -14,6 +14,7 @@ use Rattle.sched_core.specs.Books.{IsCounted}
 use Rattle.sched_core.specs.Changes.{ScheduleValue}
 use Rattle.sched_core.specs.Finding.{IsFoundAt}
 use Rattle.sched_core.specs.declared.finding.Found.{Found}
+use Rattle.sched_handout.specs.Occupied.{AreOccupied}
 use Rattle.sched_core.proofs.BookLemmas.{report_counted}
 use Rattle.sched_core.proofs.PlanLemmas.{found_try, not_in_flight, out_of_turn, in_turn, report_draft, IsDraftOf, draft_sound, draft_kept, draft_planned}
 use Rattle.sched_core.proofs.ReportLemmas.{report_at, found_run, found_instance}
@@ -70,27 +71,37 @@ drafted c place =
       is = report_draft a a c.report_at.new.self.content c.args.serial c.args.stage refl (reported c place);
     }
 
-pub finish-requires-clause-based : goal.finish-requires-clause-based
-finish-requires-clause-based c = ap (λ (v : DraftValue). v.base) c.report_at.ensures ∙ (ap (λ (v : DraftValue). v.base) c.in_ok-own.ensures.ok ∙ ap (λ (v : DraftValue). v.base) c.draft-draft.ensures)
+pub finish_with-requires-clause-based : goal.finish_with-requires-clause-based
+finish_with-requires-clause-based c = ap (λ (v : DraftValue). v.base) c.report_at.ensures ∙ (ap (λ (v : DraftValue). v.base) c.in_ok-own.ensures.ok ∙ ap (λ (v : DraftValue). v.base) c.draft-draft.ensures)
 
-pub finish-requires-clause-over : goal.finish-requires-clause-over
-finish-requires-clause-over c = record {
+pub finish_with-requires-clause-over : goal.finish_with-requires-clause-over
+finish_with-requires-clause-over c = record {
   limits = ap (λ (v : DraftValue). v.content.limits) c.report_at.ensures ∙ (ap (λ (v : DraftValue). v.content.limits) c.in_ok-own.ensures.ok ∙ ap (λ (v : DraftValue). v.content.limits) c.draft-draft.ensures);
   graphs = ap (λ (v : DraftValue). v.content.graphs) c.report_at.ensures ∙ (ap (λ (v : DraftValue). v.content.graphs) c.in_ok-own.ensures.ok ∙ ap (λ (v : DraftValue). v.content.graphs) c.draft-draft.ensures);
 }
 
-pub finish-requires-clause-sound : goal.finish-requires-clause-sound
-finish-requires-clause-sound c = draft_sound (let at = goal.at.finish-requires-clause-sound c in drafted at.After-report_at (stands at.In-Some))
+pub finish_with-requires-clause-sound : goal.finish_with-requires-clause-sound
+finish_with-requires-clause-sound c = draft_sound (let at = goal.at.finish_with-requires-clause-sound c in drafted at.After-report_at (stands at.In-Some))
 
-pub finish-requires-clause-kept : goal.finish-requires-clause-kept
-finish-requires-clause-kept c = draft_kept (let at = goal.at.finish-requires-clause-kept c in drafted at.After-report_at (stands at.In-Some))
+pub finish_with-requires-clause-kept : goal.finish_with-requires-clause-kept
+finish_with-requires-clause-kept c = draft_kept (let at = goal.at.finish_with-requires-clause-kept c in drafted at.After-report_at (stands at.In-Some))
 
-pub finish-requires-clause-counted : goal.finish-requires-clause-counted
-finish-requires-clause-counted c =
+pub finish_with-requires-clause-counted : goal.finish_with-requires-clause-counted
+finish_with-requires-clause-counted c =
     let a : Schedule = c.args.self.now.content in
     let counted : IsCounted a = subst (λ (h : ScheduleValue). IsCounted h.content) c.self.view_is c.self.invariant.counted in
-    subst IsCounted (sym (let at = goal.at.finish-requires-clause-counted c in reported at.After-report_at (stands at.In-Some))) (report_counted c.args.serial c.args.stage a counted)
+    subst IsCounted (sym (let at = goal.at.finish_with-requires-clause-counted c in reported at.After-report_at (stands at.In-Some))) (report_counted c.args.serial c.args.stage a counted)
+
+pub occupied_after-requires-clause-found : goal.occupied_after-requires-clause-found
+occupied_after-requires-clause-found c = stands (goal.at.occupied_after-requires-clause-found c).In-Some
+
+pub occupied_after-requires-clause-turn : goal.occupied_after-requires-clause-turn
+occupied_after-requires-clause-turn c = sym (c.if-not-takes.ensures c.args.self.now.content.now)
+
+pub finish_with-requires-clause-occupied : goal.finish_with-requires-clause-occupied
+finish_with-requires-clause-occupied c =
+    subst (λ (s : Schedule). AreOccupied s c.in_ok-occupied.occupied) (sym (let at = goal.at.finish_with-requires-clause-occupied c in reported at.After-report_at (stands at.In-Some))) c.in_ok-occupied.ensures
 
 pub returns-clause-accepted : goal.returns-clause-accepted
 returns-clause-accepted c =
-    draft_planned c.quiet_answer.result c.in_ok-finish.field-0 (let at = goal.at.returns-clause-accepted c in drafted at.After-report_at (stands at.In-Some)) c.quiet_answer.ensures c.in_ok-finish.ensures
+    draft_planned c.quiet_answer.result c.in_ok-finish_with.field-0 (let at = goal.at.returns-clause-accepted c in drafted at.After-report_at (stands at.In-Some)) c.quiet_answer.ensures c.in_ok-finish_with.ensures

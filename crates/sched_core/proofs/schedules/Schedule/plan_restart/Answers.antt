@@ -7,7 +7,8 @@ use Rattle.sched_events.specs.SettledAndSound.{IsSoundAndSaid}
 use Rattle.sched_events.specs.declared.events.Event.TheVariants.{Restart}
 use Rattle.sched_core.specs.Books.{IsCounted}
 use Rattle.sched_core.specs.Changes.{ScheduleValue}
-use Rattle.sched_core.proofs.BookLemmas.{restart_counted}
+use Rattle.sched_handout.specs.Occupied.{AreOccupied}
+use Rattle.sched_core.proofs.BookLemmas.{restart_counted, restart_occupied}
 use Rattle.sched_core.proofs.PlanLemmas.{restart_accepted, restart_draft, IsDraftOf, draft_sound, draft_kept, draft_planned}
 use Rattle.sched_core.proofs.schedules.Schedule.plan_restart.Goals.{After-set_lanes}
 use Rattle.sched_core.proofs.schedules.Schedule.plan_restart.Goals as goal
@@ -32,23 +33,30 @@ drafted c =
       is = restart_draft a a c.set_lanes.new.self.content c.args.lanes refl (restarted c);
     }
 
-pub finish-requires-clause-based : goal.finish-requires-clause-based
-finish-requires-clause-based c = ap (λ (v : DraftValue). v.base) c.set_lanes.ensures ∙ (c.in_ok-lose_all.ensures.base ∙ ap (λ (v : DraftValue). v.base) c.draft-draft.ensures)
+pub finish_with-requires-clause-based : goal.finish_with-requires-clause-based
+finish_with-requires-clause-based c = ap (λ (v : DraftValue). v.base) c.set_lanes.ensures ∙ (c.in_ok-lose_all.ensures.base ∙ ap (λ (v : DraftValue). v.base) c.draft-draft.ensures)
 
-pub finish-requires-clause-over : goal.finish-requires-clause-over
-finish-requires-clause-over c =
-    let is = restarted (goal.at.finish-requires-clause-over c).After-set_lanes in record { limits = ap (λ (s : Schedule). s.limits) is; graphs = ap (λ (s : Schedule). s.graphs) is }
+pub finish_with-requires-clause-over : goal.finish_with-requires-clause-over
+finish_with-requires-clause-over c =
+    let is = restarted (goal.at.finish_with-requires-clause-over c).After-set_lanes in record { limits = ap (λ (s : Schedule). s.limits) is; graphs = ap (λ (s : Schedule). s.graphs) is }
 
-pub finish-requires-clause-sound : goal.finish-requires-clause-sound
-finish-requires-clause-sound c = draft_sound (drafted (goal.at.finish-requires-clause-sound c).After-set_lanes)
+pub finish_with-requires-clause-sound : goal.finish_with-requires-clause-sound
+finish_with-requires-clause-sound c = draft_sound (drafted (goal.at.finish_with-requires-clause-sound c).After-set_lanes)
 
-pub finish-requires-clause-kept : goal.finish-requires-clause-kept
-finish-requires-clause-kept c = draft_kept (drafted (goal.at.finish-requires-clause-kept c).After-set_lanes)
+pub finish_with-requires-clause-kept : goal.finish_with-requires-clause-kept
+finish_with-requires-clause-kept c = draft_kept (drafted (goal.at.finish_with-requires-clause-kept c).After-set_lanes)
 
-pub finish-requires-clause-counted : goal.finish-requires-clause-counted
-finish-requires-clause-counted c =
+pub finish_with-requires-clause-counted : goal.finish_with-requires-clause-counted
+finish_with-requires-clause-counted c =
     let a : Schedule = c.args.self.now.content in
-    subst IsCounted (sym (restarted (goal.at.finish-requires-clause-counted c).After-set_lanes)) (restart_counted c.args.lanes a)
+    subst IsCounted (sym (restarted (goal.at.finish_with-requires-clause-counted c).After-set_lanes)) (restart_counted c.args.lanes a)
+
+pub finish_with-requires-clause-occupied : goal.finish_with-requires-clause-occupied
+finish_with-requires-clause-occupied c =
+    let a : Schedule = c.args.self.now.content in
+    let pools = ap (λ (h : ScheduleValue). h.content.pools) c.self.view_is in
+    subst (λ (s : Schedule). AreOccupied s c.in_ok-occupied.occupied) (sym (restarted (goal.at.finish_with-requires-clause-occupied c).After-set_lanes))
+    (restart_occupied c.args.lanes a c.self.inside.occupied c.in_ok-occupied.occupied pools c.in_ok-occupied.ensures.in_flight c.in_ok-occupied.ensures.pools)
 
 pub returns-clause-accepted : goal.returns-clause-accepted
-returns-clause-accepted c = draft_planned c.quiet_answer.result c.in_ok-finish.field-0 (drafted (goal.at.returns-clause-accepted c).After-set_lanes) c.quiet_answer.ensures c.in_ok-finish.ensures
+returns-clause-accepted c = draft_planned c.quiet_answer.result c.in_ok-finish_with.field-0 (drafted (goal.at.returns-clause-accepted c).After-set_lanes) c.quiet_answer.ensures c.in_ok-finish_with.ensures

@@ -1,4 +1,4 @@
-use Rattle.std.proofs.Common.{◌≡◌, ◌∙◌, refl, ap, subst, sym, ℕ, length, map, nat_lt, true, false, arith}
+use Rattle.std.proofs.Common.{◌≡◌, ◌∙◌, refl, ap, subst, ℕ, length, map, nat_lt, true, false, arith}
 use Rattle.std.proofs.lemmas.Bool.Decides.{nat_tests}
 use Rattle.sched_model.specs.Schedule.{Schedule}
 use Rattle.sched_model.specs.NamedRuns.{named_by_tick, insert_runs, leaves_more}
@@ -8,9 +8,10 @@ use Rattle.sched_draft.specs.Drafts.{DraftValue}
 use Rattle.sched_events.specs.SettledAndSound.{IsSoundAndSaid}
 use Rattle.sched_events.specs.declared.answers.Answer.{Answer}
 use Rattle.sched_events.specs.declared.events.Event.TheVariants.{Tick}
-use Rattle.sched_core.specs.Books.{IsCounted}
 use Rattle.sched_core.specs.Changes.{ScheduleValue}
-use Rattle.sched_core.proofs.BookLemmas.{tick_counted}
+use Rattle.sched_model.specs.States.{open_tries}
+use Rattle.sched_model.specs.Changes.{set_now}
+use Rattle.sched_laws.proofs.OccupyingLemmas.{open_added}
 use Rattle.sched_core.specs.Plans.{run_id}
 use Rattle.sched_core.proofs.PlanLemmas.{tick_accepted, tick_draft, tick_ids, tick_length, IsDraftOf, draft_is, draft_sound, draft_kept, draft_planned, told_by}
 use Rattle.sched_core.proofs.schedules.Schedule.plan_tick.Goals.{After-set_clock}
@@ -60,12 +61,16 @@ pub finish-requires-clause-kept : goal.finish-requires-clause-kept
 unfolding added
 finish-requires-clause-kept c = draft_kept (draft_is c.add.new.draft.content (drafted (goal.at.finish-requires-clause-kept c).After-set_clock) c.in_ok-add.ensures.added)
 
-pub finish-requires-clause-counted : goal.finish-requires-clause-counted
+pub finish-requires-clause-pools : goal.finish-requires-clause-pools
 unfolding added
-finish-requires-clause-counted c =
+finish-requires-clause-pools c = ap (λ (s : Schedule). s.pools) (draft_is c.add.new.draft.content (drafted (goal.at.finish-requires-clause-pools c).After-set_clock) c.in_ok-add.ensures.added).is
+
+pub finish-requires-clause-open : goal.finish-requires-clause-open
+unfolding added
+finish-requires-clause-open c =
     let a : Schedule = c.args.self.now.content in
-    let counted : IsCounted a = subst (λ (h : ScheduleValue). IsCounted h.content) c.self.view_is c.self.invariant.counted in
-    subst IsCounted (sym (draft_is c.add.new.draft.content (drafted (goal.at.finish-requires-clause-counted c).After-set_clock) c.in_ok-add.ensures.added).is) (tick_counted c.args.moment (named_by_tick a c.args.moment) a counted)
+    let t : ℕ = c.args.moment in
+    ap (λ (s : Schedule). open_tries s) (draft_is c.add.new.draft.content (drafted (goal.at.finish-requires-clause-open c).After-set_clock) c.in_ok-add.ensures.added).is ∙ open_added (named_by_tick a t) (set_now t a)
 
 pub returns-clause-accepted : goal.returns-clause-accepted
 unfolding added

@@ -1,4 +1,4 @@
-use Rattle.std.proofs.Common.{◌≡◌, ◌∙◌, refl, ap, subst, sym, ℕ, List, ◌+◌, length, map, nat_lt, false, arith}
+use Rattle.std.proofs.Common.{◌≡◌, ◌∙◌, refl, ap, subst, ℕ, List, ◌+◌, length, map, nat_lt, false, arith}
 use Rattle.std.proofs.lemmas.Bool.Decides.{nat_tests}
 use Rattle.sched_state.specs.declared.runs.Run.{Run}
 use Rattle.sched_model.specs.Schedule.{Schedule}
@@ -8,10 +8,10 @@ use Rattle.sched_draft.specs.Drafts.{DraftValue}
 use Rattle.sched_events.specs.SettledAndSound.{IsSoundAndSaid}
 use Rattle.sched_events.specs.declared.answers.Answer.{Answer}
 use Rattle.sched_events.specs.declared.events.Event.TheVariants.{Trigger}
-use Rattle.sched_core.specs.Books.{IsCounted}
 use Rattle.sched_core.specs.Changes.{ScheduleValue}
 use Rattle.sched_core.specs.Plans.{run_id}
-use Rattle.sched_core.proofs.BookLemmas.{trigger_counted}
+use Rattle.sched_model.specs.States.{open_tries}
+use Rattle.sched_laws.proofs.OccupyingLemmas.{open_added}
 use Rattle.sched_core.proofs.PlanLemmas.{IsDraftOf, draft_is, draft_sound, draft_kept, draft_planned, told_by}
 use Rattle.sched_core.proofs.TriggerLemmas.{hand_full, trigger_draft, trigger_ids}
 use Rattle.sched_core.proofs.schedules.Schedule.plan_trigger.Goals.{In_ok-made}
@@ -60,12 +60,15 @@ pub finish-requires-clause-kept : goal.finish-requires-clause-kept
 unfolding added
 finish-requires-clause-kept c = draft_kept (draft_is c.add.new.draft.content (drafted (goal.at.finish-requires-clause-kept c).In_ok-made) c.in_ok-add.ensures.added)
 
-pub finish-requires-clause-counted : goal.finish-requires-clause-counted
+pub finish-requires-clause-pools : goal.finish-requires-clause-pools
 unfolding added
-finish-requires-clause-counted c =
+finish-requires-clause-pools c = ap (λ (s : Schedule). s.pools) (draft_is c.add.new.draft.content (drafted (goal.at.finish-requires-clause-pools c).In_ok-made) c.in_ok-add.ensures.added).is
+
+pub finish-requires-clause-open : goal.finish-requires-clause-open
+unfolding added
+finish-requires-clause-open c =
     let a : Schedule = c.args.self.now.content in
-    let counted : IsCounted a = subst (λ (s : ScheduleValue). IsCounted s.content) c.self.view_is c.self.invariant.counted in
-    subst IsCounted (sym (draft_is c.add.new.draft.content (drafted (goal.at.finish-requires-clause-counted c).In_ok-made) c.in_ok-add.ensures.added).is) (trigger_counted (named_by_hand a c.args.id.now) a counted)
+    ap (λ (s : Schedule). open_tries s) (draft_is c.add.new.draft.content (drafted (goal.at.finish-requires-clause-open c).In_ok-made) c.in_ok-add.ensures.added).is ∙ open_added (named_by_hand a c.args.id.now) a
 
 pub returns-clause-accepted : goal.returns-clause-accepted
 unfolding added

@@ -11,18 +11,18 @@ use Rattle.sched_core.proofs.schedules.Schedule.read_dag.Goals as goal
 
 pub returns-in-None-clause-taken : goal.returns-in-None-clause-taken
 returns-in-None-clause-taken c =
-    let a : Schedule = record { limits = c.self.inside.limits; graphs = c.self.inside.graphs.items; pools = pools_in c.self.inside.pools.pools; now = c.self.inside.clock; lanes = c.self.inside.lanes; next = c.self.inside.next; runs = c.self.inside.runs.runs } in
+    let a : Schedule = record { limits = c.self.inside.limits; graphs = c.self.inside.graphs.items; pools = pools_in c.self.inside.occupied.pools.pools; now = c.self.inside.clock; lanes = c.self.inside.lanes; next = c.self.inside.next; runs = c.self.inside.runs.runs } in
     let fits : exceeds a.limits c.in_ok-spec.spec ≡ false = sym c.if-exceeds.ensures in
     subst (λ (h : ScheduleValue). IsTaken h.content c.args.text.now c.in_ok-dag.dag) c.self.view_is
-    (taken_is a c.self.inside.pools.pools c.args.text.now c.in_ok-spec.spec c.in_ok-dag.dag c.as_slice.result.now refl c.in_ok-spec.ensures fits c.in_ok-dag.ensures
+    (taken_is a c.self.inside.occupied.pools.pools c.args.text.now c.in_ok-spec.spec c.in_ok-dag.dag c.as_slice.result.now refl c.in_ok-spec.ensures fits c.in_ok-dag.ensures
     (c.as_slice.ensures.tasks ∙ ap (λ s. s.tasks) c.spec.ensures.spec) c.in-None.ensures)
 
 pub returns-in_ok-copy-in-Some-clause-refused : goal.returns-in_ok-copy-in-Some-clause-refused
 returns-in_ok-copy-in-Some-clause-refused c =
-    let a : Schedule = record { limits = c.self.inside.limits; graphs = c.self.inside.graphs.items; pools = pools_in c.self.inside.pools.pools; now = c.self.inside.clock; lanes = c.self.inside.lanes; next = c.self.inside.next; runs = c.self.inside.runs.runs } in
+    let a : Schedule = record { limits = c.self.inside.limits; graphs = c.self.inside.graphs.items; pools = pools_in c.self.inside.occupied.pools.pools; now = c.self.inside.clock; lanes = c.self.inside.lanes; next = c.self.inside.next; runs = c.self.inside.runs.runs } in
     let fits : exceeds a.limits c.in_ok-spec.spec ≡ false = sym c.if-exceeds.ensures in
     let first : refused a (Load c.args.text.now) ≡ Some (refusal.UnknownPool c.in-Some.pool.now) =
-    pool_is a c.self.inside.pools.pools c.args.text.now c.in_ok-spec.spec c.in_ok-dag.dag c.as_slice.result.now c.in-Some.pool.now refl c.in_ok-spec.ensures fits c.in_ok-dag.ensures
+    pool_is a c.self.inside.occupied.pools.pools c.args.text.now c.in_ok-spec.spec c.in_ok-dag.dag c.as_slice.result.now c.in-Some.pool.now refl c.in_ok-spec.ensures fits c.in_ok-dag.ensures
     (c.as_slice.ensures.tasks ∙ ap (λ s. s.tasks) c.spec.ensures.spec) c.in-Some.ensures in
     inr (record {
       first =

@@ -1,12 +1,25 @@
-use Rattle.std.proofs.Common.{false, sym, subst, List, true≢false}
+use Rattle.std.proofs.Common.{◌≡◌, ◌∙◌, ◌≤◌, ◌+◌, false, refl, sym, ap, subst, sum_by, List, true≢false}
 use Rattle.sched_state.specs.declared.runs.Run.{Run}
+use Rattle.sched_model.specs.Handout.{last_serial}
+use Rattle.sched_model.specs.States.{in_flight}
 use Rattle.record_restoring.specs.Parts.{schedule_in}
-use Rattle.sched_core.specs.Books.{AgreesWithBook}
+use Rattle.sched_handout.specs.declared.occupied.Occupied.{Occupied}
+use Rattle.sched_core.specs.Books.{IsHeldWith}
+use Rattle.sched_core.specs.Inside.{open_in}
+use Rattle.sched_core.proofs.BookLemmas.{read_occupied}
+use Rattle.sched_core.proofs.ViewLemmas.{flight_is, flight_small}
 use Rattle.sched_core.proofs.schedules.Schedule.restore.Goals as goal
+
+pub open_in_all-requires : goal.open_in_all-requires
+open_in_all-requires c =
+    let h = c.in_ok-limits.ensures.restored in
+    subst (λ (rs : List Run). sum_by open_in rs ≤ last_serial + 1) (sym c.deref.ensures.value) (flight_small (schedule_in c.in_ok-limits.field-0) h.sound)
 
 pub invariant_of-result : goal.invariant_of-result
 invariant_of-result c =
     let p = c.in_ok-limits.field-0 in
     let h = c.in_ok-limits.ensures.restored in
-    subst (λ (rs : List Run). AgreesWithBook false (record (schedule_in p) { runs = rs }) p.pools.pools) (sym c.of.ensures)
-    (record { kept = record { sound = h.sound; said = h.said }; settled = λ e. absurd (true≢false (sym e)); counted = h.counted; taken = h.taken })
+    let flight : c.open_in_all.result ≡ in_flight (schedule_in p) = c.open_in_all.ensures ∙ (ap (sum_by open_in) c.deref.ensures.value ∙ sym (flight_is (schedule_in p) h.sound)) in
+    let t : Occupied = record { in_flight = c.open_in_all.result; pools = p.pools } in
+    subst (λ (rs : List Run). IsHeldWith false (record (schedule_in p) { runs = rs }) t) (sym c.of.ensures)
+    (record { kept = record { sound = h.sound; said = h.said }; settled = λ e. absurd (true≢false (sym e)); counted = h.counted; occupied = read_occupied (schedule_in p) t h.counted flight refl h.taken })

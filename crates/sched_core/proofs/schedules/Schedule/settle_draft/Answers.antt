@@ -1,7 +1,6 @@
 use Rattle.std.proofs.Common.{sym, subst}
 use Rattle.sched_laws.proofs.SweepLemmas.{sound_ordered}
 use Rattle.sched_laws.specs.Stages.{IsOrdered}
-use Rattle.sched_model.specs.Schedule.{Schedule}
 use Rattle.sched_core.specs.Changes.{ScheduleValue}
 use Rattle.sched_core.proofs.schedules.Schedule.settle_draft.Goals as goal
 

@@ -1,0 +1,100 @@
+use Rattle.std.proofs.Common.{◌≡◌, ◌∙◌, ◌-◌, sym, ap, subst, flat_map, true, Some}
+use Rattle.std.specs.List.{range_with_len}
+use Rattle.record_changes.specs.Changes.{rows_between}
+use Rattle.run_lists.specs.Edits.{AreEditsOf, edited}
+use Rattle.sched_model.specs.Schedule.{Schedule}
+use Rattle.sched_model.specs.Settle.{settle}
+use Rattle.sched_model.specs.Handout.{hand_out}
+use Rattle.sched_model.specs.Jobs.{job_at, handed}
+use Rattle.sched_model.specs.Sound.{IsSound}
+use Rattle.sched_events.proofs.StepLemmas.{without_settled}
+use Rattle.sched_draft.specs.Books.{pools_in}
+use Rattle.sched_handout.specs.Occupied.{AreOccupied}
+use Rattle.sched_draft.specs.Drafts.{DraftValue, SameDags}
+use Rattle.sched_core.specs.Effects.{changed, IsEffect}
+use Rattle.sched_core.specs.declared.changes.Effect.{Effect}
+use Rattle.sched_core.specs.declared.changes.Rest.{Rest}
+use Rattle.sched_core.specs.Inside.{IsOver, IsLast, completed}
+use Rattle.sched_core.specs.declared.changes.GraphChange.{GraphChange}
+use Rattle.sched_core.specs.Books.{IsHeldWith}
+use Rattle.sched_core.specs.Changes.{ScheduleValue, Planned}
+use Rattle.sched_core.proofs.ChangedRowLemmas.{draft_dags, last_after}
+use Rattle.sched_core.proofs.FinishLemmas.{finished_is, finished_held, finished_over, settled_occupied}
+use Rattle.sched_core.proofs.schedules.Schedule.finish_with.Goals as goal
+
+pub settle_draft-requires-clause-dags : goal.settle_draft-requires-clause-dags
+settle_draft-requires-clause-dags c =
+    subst (λ (s : Schedule). SameDags s c.args.draft.content) (sym c.requires.based) (draft_dags c.args.graphs c.args.self.now.content c.args.draft.content c.requires.over)
+
+pub hand_out-requires : goal.hand_out-requires
+hand_out-requires c =
+    let b : Schedule = c.args.draft.content in
+    subst (λ (s : Schedule). AreOccupied s c.args.occupied) (sym c.in_ok-settle_draft.ensures.settled) (settled_occupied b c.args.occupied c.requires.occupied)
+
+pub rows_changed-requires-clause-based : goal.rows_changed-requires-clause-based
+rows_changed-requires-clause-based c = c.in_ok-hand_out.ensures.base ∙ c.in_ok-settle_draft.ensures.base ∙ c.requires.based
+
+pub rows_changed-requires-clause-over : goal.rows_changed-requires-clause-over
+rows_changed-requires-clause-over c =
+    let b : Schedule = c.args.draft.content in
+    let end : c.hand_out.new.draft.content ≡ hand_out (settle b) = c.in_ok-hand_out.ensures.draft ∙ ap hand_out c.in_ok-settle_draft.ensures.settled in
+    subst (IsOver c.args.graphs c.args.self.now.content) (sym end) (finished_over c.args.graphs c.args.self.now.content b c.requires.over)
+
+pub rows_changed-requires-clause-last : goal.rows_changed-requires-clause-last
+rows_changed-requires-clause-last c =
+    let b : Schedule = c.args.draft.content in
+    let end : c.hand_out.new.draft.content ≡ hand_out (settle b) = c.in_ok-hand_out.ensures.draft ∙ ap hand_out c.in_ok-settle_draft.ensures.settled in
+    subst (IsLast c.args.graphs) (sym end) (last_after c.args.graphs b c.requires.last)
+
+pub rows_changed-requires-clause-sound : goal.rows_changed-requires-clause-sound
+rows_changed-requires-clause-sound c =
+    let b : Schedule = c.args.draft.content in
+    let end : c.hand_out.new.draft.content ≡ hand_out (settle b) = c.in_ok-hand_out.ensures.draft ∙ ap hand_out c.in_ok-settle_draft.ensures.settled in
+    subst (λ (s : Schedule). IsSound (completed c.args.graphs s)) (sym end) (without_settled (completed c.args.graphs (hand_out (settle b))) c.requires.kept).sound
+
+pub invariant_of-result : goal.invariant_of-result
+invariant_of-result c =
+    let a : Schedule = c.args.self.now.content in
+    let g : GraphChange = c.args.graphs in
+    let b : Schedule = c.args.draft.content in
+    let d : DraftValue = c.hand_out.new.draft in
+    let e : Schedule = hand_out (settle b) in
+    let end : d.content ≡ e = c.in_ok-hand_out.ensures.draft ∙ ap hand_out c.in_ok-settle_draft.ensures.settled in
+    let base : d.base ≡ a = c.in_ok-hand_out.ensures.base ∙ c.in_ok-settle_draft.ensures.base ∙ c.requires.based in
+    let numbers : AreOccupied e c.hand_out.new.taken = subst (λ (s : Schedule). AreOccupied s c.hand_out.new.taken) end c.in_ok-hand_out.ensures.taken in
+    let of : AreEditsOf a.runs c.into_edits.result = subst (λ (s : Schedule). AreEditsOf s.runs c.into_edits.result) base c.into_edits.ensures.edits in
+    let runs : edited c.into_edits.result a.runs ≡ d.content.runs = subst (λ (s : Schedule). edited c.into_edits.result s.runs ≡ d.content.runs) base c.into_edits.ensures.runs in
+    let is = finished_is g a b d.content (pools_in c.hand_out.new.taken.pools.pools) c.clock.result c.lanes.result c.next_serial.result (edited c.into_edits.result a.runs) c.requires.over end numbers.pools.pools
+    c.clock.ensures c.lanes.ensures c.next_serial.ensures runs in
+    let held : IsHeldWith true (completed g e) c.hand_out.new.taken = finished_held g b c.hand_out.new.taken c.requires.sound c.requires.counted c.requires.last c.requires.kept numbers in
+    let n : Rest = record { occupied = c.hand_out.new.taken; clock = c.clock.result; lanes = c.lanes.result; serial = c.next_serial.result; edits = c.into_edits.result } in
+    let f : Effect = record { graphs = g; rest = Some n } in
+    subst (λ (h : ScheduleValue). IsEffect f c.in_ok-rows.rows h.content) (sym c.of.ensures) (record {
+      keeps = λ t was before. subst (λ (s : Schedule). IsHeldWith true s c.hand_out.new.taken) (sym is) held;
+      edits = of;
+      rows_are = c.in_ok-rows.ensures ∙ (ap (λ (s : Schedule). rows_between a (completed g s)) end ∙ ap (rows_between a) (sym is));
+    })
+
+pub returns : goal.returns
+returns c =
+    let a : Schedule = c.args.self.now.content in
+    let g : GraphChange = c.args.graphs in
+    let b : Schedule = c.args.draft.content in
+    let d : DraftValue = c.hand_out.new.draft in
+    let e : Schedule = hand_out (settle b) in
+    let end : d.content ≡ e = c.in_ok-hand_out.ensures.draft ∙ ap hand_out c.in_ok-settle_draft.ensures.settled in
+    let base : d.base ≡ a = c.in_ok-hand_out.ensures.base ∙ c.in_ok-settle_draft.ensures.base ∙ c.requires.based in
+    let numbers : AreOccupied e c.hand_out.new.taken = subst (λ (s : Schedule). AreOccupied s c.hand_out.new.taken) end c.in_ok-hand_out.ensures.taken in
+    let runs : edited c.into_edits.result a.runs ≡ d.content.runs = subst (λ (s : Schedule). edited c.into_edits.result s.runs ≡ d.content.runs) base c.into_edits.ensures.runs in
+    let is = finished_is g a b d.content (pools_in c.hand_out.new.taken.pools.pools) c.clock.result c.lanes.result c.next_serial.result (edited c.into_edits.result a.runs) c.requires.over end numbers.pools.pools
+    c.clock.ensures c.lanes.ensures c.next_serial.ensures runs in
+    let jobs : c.in_ok-jobs.jobs ≡ handed a e =
+    c.in_ok-jobs.ensures
+    ∙ (ap (λ (h : ScheduleValue). flat_map (job_at d.content) (range_with_len h.content.next (d.content.next - h.content.next))) c.self.view_is ∙ ap (handed a) end) in
+    ap (λ (h : ScheduleValue). let p : Planned = record {
+      before = h.content;
+      after = record h.content { graphs = changed g h.content.graphs; pools = pools_in c.hand_out.new.taken.pools.pools; now = c.clock.result; lanes = c.lanes.result; next = c.next_serial.result; runs = edited c.into_edits.result h.content.runs };
+      answer = record c.args.answer { jobs = c.in_ok-jobs.jobs };
+    } in p) c.of.ensures
+    ∙ (ap (λ (s : Schedule). let p : Planned = record { before = a; after = s; answer = record c.args.answer { jobs = c.in_ok-jobs.jobs } } in p) is
+    ∙ ap (λ js. let p : Planned = record { before = a; after = completed g e; answer = record c.args.answer { jobs = js } } in p) jobs)
