@@ -13,7 +13,7 @@
 enum { GROWTHS, READS, WRITES, DISK, COMMITS, KINDS };
 static const char *const NAMES[KINDS] = {"growths", "reads", "writes", "disk", "commits"};
 static long nowhere[KINDS], *counts = nowhere, at = -1;
-static int kind = -1, is_kill;
+static int kind = -1, is_kill, is_once;
 static void *(*real_malloc)(size_t), *(*real_realloc)(void *, size_t);
 
 static void begin_memory(void) {
@@ -25,8 +25,9 @@ __attribute__((constructor)) static void begin(void) {
     const char *fault = getenv("FAULT"), *name = getenv("FAULT_COUNTS");
     begin_memory();
     is_kill = fault && !strcmp(fault, "kills");
+    is_once = fault && !strcmp(fault, "once");
     for (int it = 0; it < KINDS; it++)
-        if (fault && !strcmp(is_kill ? "disk" : fault, NAMES[it])) kind = it;
+        if (fault && !strcmp(is_kill || is_once ? "disk" : fault, NAMES[it])) kind = it;
     int file = name ? open(name, O_RDWR) : -1;
     if (file >= 0) {
         counts = mmap(NULL, sizeof nowhere, PROT_READ | PROT_WRITE, MAP_SHARED, file, 0);
@@ -36,14 +37,14 @@ __attribute__((constructor)) static void begin(void) {
     unsetenv("LD_PRELOAD");
 }
 
-/* Counts a call, and says whether it is at or past the one that fails first. */
+/* Counts a call, and says whether it fails. */
 static int fails(int which) {
     long number = __atomic_add_fetch(&counts[which], 1, __ATOMIC_SEQ_CST);
-    if (which != kind || at < 0) return 0;
-    if (which == GROWTHS) return number == at;
-    if (is_kill && number == at) syscall(SYS_exit_group, 137);
-    errno = EIO;
-    return number >= at;
+    if (which != kind || at < 0 || number < at) return 0;
+    if (number > at && (which == GROWTHS || is_once)) return 0;
+    if (is_kill) syscall(SYS_exit_group, 137);
+    errno = which == GROWTHS ? ENOMEM : EIO;
+    return 1;
 }
 
 void *malloc(size_t size) {
