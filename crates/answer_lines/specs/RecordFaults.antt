@@ -1,10 +1,9 @@
 -- The lines of events that are not stepped, and of records that are not opened.
 use Rattle.std.specs.Prelude.{ℕ, List, ◌++◌, codes}
 use Rattle.std.specs.Fmt.{decimal}
-use Rattle.meta_store.specs.declared.faults.StoreFault.{StoreFault}
-use Rattle.meta_store.specs.declared.faults.StoreFault.TheVariants.{Refused, NotOurs, Inconsistent, Memory}
-use Rattle.director.specs.declared.faults.Fault.{Fault}
-use Rattle.director.specs.declared.faults.Fault.TheVariants as failed
+use Rattle.sessions.specs.Faults.{Fault, StoreFault}
+use Rattle.sessions.specs.Faults.failed
+use Rattle.sessions.specs.Faults.store
 use Rattle.record_rows.specs.declared.tables.Table.{Table}
 use Rattle.record_rows.specs.declared.tables.Table.TheVariants as table
 use Rattle.answer_lines.specs.Refusals.{refusal_text}
@@ -24,10 +23,10 @@ inconsistent_text t row = codes "store 3 Inconsistent " ++ (table_name t ++ (cod
 
 -- `store`, the fault's number and name, and the table and row of a rule that fails; want of memory is `memory`
 abbrev pub store_text : StoreFault → List ℕ
-store_text (Refused cause) = codes "store 1 Refused\n"
-store_text NotOurs = codes "store 2 NotOurs\n"
-store_text (Inconsistent t row) = inconsistent_text t row
-store_text Memory = codes "memory\n"
+store_text (store.Refused cause) = codes "store 1 Refused\n"
+store_text store.NotOurs = codes "store 2 NotOurs\n"
+store_text (store.Inconsistent t row) = inconsistent_text t row
+store_text store.Memory = codes "memory\n"
 
 -- the line of an event that is not stepped, or a record that is not opened
 abbrev pub failure_text : Fault → List ℕ

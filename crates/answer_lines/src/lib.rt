@@ -33,6 +33,8 @@ mod runs;
 mod shown;
 mod tasks;
 
+pub use explain::ExplainFault;
 pub use listing::put_listing;
 pub use reasons::put_reasons;
+pub use sessions::{ClockFault, ConductFault, Fault, StoreFault};
 pub use shown::{Shown, put};

@@ -4,9 +4,8 @@ ghost use Rattle.std.specs.Io.KnownBytes.{Appends};
 ghost use Rattle.answer_lines.specs.RecordFaults as spec;
 
 use crate::refusals::put_refusal;
-use director::Fault;
-use meta_store::StoreFault;
 use record_rows::Table;
+use sessions::{Fault, StoreFault};
 use std::io::{self, Write};
 
 // Writes the line of a fault: `refused N Name`, `store N Name`, or `memory`.

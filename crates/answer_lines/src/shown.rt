@@ -11,12 +11,11 @@ use crate::record_faults::put_failure;
 use crate::run_faults::{put_clock_fault, put_end};
 use crate::runs::put_run;
 use crate::tasks::put_task;
-use director::Fault;
 use explain::{ExplainFault, Reason};
 use sched_events::{Answer, Event, InstanceRow, PoolRow};
 use sched_state::Run;
 use script_commands::CommandFault;
-use sessions::{ClockFault, ConductFault};
+use sessions::{ClockFault, ConductFault, Fault};
 use std::io::{self, Write};
 
 /// What is printed at once.

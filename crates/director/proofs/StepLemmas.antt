@@ -6,11 +6,10 @@ use Rattle.sqlite.specs.Effect.{Database}
 use Rattle.sqlite.specs.State.{State, Survives}
 use Rattle.sqlite.proofs.StateLemmas.{survives_weaker}
 use Rattle.meta_store.specs.Faults.{IsOfSqlite}
+use Rattle.meta_store.specs.Schedules.{IsPlanned, Planned}
 use Rattle.meta_store.specs.Stores.{CommitsBy, Writes}
 use Rattle.meta_store.specs.declared.faults.StoreFault.{StoreFault}
 use Rattle.meta_store.specs.declared.faults.StoreFault.TheVariants as store
-use Rattle.sched_core.specs.Changes.{Planned}
-use Rattle.sched_core.specs.Plans.{IsPlanned}
 use Rattle.sched_events.specs.Causes.{refused}
 use Rattle.sched_events.specs.Events.{IsInRange}
 use Rattle.sched_events.specs.Outcomes.{IsStepped}

@@ -16,9 +16,9 @@ use Rattle.sched_events.specs.declared.answers.Answer.{Answer}
 use Rattle.sched_events.specs.contracts.answers.Answer as answer
 use Rattle.sched_events.specs.declared.events.Event.{Event}
 use Rattle.sched_events.specs.declared.events.Event.TheVariants.{Restart}
-use Rattle.sched_core.specs.Changes.{ScheduleValue}
-use Rattle.sched_core.specs.contracts.schedules.Schedule as schedule
 use Rattle.meta_store.specs.Loads.{IsReadAs}
+pub use Rattle.meta_store.specs.Schedules.{ScheduleValue}
+use Rattle.meta_store.specs.Schedules.schedule
 
 -- the record's connection, the schedule in memory, and the answer to the restart that began it
 pub record DirectorValue (S : Type 0) : Type 0 where

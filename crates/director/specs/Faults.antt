@@ -2,13 +2,13 @@
 use Rattle.std.specs.Prelude.{◌≡◌, ◌≢◌, ◌⊎◌, ℕ, false}
 use Rattle.sqlite.specs.declared.error.Error.{Error}
 use Rattle.sqlite.specs.Effect.{Database}
-use Rattle.record_load.specs.Errors.{is_memory}
 use Rattle.record_rows.specs.Rows.{Rows}
 use Rattle.record_rules.specs.Reading.{schedule_of}
 use Rattle.record_tables.specs.Holds.{Stores}
 use Rattle.meta_store.specs.Loads.{IsReadAs, IsLoadFault}
-use Rattle.meta_store.specs.declared.faults.StoreFault.{StoreFault}
-use Rattle.meta_store.specs.declared.faults.StoreFault.TheVariants as store
+pub use Rattle.meta_store.specs.Schedules.{is_memory}
+pub use Rattle.meta_store.specs.declared.faults.StoreFault.{StoreFault}
+pub use Rattle.meta_store.specs.declared.faults.StoreFault.TheVariants as store
 use Rattle.sched_model.specs.Schedule.{Schedule}
 use Rattle.sched_state.specs.Limits.{Bounds}
 use Rattle.sched_events.specs.Outcomes.{IsCause}

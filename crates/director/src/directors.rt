@@ -3,7 +3,7 @@ ghost use Rattle.std.specs.Prelude.{◌≡◌, false, IfOk, IfErr, OnOk, OnErr, 
 ghost use Rattle.sqlite.specs.Held.{state};
 ghost use Rattle.sqlite.specs.State.{HasCleanDisk, Survives};
 ghost use Rattle.sqlite.specs.Tree.{Trees};
-ghost use Rattle.record_load.specs.Ours.{is_ours};
+ghost use Rattle.meta_store.specs.Schedules.{is_ours};
 ghost use Rattle.meta_store.specs.Stores.{CommitsBy};
 ghost use Rattle.meta_store.specs.declared.faults.StoreFault.TheVariants as store_fault;
 ghost use Rattle.sched_events.specs.Promises.{KeepsPromises};
@@ -15,8 +15,7 @@ ghost use Rattle.director.specs.declared.faults.Fault.TheVariants as fault;
 use crate::faults::Fault;
 use crate::opening::restart;
 use crate::stepping::step;
-use meta_store::Store;
-use sched_core::{Limits, Schedule};
+use meta_store::{Limits, Schedule, Store};
 use sched_events::{Answer, Event};
 use sqlite::Alter;
 use std::alloc::Global;

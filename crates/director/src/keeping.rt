@@ -3,13 +3,12 @@ ghost use Rattle.std.specs.Prelude.{◌≡◌, IfOk, IfErr, OnOk, OnErr, IsTrue}
 ghost use Rattle.sqlite.specs.Held.{state};
 ghost use Rattle.sqlite.specs.State.{HasCleanDisk, Survives};
 ghost use Rattle.sqlite.specs.Tree.{Trees};
+ghost use Rattle.meta_store.specs.Schedules.{HasRoom};
 ghost use Rattle.meta_store.specs.Stores.{CommitsBy, Writes};
-ghost use Rattle.sched_core.specs.Changes.{HasRoom};
 ghost use Rattle.director.specs.Faults.{IsFaultOfStore};
 
 use crate::faults::Fault;
-use meta_store::Store;
-use sched_core::{Change, Schedule};
+use meta_store::{Change, Schedule, Store};
 use sched_events::Answer;
 use sqlite::Alter;
 

@@ -11,8 +11,7 @@ ghost use Rattle.director.specs.Faults.{IsFaultOf, IsRefused};
 
 use crate::faults::Fault;
 use crate::keeping::keep;
-use meta_store::{Store, a_planned_event_is_written};
-use sched_core::Schedule;
+use meta_store::{Schedule, Store, a_planned_event_is_written};
 use sched_events::{Answer, Event, accepted_events_keep_the_promises};
 use sqlite::Alter;
 use std::alloc::Global;

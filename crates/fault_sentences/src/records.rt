@@ -1,6 +1,5 @@
 //! Sentences on records, clocks and ends of runs.
-use meta_store::StoreFault;
-use sessions::{ClockFault, ConductFault};
+use answer_lines::{ClockFault, ConductFault, StoreFault};
 use std::alloc::{AllocError, Global};
 
 // Why a record is not opened or written.

@@ -2,7 +2,7 @@
 use crate::asked::Asked;
 use crate::graphs::{dag_sentence, graph_sentence};
 use crate::notes::{Note, Rest};
-use explain::ExplainFault;
+use answer_lines::ExplainFault;
 use graph_file::Name;
 use sched_events::{Event, Refusal};
 use std::alloc::{AllocError, Global};

@@ -21,6 +21,7 @@ mod scripts;
 mod sources;
 mod statuses;
 
+pub use answer_lines::Shown;
 pub use console::{Console, NoConsole, Spot};
 pub use reader::ScriptReader;
 pub use scripts::Script;

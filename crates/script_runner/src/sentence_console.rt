@@ -1,12 +1,11 @@
 //! What a person is told beside the answers: sentences, and a line on a terminal that says how a drain goes on.
 use crate::totals::Totals;
-use answer_lines::Shown;
 use fault_sentences::{
     Asked, Note, ended_since, lost_at_restart, note_of, one_line, unreadable_note,
 };
 use sched_core::{Event, Schedule};
 use script_commands::{CommandFault, SourceFault};
-use script_reader::{Console, Spot};
+use script_reader::{Console, Shown, Spot};
 use std::alloc::{AllocError, Global};
 use std::io::{self, IsTerminal, Read, Write};
 use std::rt::{Clock, Files};

@@ -1,9 +1,10 @@
 -- Why a run ends before its lines are over.
 use Rattle.std.specs.Prelude.{◌≡◌, ◌⊎◌, false, Option, Some, None}
-use Rattle.record_load.specs.Errors.{is_memory}
-use Rattle.meta_store.specs.declared.faults.StoreFault.TheVariants as store
-use Rattle.director.specs.declared.faults.Fault.{Fault}
-use Rattle.director.specs.declared.faults.Fault.TheVariants as failed
+pub use Rattle.director.specs.Faults.{StoreFault}
+use Rattle.director.specs.Faults.{is_memory}
+pub use Rattle.director.specs.Faults.store
+pub use Rattle.director.specs.declared.faults.Fault.{Fault}
+pub use Rattle.director.specs.declared.faults.Fault.TheVariants as failed
 use Rattle.sessions.specs.declared.faults.ConductFault.{ConductFault}
 use Rattle.sessions.specs.declared.faults.ConductFault.TheVariants as fault
 use Rattle.sessions.specs.declared.line_reading.LineFault.{LineFault}

@@ -1,15 +1,13 @@
 //! Why a run ends before its lines are over.
 ghost use Rattle.std.specs.Prelude.{◌≡◌, false, None, Some};
 ghost use Rattle.sqlite.specs.declared.error.Error.{Error};
-ghost use Rattle.record_load.specs.Errors.{is_memory};
-ghost use Rattle.meta_store.specs.declared.faults.StoreFault.TheVariants as store_fault;
-ghost use Rattle.director.specs.Faults.{IsFaultOfStore};
+ghost use Rattle.director.specs.Faults.{IsFaultOfStore, is_memory};
+ghost use Rattle.director.specs.Faults.store as store_fault;
 ghost use Rattle.director.specs.declared.faults.Fault.TheVariants as failed;
 ghost use Rattle.sessions.specs.Faults.{end_of, end_of_lines, EndsBy};
 
 use crate::line_reading::LineFault;
-use director::Fault;
-use meta_store::{Cause, StoreFault};
+use director::{Cause, Fault, StoreFault};
 use thiserror::Error;
 
 /// Why a run ends before its lines are over, or not well.

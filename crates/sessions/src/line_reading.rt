@@ -14,8 +14,7 @@ ghost use Rattle.sessions.specs.declared.line_reading.Line.TheVariants as Says;
 ghost use Rattle.sessions.specs.declared.line_reading.LineFault.{LineFault};
 
 use crate::clocks::ClockFault;
-use director::Fault;
-use sched_core::Schedule;
+use director::{Fault, Schedule};
 use sched_events::{Answer, Event};
 use thiserror::Error;
 

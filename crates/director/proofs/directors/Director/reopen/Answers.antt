@@ -1,5 +1,5 @@
 use Rattle.std.proofs.Common.{◌∙◌, ap}
-use Rattle.sched_core.specs.Changes.{ScheduleValue}
+use Rattle.meta_store.specs.Schedules.{ScheduleValue}
 use Rattle.director.proofs.directors.Director.reopen.Goals as goal
 
 pub returns-clause-opened : goal.returns-clause-opened

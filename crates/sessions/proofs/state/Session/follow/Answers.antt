@@ -1,6 +1,6 @@
 use Rattle.std.proofs.Common.{◌∙◌, Some, None, vec_items, refl, ap, subst}
 use Rattle.sqlite.specs.Held.{state}
-use Rattle.sched_core.specs.Changes.{ScheduleValue}
+use Rattle.director.specs.Directors.{ScheduleValue}
 use Rattle.sessions.specs.Lines.{opens}
 use Rattle.sessions.specs.Told.{AreTold}
 use Rattle.sessions.proofs.LineLemmas.{told_on, told_read, told_seen, where_ok}
