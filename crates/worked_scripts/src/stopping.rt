@@ -32,7 +32,7 @@ pub fn put_stops<T: Threads + Wait + Sync, W: Write>(
 ) -> io::Result<()> {
     let mut alike: Option<Alike> = None;
     for count in 0..MANY {
-        let played = play(rt, host, 0, None, script, calls_of(part, count))?;
+        let played = play(rt, host, 1, None, script, calls_of(part, count))?;
         let line = line_of(host.alloc(), part, &played)?;
         if played.status != FAILED {
             put_alike(alike.as_ref(), output)?;
