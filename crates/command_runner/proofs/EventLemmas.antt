@@ -6,8 +6,9 @@ use Rattle.sqlite.specs.State.{State, HasCleanDisk}
 use Rattle.sched_state.specs.Limits.{ceilings}
 use Rattle.sched_model.specs.Schedule.{Schedule}
 use Rattle.sched_events.specs.declared.events.Event.{Event}
-use Rattle.director.specs.Directors.{DirectorValue, Keeps, Opens, RestartsIn}
+use Rattle.director.specs.Directors.{DirectorValue, Follows, Keeps, Opens, RestartsIn}
 use Rattle.director.specs.Faults.{IsOpenFault}
+use Rattle.director.specs.Lists.{IsOutcome}
 use Rattle.director.specs.declared.faults.Fault.{Fault}
 use Rattle.answer_lines.specs.RecordFaults.{failure_text}
 use Rattle.script_reader.specs.Statuses.{failure_status}
@@ -46,5 +47,20 @@ unopened look before store fault old new told put status cause kept same text_is
   fault = fault;
   cause = cause;
   kept = kept;
+  shown = written (failure_text fault) (failure_status fault) told old new put status same text_is is;
+}
+
+-- an event that was refused, or that the record did not take
+pub failed : {S E T : Type 0} (look : Held S → State) (d : DirectorValue S) (e : Event) (fault : Fault) (left : DirectorValue S) (old new : Option (List ℕ)) (store : Held S) (told : ℕ) (put : Result T E) (status : ℕ)
+    → store ≡ left.store
+    → IsOutcome d.schedule.content e (Err fault) left.schedule.content
+    → Follows d.schedule.content (look d.store) left.schedule.content (look left.store)
+    → told ≡ failure_status fault → OnOk put (Appends old new (failure_text fault)) → MatchResult put (λ _. status ≡ told) (λ _. status ≡ 4)
+    → IsStepDone look d e old new store status
+failed {S} look d e fault left old new store told put status same_store outcome followed same text_is is = record {
+  answer = Err fault;
+  after = left.schedule.content;
+  outcome = outcome;
+  followed = subst (λ (s : Held S). Follows d.schedule.content (look d.store) left.schedule.content (look s)) (sym same_store) followed;
   shown = written (failure_text fault) (failure_status fault) told old new put status same text_is is;
 }

@@ -1,5 +1,5 @@
 -- What edits make of a list, and where each of them stands.
-use Rattle.std.proofs.Common.{◌≡◌, ◌∙◌, refl, sym, ap, subst, ℕ, zero, suc, ◌+◌, ◌<◌, ◌≤◌, Bool, true, false, List, [], ◌∷◌, ◌++◌, length, Option, Some, None, slice_get, insert, arith}
+use Rattle.std.proofs.Common.{◌≡◌, ◌∙◌, refl, sym, ap, subst, ℕ, zero, suc, ◌+◌, ◌<◌, ◌≤◌, Bool, true, false, List, [], ◌∷◌, length, Option, Some, None, slice_get, insert, arith}
 use Rattle.std.proofs.lemmas.Option.{slice_get_within}
 use Rattle.sched_model.specs.Lists.{at}
 use Rattle.sched_state.specs.declared.runs.Run.{Run}
@@ -137,15 +137,6 @@ puts_changed new old f g one two (suc k) n s i m e (d ∷ ds) rs xs h l b w a q 
     let all : length xs + added_by k ds ≤ length (puts new old ds xs) = length_puts new old k (s + added d.is_new) (d.from + hidden d.is_new) ds rs xs h.3 l in
     ap (put_in d.is_new d.from (new d.run) (old d.run)) (puts_changed new old f g one two k n (s + added d.is_new) (d.from + hidden d.is_new) (e.from + added_by k ds) e ds rs xs h.3 l b.1 w a (omega (arith, k_th.0)))
     ∙ put_later d.is_new false d.from (e.from + added_by k ds) m (new d.run) (new d.run) (old d.run) g (puts new old ds xs) (omega (arith, h.0, b.0, k_th.0)) (omega arith) (omega (arith, k_th.0))
-
--- ---- the last edit is made first
-pub puts_last : {X : Type 0} (new : Run → X) (old : Run → X → X) (es : List Edit) (e : Edit) (xs : List X) → puts new old (es ++ e ∷ []) xs ≡ puts new old es (put_in e.is_new e.from (new e.run) (old e.run) xs)
-puts_last new old [] e xs = refl
-puts_last new old (d ∷ ds) e xs = ap (put_in d.is_new d.from (new d.run) (old d.run)) (puts_last new old ds e xs)
-
-pub rise_last : (s i : ℕ) (es : List Edit) (e : Edit) (rs : List Run) → RiseFrom s i (es ++ e ∷ []) rs → RiseFrom s i es rs × FitsAt e.is_new e.from e.run rs
-rise_last s i [] e rs h = (tt, h.2)
-rise_last s i (d ∷ ds) e rs h = let t = rise_last (s + added d.is_new) (d.from + hidden d.is_new) ds e rs h.3 in ((h.0, h.1, h.2, t.0), t.1)
 
 -- ---- edits that stand further on, but put the same in
 pub puts_moved : {X : Type 0} (new : Run → X) (old : Run → X → X) (k : ℕ) (es : List Edit) (xs : List X) → puts new old (moved_from k es) xs ≡ puts new old es xs

@@ -11,3 +11,6 @@ pub mod PastLemmas
 pub mod OrderLemmas
 pub mod BeforeLemmas
 pub mod PickLemmas
+pub mod PlaceLemmas
+pub mod HoldLemmas
+pub mod ShiftLemmas

@@ -1,77 +1,121 @@
--- Edits are written from the last one on.
-use Rattle.std.proofs.Common.{◌≡◌, ◌∙◌, refl, sym, ap, subst, ℕ, zero, suc, ◌+◌, ◌<◌, ◌≤◌, Bool, true, false, cond, List, [], ◌∷◌, ◌++◌, length, set, insert, arith}
+-- Edits are written from the first one on, each at its position among all runs.
+use Rattle.std.proofs.Common.{◌≡◌, ◌∙◌, refl, sym, ap, subst, ℕ, ◌+◌, ◌≤◌, Bool, true, false, cond, List, [], ◌∷◌, length, arith}
 use Rattle.std.proofs.lemmas.List.Sums.{sum_by-cons}
-use Rattle.sched_model.specs.Lists.{at}
 use Rattle.sched_state.specs.declared.runs.Run.{Run}
 use Rattle.run_lists.specs.declared.edits.Edit.{Edit}
-use Rattle.run_lists.specs.Edits.{put_in, edited, added, hidden, AreEditsOf}
+use Rattle.run_lists.specs.Edits.{put_in, edited, added, hidden, AreEditsOf, RiseFrom}
 use Rattle.run_lists.specs.Rooms.{all_added}
-use Rattle.run_lists.proofs.PutLemmas.{length_put}
-use Rattle.run_lists.proofs.EditLemmas.{puts_last, rise_last, fits_within}
+use Rattle.run_lists.proofs.PutLemmas.{length_put, parts, put_later}
+use Rattle.run_lists.proofs.EditLemmas.{fits_within}
 
 counts : (b : Bool) → cond b 1 0 ≡ added b
 counts true = refl
 counts false = refl
 
-all_last : (es : List Edit) (e : Edit) → all_added (es ++ e ∷ []) ≡ all_added es + added e.is_new
-all_last [] e = omega (arith, counts e.is_new)
-all_last (d ∷ ds) e =
-    let t : all_added (ds ++ e ∷ []) ≡ all_added ds + added e.is_new = all_last ds e in
-    omega (arith, sum_by-cons (λ (x : Edit). cond x.is_new 1 0) d (ds ++ e ∷ []), sum_by-cons (λ (x : Edit). cond x.is_new 1 0) d ds)
+-- ---- the first edit first
+abbrev pub written : List Edit → List Run → List Run
+written [] xs = xs
+written (e ∷ es) xs = written es (put_in e.is_new e.at e.run (λ _. e.run) xs)
 
--- what holds before each edit is written: rs are the first runs, all is what the runs will be, now is what they are, of which count are there, in so much room, of which so much is spare at the end
-pub record IsWriting (rs all : List Run) (left : List Edit) (now : List Run) (count room spare : ℕ) : Type 0 where
-  pub edits : AreEditsOf rs left
-  pub rest : edited left now ≡ all
-  pub long : length rs ≤ length now
-  pub places : spare + (all_added left + count) ≤ room
+-- the last one first, s runs further on than among the runs that were there
+shifted : ℕ → List Edit → List Run → List Run
+shifted s [] xs = xs
+shifted s (e ∷ es) xs = put_in e.is_new (e.from + s) e.run (λ _. e.run) (shifted s es xs)
 
--- the last edit is written
-pub written : (b : Bool) (rs all : List Run) (left less : List Edit) (e : Edit) (now : List Run) (count room spare more : ℕ) → IsWriting rs all left now count room spare → left ≡ less ++ e ∷ [] → e.is_new ≡ b → room ≤ more
-    → IsWriting rs all less (put_in b e.from e.run (λ _. e.run) now) (count + added b) more spare
-written b rs all left less e now count room spare more h s is m =
-    let t = rise_last 0 0 less e rs (subst (AreEditsOf rs) s h.edits) in
-    let fits : e.from + hidden e.is_new ≤ length rs = fits_within e.is_new e.from e.run rs t.1 in
-    let longer : length (put_in b e.from e.run (λ _. e.run) now) ≡ length now + added b = length_put b e.from e.run (λ _. e.run) now (omega (arith, h.long)) in
-    let one : all_added left ≡ all_added less + added e.is_new = ap all_added s ∙ all_last less e in
-    let new : added e.is_new ≡ added b = ap added is in
+shifted_long : (s t i : ℕ) (es : List Edit) (rs xs : List Run) → RiseFrom t i es rs → length rs + s ≤ length xs → length xs ≤ length (shifted s es xs)
+unfolding shifted
+shifted_long s t i [] rs xs h l = omega arith
+shifted_long s t i (e ∷ es) rs xs h l =
+    let more : length xs ≤ length (shifted s es xs) = shifted_long s (t + added e.is_new) (e.from + hidden e.is_new) es rs xs h.3 l in
+    let fits : e.from + hidden e.is_new ≤ length rs = fits_within e.is_new e.from e.run rs h.2 in
+    let put : length (put_in e.is_new (e.from + s) e.run (λ _. e.run) (shifted s es xs)) ≡ length (shifted s es xs) + added e.is_new = length_put e.is_new (e.from + s) e.run (λ _. e.run) (shifted s es xs) (omega (arith, fits, l, more)) in
+    omega (arith, more, put)
+
+-- an edit before the others is made first or last
+past : (b : Bool) (n : ℕ) (x : Run) (f : Run → Run) (s t i : ℕ) (es : List Edit) (rs xs : List Run) → RiseFrom t i es rs → n + hidden b ≤ i + s → length rs + s ≤ length xs
+    → put_in b n x f (shifted s es xs) ≡ shifted (s + added b) es (put_in b n x f xs)
+unfolding shifted
+past b n x f s t i [] rs xs h k l = refl
+past b n x f s t i (e ∷ es) rs xs h k l =
+    let more : length xs ≤ length (shifted s es xs) = shifted_long s (t + added e.is_new) (e.from + hidden e.is_new) es rs xs h.3 l in
+    let fits : e.from + hidden e.is_new ≤ length rs = fits_within e.is_new e.from e.run rs h.2 in
+    let low : i ≤ e.from = h.1 in
+    let one = parts e.is_new in
+    let shift : e.from + (s + added b) ≡ (e.from + s) + added b = omega arith in
+    put_later b e.is_new n (e.from + s) (e.from + (s + added b)) x e.run f (λ _. e.run) (shifted s es xs) (omega (arith, k, low)) (omega (arith, fits, l, more)) shift
+    ∙ ap (put_in e.is_new (e.from + (s + added b)) e.run (λ _. e.run)) (past b n x f s (t + added e.is_new) (e.from + hidden e.is_new) es rs xs h.3 (omega (arith, k, low)) l)
+
+either_way : (s i : ℕ) (es : List Edit) (rs xs : List Run) → RiseFrom s i es rs → length xs ≡ length rs + s → written es xs ≡ shifted s es xs
+unfolding shifted
+either_way s i [] rs xs h l = refl
+either_way s i (e ∷ es) rs xs h l =
+    let fits : e.from + hidden e.is_new ≤ length rs = fits_within e.is_new e.from e.run rs h.2 in
+    let here : e.at ≡ e.from + s = h.0 in
+    let put : length (put_in e.is_new e.at e.run (λ _. e.run) xs) ≡ length xs + added e.is_new = length_put e.is_new e.at e.run (λ _. e.run) xs (omega (arith, fits, here, l)) in
+    either_way (s + added e.is_new) (e.from + hidden e.is_new) es rs (put_in e.is_new e.at e.run (λ _. e.run) xs) h.3 (omega (arith, put, l))
+    ∙ ap (λ n. shifted (s + added e.is_new) es (put_in e.is_new n e.run (λ _. e.run) xs)) here
+    ∙ sym (past e.is_new (e.from + s) e.run (λ _. e.run) s (s + added e.is_new) (e.from + hidden e.is_new) es rs xs h.3 (omega arith) (omega (arith, l)))
+
+not_shifted : (es : List Edit) (xs : List Run) → shifted 0 es xs ≡ edited es xs
+unfolding shifted
+not_shifted [] xs = refl
+not_shifted (e ∷ es) xs =
+    let z : e.from + 0 ≡ e.from = omega arith in
+    ap (λ n. put_in e.is_new n e.run (λ _. e.run) (shifted 0 es xs)) z ∙ ap (put_in e.is_new e.from e.run (λ _. e.run)) (not_shifted es xs)
+
+pub written_is : (es : List Edit) (rs : List Run) → AreEditsOf rs es → written es rs ≡ edited es rs
+written_is es rs h = let z : length rs ≡ length rs + 0 = omega arith in either_way 0 0 es rs rs h z ∙ not_shifted es rs
+
+-- ---- what holds before each edit is written
+-- rs are the first runs, of which `more` are there now, all is what the runs will be, now is what they are, with so much room, of which so much is spare at the end
+pub record IsWriting (rs all : List Run) (left : List Edit) (now : List Run) (room spare : ℕ) : Type 0 where
+  pub more : ℕ
+  pub from : ℕ
+  pub edits : RiseFrom more from left rs
+  pub rest : written left now ≡ all
+  pub long : length now ≡ length rs + more
+  pub places : spare + all_added left ≤ room
+
+all_first : (e : Edit) (es : List Edit) → all_added (e ∷ es) ≡ added e.is_new + all_added es
+all_first e es = let s = sum_by-cons (λ (x : Edit). cond x.is_new 1 0) e es in let c = counts e.is_new in omega (arith, s, c)
+
+of_first : (rs all : List Run) (e : Edit) (left less : List Edit) (now : List Run) (room spare : ℕ) → IsWriting rs all left now room spare → left ≡ e ∷ less → IsWriting rs all (e ∷ less) now room spare
+of_first rs all e left less now room spare h s = subst (λ es. IsWriting rs all es now room spare) s h
+
+-- the first edit fits, and finds its place
+pub at_within : (rs all : List Run) (e : Edit) (left less : List Edit) (now : List Run) (room spare : ℕ) → IsWriting rs all left now room spare → left ≡ e ∷ less → e.at + hidden e.is_new ≤ length now
+at_within rs all e left less now room spare h s =
+    let k = of_first rs all e left less now room spare h s in
+    let edits = k.edits in
+    let long = k.long in
+    let fits : e.from + hidden e.is_new ≤ length rs = fits_within e.is_new e.from e.run rs edits.2 in
+    let here : e.at ≡ e.from + k.more = edits.0 in
+    omega (arith, fits, here, long)
+
+pub has_place : (rs all : List Run) (e : Edit) (left less : List Edit) (now : List Run) (room spare : ℕ) → IsWriting rs all left now room spare → left ≡ e ∷ less → added e.is_new ≤ room
+has_place rs all e left less now room spare h s =
+    let places = h.places in
+    let one : all_added left ≡ added e.is_new + all_added less = ap all_added s ∙ all_first e less in
+    omega (arith, places, one)
+
+-- it is written
+pub written_one : (rs all : List Run) (e : Edit) (left less : List Edit) (now then : List Run) (room spare high : ℕ) → IsWriting rs all left now room spare → left ≡ e ∷ less → then ≡ put_in e.is_new e.at e.run (λ _. e.run) now
+    → room ≤ high + added e.is_new → IsWriting rs all less then high spare
+written_one rs all e left less now then room spare high h s puts m =
+    let k = of_first rs all e left less now room spare h s in
+    let edits = k.edits in
+    let long = k.long in
+    let places = k.places in
+    let fits : e.from + hidden e.is_new ≤ length rs = fits_within e.is_new e.from e.run rs edits.2 in
+    let here : e.at ≡ e.from + k.more = edits.0 in
+    let put : length (put_in e.is_new e.at e.run (λ _. e.run) now) ≡ length now + added e.is_new = length_put e.is_new e.at e.run (λ _. e.run) now (omega (arith, fits, here, long)) in
+    let same : length then ≡ length (put_in e.is_new e.at e.run (λ _. e.run) now) = ap (λ (qs : List Run). length qs) puts in
+    let one = all_first e less in
     record {
-      edits = t.0;
-      rest = ap (λ c. edited less (put_in c e.from e.run (λ _. e.run) now)) (sym is) ∙ sym (puts_last (λ r. r) (λ r _. r) less e now) ∙ ap (λ (es : List Edit). edited es now) (sym s) ∙ h.rest;
-      long = omega (arith, h.long);
-      places = omega (arith, h.places);
+      more = k.more + added e.is_new;
+      from = e.from + hidden e.is_new;
+      edits = edits.3;
+      rest = ap (written less) puts ∙ k.rest;
+      long = omega (arith, put, long, same);
+      places = omega (arith, places, one, m);
     }
-
-pub from_within : (b : Bool) (rs all : List Run) (left less : List Edit) (e : Edit) (now : List Run) (count room spare : ℕ) → IsWriting rs all left now count room spare → left ≡ less ++ e ∷ [] → e.is_new ≡ b → e.from + hidden b ≤ length now
-from_within b rs all left less e now count room spare h s is =
-    let t = rise_last 0 0 less e rs (subst (AreEditsOf rs) s h.edits) in
-    let fits : e.from + hidden e.is_new ≤ length rs = fits_within e.is_new e.from e.run rs t.1 in
-    let new : hidden e.is_new ≡ hidden b = ap hidden is in
-    omega (arith, h.long)
-
-pub has_place : (rs all : List Run) (left less : List Edit) (e : Edit) (now : List Run) (count room spare : ℕ) → IsWriting rs all left now count room spare → left ≡ less ++ e ∷ [] → e.is_new ≡ true → count < room
-has_place rs all left less e now count room spare h s is =
-    let one : all_added left ≡ all_added less + added e.is_new = ap all_added s ∙ all_last less e in
-    let new : added e.is_new ≡ 1 = ap added is in
-    omega (arith, h.places)
-
--- the run is put in
-pub written_in : (rs all : List Run) (left less : List Edit) (e : Edit) (now then : List Run) (count room spare long more : ℕ) (b : Bool) → IsWriting rs all left now count room spare → left ≡ less ++ e ∷ [] → e.is_new ≡ true → room ≤ more
-    → b ≡ true → then ≡ cond b (insert now e.from e.run) now → long ≡ cond b (count + 1) count → IsWriting rs all less then long more spare
-written_in rs all left less e now then count room spare long more b h s is m ok puts one =
-    subst (λ qs. IsWriting rs all less qs long more spare) (sym (puts ∙ ap (λ c. cond c (insert now e.from e.run) now) ok))
-    (subst (λ k. IsWriting rs all less (insert now e.from e.run) k more spare) (sym (one ∙ ap (λ c. cond c (count + 1) count) ok)) (written true rs all left less e now count room spare more h s is m))
-
--- the run is written over what stands there
-pub written_over : (rs all : List Run) (left less : List Edit) (e : Edit) (now : List Run) (count room spare : ℕ) → IsWriting rs all left now count room spare → left ≡ less ++ e ∷ [] → e.is_new ≡ false
-    → IsWriting rs all less (set now e.from e.run) count room spare
-written_over rs all left less e now count room spare h s is =
-    let t = written false rs all left less e now count room spare room h s is (omega arith) in
-    let same : count + 0 ≡ count = omega arith in
-    subst (λ qs. IsWriting rs all less qs count room spare) (sym (over now e.from e.run)) (subst (λ k. IsWriting rs all less (at (λ _. e.run) e.from now) k room spare) same t)
-  where
-    over : (qs : List Run) (n : ℕ) (r : Run) → set qs n r ≡ at (λ _. r) n qs
-    over [] zero r = refl
-    over [] (suc n) r = refl
-    over (q ∷ qs) zero r = refl
-    over (q ∷ qs) (suc n) r = ap (λ ps. q ∷ ps) (over qs n r)

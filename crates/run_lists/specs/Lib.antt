@@ -5,5 +5,6 @@ pub mod Marks
 pub mod Orders
 pub mod Overlays
 pub mod Past
+pub mod Positions
 pub mod Rooms
 pub mod Touched

@@ -1,7 +1,7 @@
 //! One run that is written, and where.
 //!
 //! An edit has two positions. That among the runs that were there (`from`) never changes; that among all runs (`at`) is one further for
-//! each run that an edit before it adds. So edits are found by `at`, and written by `from`, the last one first.
+//! each run that an edit before it adds. So edits are found by `at`, and written by it, the first one first.
 ghost use Rattle.std.specs.Prelude.{◌≡◌, ◌+◌, ◌≤◌, length, IfOk};
 ghost use Rattle.run_lists.specs.Edits.{AreInOrder, AreCounted, AreFewFrom, AreBelow, AreFrom, IsFound, added_by, moved_from, positions_in};
 

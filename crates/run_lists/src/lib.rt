@@ -14,6 +14,7 @@ mod edits;
 mod laws;
 mod ordering;
 mod overlays;
+mod positions;
 mod runs;
 mod searches;
 

@@ -2,7 +2,7 @@
 //!
 //! An overlay holds one list of edits, one for each touched run, in the order of their positions. A read asks it first, and else the runs
 //! that are there. A run is changed in two steps: `own` copies it and may want memory, the changes after it cannot fail.
-ghost use Rattle.std.specs.Prelude.{◌≡◌, ◌<◌, ◌≤◌, [], true, length, find, OnOk, OnErr, IfOk, Some, slice_get};
+ghost use Rattle.std.specs.Prelude.{◌≡◌, ◌<◌, ◌≤◌, [], true, false, length, find, OnOk, OnErr, IfOk, Some, slice_get};
 ghost use Rattle.std.specs.BTreeSet.{insert_key};
 ghost use Rattle.std.specs.List.{insert};
 ghost use Rattle.std.specs.List.Sorted.{IsStrictlySortedBy};
@@ -15,9 +15,11 @@ ghost use Rattle.sched_model.specs.Schedule.{run_before, is_at};
 ghost use Rattle.run_lists.specs.Changes.{in_phase, instances_at};
 ghost use Rattle.run_lists.specs.Edits.{AreEditsOf, edited, positions_in};
 ghost use Rattle.run_lists.specs.Overlays.{IsOwned, IsAdded, IsInstanceAt, AreAllTouched};
+ghost use Rattle.run_lists.specs.Positions.{positions_where, stands};
 ghost use Rattle.run_lists.specs.Touched.{touched_with};
 
 use crate::edits::{Edit, Edits, all_added, base_position, find, move_up, place_of, positions};
+use crate::positions::place_edit;
 use crate::runs::Runs;
 use instance_machine::Instance;
 use sched_state::{Run, RunPhase};
@@ -158,6 +160,36 @@ impl<'a> Overlay<'a> {
         ensures over { AreAllTouched self.now.touched self.now.base self.now.runs }
     {
         positions(alloc, &self.edits)
+    }
+
+    /// The positions of the runs that are running, in their order. It copies the positions of those that were there, and looks at the touched
+    /// runs. An `Err` says that memory ran out.
+    pub fn running(&self, alloc: Global) -> Result<Vec<usize>, AllocError>
+        ensures { IfOk result (λ positions. positions.items ≡ positions_where (stands true) self.now.runs) }
+    {
+        self.standing(alloc, true)
+    }
+
+    /// The same, of the runs that are queued.
+    pub fn queued(&self, alloc: Global) -> Result<Vec<usize>, AllocError>
+        ensures { IfOk result (λ positions. positions.items ≡ positions_where (stands false) self.now.runs) }
+    {
+        self.standing(alloc, false)
+    }
+
+    // The positions of the runs that are running, in their order, or else of those that are queued.
+    fn standing(&self, alloc: Global, running: bool) -> Result<Vec<usize>, AllocError>
+        ensures { IfOk result (λ positions. positions.items ≡ positions_where (stands running) self.now.runs) }
+    {
+        let mut positions = self.base.standing(running).to_vec(alloc)?;
+        // So no position can pass the greatest number.
+        prove!(self.base.len() <= usize::MAX / 4);
+        let mut place = self.edits.len();
+        while place > 0 {
+            place -= 1;
+            place_edit(&mut positions, &self.edits[place], running)?;
+        }
+        Ok(positions)
     }
 
     /// The edits that make these runs of those that are there, at the touched positions. This takes no memory.

@@ -1,36 +1,44 @@
 //! The runs of a schedule, and how edits are written into them.
-ghost use Rattle.std.specs.Prelude.{◌≡◌, ◌+◌, ◌^◌, ◌<◌, ◌≤◌, [], true, false, length, OnOk, MatchOption, Some, slice_get};
+ghost use Rattle.std.specs.Prelude.{◌≡◌, ◌+◌, ◌^◌, ◌<◌, ◌≤◌, [], true, false, length, IfOk, OnOk, MatchOption, Some, slice_get};
 ghost use Rattle.std.specs.List.{list_any};
 ghost use Rattle.sched_state.specs.declared.runs.Run.{Run};
 ghost use Rattle.sched_model.specs.Lists.{rises};
 ghost use Rattle.sched_model.specs.Schedule.{is_at, run_before};
-ghost use Rattle.run_lists.specs.Edits.{AreEditsOf, edited};
+ghost use Rattle.run_lists.specs.Edits.{AreEditsOf, added, edited, hidden, put_in};
 ghost use Rattle.run_lists.specs.Orders.{IsPositionFor, IsRunAt};
+ghost use Rattle.run_lists.specs.Positions.{positions_where, stands};
 ghost use Rattle.run_lists.specs.Rooms.{HasPlaces, all_added};
 
-use crate::edits::Edits;
+use crate::edits::{Edit, Edits};
 use crate::ordering::{has_key, position_in};
+use crate::positions::{make_room, place, positions_in, stands};
 use graph_file::Name;
 use moment_core::Moment;
 use sched_state::Run;
 use std::alloc::{AllocError, Global};
 use std::marker::Model;
 
-/// The runs of a schedule, by graph and logical date.
+/// The runs of a schedule, by graph and logical date, with the positions of those that are running and of those that are queued.
 ///
 /// Contracts see the runs, and for how many more there is room.
 #[derive(Debug, Drop)]
 pub struct Runs {
     runs: Vec<Run>,
+    running: Vec<usize>,
+    queued: Vec<usize>,
 }
 
 impl Model for Runs {
-    ghost use Rattle.std.specs.Prelude.{◌-◌, vec_len, vec_capacity};
+    ghost use Rattle.std.specs.Prelude.{◌-◌, true, false, vec_len, vec_capacity};
+    ghost use Rattle.run_lists.specs.Positions.{IsIndex, room_of, stands};
     ghost use Rattle.run_lists.specs.Rooms.{RunsValue};
 
     ghost Value = { RunsValue };
 
-    ghost view = { λ r. record { runs = r.runs.items; room = vec_capacity r.runs - vec_len r.runs } };
+    ghost view = { λ r. record { runs = r.runs.items; room = room_of (vec_capacity r.runs) (vec_capacity r.running) (vec_capacity r.queued) - vec_len r.runs } };
+
+    ghost invariant = { λ r. IsIndex (stands true) r.runs.items r.running.items (vec_capacity r.running)
+        × IsIndex (stands false) r.runs.items r.queued.items (vec_capacity r.queued) };
 }
 
 impl Runs {
@@ -40,14 +48,22 @@ impl Runs {
     {
         Runs {
             runs: Vec::new(alloc),
+            running: Vec::new(alloc),
+            queued: Vec::new(alloc),
         }
     }
 
-    /// These runs.
-    pub fn of(runs: Vec<Run>) -> Runs
-        ensures { result.runs ≡ runs.items }
+    /// These runs. It goes through them once. An `Err` says that memory ran out.
+    pub fn of(alloc: Global, runs: Vec<Run>) -> Result<Runs, AllocError>
+        ensures { IfOk result (λ made. made.runs ≡ runs.items) }
     {
-        Runs { runs }
+        let running = positions_in(alloc, &runs, true)?;
+        let queued = positions_in(alloc, &runs, false)?;
+        Ok(Runs {
+            runs,
+            running,
+            queued,
+        })
     }
 
     /// How many runs there are: fewer than 2^62, since each takes more than a few bytes.
@@ -71,6 +87,31 @@ impl Runs {
         ensures { result.now ≡ self.now.runs }
     {
         self.runs.as_slice()
+    }
+
+    /// The positions of the runs that are running, in their order.
+    pub fn running(&self) -> &[usize]
+        ensures { result.now ≡ positions_where (stands true) self.now.runs }
+    {
+        self.standing(true)
+    }
+
+    /// The positions of the runs that are queued, in their order.
+    pub fn queued(&self) -> &[usize]
+        ensures { result.now ≡ positions_where (stands false) self.now.runs }
+    {
+        self.standing(false)
+    }
+
+    // The positions of the runs that are running, in their order, or else of those that are queued.
+    pub(crate) fn standing(&self, running: bool) -> &[usize]
+        ensures { result.now ≡ positions_where (stands running) self.now.runs }
+    {
+        if running {
+            self.running.as_slice()
+        } else {
+            self.queued.as_slice()
+        }
     }
 
     /// Where a run of this graph and date would be put in: before the first run that it would stand before. It is found by a binary search.
@@ -102,24 +143,45 @@ impl Runs {
         ensures kept { self.old.room ≤ self.new.room }
     {
         let added = edits.edits.iter().filter(|edit| edit.is_new).count();
+        let count = self.runs.len() + added;
+        make_room(&mut self.running, count)?;
+        make_room(&mut self.queued, count)?;
         self.runs.reserve(added)
     }
 
-    /// Writes the edits, which are of these runs, and for which there is room. This takes no memory. The last edit is written first, so that
-    /// each finds its place as it was; a run that is added moves those behind it.
+    /// Writes the edits, which are of these runs, and for which there is room. This takes no memory. The first edit is written first, at its
+    /// position among all runs; a run that is added moves those behind it.
     pub fn write(&mut self, edits: Edits)
         requires edits { AreEditsOf self.old.runs edits }
         requires places { HasPlaces edits self.old.room }
         ensures runs { self.new.runs ≡ edited edits self.old.runs }
         ensures room { self.old.room ≤ self.new.room + all_added edits }
     {
-        let mut left = edits.edits;
-        while let Some(edit) = left.pop() {
-            if edit.is_new {
-                let _ = self.runs.insert(edit.from, edit.run);
-            } else {
-                self.runs[edit.from] = edit.run;
-            }
+        for edit in edits.edits {
+            self.put(edit);
+        }
+    }
+
+    // The edit is written at its position among all runs.
+    fn put(&mut self, edit: Edit)
+        requires within { edit.at + hidden edit.is_new ≤ length self.old.runs }
+        requires place { added edit.is_new ≤ self.old.room }
+        ensures runs { self.new.runs ≡ put_in edit.is_new edit.at edit.run (λ _. edit.run) self.old.runs }
+        ensures room { self.old.room ≤ self.new.room + added edit.is_new }
+    {
+        let Edit {
+            at,
+            is_new,
+            run,
+            ..
+        } = edit;
+        let (running, queued) = (stands(&run, true), stands(&run, false));
+        place(&mut self.running, is_new, at, running);
+        place(&mut self.queued, is_new, at, queued);
+        if is_new {
+            let _ = self.runs.insert(at, run);
+        } else {
+            self.runs[at] = run;
         }
     }
 }

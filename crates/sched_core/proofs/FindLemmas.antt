@@ -1,28 +1,28 @@
 -- A search through lists of lists.
 use Rattle.std.proofs.Common.{◌≡◌, ◌∙◌, refl, sym, ap, ℕ, zero, suc, ◌+◌, ◌<◌, List, [], ◌∷◌, ◌++◌, Bool, true, false, cond, find, flat_map, take, length, get_or, Option, Some, None, arith}
 
-find_first : {Y : Type 0} (p : Y → Bool) (xs ys : List Y) (t : Y) → find p xs ≡ Some t → find p (xs ++ ys) ≡ Some t
+pub find_first : {Y : Type 0} (p : Y → Bool) (xs ys : List Y) (t : Y) → find p xs ≡ Some t → find p (xs ++ ys) ≡ Some t
 find_first {Y} p [] ys t e = absurd (let c : ◌≡◌ {A = Option Y} None (Some t) = e in cc)
 find_first p (x ∷ xs) ys t e = elim (p x) as (λ b. cond b (Some x) (find p xs) ≡ Some t → cond b (Some x) (find p (xs ++ ys)) ≡ Some t) [
   | true ↦ λ f. f
   | false ↦ λ f. find_first p xs ys t f
 ] e
 
-find_join : {Y : Type 0} (p : Y → Bool) (xs ys : List Y) → find p xs ≡ None → find p (xs ++ ys) ≡ find p ys
+pub find_join : {Y : Type 0} (p : Y → Bool) (xs ys : List Y) → find p xs ≡ None → find p (xs ++ ys) ≡ find p ys
 find_join p [] ys e = refl
 find_join {Y} p (x ∷ xs) ys e = elim (p x) as (λ b. cond b (Some x) (find p xs) ≡ None → cond b (Some x) (find p (xs ++ ys)) ≡ find p ys) [
   | true ↦ λ f. absurd (let c : ◌≡◌ {A = Option Y} (Some x) None = f in cc)
   | false ↦ λ f. find_join p xs ys f
 ] e
 
-none_front : {Y : Type 0} (p : Y → Bool) (xs ys : List Y) → find p (xs ++ ys) ≡ None → find p xs ≡ None
+pub none_front : {Y : Type 0} (p : Y → Bool) (xs ys : List Y) → find p (xs ++ ys) ≡ None → find p xs ≡ None
 none_front p [] ys e = refl
 none_front {Y} p (x ∷ xs) ys e = elim (p x) as (λ b. cond b (Some x) (find p (xs ++ ys)) ≡ None → cond b (Some x) (find p xs) ≡ None) [
   | true ↦ λ f. absurd (let c : ◌≡◌ {A = Option Y} (Some x) None = f in cc)
   | false ↦ λ f. none_front p xs ys f
 ] e
 
-none_back : {Y : Type 0} (p : Y → Bool) (xs ys : List Y) → find p (xs ++ ys) ≡ None → find p ys ≡ None
+pub none_back : {Y : Type 0} (p : Y → Bool) (xs ys : List Y) → find p (xs ++ ys) ≡ None → find p ys ≡ None
 none_back p xs ys e = sym (find_join p xs ys (none_front p xs ys e)) ∙ e
 
 -- the first k lists have none, and the one at k has it

@@ -72,7 +72,14 @@ completed_pools graphs.Same b = refl
 completed_pools (graphs.Load text dag) b = refl
 completed_pools (graphs.Pause id paused) b = refl
 
--- settling leaves the numbers
+-- settling leaves the next serial
+move_next : (a b : Schedule) → move a ≡ Some b → b.next ≡ a.next
+move_next a b e = let t = map_some (with_runs a) (move_runs a) b e in ap (λ (c : Schedule). c.next) (sym t.2)
+
+pub settled_next : (b : Schedule) → (settle b).next ≡ b.next
+settled_next b = repeat_keeps (λ (c : Schedule). c.next) move move_next (moves_left b) b
+
+-- and the numbers
 move_pools : (a b : Schedule) → move a ≡ Some b → b.pools ≡ a.pools
 move_pools a b e = let t = map_some (with_runs a) (move_runs a) b e in ap (λ (c : Schedule). c.pools) (sym t.2)
 

@@ -4,6 +4,7 @@ pub mod TakeInLemmas
 pub mod LoadingLemmas
 pub mod PlanLemmas
 pub mod FindLemmas
+pub mod OpenLemmas
 pub mod ViewLemmas
 pub mod RowLemmas
 pub mod BookLemmas

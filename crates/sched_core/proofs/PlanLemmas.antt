@@ -1,5 +1,5 @@
 -- Which events are refused, and what is planned for one that is not.
-use Rattle.std.proofs.Common.{◌≡◌, refl, sym, ap, subst, ◌∙◌, ℕ, ◌-◌, ◌≤◌, List, [], ◌∷◌, Bool, true, false, not, ◌&&◌, ◌==◌, find, is_none, is_some, length, map, flat_map, nat_le, nat_lt, Option, Some, None, option_map, option_and_then, true≢false, get_or, slice_get, Bor, arith}
+use Rattle.std.proofs.Common.{◌≡◌, refl, sym, ap, subst, ◌∙◌, ℕ, ◌-◌, ◌≤◌, List, [], ◌∷◌, Bool, true, false, not, ◌&&◌, is_none, is_some, length, map, flat_map, nat_le, nat_lt, Option, Some, None, option_map, option_and_then, true≢false, get_or, slice_get, Bor, arith}
 use Rattle.std.specs.List.{list_any, range_with_len}
 use Rattle.std.specs.Option.{option_copied}
 use Rattle.std.proofs.lemmas.Bool.{le-leb}
@@ -11,7 +11,6 @@ use Rattle.dag_check.specs.Faults.{first_fault}
 use Rattle.dag_check.specs.declared.faults.DagFault.{DagFault}
 use Rattle.dag_check.proofs.FirstLemmas.{faultless}
 use Rattle.std.proofs.lemmas.List.{length-map}
-use Rattle.instance_machine.specs.Instances.{InstanceValue as Instance}
 use Rattle.instance_machine.specs.Reports.{report_try}
 use Rattle.instance_machine.specs.declared.tries.Stage.{Stage}
 use Rattle.instance_machine.specs.declared.tries.Try.{Try}
@@ -20,7 +19,6 @@ use Rattle.sched_state.specs.declared.graphs.LoadedGraph.{LoadedGraph}
 use Rattle.sched_state.specs.declared.runs.Run.{Run}
 use Rattle.sched_state.proofs.NameLemmas.{find_any}
 use Rattle.sched_model.specs.Schedule.{Schedule, graph_among, graph_named, has_runs}
-use Rattle.sched_model.specs.States.{is_open}
 use Rattle.sched_model.specs.Settle.{settle}
 use Rattle.sched_model.specs.Handout.{hand_out}
 use Rattle.sched_model.specs.Jobs.{job_at, handed}
@@ -283,9 +281,3 @@ tick_ids a d t rs ids draft named is =
 
 pub tick_length : (a d : Schedule) (t : ℕ) (rs : List Run) → d ≡ a → rs ≡ map (queued_run d) (named_by_tick d t) → length rs ≡ length (named_by_tick a t)
 tick_length a d t rs draft named = ap length named ∙ (length-map (named_by_tick d t) (queued_run d) ∙ ap (λ (s : Schedule). length (named_by_tick s t)) draft)
-
--- the try that is found among the runs
-pub found_try : (a : Schedule) (serial : ℕ) (rs : List Run) (o : Option Try) → rs ≡ a.runs
-    → o ≡ find (λ (t : Try). is_open t && t.serial == serial) (flat_map (λ (r : Run). flat_map (λ (i : Instance). i.tries) r.instances) rs) → o ≡ open_try a serial
-found_try a serial rs o runs found =
-    found ∙ ap (λ (qs : List Run). find (λ (t : Try). is_open t && t.serial == serial) (flat_map (λ (r : Run). flat_map (λ (i : Instance). i.tries) r.instances) qs)) runs

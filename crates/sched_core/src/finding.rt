@@ -1,20 +1,24 @@
 //! Tries, found by their serials, and what they give back when they end.
-ghost use Rattle.std.specs.Prelude.{◌≡◌, ◌&&◌, ◌==◌, true, find, flat_map, is_some, option_map, IfOk, IfSome};
+ghost use Rattle.std.specs.Prelude.{◌≡◌, ◌&&◌, ◌==◌, true, find, flat_map, is_some, length, option_map, IfOk, IfSome};
 ghost use Rattle.std.specs.Option.{option_copied};
 ghost use Rattle.instance_machine.specs.Instances.{InstanceValue};
-ghost use Rattle.sched_state.specs.declared.runs.Run.{Run as RunRecord};
 ghost use Rattle.instance_machine.specs.Reports.{report_try};
 ghost use Rattle.sched_handout.specs.Occupied.{AreOccupied};
+ghost use Rattle.sched_model.specs.Causes.{open_try};
 ghost use Rattle.sched_model.specs.Changes.{report};
 ghost use Rattle.sched_model.specs.States.{is_open};
-ghost use Rattle.sched_core.specs.Finding.{IsFoundIn, IsFoundAt};
+ghost use Rattle.sched_settling.specs.Marks.{are_within};
+ghost use Rattle.sched_settling.specs.Touched.{runs_at};
+ghost use Rattle.sched_events.specs.SettledAndSound.{IsSoundAndSaid};
+ghost use Rattle.sched_core.specs.Books.{IsCounted};
+ghost use Rattle.sched_core.specs.Finding.{IsFoundIn, IsFoundAt, tries_in};
 
 use crate::lookups::graph_named;
 use crate::schedules::Schedule;
 use instance_machine::{Instance, Stage, Try};
 use pool_book::Slots;
+use run_lists::Runs;
 use sched_handout::Occupied;
-use sched_state::Run;
 use std::alloc::{AllocError, Global};
 
 // A try, and where it stands.
@@ -55,17 +59,18 @@ fn open_in(instances: &[Instance], serial: u64) -> Option<(usize, Try)>
     None
 }
 
-// The try without an end that has this serial.
-pub fn open_try(runs: &[Run], serial: u64) -> Option<Found>
+// The same, among those of the runs at these positions.
+fn open_at(runs: &Runs, positions: &[usize], serial: u64) -> Option<Found>
+    requires { are_within (length runs.now.runs) positions.now ≡ true }
     ensures one { option_map (λ f. f.one) result ≡ find (λ t. is_open t && t.serial == serial)
-        (flat_map (λ (r : RunRecord). flat_map (λ (i : InstanceValue). i.tries) r.instances)
-        runs.now) }
-    ensures place { IfSome result (IsFoundAt serial runs.now) }
+        (flat_map tries_in (runs_at runs.now.runs positions.now)) }
+    ensures place { IfSome result (IsFoundAt serial runs.now.runs) }
 {
-    for (position, run) in runs.iter().enumerate() {
-        if let Some((place, one)) = open_in(run.instances.as_slice(), serial) {
+    for position in positions {
+        let instances = runs.get(*position).instances.as_slice();
+        if let Some((place, one)) = open_in(instances, serial) {
             return Some(Found {
-                position,
+                position: *position,
                 place,
                 one,
             });
@@ -75,6 +80,20 @@ pub fn open_try(runs: &[Run], serial: u64) -> Option<Found>
 }
 
 impl Schedule {
+    // The try without an end that has this serial. It looks at the running runs, and then at the queued ones; a finished run has none.
+    pub(crate) fn open_try(&self, serial: u64) -> Option<Found>
+        ensures one { option_map (λ f. f.one) result ≡ open_try self.now.content serial }
+        ensures place { IfSome result (IsFoundAt serial self.now.content.runs) }
+        ensures kept { IsSoundAndSaid self.now.content }
+        ensures counted { IsCounted self.now.content }
+    {
+        let found = open_at(&self.runs, self.runs.running(), serial);
+        if found.is_some() {
+            return found;
+        }
+        open_at(&self.runs, self.runs.queued(), serial)
+    }
+
     // What is occupied after a report on the try that was found: a try that ends gives its lane and its slots back.
     pub(crate) fn occupied_after(
         &self,

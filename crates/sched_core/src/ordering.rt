@@ -1,7 +1,6 @@
 //! The order of graphs.
-ghost use Rattle.std.specs.Prelude.{◌≡◌, OnOk, ◌<◌};
-ghost use Rattle.sched_state.specs.Lists.{insert_by};
-ghost use Rattle.sched_model.specs.Schedule.{graph_before, run_before};
+ghost use Rattle.std.specs.Prelude.{◌≡◌};
+ghost use Rattle.sched_model.specs.Schedule.{graph_before};
 ghost use Rattle.sched_core.specs.Inside.{IsPlaceFor};
 
 use sched_state::LoadedGraph;

@@ -18,7 +18,6 @@ ghost use Rattle.sched_core.specs.Effects.{with_change, IsQuiet};
 ghost use Rattle.sched_core.specs.Inside.{IsOver, IsLast, completed, drafted_as, over};
 
 use crate::changes::{Change, Effect, GraphChange, Rest};
-use crate::finding::open_try;
 use crate::lookups::graph_named;
 use crate::losing::lose_all;
 use crate::schedules::Schedule;
@@ -152,6 +151,7 @@ impl Schedule {
         requires kept { IsSettledAndSound (completed graphs (hand_out (settle draft.content))) }
         requires pools { draft.content.pools ≡ self.now.content.pools }
         requires open { open_tries draft.content ≡ open_tries self.now.content }
+        requires next { draft.content.next ≡ self.now.content.next }
         ensures { IfOk result (λ change. change ≡ record {
           before = self.now.content;
           after = completed graphs (hand_out (settle draft.entry.content));
@@ -178,6 +178,7 @@ impl Schedule {
         requires kept { IsSettledAndSound (completed graphs (hand_out (settle draft.content))) }
         requires counted { IsCounted draft.content }
         requires occupied { AreOccupied draft.content occupied }
+        requires next { draft.content.next ≡ self.now.content.next }
         ensures { IfOk result (λ change. change ≡ record {
           before = self.now.content;
           after = completed graphs (hand_out (settle draft.entry.content));
@@ -187,8 +188,7 @@ impl Schedule {
         let mut draft = draft;
         let mut occupied = occupied;
         self.settle_draft(alloc, &mut draft)?;
-        hand_out(alloc, &mut draft, &mut occupied)?;
-        let jobs = draft.jobs_from(alloc, self.next)?;
+        let jobs = hand_out(alloc, &mut draft, &mut occupied)?;
         let rows = self.rows_changed(alloc, &draft, &graphs)?;
         let rest = Rest {
             occupied,
@@ -305,7 +305,7 @@ impl Schedule {
         ensures accepted { IfOk result (IsPlanned self.now.content (Report serial stage)) }
         ensures refused { IfErr result (IsRefusal self.now.content (Report serial stage)) }
     {
-        let Some(found) = open_try(self.runs.as_slice(), serial) else {
+        let Some(found) = self.open_try(serial) else {
             return Err(Refusal::NotInFlight(serial));
         };
         if !found.one.takes(stage) {

@@ -36,17 +36,16 @@ impl Schedule {
             next,
             runs,
         } = restore_parts(alloc, limits, rows)?;
+        let in_flight = open_in_all(&runs);
+        let runs = Runs::of(alloc, runs)?;
         Ok(Schedule {
             limits,
             graphs,
-            occupied: Occupied {
-                in_flight: open_in_all(&runs),
-                pools,
-            },
+            occupied: Occupied { in_flight, pools },
             clock,
             lanes,
             next,
-            runs: Runs::of(runs),
+            runs,
             is_settled: false,
         })
     }

@@ -1,4 +1,4 @@
-//! What a schedule shows of its task instances. No view takes memory.
+//! What a schedule shows of its runs and task instances. No view takes memory.
 ghost use Rattle.std.specs.Prelude.{◌≡◌, ◌+◌, ◌≤◌, ◌&&◌, find, sum_by, count_by, slice_get};
 ghost use Rattle.std.specs.Option.{option_copied};
 ghost use Rattle.sched_model.specs.Handout.{last_serial};

@@ -10,6 +10,7 @@ ghost use Rattle.trigger_rules.specs.declared.verdicts.Verdict.TheVariants.{Wait
 ghost use Rattle.run_lists.specs.Edits.{AreEditsOf, edited};
 ghost use Rattle.run_lists.specs.Orders.{IsRunAt, position_in_order};
 ghost use Rattle.run_lists.specs.Overlays.{AreAllTouched};
+ghost use Rattle.run_lists.specs.Positions.{positions_where, stands};
 ghost use Rattle.run_lists.specs.Touched.{touched_with};
 ghost use Rattle.sched_state.specs.Lists.{insert_by};
 ghost use Rattle.sched_state.specs.declared.runs.Run.{Run};
@@ -133,6 +134,21 @@ impl<'a> Draft<'a> {
         self.runs.len()
     }
 
+    /// The positions of the runs that are running, in their order. It looks at those of the schedule under it, and at the runs that are its own.
+    /// An `Err` says that memory ran out.
+    pub fn running(&self, alloc: Global) -> Result<Vec<usize>, AllocError>
+        ensures { IfOk result (λ positions. positions.items ≡ positions_where (stands true) self.now.content.runs) }
+    {
+        self.runs.running(alloc)
+    }
+
+    /// The same, of the runs that are queued.
+    pub fn queued(&self, alloc: Global) -> Result<Vec<usize>, AllocError>
+        ensures { IfOk result (λ positions. positions.items ≡ positions_where (stands false) self.now.content.runs) }
+    {
+        self.runs.queued(alloc)
+    }
+
     /// The run at a position.
     pub fn run(&self, position: usize) -> &Run
         requires { position < length self.now.content.runs }
@@ -246,7 +262,7 @@ impl<'a> Draft<'a> {
         self.runs.instance_mut(position, place).clear();
     }
 
-    /// The instance at a place of a run gets a try with the next serial. Without memory nothing changes.
+    /// The instance at a place of a run gets a try with the next serial.
     pub fn hand(
         &mut self,
         position: usize,

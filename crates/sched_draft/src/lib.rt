@@ -12,7 +12,6 @@
 mod bases;
 mod drafts;
 mod graphs;
-mod jobs;
 mod laws;
 
 pub use bases::Base;

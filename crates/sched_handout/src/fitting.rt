@@ -5,14 +5,15 @@ ghost use Rattle.sched_model.specs.Handout.{last_serial};
 ghost use Rattle.sched_model.specs.Schedule.{Schedule, dag_named, size_of};
 ghost use Rattle.sched_model.specs.States.{occupied};
 ghost use Rattle.sched_model.specs.Handout as model;
+ghost use Rattle.sched_handout.specs.Candidates.{AreCandidates, IsCandidate, heads, offers_of};
 ghost use Rattle.sched_handout.specs.Occupied.{AreOccupied};
 ghost use Rattle.sched_handout.specs.Choices as choices;
 ghost use Rattle.sched_handout.specs.Weighing.{WeighTasks, WeighGraphs};
-ghost use Rattle.sched_state.specs.declared.runs.Run as runs;
 
+use crate::candidates::Candidate;
 use crate::occupied::Occupied;
 use crate::offering::offer_at;
-use crate::ranking::{Offer, better};
+use crate::ranking::{Offer, is_better};
 use dag_check::Graph;
 use pool_book::Slots;
 use sched_draft::Draft;
@@ -43,7 +44,7 @@ fn fits(draft: &Draft<'_>, taken: &Occupied, offer: &Offer<'_>) -> bool
     has_slots(taken, offer) && has_lane(draft, taken)
 }
 
-// The offer, where it fits and what was chosen does not rank before it.
+// The offer, where it fits and what was chosen does not rank before it. Whether it fits is looked at only where it would be chosen.
 fn choose<'d>(
     draft: &Draft<'_>,
     taken: &Occupied,
@@ -53,8 +54,8 @@ fn choose<'d>(
     requires { AreOccupied draft.now.content taken.now }
     ensures { result ≡ choices.choose draft.now.content offer.entry best.entry }
 {
-    if fits(draft, taken, &offer) {
-        better(offer, best)
+    if is_better(&offer, &best) && fits(draft, taken, &offer) {
+        Some(offer)
     } else {
         best
     }
@@ -88,50 +89,52 @@ fn choose_in_run<'d>(
     best
 }
 
-// The best of the offers of the run at a position, and of what was chosen after them.
+// The best of the offers of a candidate, and of what was chosen after them.
 fn choose_at<'d>(
     draft: &'d Draft<'_>,
     taken: &Occupied,
     weights: &[Vec<u64>],
-    position: usize,
+    candidate: &Candidate,
     best: Option<Offer<'d>>,
 ) -> Option<Offer<'d>>
     requires taken { AreOccupied draft.now.content taken.now }
     requires weights { WeighGraphs draft.now.content.graphs weights.now }
-    requires position { position < length draft.now.content.runs }
-    ensures { (r : runs.Run) → slice_get draft.now.content.runs position ≡ Some r
-        → result ≡ choices.choose_all draft.now.content (model.offers_in draft.now.content (position, r))
-        best.entry }
+    requires candidate { IsCandidate draft.now.content.graphs (heads draft.now.content.runs) candidate.now }
+    ensures { result ≡ choices.choose_all draft.now.content (offers_of draft.now.content candidate.now) best.entry }
 {
-    let run = draft.run(position);
-    if !matches!(run.phase, RunPhase::Running) {
+    let run = draft.run(candidate.run);
+    if !matches!(run.phase, RunPhase::Running) || draft.is_paused_at(candidate.graph) {
         return best;
     }
-    let Some(index) = draft.position_of(&run.graph) else {
-        return best;
-    };
-    if draft.is_paused_at(index) {
-        return best;
-    }
-    let dag = draft.dag_at(index);
-    choose_in_run(draft, taken, position, run, dag, &weights[index], best)
+    let dag = draft.dag_at(candidate.graph);
+    choose_in_run(
+        draft,
+        taken,
+        candidate.run,
+        run,
+        dag,
+        &weights[candidate.graph],
+        best,
+    )
 }
 
 /// The first in rank of the offers that fit.
 pub fn best_offer<'d>(
     draft: &'d Draft<'_>,
     taken: &Occupied,
+    candidates: &[Candidate],
     weights: &[Vec<u64>],
 ) -> Option<Offer<'d>>
     requires taken { AreOccupied draft.now.content taken.now }
+    requires candidates { AreCandidates draft.now.content.graphs (heads draft.now.content.runs) candidates.now }
     requires weights { WeighGraphs draft.now.content.graphs weights.now }
     ensures { result ≡ model.best_offer draft.now.content }
 {
     let mut best = None;
-    let mut position = draft.run_count();
-    while position > 0 {
-        position -= 1;
-        best = choose_at(draft, taken, weights, position, best);
+    let mut left = candidates.len();
+    while left > 0 {
+        left -= 1;
+        best = choose_at(draft, taken, weights, &candidates[left], best);
     }
     best
 }

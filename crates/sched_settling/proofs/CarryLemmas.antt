@@ -175,7 +175,7 @@ counted_same id r l m e s = record {
   touched = s.touched ∙ ap (λ xs. l.touched.items ++ xs) (ap (λ b. cond (b && is_queued r.phase) (r.logical ∷ []) []) (sym e) ∙ sym (dates_one id r));
 }
 
-append_none : (xs : List ℕ) → xs ++ [] ≡ xs
+pub append_none : (xs : List ℕ) → xs ++ [] ≡ xs
 append_none [] = refl
 append_none (x ∷ xs) = ap (λ ys. x ∷ ys) (append_none xs)
 

@@ -131,9 +131,6 @@ pub record IsCountedDown (gs : List LoadedGraph) (id : List ℕ) (ls ms : List L
 abbrev pub NoneQueued : Schedule → List ℕ → Type 0
 NoneQueued a id = (n : ℕ) → is_queued_at a id n ≡ false
 
-abbrev pub NoRunAt : Schedule → List ℕ → ℕ → Type 0
-NoRunAt a id d = (n : ℕ) (r : Run) → slice_get a.runs n ≡ Some r → is_at id d r ≡ false
-
 -- the graph's run with this date stands at the position
 pub record IsRunAt (a : Schedule) (id : List ℕ) (d n : ℕ) : Type 0 where
   pub run : Run

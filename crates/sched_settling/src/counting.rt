@@ -1,10 +1,10 @@
-//! The line of each graph, counted in one pass over the runs.
+//! The line of each graph, counted over the queued runs and the running ones.
 ghost use Rattle.std.specs.Prelude.{◌≡◌, [], ◌∷◌, length, IfOk, OnOk, true};
 ghost use Rattle.sched_model.specs.Lists.{rises};
 ghost use Rattle.sched_model.specs.Schedule.{graph_before, run_before};
 ghost use Rattle.sched_settling.specs.Counted.{AreEmpty};
-ghost use Rattle.sched_settling.specs.Marks.{AreLines};
-ghost use Rattle.sched_settling.specs.Touched.{EachLine, IsCountedIn, IsRunCounted};
+ghost use Rattle.sched_settling.specs.Marks.{AreLines, are_within};
+ghost use Rattle.sched_settling.specs.Touched.{EachLine, IsCountedIn, IsRunCounted, runs_at};
 
 use crate::lines::Line;
 use moment_core::Moment;
@@ -64,7 +64,25 @@ fn count_in(draft: &Draft<'_>, lines: &mut Vec<Line<'_>>, run: &Run) -> Result<(
     Ok(())
 }
 
-// The lines of a draft, in one pass over its runs.
+// The runs at these positions are counted in.
+fn count_all_in(
+    draft: &Draft<'_>,
+    lines: &mut Vec<Line<'_>>,
+    positions: &[usize],
+) -> Result<(), AllocError>
+    requires graphs { rises graph_before draft.now.content.graphs ≡ true }
+    requires within { are_within (length draft.now.content.runs) positions.now ≡ true }
+    requires long { length lines.old.items ≡ length draft.now.content.graphs }
+    ensures { OnOk result (EachLine (λ id. IsCountedIn id (runs_at draft.now.content.runs positions.now))
+        draft.now.content.graphs lines.old.items lines.new.items) }
+{
+    for position in positions {
+        count_in(draft, lines, draft.run(*position))?;
+    }
+    Ok(())
+}
+
+// The lines of a draft. It looks at its queued runs and at its running ones.
 pub fn lines_of<'l>(
     alloc: Global,
     draft: &Draft<'_>,
@@ -76,8 +94,7 @@ pub fn lines_of<'l>(
     ensures { IfOk result (λ lines. AreLines lines.items draft.now.content) }
 {
     let mut lines = empty_lines(alloc, draft, none)?;
-    for position in 0..draft.run_count() {
-        count_in(draft, &mut lines, draft.run(position))?;
-    }
+    count_all_in(draft, &mut lines, &draft.queued(alloc)?)?;
+    count_all_in(draft, &mut lines, &draft.running(alloc)?)?;
     Ok(lines)
 }

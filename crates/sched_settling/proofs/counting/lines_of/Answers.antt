@@ -1,25 +1,29 @@
-use Rattle.std.proofs.Common.{◌∙◌, List, [], subst, arith}
-use Rattle.std.proofs.lemmas.List.{take_all}
+use Rattle.std.proofs.Common.{◌∙◌, List, true, false, filter, subst}
 use Rattle.sched_state.specs.declared.runs.Run.{Run}
 use Rattle.sched_model.specs.Schedule.{Schedule}
+use Rattle.run_lists.specs.Positions.{stands}
 use Rattle.sched_settling.specs.Touched.{EachLine, IsCountedIn}
-use Rattle.sched_settling.proofs.CarryLemmas.{each_same, counted_first}
-use Rattle.sched_settling.proofs.CountedLemmas.{counted_all, counted_one}
+use Rattle.sched_settling.proofs.CarryLemmas.{each_then}
+use Rattle.sched_settling.proofs.CountedLemmas.{counted_all}
+use Rattle.sched_settling.proofs.StandingLemmas.{both_counted, places_within, runs_standing}
 use Rattle.sched_settling.proofs.counting.lines_of.Goals as goal
 
-pub loop-position-init : goal.loop-position-init
-loop-position-init c = each_same (λ id. IsCountedIn id []) c.args.draft.now.content.graphs c.in_ok-lines.lines.items (λ h g l f. counted_first h.dag.spec.dag_id l)
+pub count_all_in-requires-clause-within : goal.count_all_in-requires-clause-within
+count_all_in-requires-clause-within c = places_within (stands false) c.args.draft.now.content.runs c.deref.result.now (c.deref.ensures.value ∙ c.in_ok-queued.ensures)
 
-pub count_in-requires-clause-long : goal.count_in-requires-clause-long
-count_in-requires-clause-long c = (c.loop-position.invariant).0 ∙ c.in_ok-lines.ensures.long
+pub count_all_in-requires-2-clause-within : goal.count_all_in-requires-2-clause-within
+count_all_in-requires-2-clause-within c = places_within (stands true) c.args.draft.now.content.runs c.deref-2.result.now (c.deref-2.ensures.value ∙ c.in_ok-running.ensures)
 
-pub loop-position-preserved : goal.loop-position-preserved
-loop-position-preserved c =
-    counted_one c.args.draft.now.content c.loop-position.position c.run.result.now c.in_ok-lines.lines.items c.loop-position.lines.items c.count_in.new.lines.items c.run.ensures c.loop-position.invariant c.in_ok-count_in.ensures
+pub count_all_in-requires-2-clause-long : goal.count_all_in-requires-2-clause-long
+count_all_in-requires-2-clause-long c = (c.in_ok-count_all_in.ensures).0 ∙ c.in_ok-lines.ensures.long
 
 pub returns : goal.returns
 returns c =
-    let b : Schedule = c.args.draft.now.content in
-    counted_all b c.in_ok-lines.lines.items c.loop-position.lines.items c.requires.runs c.in_ok-lines.ensures
-    (subst (λ (rs : List Run). EachLine (λ id. IsCountedIn id rs) b.graphs c.in_ok-lines.lines.items c.loop-position.lines.items)
-    (take_all c.loop-position.position b.runs (omega (arith, c.loop-position-test.false, c.run_count-position-end.ensures))) c.loop-position.invariant)
+    let a : Schedule = c.args.draft.now.content in
+    let first : EachLine (λ id. IsCountedIn id (filter (stands false) a.runs)) a.graphs c.in_ok-lines.lines.items c.count_all_in.new.lines.items =
+    subst (λ (rs : List Run). EachLine (λ id. IsCountedIn id rs) a.graphs c.in_ok-lines.lines.items c.count_all_in.new.lines.items) (runs_standing (stands false) a.runs c.deref.result.now (c.deref.ensures.value ∙ c.in_ok-queued.ensures)) c.in_ok-count_all_in.ensures in
+    let second : EachLine (λ id. IsCountedIn id (filter (stands true) a.runs)) a.graphs c.count_all_in.new.lines.items c.count_all_in-2.new.lines.items =
+    subst (λ (rs : List Run). EachLine (λ id. IsCountedIn id rs) a.graphs c.count_all_in.new.lines.items c.count_all_in-2.new.lines.items) (runs_standing (stands true) a.runs c.deref-2.result.now (c.deref-2.ensures.value ∙ c.in_ok-running.ensures)) c.in_ok-count_all_in-2.ensures in
+    counted_all a c.in_ok-lines.lines.items c.count_all_in-2.new.lines.items c.requires.runs c.in_ok-lines.ensures
+    (each_then (λ id. IsCountedIn id (filter (stands false) a.runs)) (λ id. IsCountedIn id (filter (stands true) a.runs)) (λ id. IsCountedIn id a.runs) (λ id l m n s t. both_counted id a.runs l m n s t)
+    a.graphs c.in_ok-lines.lines.items c.count_all_in.new.lines.items c.count_all_in-2.new.lines.items first second)

@@ -10,6 +10,9 @@ use Rattle.sched_model.specs.Sound.{IsSound}
 use Rattle.sched_events.proofs.StepLemmas.{without_settled}
 use Rattle.sched_draft.specs.Books.{pools_in}
 use Rattle.sched_handout.specs.Occupied.{AreOccupied}
+use Rattle.sched_handout.specs.Noted.{NoneFrom}
+use Rattle.sched_handout.proofs.JobLemmas.{sound_none}
+use Rattle.sched_laws.proofs.SoundLemmas.{settle_sound}
 use Rattle.sched_draft.specs.Drafts.{DraftValue, SameDags}
 use Rattle.sched_core.specs.Effects.{changed, IsEffect}
 use Rattle.sched_core.specs.declared.changes.Effect.{Effect}
@@ -19,37 +22,42 @@ use Rattle.sched_core.specs.declared.changes.GraphChange.{GraphChange}
 use Rattle.sched_core.specs.Books.{IsHeldWith}
 use Rattle.sched_core.specs.Changes.{ScheduleValue, Planned}
 use Rattle.sched_core.proofs.ChangedRowLemmas.{draft_dags, last_after}
-use Rattle.sched_core.proofs.FinishLemmas.{finished_is, finished_held, finished_over, settled_occupied}
+use Rattle.sched_core.proofs.FinishLemmas.{finished_is, finished_held, finished_over, settled_next, settled_occupied}
 use Rattle.sched_core.proofs.schedules.Schedule.finish_with.Goals as goal
 
 pub settle_draft-requires-clause-dags : goal.settle_draft-requires-clause-dags
 settle_draft-requires-clause-dags c =
     subst (λ (s : Schedule). SameDags s c.args.draft.content) (sym c.requires.based) (draft_dags c.args.graphs c.args.self.now.content c.args.draft.content c.requires.over)
 
-pub hand_out-requires : goal.hand_out-requires
-hand_out-requires c =
+pub hand_out-requires-clause-taken : goal.hand_out-requires-clause-taken
+hand_out-requires-clause-taken c =
     let b : Schedule = c.args.draft.content in
     subst (λ (s : Schedule). AreOccupied s c.args.occupied) (sym c.in_ok-settle_draft.ensures.settled) (settled_occupied b c.args.occupied c.requires.occupied)
 
+pub hand_out-requires-clause-serials : goal.hand_out-requires-clause-serials
+hand_out-requires-clause-serials c =
+    let b : Schedule = c.args.draft.content in
+    subst NoneFrom (sym c.in_ok-settle_draft.ensures.settled) (sound_none (settle b) (settle_sound b c.requires.sound))
+
 pub rows_changed-requires-clause-based : goal.rows_changed-requires-clause-based
-rows_changed-requires-clause-based c = c.in_ok-hand_out.ensures.base ∙ c.in_ok-settle_draft.ensures.base ∙ c.requires.based
+rows_changed-requires-clause-based c = c.in_ok-jobs.ensures.base ∙ c.in_ok-settle_draft.ensures.base ∙ c.requires.based
 
 pub rows_changed-requires-clause-over : goal.rows_changed-requires-clause-over
 rows_changed-requires-clause-over c =
     let b : Schedule = c.args.draft.content in
-    let end : c.hand_out.new.draft.content ≡ hand_out (settle b) = c.in_ok-hand_out.ensures.draft ∙ ap hand_out c.in_ok-settle_draft.ensures.settled in
+    let end : c.hand_out.new.draft.content ≡ hand_out (settle b) = c.in_ok-jobs.ensures.draft ∙ ap hand_out c.in_ok-settle_draft.ensures.settled in
     subst (IsOver c.args.graphs c.args.self.now.content) (sym end) (finished_over c.args.graphs c.args.self.now.content b c.requires.over)
 
 pub rows_changed-requires-clause-last : goal.rows_changed-requires-clause-last
 rows_changed-requires-clause-last c =
     let b : Schedule = c.args.draft.content in
-    let end : c.hand_out.new.draft.content ≡ hand_out (settle b) = c.in_ok-hand_out.ensures.draft ∙ ap hand_out c.in_ok-settle_draft.ensures.settled in
+    let end : c.hand_out.new.draft.content ≡ hand_out (settle b) = c.in_ok-jobs.ensures.draft ∙ ap hand_out c.in_ok-settle_draft.ensures.settled in
     subst (IsLast c.args.graphs) (sym end) (last_after c.args.graphs b c.requires.last)
 
 pub rows_changed-requires-clause-sound : goal.rows_changed-requires-clause-sound
 rows_changed-requires-clause-sound c =
     let b : Schedule = c.args.draft.content in
-    let end : c.hand_out.new.draft.content ≡ hand_out (settle b) = c.in_ok-hand_out.ensures.draft ∙ ap hand_out c.in_ok-settle_draft.ensures.settled in
+    let end : c.hand_out.new.draft.content ≡ hand_out (settle b) = c.in_ok-jobs.ensures.draft ∙ ap hand_out c.in_ok-settle_draft.ensures.settled in
     subst (λ (s : Schedule). IsSound (completed c.args.graphs s)) (sym end) (without_settled (completed c.args.graphs (hand_out (settle b))) c.requires.kept).sound
 
 pub invariant_of-result : goal.invariant_of-result
@@ -59,9 +67,9 @@ invariant_of-result c =
     let b : Schedule = c.args.draft.content in
     let d : DraftValue = c.hand_out.new.draft in
     let e : Schedule = hand_out (settle b) in
-    let end : d.content ≡ e = c.in_ok-hand_out.ensures.draft ∙ ap hand_out c.in_ok-settle_draft.ensures.settled in
-    let base : d.base ≡ a = c.in_ok-hand_out.ensures.base ∙ c.in_ok-settle_draft.ensures.base ∙ c.requires.based in
-    let numbers : AreOccupied e c.hand_out.new.taken = subst (λ (s : Schedule). AreOccupied s c.hand_out.new.taken) end c.in_ok-hand_out.ensures.taken in
+    let end : d.content ≡ e = c.in_ok-jobs.ensures.draft ∙ ap hand_out c.in_ok-settle_draft.ensures.settled in
+    let base : d.base ≡ a = c.in_ok-jobs.ensures.base ∙ c.in_ok-settle_draft.ensures.base ∙ c.requires.based in
+    let numbers : AreOccupied e c.hand_out.new.taken = subst (λ (s : Schedule). AreOccupied s c.hand_out.new.taken) end c.in_ok-jobs.ensures.taken in
     let of : AreEditsOf a.runs c.into_edits.result = subst (λ (s : Schedule). AreEditsOf s.runs c.into_edits.result) base c.into_edits.ensures.edits in
     let runs : edited c.into_edits.result a.runs ≡ d.content.runs = subst (λ (s : Schedule). edited c.into_edits.result s.runs ≡ d.content.runs) base c.into_edits.ensures.runs in
     let is = finished_is g a b d.content (pools_in c.hand_out.new.taken.pools.pools) c.clock.result c.lanes.result c.next_serial.result (edited c.into_edits.result a.runs) c.requires.over end numbers.pools.pools
@@ -82,15 +90,16 @@ returns c =
     let b : Schedule = c.args.draft.content in
     let d : DraftValue = c.hand_out.new.draft in
     let e : Schedule = hand_out (settle b) in
-    let end : d.content ≡ e = c.in_ok-hand_out.ensures.draft ∙ ap hand_out c.in_ok-settle_draft.ensures.settled in
-    let base : d.base ≡ a = c.in_ok-hand_out.ensures.base ∙ c.in_ok-settle_draft.ensures.base ∙ c.requires.based in
-    let numbers : AreOccupied e c.hand_out.new.taken = subst (λ (s : Schedule). AreOccupied s c.hand_out.new.taken) end c.in_ok-hand_out.ensures.taken in
+    let end : d.content ≡ e = c.in_ok-jobs.ensures.draft ∙ ap hand_out c.in_ok-settle_draft.ensures.settled in
+    let base : d.base ≡ a = c.in_ok-jobs.ensures.base ∙ c.in_ok-settle_draft.ensures.base ∙ c.requires.based in
+    let numbers : AreOccupied e c.hand_out.new.taken = subst (λ (s : Schedule). AreOccupied s c.hand_out.new.taken) end c.in_ok-jobs.ensures.taken in
     let runs : edited c.into_edits.result a.runs ≡ d.content.runs = subst (λ (s : Schedule). edited c.into_edits.result s.runs ≡ d.content.runs) base c.into_edits.ensures.runs in
     let is = finished_is g a b d.content (pools_in c.hand_out.new.taken.pools.pools) c.clock.result c.lanes.result c.next_serial.result (edited c.into_edits.result a.runs) c.requires.over end numbers.pools.pools
     c.clock.ensures c.lanes.ensures c.next_serial.ensures runs in
     let jobs : c.in_ok-jobs.jobs ≡ handed a e =
-    c.in_ok-jobs.ensures
-    ∙ (ap (λ (h : ScheduleValue). flat_map (job_at d.content) (range_with_len h.content.next (d.content.next - h.content.next))) c.self.view_is ∙ ap (handed a) end) in
+    c.in_ok-jobs.ensures.jobs
+    ∙ (ap (λ (s : Schedule). handed s d.content) c.in_ok-settle_draft.ensures.settled
+    ∙ (ap (handed (settle b)) end ∙ ap (λ n. flat_map (job_at e) (range_with_len n (e.next - n))) (settled_next b ∙ c.requires.next))) in
     ap (λ (h : ScheduleValue). let p : Planned = record {
       before = h.content;
       after = record h.content { graphs = changed g h.content.graphs; pools = pools_in c.hand_out.new.taken.pools.pools; now = c.clock.result; lanes = c.lanes.result; next = c.next_serial.result; runs = edited c.into_edits.result h.content.runs };

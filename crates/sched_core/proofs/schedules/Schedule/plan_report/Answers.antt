@@ -1,4 +1,4 @@
-use Rattle.std.proofs.Common.{◌≡◌, ◌∙◌, refl, sym, ap, subst, inr, is_some, true, false, ◌<◌, List, option_map, length}
+use Rattle.std.proofs.Common.{◌≡◌, ◌∙◌, refl, sym, ap, subst, inr, is_some, true, false, ◌<◌, option_map, length}
 use Rattle.std.specs.Prelude.{IfSome}
 use Rattle.instance_machine.specs.Instances.{map_tries}
 use Rattle.instance_machine.specs.Reports.{report_try, reported_try}
@@ -7,16 +7,13 @@ use Rattle.sched_model.specs.Changes.{report}
 use Rattle.sched_model.specs.Handout.{in_instance}
 use Rattle.sched_model.specs.Lists.{at}
 use Rattle.sched_model.specs.Schedule.{Schedule}
-use Rattle.sched_state.specs.declared.runs.Run.{Run}
-use Rattle.sched_events.specs.SettledAndSound.{IsSoundAndSaid}
 use Rattle.sched_events.specs.declared.events.Event.TheVariants.{Report}
 use Rattle.sched_core.specs.Books.{IsCounted}
-use Rattle.sched_core.specs.Changes.{ScheduleValue}
 use Rattle.sched_core.specs.Finding.{IsFoundAt}
 use Rattle.sched_core.specs.declared.finding.Found.{Found}
 use Rattle.sched_handout.specs.Occupied.{AreOccupied}
 use Rattle.sched_core.proofs.BookLemmas.{report_counted}
-use Rattle.sched_core.proofs.PlanLemmas.{found_try, not_in_flight, out_of_turn, in_turn, report_draft, IsDraftOf, draft_sound, draft_kept, draft_planned}
+use Rattle.sched_core.proofs.PlanLemmas.{not_in_flight, out_of_turn, in_turn, report_draft, IsDraftOf, draft_sound, draft_kept, draft_planned}
 use Rattle.sched_core.proofs.ReportLemmas.{report_at, found_run, found_instance}
 use Rattle.sched_core.proofs.schedules.Schedule.plan_report.Goals.{In-Some, After-report_at}
 use Rattle.sched_core.proofs.schedules.Schedule.plan_report.Goals as goal
@@ -24,21 +21,19 @@ use Rattle.sched_core.proofs.schedules.Schedule.plan_report.Goals as goal
 pub returns-in_default-clause-refused : goal.returns-in_default-clause-refused
 returns-in_default-clause-refused c =
     let a : Schedule = c.args.self.now.content in
-    let found = found_try a c.args.serial c.as_slice.result.now (option_map (λ (f : Found). f.one) c.open_try.result) (c.as_slice.ensures ∙ ap (λ (h : ScheduleValue). h.content.runs) c.self.view_is) c.open_try.ensures.one in
+    let found = c.open_try.ensures.one in
     inr (record { first = not_in_flight a c.args.serial c.args.stage (sym (ap (option_map (λ (f : Found). f.one)) c.in_default.is) ∙ found); shown = tt })
 
 pub returns-then-not-takes-clause-refused : goal.returns-then-not-takes-clause-refused
 returns-then-not-takes-clause-refused c =
     let a : Schedule = c.args.self.now.content in
-    let found = found_try a c.args.serial c.as_slice.result.now (option_map (λ (f : Found). f.one) c.open_try.result) (c.as_slice.ensures ∙ ap (λ (h : ScheduleValue). h.content.runs) c.self.view_is) c.open_try.ensures.one in
+    let found = c.open_try.ensures.one in
     let turn : is_some (report_try c.args.stage a.now c.in-Some.found.one) ≡ false = sym (c.if-not-takes.ensures a.now) in
     inr (record { first = out_of_turn a c.args.serial c.args.stage c.in-Some.found.one (sym (ap (option_map (λ (f : Found). f.one)) c.in-Some.is) ∙ found) turn; shown = tt })
 
 -- where the try stands
 stands : (c : In-Some) → IsFoundAt c.args.serial c.args.self.now.content.runs c.in-Some.found
-stands c =
-    subst (λ (rs : List Run). IsFoundAt c.args.serial rs c.in-Some.found) (c.as_slice.ensures ∙ ap (λ (h : ScheduleValue). h.content.runs) c.self.view_is)
-    (subst (λ o. IfSome o (IsFoundAt c.args.serial c.as_slice.result.now)) c.in-Some.is c.open_try.ensures.place)
+stands c = subst (λ o. IfSome o (IsFoundAt c.args.serial c.args.self.now.content.runs)) c.in-Some.is c.open_try.ensures.place
 
 pub own-requires : goal.own-requires
 own-requires c =
@@ -55,19 +50,19 @@ reported : (c : After-report_at) → IsFoundAt c.args.serial c.args.self.now.con
 reported c found =
     let a : Schedule = c.args.self.now.content in
     let own : c.own.new.self.content ≡ a = ap (λ (v : DraftValue). v.content) c.in_ok-own.ensures.ok ∙ ap (λ (v : DraftValue). v.content) c.draft-draft.ensures in
-    report_at c.args.serial c.args.stage a c.report_at.new.self.content c.in-Some.found (subst (λ (h : ScheduleValue). IsSoundAndSaid h.content) c.self.view_is c.self.invariant.kept).sound found
+    report_at c.args.serial c.args.stage a c.report_at.new.self.content c.in-Some.found c.open_try.ensures.kept.sound found
     (ap (λ (v : DraftValue). v.content) c.report_at.ensures
     ∙ ap (λ (s : Schedule). record s { runs = at (in_instance (map_tries (reported_try c.args.serial c.args.stage s.now)) c.in-Some.found.place) c.in-Some.found.position s.runs }) own)
 
 drafted : (c : After-report_at) → IsFoundAt c.args.serial c.args.self.now.content.runs c.in-Some.found → IsDraftOf (Report c.args.serial c.args.stage) c.args.self.now.content c.report_at.new.self.content
 drafted c place =
     let a : Schedule = c.args.self.now.content in
-    let found = found_try a c.args.serial c.as_slice.result.now (option_map (λ (f : Found). f.one) c.open_try.result) (c.as_slice.ensures ∙ ap (λ (h : ScheduleValue). h.content.runs) c.self.view_is) c.open_try.ensures.one in
+    let found = c.open_try.ensures.one in
     let turn : is_some (report_try c.args.stage a.now c.in-Some.found.one) ≡ true = sym (c.if-not-takes.ensures a.now) in
     record {
       ranged = tt;
       accepted = in_turn a c.args.serial c.args.stage c.in-Some.found.one (sym (ap (option_map (λ (f : Found). f.one)) c.in-Some.is) ∙ found) turn;
-      kept = subst (λ (h : ScheduleValue). IsSoundAndSaid h.content) c.self.view_is c.self.invariant.kept;
+      kept = c.open_try.ensures.kept;
       is = report_draft a a c.report_at.new.self.content c.args.serial c.args.stage refl (reported c place);
     }
 
@@ -89,7 +84,7 @@ finish_with-requires-clause-kept c = draft_kept (let at = goal.at.finish_with-re
 pub finish_with-requires-clause-counted : goal.finish_with-requires-clause-counted
 finish_with-requires-clause-counted c =
     let a : Schedule = c.args.self.now.content in
-    let counted : IsCounted a = subst (λ (h : ScheduleValue). IsCounted h.content) c.self.view_is c.self.invariant.counted in
+    let counted : IsCounted a = c.open_try.ensures.counted in
     subst IsCounted (sym (let at = goal.at.finish_with-requires-clause-counted c in reported at.After-report_at (stands at.In-Some))) (report_counted c.args.serial c.args.stage a counted)
 
 pub occupied_after-requires-clause-found : goal.occupied_after-requires-clause-found

@@ -10,8 +10,8 @@ use Rattle.sched_core.proofs.BookLemmas.{read_occupied}
 use Rattle.sched_core.proofs.ViewLemmas.{flight_is, flight_small}
 use Rattle.sched_core.proofs.schedules.Schedule.restore.Goals as goal
 
-pub open_in_all-requires : goal.open_in_all-requires
-open_in_all-requires c =
+pub open_in_all-in_flight-requires : goal.open_in_all-in_flight-requires
+open_in_all-in_flight-requires c =
     let h = c.in_ok-limits.ensures.restored in
     subst (λ (rs : List Run). sum_by open_in rs ≤ last_serial + 1) (sym c.deref.ensures.value) (flight_small (schedule_in c.in_ok-limits.field-0) h.sound)
 
@@ -19,7 +19,7 @@ pub invariant_of-result : goal.invariant_of-result
 invariant_of-result c =
     let p = c.in_ok-limits.field-0 in
     let h = c.in_ok-limits.ensures.restored in
-    let flight : c.open_in_all.result ≡ in_flight (schedule_in p) = c.open_in_all.ensures ∙ (ap (sum_by open_in) c.deref.ensures.value ∙ sym (flight_is (schedule_in p) h.sound)) in
-    let t : Occupied = record { in_flight = c.open_in_all.result; pools = p.pools } in
-    subst (λ (rs : List Run). IsHeldWith false (record (schedule_in p) { runs = rs }) t) (sym c.of.ensures)
+    let flight : c.open_in_all-in_flight.result ≡ in_flight (schedule_in p) = c.open_in_all-in_flight.ensures ∙ (ap (sum_by open_in) c.deref.ensures.value ∙ sym (flight_is (schedule_in p) h.sound)) in
+    let t : Occupied = record { in_flight = c.open_in_all-in_flight.result; pools = p.pools } in
+    subst (λ (rs : List Run). IsHeldWith false (record (schedule_in p) { runs = rs }) t) (sym c.in_ok-runs.ensures)
     (record { kept = record { sound = h.sound; said = h.said }; settled = λ e. absurd (true≢false (sym e)); counted = h.counted; occupied = read_occupied (schedule_in p) t h.counted flight refl h.taken })

@@ -1,0 +1,9 @@
+use Rattle.sqlite.specs.Held.{state}
+use Rattle.command_runner.proofs.EventLemmas.{failed}
+use Rattle.command_runner.proofs.events.step_in.Goals as goal
+
+pub returns-in-Err : goal.returns-in-Err
+returns-in-Err g c =
+    failed (state g.S.Store) c.args.director c.args.event.now c.in-Err.fault c.step.new.self _ _ c.close-in-Err.result c.failure_status.result c.put-put-in-Err.result
+    c.status_after-in-Err.result c.close-in-Err.ensures c.in-Err.ensures.outcome c.in-Err.ensures.followed c.failure_status.ensures c.put-put-in-Err.ensures
+    c.status_after-in-Err.ensures
