@@ -10,6 +10,7 @@ pub mod LawLemmas
 pub mod PastLemmas
 pub mod OrderLemmas
 pub mod BeforeLemmas
+pub mod FirstLemmas
 pub mod PickLemmas
 pub mod PlaceLemmas
 pub mod HoldLemmas

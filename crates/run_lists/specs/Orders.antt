@@ -24,3 +24,13 @@ pub record IsRunAt (id : List ℕ) (date : ℕ) (rs : List Run) (position : ℕ)
 -- the position of a run among others in their order: how many of them are not after it
 abbrev pub position_in_order : Run → List Run → ℕ
 position_in_order r rs = count_by (λ (q : Run). not (run_before r q)) rs
+
+-- the run is of a graph that stands before this one
+abbrev pub graph_below : List ℕ → Run → Bool
+graph_below id r = is_less (name_cmp r.graph id)
+
+-- where the runs of the graph begin, or would: all before are of graphs before it, and none from there on is
+pub record IsFirstOf (id : List ℕ) (rs : List Run) (position : ℕ) : Type 0 where
+  pub within : position ≤ length rs
+  pub before : (n : ℕ) (r : Run) → n < position → slice_get rs n ≡ Some r → graph_below id r ≡ true
+  pub reached : (n : ℕ) (r : Run) → position ≤ n → slice_get rs n ≡ Some r → graph_below id r ≡ false

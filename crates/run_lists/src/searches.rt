@@ -4,7 +4,7 @@ ghost use Rattle.std.specs.List.{list_any};
 ghost use Rattle.sched_state.specs.Lists.{insert_by};
 ghost use Rattle.sched_model.specs.Lists.{rises};
 ghost use Rattle.sched_model.specs.Schedule.{is_at, run_before};
-ghost use Rattle.run_lists.specs.Orders.{IsPositionFor, IsRunAt, position_in_order};
+ghost use Rattle.run_lists.specs.Orders.{IsFirstOf, IsPositionFor, IsRunAt, position_in_order};
 ghost use Rattle.run_lists.specs.Touched.{touched_with};
 
 use crate::Overlay;
@@ -44,6 +44,20 @@ impl Overlay<'_> {
             Some(after - 1)
         } else {
             None
+        }
+    }
+
+    /// Where the runs of this graph begin, or would: they stand from there on, one after another.
+    pub fn first_of(&self, graph: &Name) -> usize
+        requires { rises run_before self.now.runs ≡ true }
+        ensures { IsFirstOf graph.now self.now.runs result }
+    {
+        // A run of the earliest date stands before that position.
+        let after = self.position_for(graph, Moment::at(0));
+        if after > 0 && self.get(after - 1).graph == *graph {
+            after - 1
+        } else {
+            after
         }
     }
 

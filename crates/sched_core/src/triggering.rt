@@ -19,6 +19,7 @@ impl Schedule {
         ensures accepted { IfOk result (IsPlanned self.now.content (Trigger id.now)) }
         ensures refused { IfErr result (IsRefusal self.now.content (Trigger id.now)) }
     {
+        let is_full = self.limits.runs() as usize <= self.runs.len();
         let mut draft = self.draft(alloc, None, false);
         let Some(planned) = named_by_hand(alloc, &draft, id)? else {
             return Err(Refusal::UnknownGraph);
@@ -27,7 +28,7 @@ impl Schedule {
             Ok(run) => run,
             Err(fault) => return Err(Refusal::from(fault)),
         };
-        if self.limits.runs() as usize <= self.runs.len() {
+        if is_full {
             return Err(Refusal::RecordFull);
         }
         let runs = alone(alloc, run)?;

@@ -8,7 +8,7 @@ ghost use Rattle.instance_machine.specs.Instances.{map_tries};
 ghost use Rattle.instance_machine.specs.Reports.{reported_try, lost_try};
 ghost use Rattle.trigger_rules.specs.declared.verdicts.Verdict.TheVariants.{Wait};
 ghost use Rattle.run_lists.specs.Edits.{AreEditsOf, edited};
-ghost use Rattle.run_lists.specs.Orders.{IsRunAt, position_in_order};
+ghost use Rattle.run_lists.specs.Orders.{IsFirstOf, IsRunAt, position_in_order};
 ghost use Rattle.run_lists.specs.Overlays.{AreAllTouched};
 ghost use Rattle.run_lists.specs.Positions.{positions_where, stands};
 ghost use Rattle.run_lists.specs.Touched.{touched_with};
@@ -155,6 +155,14 @@ impl<'a> Draft<'a> {
         ensures { slice_get self.now.content.runs position ≡ Some result.now }
     {
         self.runs.get(position)
+    }
+
+    /// Where the runs of this graph begin, or would: they stand from there on, one after another. It is found by binary searches.
+    pub fn first_of(&self, graph: &Name) -> usize
+        requires { rises run_before self.now.content.runs ≡ true }
+        ensures { IsFirstOf graph.now self.now.content.runs result }
+    {
+        self.runs.first_of(graph)
     }
 
     /// The position of the run of this graph and date.

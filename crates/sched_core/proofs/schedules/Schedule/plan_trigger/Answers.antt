@@ -31,7 +31,7 @@ drafted c =
     let h = run_named d id _ _ c.in-Ok.run' c.in-Some.is c.in-Ok.is c.in_ok-planned.ensures in
     let limit : c.self.inside.limits.runs ≡ a.limits.runs = ap (λ (s : ScheduleValue). s.content.limits.runs) c.self.view_is in
     let long : length c.self.inside.runs.runs ≡ length a.runs = ap (λ (s : ScheduleValue). length s.content.runs) c.self.view_is in
-    let full : nat_lt a.limits.runs (length a.runs + 1) ≡ false = grind (arith, nat_tests, c.runs.ensures.value, c.len.ensures.len, limit, long, c.if-runs-len.false) in
+    let full : nat_lt a.limits.runs (length a.runs + 1) ≡ false = grind (arith, nat_tests, c.runs.ensures.value, c.len.ensures.len, limit, long, c.if-is_full.false) in
     record {
       ranged = tt;
       accepted = hand_full a d id run (ap (λ (v : DraftValue). v.content) c.draft-draft.ensures) h false full;
