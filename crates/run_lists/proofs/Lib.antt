@@ -15,3 +15,4 @@ pub mod PickLemmas
 pub mod PlaceLemmas
 pub mod HoldLemmas
 pub mod ShiftLemmas
+pub mod GraphLemmas

@@ -14,7 +14,7 @@ use Rattle.run_lists.proofs.PastLemmas.{all_get}
 pub by_bool : {C : Type 0} (b : Bool) → (b ≡ true → C) → (b ≡ false → C) → C
 by_bool {C} b f g = elim b as (λ c. b ≡ c → C) [ true ↦ λ e. f e | false ↦ λ e. g e ] refl
 
-rises_get : (xs : List ℕ) (i j : ℕ) (x y : ℕ) → rises nat_lt xs ≡ true → slice_get xs i ≡ Some x → slice_get xs j ≡ Some y → i < j → nat_lt x y ≡ true
+pub rises_get : (xs : List ℕ) (i j : ℕ) (x y : ℕ) → rises nat_lt xs ≡ true → slice_get xs i ≡ Some x → slice_get xs j ≡ Some y → i < j → nat_lt x y ≡ true
 rises_get [] i j x y e f g l = absurd (let c : ◌≡◌ {A = Option ℕ} None (Some x) = f in cc)
 rises_get (z ∷ xs) i zero x y e f g l = absurd (omega arith)
 rises_get (z ∷ xs) zero (suc j) x y e f g l =

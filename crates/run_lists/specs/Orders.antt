@@ -1,5 +1,5 @@
 -- Where a key stands among runs in their order.
-use Rattle.std.specs.Prelude.{◌≡◌, ℕ, ◌<◌, ◌≤◌, Bool, true, false, not, List, length, count_by, Some, slice_get}
+use Rattle.std.specs.Prelude.{◌≡◌, ℕ, ◌<◌, ◌≤◌, Bool, true, false, not, List, length, count_by, Option, None, Some, slice_get}
 use Rattle.std.specs.Ordering.{nat_cmp, ordering_then}
 use Rattle.sched_state.specs.Lists.{name_cmp, is_less}
 use Rattle.sched_state.specs.declared.runs.Run.{Run}
@@ -34,3 +34,16 @@ pub record IsFirstOf (id : List ℕ) (rs : List Run) (position : ℕ) : Type 0 w
   pub within : position ≤ length rs
   pub before : (n : ℕ) (r : Run) → n < position → slice_get rs n ≡ Some r → graph_below id r ≡ true
   pub reached : (n : ℕ) (r : Run) → position ≤ n → slice_get rs n ≡ Some r → graph_below id r ≡ false
+
+-- the run is of no graph that stands behind this one
+abbrev pub graph_up_to : List ℕ → Run → Bool
+graph_up_to id r = not (is_less (name_cmp id r.graph))
+
+-- there is a run, and this holds of it
+abbrev pub holds_of : (Run → Bool) → Option Run → Bool
+holds_of p None = false
+holds_of p (Some r) = p r
+
+-- a run stands at the position, and this holds of it
+abbrev pub holds_at : (Run → Bool) → List Run → ℕ → Bool
+holds_at p rs n = holds_of p (slice_get rs n)

@@ -1,5 +1,6 @@
 -- Where the runs stand of which something holds.
-use Rattle.std.specs.Prelude.{◌≡◌, ℕ, suc, ◌≤◌, Bool, true, false, cond, List, [], ◌∷◌, length, min, Option, Some, None, nat_lt, nat_eq}
+use Rattle.std.specs.Prelude.{◌≡◌, ℕ, suc, ◌≤◌, ◌&&◌, Bool, true, false, cond, List, [], ◌∷◌, length, min, Option, Some, None, nat_lt, nat_eq}
+use Rattle.sched_state.specs.Lists.{same}
 use Rattle.sched_state.specs.declared.runs.Run.{Run}
 use Rattle.sched_model.specs.Schedule.{is_queued, is_running}
 use Rattle.run_lists.specs.Touched.{shifted_from}
@@ -50,6 +51,10 @@ placed false holds n ns = marked holds n ns
 abbrev pub stands : Bool → Run → Bool
 stands true r = is_running r.phase
 stands false r = is_queued r.phase
+
+-- the run is one of this graph, and running, or else queued
+abbrev pub stands_in : List ℕ → Bool → Run → Bool
+stands_in id running r = same r.graph id && stands running r
 
 -- these are the positions of the runs of which p holds, and there is room for that of each run
 pub record IsIndex (p : Run → Bool) (rs : List Run) (ns : List ℕ) (capacity : ℕ) : Type 0 where

@@ -65,6 +65,13 @@ impl<'a> Overlay<'a> {
         }
     }
 
+    /// The runs that are there, as they are.
+    pub fn runs_below(&self) -> &'a Runs
+        ensures { result.now.runs ≡ self.now.base }
+    {
+        self.base
+    }
+
     /// How many runs there are. It looks at the last edit alone.
     pub fn len(&self) -> usize
         ensures { result ≡ length self.now.runs }

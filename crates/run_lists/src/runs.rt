@@ -6,11 +6,11 @@ ghost use Rattle.sched_model.specs.Lists.{rises};
 ghost use Rattle.sched_model.specs.Schedule.{is_at, run_before};
 ghost use Rattle.run_lists.specs.Edits.{AreEditsOf, added, edited, hidden, put_in};
 ghost use Rattle.run_lists.specs.Orders.{IsPositionFor, IsRunAt};
-ghost use Rattle.run_lists.specs.Positions.{positions_where, stands};
+ghost use Rattle.run_lists.specs.Positions.{positions_where, stands, stands_in};
 ghost use Rattle.run_lists.specs.Rooms.{HasPlaces, all_added};
 
 use crate::edits::{Edit, Edits};
-use crate::ordering::{has_key, position_in};
+use crate::ordering::{has_key, position_in, positions_of};
 use crate::positions::{make_room, place, positions_in, stands};
 use graph_file::Name;
 use moment_core::Moment;
@@ -112,6 +112,30 @@ impl Runs {
         } else {
             self.queued.as_slice()
         }
+    }
+
+    /// The positions of the runs of this graph that are running, in their order. They are found by two binary searches among the running ones.
+    pub fn running_of(&self, graph: &Name) -> &[usize]
+        requires { rises run_before self.now.runs ≡ true }
+        ensures { result.now ≡ positions_where (stands_in graph.now true) self.now.runs }
+    {
+        self.standing_of(graph, true)
+    }
+
+    /// The same, of those that are queued.
+    pub fn queued_of(&self, graph: &Name) -> &[usize]
+        requires { rises run_before self.now.runs ≡ true }
+        ensures { result.now ≡ positions_where (stands_in graph.now false) self.now.runs }
+    {
+        self.standing_of(graph, false)
+    }
+
+    // The positions of the runs of this graph that are running, in their order, or else of those that are queued.
+    fn standing_of(&self, graph: &Name, running: bool) -> &[usize]
+        requires { rises run_before self.now.runs ≡ true }
+        ensures { result.now ≡ positions_where (stands_in graph.now running) self.now.runs }
+    {
+        positions_of(self.standing(running), &self.runs, graph)
     }
 
     /// Where a run of this graph and date would be put in: before the first run that it would stand before. It is found by a binary search.

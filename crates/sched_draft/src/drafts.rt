@@ -28,7 +28,7 @@ use graph_file::{Bounded, Name};
 use instance_machine::Stage;
 use moment_core::Moment;
 use pool_book::Pools;
-use run_lists::{Edits, Overlay};
+use run_lists::{Edits, Overlay, Runs};
 use sched_state::{Limits, LoadedGraph, Run, RunPhase};
 use std::alloc::{AllocError, Global};
 use std::marker::Model;
@@ -125,6 +125,13 @@ impl<'a> Draft<'a> {
         ensures { result ≡ self.now.content.next }
     {
         self.next
+    }
+
+    /// The runs of the schedule under it, as they are.
+    pub fn runs_below(&self) -> &'a Runs
+        ensures { result.now.runs ≡ self.now.base.runs }
+    {
+        self.runs.runs_below()
     }
 
     /// How many runs there are.

@@ -1,5 +1,5 @@
 -- Touched runs by position, and lines that are carried over.
-use Rattle.std.proofs.Common.{◌≡◌, ◌∙◌, refl, sym, ap, subst, ℕ, zero, suc, ◌+◌, ◌-◌, ◌<◌, List, [], ◌∷◌, ◌++◌, Bool, true, false, ◌&&◌, ◌||◌, cond, length, map, filter, take, drop, set, slice_get, get_or, nat_lt, nat_eq, count_by, Option, Some, None, option_and_then, true≢false, arith, append_assoc}
+use Rattle.std.proofs.Common.{◌≡◌, ◌∙◌, refl, sym, ap, subst, ℕ, zero, suc, ◌+◌, ◌-◌, ◌<◌, List, [], ◌∷◌, ◌++◌, Bool, true, false, ◌&&◌, ◌||◌, cond, length, map, filter, take, set, slice_get, get_or, nat_lt, nat_eq, count_by, Option, Some, None, option_and_then, true≢false, arith, append_assoc}
 use Rattle.std.specs.Option.{option_to_list}
 use Rattle.std.specs.List.{list_all}
 use Rattle.std.specs.Ordering.{nat_cmp, is_eq, ordering_then}
@@ -18,7 +18,7 @@ use Rattle.sched_model.specs.Schedule.{Schedule, graph_among, run_before, graph_
 use Rattle.sched_laws.proofs.RunLemmas.{map_append}
 use Rattle.sched_laws.proofs.DecisionLemmas.{by_bool}
 use Rattle.std.proofs.lemmas.Map.Text.{is_eq-slice_cmp}
-use Rattle.sched_settling.specs.Marks.{CoversRuns, are_within, one_fewer, date_at, IsLine, AreLines, IsCountedDown}
+use Rattle.sched_settling.specs.Marks.{CoversRuns, are_within, one_fewer, date_at, kept_dates, IsLine, AreLines, IsCountedDown}
 use Rattle.sched_model.specs.States.{active_runs}
 use Rattle.dag_check.specs.Orders.{is_in}
 use Rattle.sched_settling.proofs.BeforeLemmas.{earlier_is}
@@ -26,7 +26,7 @@ use Rattle.sched_settling.proofs.TouchedLemmas.{counted_over, line_over, touched
 use Rattle.sched_laws.specs.Stages.{IsOrdered, CoversEnds}
 use Rattle.sched_settling.specs.Touched.{Mark, Kept, Changed, Added, Over, is_active, touched_of, replaced_of, positions_of, runs_at, bases_at, with_key, dates_queued, IsCountedIn, IsCountedOff, IsRunCounted, EachLine, AreFresh, IsCarried, over_runs, is_marked, is_near, IsTouched}
 use Rattle.sched_settling.specs.declared.lines.Line.{Line}
-use Rattle.sched_settling.proofs.LineLemmas.{same_flips, same_both, graphs_apart, find_none, set_there, set_apart, set_long, queued_run, run_date}
+use Rattle.sched_settling.proofs.LineLemmas.{same_dates, same_within, same_flips, same_both, graphs_apart, find_none, set_there, set_apart, set_long, queued_run, run_date}
 use Rattle.sched_laws.proofs.ListLemmas.{all_get}
 
 -- ---- the touched runs
@@ -155,6 +155,7 @@ in_more_runs id rs r l m n s t = record {
       let one : m.active ≡ l.active + count_by (is_active id) rs = s.active in
       let two : n.active ≡ m.active + count_by (is_active id) (r ∷ []) = t.active in
       omega arith;
+  runs = t.runs ∙ s.runs;
   kept = t.kept ∙ s.kept;
   from = t.from ∙ s.from;
   touched = t.touched ∙ (ap (λ xs. xs ++ dates_queued id (r ∷ [])) s.touched ∙ (append_assoc l.touched.items (dates_queued id rs) (dates_queued id (r ∷ [])) ∙ ap (λ xs. l.touched.items ++ xs) (sym (dates_join id rs (r ∷ [])))));
@@ -170,6 +171,7 @@ dates_one id r = elim (same r.graph id && is_queued r.phase) as (λ b. map (λ (
 pub counted_same : (id : List ℕ) (r : Run) (l m : Line) → same r.graph id ≡ true → IsRunCounted r l m → IsCountedIn id (r ∷ []) l m
 counted_same id r l m e s = record {
   active = s.active ∙ ap (λ k. l.active + k) (ap (λ b. cond (b && is_running r.phase) 1 0) (sym e) ∙ sym (count_one_run id r));
+  runs = s.runs;
   kept = s.kept;
   from = s.from;
   touched = s.touched ∙ ap (λ xs. l.touched.items ++ xs) (ap (λ b. cond (b && is_queued r.phase) (r.logical ∷ []) []) (sym e) ∙ sym (dates_one id r));
@@ -182,13 +184,14 @@ append_none (x ∷ xs) = ap (λ ys. x ∷ ys) (append_none xs)
 pub counted_other : (id : List ℕ) (r : Run) (l : Line) → same r.graph id ≡ false → IsCountedIn id (r ∷ []) l l
 counted_other id r l e = record {
   active = let c : count_by (is_active id) (r ∷ []) ≡ 0 = count_one_run id r ∙ ap (λ b. cond (b && is_running r.phase) 1 0) e in omega (arith, c);
+  runs = refl;
   kept = refl;
   from = refl;
   touched = sym (ap (λ xs. l.touched.items ++ xs) (dates_one id r ∙ ap (λ b. cond (b && is_queued r.phase) (r.logical ∷ []) []) e) ∙ append_none l.touched.items);
 }
 
 pub counted_first : (id : List ℕ) (l : Line) → IsCountedIn id [] l l
-counted_first id l = record { active = let e : l.active ≡ l.active + 0 = omega arith in e; kept = refl; from = refl; touched = sym (append_none l.touched.items) }
+counted_first id l = record { active = let e : l.active ≡ l.active + 0 = omega arith in e; runs = refl; kept = refl; from = refl; touched = sym (append_none l.touched.items) }
 
 -- ---- counting off
 bases_join : (a b : List Run) (ps qs : List ℕ) → bases_at a b (ps ++ qs) ≡ bases_at a b ps ++ bases_at a b qs
@@ -213,13 +216,14 @@ off_more_runs id rs ss l m n s t = record {
       let one : m.active ≡ l.active - count_by (is_active id) rs = s.active in
       let two : n.active ≡ m.active - count_by (is_active id) ss = t.active in
       omega arith;
+  runs = t.runs ∙ s.runs;
   kept = t.kept ∙ s.kept;
   from = t.from ∙ s.from;
   touched = t.touched ∙ s.touched;
 }
 
 pub off_none : (id : List ℕ) (l : Line) → IsCountedOff id [] l l
-off_none id l = record { active = let e : l.active ≡ l.active - 0 = omega arith in e; kept = refl; from = refl; touched = refl }
+off_none id l = record { active = let e : l.active ≡ l.active - 0 = omega arith in e; runs = refl; kept = refl; from = refl; touched = refl }
 
 -- a run that was not running counts for nothing
 pub off_idle : (id : List ℕ) (r : Run) (l : Line) → is_running r.phase ≡ false → IsCountedOff id (r ∷ []) l l
@@ -228,6 +232,7 @@ off_idle id r l e = record {
       let off : (same r.graph id && is_running r.phase) ≡ false = by_bool {C = (same r.graph id && is_running r.phase) ≡ false} (same r.graph id) (λ f. rw (f, e) refl) (λ f. rw f refl) in
       let c : count_by (is_active id) (r ∷ []) ≡ 0 = count_one_run id r ∙ ap (λ b. cond b 1 0) off in
       omega (arith, c);
+  runs = refl;
   kept = refl;
   from = refl;
   touched = refl;
@@ -237,10 +242,10 @@ pub off_one : (id : List ℕ) (r : Run) (l : Line) → is_running r.phase ≡ tr
 off_one id r l e = by_bool {C = IsCountedOff id (r ∷ []) l (cond (same r.graph id) (one_fewer l) l)} (same r.graph id)
     (λ f.
     let c : count_by (is_active id) (r ∷ []) ≡ 1 = count_one_run id r ∙ (ap (λ b. cond (b && is_running r.phase) 1 0) f ∙ ap (λ b. cond b 1 0) e) in
-    rw f (record { active = omega (arith, c); kept = refl; from = refl; touched = refl }))
+    rw f (record { active = omega (arith, c); runs = refl; kept = refl; from = refl; touched = refl }))
     (λ f.
     let c : count_by (is_active id) (r ∷ []) ≡ 0 = count_one_run id r ∙ ap (λ b. cond (b && is_running r.phase) 1 0) f in
-    rw f (record { active = omega (arith, c); kept = refl; from = refl; touched = refl }))
+    rw f (record { active = omega (arith, c); runs = refl; kept = refl; from = refl; touched = refl }))
 
 -- ---- all lines
 pub each_then : (P Q S : List ℕ → Line → Line → Type 0) → ((id : List ℕ) (l m n : Line) → P id l m → Q id m n → S id l n) → (gs : List LoadedGraph) (ls ms ns : List Line) → EachLine P gs ls ms → EachLine Q gs ms ns → EachLine S gs ls ns
@@ -319,7 +324,7 @@ dates_above id r (x ∷ rs) e h =
     rw f (and_from (nat_lt r.logical x.logical) _ low rest))
     (λ f. rw f rest)
 
-dates_rise_too : (id : List ℕ) (rs : List Run) → rises run_before rs ≡ true → rises nat_lt (dates_queued id rs) ≡ true
+pub dates_rise_too : (id : List ℕ) (rs : List Run) → rises run_before rs ≡ true → rises nat_lt (dates_queued id rs) ≡ true
 dates_rise_too id [] h = refl
 dates_rise_too id (r ∷ rs) h =
     let rest : rises nat_lt (dates_queued id rs) ≡ true = dates_rise_too id rs (and_right (list_all (run_before r) rs) _ h) in
@@ -327,7 +332,7 @@ dates_rise_too id (r ∷ rs) h =
     (λ f. rw f (and_from (list_all (nat_lt r.logical) (dates_queued id rs)) _ (dates_above id r rs (and_left _ _ f) (and_left _ _ h)) rest))
     (λ f. rw f rest)
 
-in_at : (id : List ℕ) (rs : List Run) (n : ℕ) (r : Run) → slice_get rs n ≡ Some r → (same r.graph id && is_queued r.phase) ≡ true → is_in (dates_queued id rs) r.logical ≡ true
+pub in_at : (id : List ℕ) (rs : List Run) (n : ℕ) (r : Run) → slice_get rs n ≡ Some r → (same r.graph id && is_queued r.phase) ≡ true → is_in (dates_queued id rs) r.logical ≡ true
 in_at id [] n r e f = absurd (let c : ◌≡◌ {A = Option Run} None (Some r) = e in cc)
 in_at id (x ∷ rs) zero r e f =
     let c : ◌≡◌ {A = Option Run} (Some x) (Some r) = e in
@@ -360,10 +365,8 @@ only_kept false e = e
 pub carried : (a b : Schedule) (ms : List Mark) (id : List ℕ) (l m n : Line) → rises run_before b.runs ≡ true → Over ms a.runs b.runs → IsLine a id l → l.touched.items ≡ [] → IsCountedIn id (touched_of ms b.runs) l m → IsCountedOff id (replaced_of ms a.runs) m n
     → IsCarried a b ms id l n
 carried a b ms id l m n h o s fresh t u =
-    let kept : n.kept ≡ l.kept = u.kept ∙ t.kept in
-    let from : n.from ≡ l.from = u.from ∙ t.from in
     let dates : n.touched.items ≡ dates_queued id (touched_of ms b.runs) = u.touched ∙ (t.touched ∙ ap (λ xs. xs ++ dates_queued id (touched_of ms b.runs)) fresh) in
-    let left : drop n.from n.kept.now ≡ drop l.from l.kept.now = ap (λ (i : ℕ). drop i n.kept.now) from ∙ ap (λ x. drop l.from x.now) kept in
+    let left : kept_dates n ≡ kept_dates l = same_dates l n (u.runs ∙ t.runs) (u.kept ∙ t.kept) (u.from ∙ t.from) in
     record {
       active =
           let count = counted_over (is_active id) ms a.runs b.runs o in
@@ -372,12 +375,13 @@ carried a b ms id l m n h o s fresh t u =
           let two : n.active ≡ m.active - count_by (is_active id) (replaced_of ms a.runs) = u.active in
           carried_count (active_runs b id) (active_runs a id) (count_by (is_active id) (touched_of ms b.runs)) (count_by (is_active id) (replaced_of ms a.runs)) l.active m.active n.active count was one two;
       rise = record {
+        within = same_within l n (u.runs ∙ t.runs) (u.kept ∙ t.kept) (u.from ∙ t.from) s.queue.rise.within;
         kept = ap (rises nat_lt) left ∙ s.queue.rise.kept;
         touched = ap (rises nat_lt) dates ∙ dates_rise_too id (touched_of ms b.runs) (touched_rise ms b.runs h);
       };
       kept = λ d w.
           ap (λ xs. is_in xs d || is_in n.touched.items d) left
-          ∙ or_left (is_in (drop l.from l.kept.now) d) (is_in n.touched.items d) (only_kept (is_in (drop l.from l.kept.now) d) (ap (λ xs. is_in (drop l.from l.kept.now) d || is_in xs d) (sym fresh) ∙ w));
+          ∙ or_left (is_in (kept_dates l) d) (is_in n.touched.items d) (only_kept (is_in (kept_dates l) d) (ap (λ xs. is_in (kept_dates l) d || is_in xs d) (sym fresh) ∙ w));
       touched = λ k g f.
           let v = queued_run b id k f in
           let e = touched_has ms b.runs k v.run g v.there in

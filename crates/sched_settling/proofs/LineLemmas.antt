@@ -1,5 +1,5 @@
 -- Graphs by position, and the first start.
-use Rattle.std.proofs.Common.{◌≡◌, ◌∙◌, refl, sym, ap, subst, ℕ, zero, suc, ◌+◌, ◌<◌, ◌≤◌, List, [], ◌∷◌, Bool, true, false, not, ◌&&◌, ◌||◌, cond, length, set, drop, slice_get, nat_lt, nat_eq, Option, Some, None, option_map, unwrap_or, inl, inr, true≢false, arith}
+use Rattle.std.proofs.Common.{◌≡◌, ◌∙◌, refl, sym, ap, subst, ℕ, zero, suc, ◌+◌, ◌<◌, ◌≤◌, List, [], ◌∷◌, Bool, true, false, not, ◌&&◌, ◌||◌, cond, length, map, set, drop, drop-cons, get_or, slice_get, nat_lt, nat_eq, Option, Some, None, option_map, unwrap_or, inl, inr, true≢false, arith}
 use Rattle.std.specs.List.{list_all, find}
 use Rattle.std.specs.Ordering.{nat_cmp, is_eq, ordering_then}
 use Rattle.std.specs.declared.cmp.Ordering.{Ordering}
@@ -30,7 +30,7 @@ use Rattle.sched_laws.proofs.ListLemmas.{all_get}
 use Rattle.sched_laws.proofs.RankLemmas.{not_both}
 use Rattle.sched_laws.proofs.DecisionLemmas.{by_bool, change_first, change_quiet, at_known}
 use Rattle.run_lists.specs.Orders as lists
-use Rattle.sched_settling.specs.Marks.{DatesRise, IsNextDate, IsQueuedOn, IsRunAt, NoneQueuedOn, IsTouchedFirst, is_waiting, comes_first, before_kept, date_at, IsQueue, IsFirstQueued, IsLine, AreLines, IsCountedDown, IsStartIn, NoStartIn, NoneBefore, NoneQueued, is_queued_run, is_queued_at, one_fewer}
+use Rattle.sched_settling.specs.Marks.{DatesRise, are_within, date_in, dates_from, kept_dates, IsNextDate, IsQueuedOn, IsRunAt, NoneQueuedOn, IsTouchedFirst, is_waiting, comes_first, before_kept, date_at, IsQueue, IsFirstQueued, IsLine, AreLines, IsCountedDown, IsStartIn, NoStartIn, NoneBefore, NoneQueued, is_queued_run, is_queued_at, one_fewer}
 use Rattle.sched_settling.specs.declared.lines.Line.{Line}
 use Rattle.sched_settling.proofs.MarkLemmas.{first_low, in_tail}
 use Rattle.sched_settling.proofs.PhaseLemmas.{phase_active, phase_queued, phase_date, phase_queue}
@@ -533,11 +533,32 @@ started_in a b p n g l m o e s f up more awake room is =
       line = subst (λ (x : Schedule). IsLine x g.dag.spec.dag_id m) (sym is) (start_line a n t.run g.dag.spec.dag_id l m t.there t.of t.queued s f up more);
     }
 
+-- ---- the dates of a line that keeps what another keeps
+pub same_dates : (l m : Line) → m.runs ≡ l.runs → m.kept ≡ l.kept → m.from ≡ l.from → kept_dates m ≡ kept_dates l
+same_dates l m r k f =
+    ap (λ (i : ℕ). dates_from m i) f ∙ (ap (λ x. map (date_in m.runs.now.runs) (drop l.from x.now)) k ∙ ap (λ x. map (date_in x.now.runs) (drop l.from l.kept.now)) r)
+
+pub same_within : (l m : Line) → m.runs ≡ l.runs → m.kept ≡ l.kept → m.from ≡ l.from → are_within (length l.runs.now.runs) (drop l.from l.kept.now) ≡ true → are_within (length m.runs.now.runs) (drop m.from m.kept.now) ≡ true
+same_within l m r k f h =
+    ap (λ (i : ℕ). are_within (length m.runs.now.runs) (drop i m.kept.now)) f
+    ∙ (ap (λ x. are_within (length m.runs.now.runs) (drop l.from x.now)) k ∙ (ap (λ x. are_within (length x.now.runs) (drop l.from l.kept.now)) r ∙ h))
+
+-- ---- the dates behind the first kept one
+pub rest_rise : (l : Line) (d : ℕ) → DatesRise l → l.from < length l.kept.now → kept_dates l ≡ d ∷ dates_from l (l.from + 1) → DatesRise (record l { from = l.from + 1 })
+rest_rise l d s inside is = record {
+  within =
+      let next : l.from + 1 ≡ suc l.from = omega arith in
+      ap (λ (i : ℕ). are_within (length l.runs.now.runs) (drop i l.kept.now)) next
+      ∙ and_right (nat_lt (get_or l.kept.now l.from 0) (length l.runs.now.runs)) _ (ap (are_within (length l.runs.now.runs)) (sym (drop-cons l.kept.now l.from 0 inside)) ∙ s.within);
+  kept = and_right (list_all (nat_lt d) (dates_from l (l.from + 1))) _ (ap (rises nat_lt) (sym is) ∙ s.kept);
+  touched = s.touched;
+}
+
 -- ---- one date is taken
-pub next_touched : (l m : Line) (d : ℕ) → DatesRise l → IsTouchedFirst l d → m.kept ≡ l.kept → m.from ≡ l.from → m.touched.items ≡ drop 1 l.touched.items → IsNextDate l m d
-next_touched l m d s t k f u =
-    let ks : List ℕ = drop l.from l.kept.now in
-    let left : drop m.from m.kept.now ≡ ks = ap (λ (i : ℕ). drop i m.kept.now) f ∙ ap (λ x. drop l.from x.now) k in
+pub next_touched : (l m : Line) (d : ℕ) → DatesRise l → IsTouchedFirst l d → m.runs ≡ l.runs → m.kept ≡ l.kept → m.from ≡ l.from → m.touched.items ≡ drop 1 l.touched.items → IsNextDate l m d
+next_touched l m d s t r k f u =
+    let ks : List ℕ = kept_dates l in
+    let left : kept_dates m ≡ ks = same_dates l m r k f in
     let rest : m.touched.items ≡ t.rest = u ∙ ap (drop 1) t.touched in
     let rise : rises nat_lt (d ∷ t.rest) ≡ true = ap (rises nat_lt) (sym t.touched) ∙ s.touched in
     record {
@@ -547,12 +568,12 @@ next_touched l m d s t k f u =
           ∙ (ap (λ xs. is_in ks e || is_in xs e) rest ∙ left_touched ks t.rest d e apart (ap (λ xs. is_in ks e || is_in xs e) (sym t.touched) ∙ w));
     }
 
-pub next_kept : (l m : Line) (d : ℕ) → DatesRise l → before_kept (drop l.from l.kept.now) l.touched.items ≡ false → drop l.from l.kept.now ≡ d ∷ drop (l.from + 1) l.kept.now
-    → m.kept ≡ l.kept → m.from ≡ l.from + 1 → m.touched.items ≡ l.touched.items → IsNextDate l m d
-next_kept l m d s t is k f u =
-    let ks : List ℕ = drop (l.from + 1) l.kept.now in
+pub next_kept : (l m : Line) (d : ℕ) → DatesRise l → before_kept (kept_dates l) l.touched.items ≡ false → kept_dates l ≡ d ∷ dates_from l (l.from + 1)
+    → m.runs ≡ l.runs → m.kept ≡ l.kept → m.from ≡ l.from + 1 → m.touched.items ≡ l.touched.items → IsNextDate l m d
+next_kept l m d s t is r k f u =
+    let ks : List ℕ = dates_from l (l.from + 1) in
     let ts : List ℕ = l.touched.items in
-    let left : drop m.from m.kept.now ≡ ks = ap (λ (i : ℕ). drop i m.kept.now) f ∙ ap (λ x. drop (l.from + 1) x.now) k in
+    let left : kept_dates m ≡ ks = same_dates (record l { from = l.from + 1 }) m r k f in
     let rise : rises nat_lt (d ∷ ks) ≡ true = ap (rises nat_lt) (sym is) ∙ s.kept in
     let low : not_later d ts ≡ true = kept_first ks ts d (ap (λ xs. before_kept xs ts) (sym is) ∙ t) in
     record {

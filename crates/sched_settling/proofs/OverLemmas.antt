@@ -1,19 +1,16 @@
 -- What a draft says of its touched runs, in the words of marks.
-use Rattle.std.proofs.Common.{◌≡◌, ◌∙◌, refl, sym, ap, subst, ℕ, suc, ◌+◌, List, [], ◌∷◌, map, length, Option, None, Some, option_map, slice_get, arith}
-use Rattle.std.proofs.lemmas.Option.{slice_get-map}
-use Rattle.std.proofs.lemmas.List.{length-map}
+use Rattle.std.proofs.Common.{◌≡◌, ◌∙◌, refl, ap, subst, ℕ, suc, ◌+◌, List, [], ◌∷◌, map, None, true, arith}
 use Rattle.std.specs.List.{AllByRecursion}
 use Rattle.run_lists.specs.Marks as lists
 use Rattle.run_lists.specs.Overlays.{AreAllTouched}
-use Rattle.sched_model.specs.Schedule.{Schedule}
+use Rattle.run_lists.proofs.PastLemmas.{rises_over}
+use Rattle.sched_model.specs.Lists.{rises}
+use Rattle.sched_model.specs.Schedule.{run_before}
 use Rattle.sched_model.specs.Settle.{move}
 use Rattle.sched_laws.specs.Stages.{IsOrdered}
 use Rattle.sched_draft.specs.Drafts.{DraftValue, SameDags}
-use Rattle.sched_state.specs.declared.graphs.LoadedGraph.{LoadedGraph}
-use Rattle.sched_model.specs.Schedule.{Schedule}
-use Rattle.sched_settling.specs.declared.lines.Line.{Line}
-use Rattle.sched_settling.specs.Marks.{IsLine, AreLines}
-use Rattle.sched_settling.specs.Touched.{Mark, Kept, Changed, Added, Over, SameIds, IsTouched, over_runs, positions_of}
+use Rattle.sched_state.specs.declared.runs.Run.{Run}
+use Rattle.sched_settling.specs.Touched.{Mark, Kept, Changed, Added, Over, IsTouched, positions_of}
 
 abbrev pub kind : lists.Mark → Mark
 kind (lists.Kept r) = Kept
@@ -45,38 +42,24 @@ from_zero : (xs : List ℕ) → map (λ k. 0 + k) xs ≡ xs
 from_zero [] = refl
 from_zero (x ∷ xs) = let e : 0 + x ≡ x = omega arith in ap (λ y. y ∷ map (λ k. 0 + k) xs) e ∙ ap (λ ys. x ∷ ys) (from_zero xs)
 
-pub touched_is : (d : DraftValue) (ps : List ℕ) → ps ≡ d.touched → AreAllTouched d.touched d.base.runs d.content.runs → move d.base ≡ None → IsOrdered d.base → SameDags d.base d.content → IsTouched d.base.runs ps d.content
-touched_is d ps e t still ordered dags = record {
-  base = d.base;
+-- the touched runs as marks
+pub record AreMarked (ps : List ℕ) (a b : List Run) : Type 0 where
+  pub marks : List Mark
+  pub positions : ps ≡ positions_of marks
+  pub over : Over marks a b
+
+pub marked_is : (ps ns : List ℕ) (a b : List Run) → ps ≡ ns → AreAllTouched ns a b → AreMarked ps a b
+marked_is ps ns a b e t = record {
   marks = kinds t.marks;
-  runs = refl;
-  still = still;
-  ordered = ordered;
   positions = e ∙ t.positions ∙ positions_from 0 t.marks ∙ from_zero (positions_of (kinds t.marks));
-  over = subst (λ xs. Over (kinds t.marks) xs d.content.runs) t.over.base (subst (λ ys. Over (kinds t.marks) (lists.base_of t.marks) ys) t.over.runs (over_kinds t.marks t.over.keys));
-  dags = dags;
+  over = subst (λ xs. Over (kinds t.marks) xs b) t.over.base (subst (λ ys. Over (kinds t.marks) (lists.base_of t.marks) ys) t.over.runs (over_kinds t.marks t.over.keys));
 }
 
--- ---- lines of the schedule that is there
-line_moved : (a b : Schedule) (id : List ℕ) (l : Line) → IsLine a id l → IsLine (over_runs b a.runs) id l
-line_moved a b id l h = record { active = h.active; queue = record { rise = h.queue.rise; queued = λ n q. h.queue.queued n q } }
+pub touched_is : (d : DraftValue) (ps : List ℕ) → ps ≡ d.touched → AreAllTouched d.touched d.base.runs d.content.runs → move d.base ≡ None → IsOrdered d.base → SameDags d.base d.content → IsTouched d.base.runs ps d.content
+touched_is d ps e t still ordered dags =
+    let m = marked_is ps d.touched d.base.runs d.content.runs e t in
+    record { base = d.base; marks = m.marks; runs = refl; still = still; ordered = ordered; positions = m.positions; over = m.over; dags = dags }
 
-id_of : LoadedGraph → List ℕ
-id_of g = g.dag.spec.dag_id
-
-pub lines_moved : (a b : Schedule) (ls : List Line) → SameIds a b → AreLines ls a → AreLines ls (over_runs b a.runs)
-unfolding id_of
-lines_moved a b ls same h = record {
-  long = let long : length ls ≡ length a.graphs = h.long in omega (arith, ap length same, length-map a.graphs id_of, length-map b.graphs id_of);
-  each = λ g l k e q. elim (slice_get a.graphs g) as (λ o. slice_get a.graphs g ≡ o → IsLine (over_runs b a.runs) (id_of k) l) [
-    | None ↦ λ n. absurd (
-        let c : ◌≡◌ {A = Option (List ℕ)} None (Some (id_of k)) =
-        sym (ap (option_map id_of) n) ∙ (sym (slice_get-map id_of a.graphs g) ∙ (ap (λ (is : List (List ℕ)). slice_get is g) (sym same) ∙ (slice_get-map id_of b.graphs g ∙ ap (option_map id_of) q))) in
-        cc)
-    | Some m ↦ λ n.
-        let c : ◌≡◌ {A = Option (List ℕ)} (Some (id_of m)) (Some (id_of k)) =
-        sym (ap (option_map id_of) n) ∙ (sym (slice_get-map id_of a.graphs g) ∙ (ap (λ (is : List (List ℕ)). slice_get is g) (sym same) ∙ (slice_get-map id_of b.graphs g ∙ ap (option_map id_of) q))) in
-        let is : id_of m ≡ id_of k = cc in
-        subst (λ i. IsLine (over_runs b a.runs) i l) is (line_moved a b (id_of m) l (h.each g l m e n))
-  ] refl;
-}
+-- the runs that were there stand in their order, too
+pub base_rises : (ns : List ℕ) (a b : List Run) → AreAllTouched ns a b → rises run_before b ≡ true → rises run_before a ≡ true
+base_rises ns a b t rise = rises_over t.marks a b t.over rise

@@ -164,7 +164,7 @@ phase_queue ph n a id l e s = record {
 
 -- the same dates are left
 one_queue : (a : Schedule) (id : List ℕ) (l : Line) → IsQueue a id l → IsQueue a id (one_fewer l)
-one_queue a id l s = record { rise = record { kept = s.rise.kept; touched = s.rise.touched }; queued = s.queued }
+one_queue a id l s = record { rise = record { within = s.rise.within; kept = s.rise.kept; touched = s.rise.touched }; queued = s.queued }
 
 -- ---- lines under an end
 end_line : (a : Schedule) (n : ℕ) (w : Run) (ph : RunPhase) (id : List ℕ) (l : Line) → slice_get a.runs n ≡ Some w → Ends w ph → IsLine a id l → IsLine (phase_at ph n a) id (cond (same w.graph id) (one_fewer l) l)

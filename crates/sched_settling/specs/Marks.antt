@@ -1,5 +1,5 @@
 -- Marked runs, and what is known of the runs of each graph.
-use Rattle.std.specs.Prelude.{◌≡◌, ℕ, zero, suc, ◌+◌, ◌-◌, ◌<◌, ◌≤◌, ◌&&◌, ◌||◌, Bool, true, false, cond, ◌==◌, List, [], ◌∷◌, length, drop, Option, Some, None, option_map, unwrap_or, slice_get, nat_lt, nat_eq}
+use Rattle.std.specs.Prelude.{◌≡◌, ℕ, zero, suc, ◌+◌, ◌-◌, ◌<◌, ◌≤◌, ◌&&◌, ◌||◌, Bool, true, false, cond, ◌==◌, List, [], ◌∷◌, length, map, drop, Option, Some, None, option_map, unwrap_or, slice_get, nat_lt, nat_eq}
 use Rattle.std.specs.List.{list_all}
 use Rattle.graph_file.specs.Lists.{when}
 use Rattle.dag_check.specs.Graphs.{Dag}
@@ -64,19 +64,30 @@ abbrev pub is_queued_at : Schedule → List ℕ → ℕ → Bool
 is_queued_at a id n = is_queued_run id (slice_get a.runs n)
 
 -- the logical date of the run at the position
+abbrev pub date_in : List Run → ℕ → ℕ
+date_in rs n = unwrap_or (option_map (λ (r : Run). r.logical) (slice_get rs n)) 0
+
 abbrev pub date_at : Schedule → ℕ → ℕ
-date_at a n = unwrap_or (option_map (λ (r : Run). r.logical) (slice_get a.runs n)) 0
+date_at a n = date_in a.runs n
+
+-- the dates of the runs at the kept positions from this place on, and those that are left
+abbrev pub dates_from : Line → ℕ → List ℕ
+dates_from l n = map (date_in l.runs.now.runs) (drop n l.kept.now)
+
+abbrev pub kept_dates : Line → List ℕ
+kept_dates l = dates_from l l.from
 
 -- the date is one of those that are left
 abbrev pub is_waiting : Line → ℕ → Bool
-is_waiting l d = is_in (drop l.from l.kept.now) d || is_in l.touched.items d
+is_waiting l d = is_in (kept_dates l) d || is_in l.touched.items d
 
 abbrev pub dates_left : Line → ℕ
 dates_left l = length (drop l.from l.kept.now) + length l.touched.items
 
--- the dates of both kinds rise
+-- the kept positions that are left are those of runs, and the dates of both kinds rise
 pub record DatesRise (l : Line) : Type 0 where
-  pub kept : rises nat_lt (drop l.from l.kept.now) ≡ true
+  pub within : are_within (length l.runs.now.runs) (drop l.from l.kept.now) ≡ true
+  pub kept : rises nat_lt (kept_dates l) ≡ true
   pub touched : rises nat_lt l.touched.items ≡ true
 
 abbrev pub comes_first : ℕ → List ℕ → Bool
@@ -88,12 +99,12 @@ before_kept ks [] = false
 before_kept ks (t ∷ ts) = comes_first t ks
 
 abbrev pub KeptComesFirst : Line → Type 0
-KeptComesFirst l = before_kept (drop l.from l.kept.now) l.touched.items ≡ false
+KeptComesFirst l = before_kept (kept_dates l) l.touched.items ≡ false
 
 pub record IsTouchedFirst (l : Line) (d : ℕ) : Type 0 where
   pub rest : List ℕ
   pub touched : l.touched.items ≡ d ∷ rest
-  pub first : comes_first d (drop l.from l.kept.now) ≡ true
+  pub first : comes_first d (kept_dates l) ≡ true
 
 abbrev pub NoDate : Line → Type 0
 NoDate l = (d : ℕ) → is_waiting l d ≡ false

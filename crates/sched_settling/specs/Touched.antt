@@ -102,6 +102,7 @@ bases_at a b (p ∷ ps) = option_to_list (option_and_then (with_key a) (slice_ge
 -- m is l with the run counted in
 pub record IsCountedIn (id : List ℕ) (rs : List Run) (l m : Line) : Type 0 where
   pub active : m.active ≡ l.active + count_by (is_active id) rs
+  pub runs : m.runs ≡ l.runs
   pub kept : m.kept ≡ l.kept
   pub from : m.from ≡ l.from
   pub touched : m.touched.items ≡ l.touched.items ++ dates_queued id rs
@@ -114,6 +115,7 @@ EachLine P gs ls ms =
 -- m is l with so many runs of the graph counted off
 pub record IsCountedOff (id : List ℕ) (rs : List Run) (l m : Line) : Type 0 where
   pub active : m.active ≡ l.active - count_by (is_active id) rs
+  pub runs : m.runs ≡ l.runs
   pub kept : m.kept ≡ l.kept
   pub from : m.from ≡ l.from
   pub touched : m.touched.items ≡ l.touched.items
@@ -121,6 +123,7 @@ pub record IsCountedOff (id : List ℕ) (rs : List Run) (l m : Line) : Type 0 wh
 -- m is l with this run counted in, which is of its graph
 pub record IsRunCounted (r : Run) (l m : Line) : Type 0 where
   pub active : m.active ≡ l.active + cond (is_running r.phase) 1 0
+  pub runs : m.runs ≡ l.runs
   pub kept : m.kept ≡ l.kept
   pub from : m.from ≡ l.from
   pub touched : m.touched.items ≡ l.touched.items ++ cond (is_queued r.phase) (r.logical ∷ []) []
@@ -128,10 +131,6 @@ pub record IsRunCounted (r : Run) (l m : Line) : Type 0 where
 -- the schedule with other runs
 abbrev pub over_runs : Schedule → List Run → Schedule
 over_runs b rs = record b { runs = rs }
-
--- the graphs have the same ids, by position
-abbrev pub SameIds : Schedule → Schedule → Type 0
-SameIds a b = map (λ (g : LoadedGraph). g.dag.spec.dag_id) b.graphs ≡ map (λ (g : LoadedGraph). g.dag.spec.dag_id) a.graphs
 
 -- no line has dates of touched runs yet
 abbrev pub AreFresh : List Line → Type 0

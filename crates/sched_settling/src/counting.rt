@@ -1,35 +1,47 @@
-//! The line of each graph, counted over the queued runs and the running ones.
-ghost use Rattle.std.specs.Prelude.{◌≡◌, [], ◌∷◌, length, IfOk, OnOk, true};
+//! The line of each graph: as it is in the schedule under the draft, and then with the touched runs counted anew.
+ghost use Rattle.std.specs.Prelude.{◌≡◌, ◌<◌, [], ◌∷◌, length, IfOk, OnOk, Some, true, slice_get};
+ghost use Rattle.std.specs.Option.{option_to_list};
+ghost use Rattle.sched_state.specs.declared.runs.Run as states;
 ghost use Rattle.sched_model.specs.Lists.{rises};
-ghost use Rattle.sched_model.specs.Schedule.{graph_before, run_before};
-ghost use Rattle.sched_settling.specs.Counted.{AreEmpty};
-ghost use Rattle.sched_settling.specs.Marks.{AreLines, are_within};
-ghost use Rattle.sched_settling.specs.Touched.{EachLine, IsCountedIn, IsRunCounted, runs_at};
+ghost use Rattle.sched_model.specs.Schedule.{Schedule, graph_before, is_running, run_before};
+ghost use Rattle.sched_settling.specs.Marks.{AreLines, IsLine, are_within};
+ghost use Rattle.sched_settling.specs.Touched.{AreFresh, EachLine, IsCountedIn, IsCountedOff, IsRunCounted, bases_at, over_runs, runs_at, with_key};
 
+use crate::ending::count_down;
 use crate::lines::Line;
-use moment_core::Moment;
+use graph_file::Name;
+use run_lists::Runs;
 use sched_draft::Draft;
 use sched_state::{Run, RunPhase};
 use std::alloc::{AllocError, Global};
 use std::collections::VecDeque;
 
-// A line for each graph, in which nothing is counted yet.
-fn empty_lines<'l>(
-    alloc: Global,
-    draft: &Draft<'_>,
-    none: &'l [Moment],
-) -> Result<Vec<Line<'l>>, AllocError>
-    requires { none.now ≡ [] }
-    ensures { IfOk result (λ lines. AreEmpty lines.items draft.now.content) }
+// The line of a graph, of these runs alone. Its running runs are counted, and the dates of its queued ones are left where they stand.
+fn line_in<'a>(alloc: Global, runs: &'a Runs, id: &Name) -> Line<'a>
+    requires { rises run_before runs.now.runs ≡ true }
+    ensures line { (a : Schedule) → runs.now.runs ≡ a.runs → IsLine a id.now result }
+    ensures fresh { result.touched.items ≡ [] }
 {
+    Line {
+        active: runs.running_of(id).len(),
+        runs,
+        kept: runs.queued_of(id),
+        from: 0,
+        touched: VecDeque::new(alloc),
+    }
+}
+
+// A line for each graph, of the runs of the schedule under the draft.
+fn lines_below<'a>(alloc: Global, draft: &Draft<'a>) -> Result<Vec<Line<'a>>, AllocError>
+    requires { rises run_before draft.now.base.runs ≡ true }
+    ensures lines { IfOk result (λ lines. AreLines lines.items (over_runs draft.now.content draft.now.base.runs)) }
+    ensures fresh { IfOk result (λ lines. AreFresh lines.items) }
+{
+    let runs = draft.runs_below();
     let mut lines = Vec::new(alloc);
-    for _graph in 0..draft.graph_count() {
-        lines.push(Line {
-            active: 0,
-            kept: none,
-            from: 0,
-            touched: VecDeque::new(alloc),
-        })?;
+    for graph in 0..draft.graph_count() {
+        let spec = draft.dag_at(graph).spec();
+        lines.push(line_in(alloc, runs, &spec.dag_id))?;
     }
     Ok(lines)
 }
@@ -64,37 +76,71 @@ fn count_in(draft: &Draft<'_>, lines: &mut Vec<Line<'_>>, run: &Run) -> Result<(
     Ok(())
 }
 
-// The runs at these positions are counted in.
+// The touched runs are counted in.
 fn count_all_in(
     draft: &Draft<'_>,
     lines: &mut Vec<Line<'_>>,
-    positions: &[usize],
+    touched: &[usize],
 ) -> Result<(), AllocError>
     requires graphs { rises graph_before draft.now.content.graphs ≡ true }
-    requires within { are_within (length draft.now.content.runs) positions.now ≡ true }
+    requires within { are_within (length draft.now.content.runs) touched.now ≡ true }
     requires long { length lines.old.items ≡ length draft.now.content.graphs }
-    ensures { OnOk result (EachLine (λ id. IsCountedIn id (runs_at draft.now.content.runs positions.now))
+    ensures { OnOk result (EachLine (λ id. IsCountedIn id (runs_at draft.now.content.runs touched.now))
         draft.now.content.graphs lines.old.items lines.new.items) }
 {
-    for position in positions {
+    for position in touched {
         count_in(draft, lines, draft.run(*position))?;
     }
     Ok(())
 }
 
-// The lines of a draft. It looks at its queued runs and at its running ones.
-pub fn lines_of<'l>(
-    alloc: Global,
-    draft: &Draft<'_>,
-    none: &'l [Moment],
-) -> Result<Vec<Line<'l>>, AllocError>
+// Whether the run is running.
+fn is_running(run: &Run) -> bool
+    ensures { result ≡ is_running run.now.phase }
+{
+    matches!(run.phase, RunPhase::Running)
+}
+
+// The run that was there with the key of the one at a position is counted off, if it was running.
+fn count_off(draft: &Draft<'_>, lines: &mut Vec<Line<'_>>, position: usize)
     requires graphs { rises graph_before draft.now.content.graphs ≡ true }
     requires runs { rises run_before draft.now.content.runs ≡ true }
-    requires none { none.now ≡ [] }
+    requires within { position < length draft.now.content.runs }
+    requires long { length lines.old.items ≡ length draft.now.content.graphs }
+    ensures { (r : states.Run) → slice_get draft.now.content.runs position ≡ Some r
+        → EachLine (λ id. IsCountedOff id (option_to_list (with_key draft.now.base.runs r)))
+        draft.now.content.graphs lines.old.items lines.new.items }
+{
+    if let Some(base) = draft.before(position) {
+        if is_running(base) {
+            count_down(draft, lines, &base.graph);
+        }
+    }
+}
+
+// The runs that were there with the keys of the touched ones are counted off.
+fn count_all_off(draft: &Draft<'_>, lines: &mut Vec<Line<'_>>, touched: &[usize])
+    requires graphs { rises graph_before draft.now.content.graphs ≡ true }
+    requires runs { rises run_before draft.now.content.runs ≡ true }
+    requires within { are_within (length draft.now.content.runs) touched.now ≡ true }
+    requires long { length lines.old.items ≡ length draft.now.content.graphs }
+    ensures { EachLine (λ id. IsCountedOff id (bases_at draft.now.base.runs draft.now.content.runs touched.now))
+        draft.now.content.graphs lines.old.items lines.new.items }
+{
+    for position in touched {
+        count_off(draft, lines, *position);
+    }
+}
+
+// The lines of a draft: those of the schedule under it, and of its runs it looks at the touched ones alone.
+pub fn lines_of<'a>(alloc: Global, draft: &Draft<'a>) -> Result<Vec<Line<'a>>, AllocError>
+    requires graphs { rises graph_before draft.now.content.graphs ≡ true }
+    requires runs { rises run_before draft.now.content.runs ≡ true }
     ensures { IfOk result (λ lines. AreLines lines.items draft.now.content) }
 {
-    let mut lines = empty_lines(alloc, draft, none)?;
-    count_all_in(draft, &mut lines, &draft.queued(alloc)?)?;
-    count_all_in(draft, &mut lines, &draft.running(alloc)?)?;
+    let touched = draft.touched(alloc)?;
+    let mut lines = lines_below(alloc, draft)?;
+    count_all_in(draft, &mut lines, touched.as_slice())?;
+    count_all_off(draft, &mut lines, touched.as_slice());
     Ok(lines)
 }

@@ -1,32 +1,48 @@
 //! What is known of the runs of one graph.
-ghost use Rattle.std.specs.Prelude.{◌≡◌, ◌+◌, ◌<◌, [], ◌∷◌, IfSome, MatchOption, drop, length};
-ghost use Rattle.sched_settling.specs.Marks.{DatesRise, IsNextDate, NoDate, IsTouchedFirst, KeptComesFirst, comes_first, dates_left};
+ghost use Rattle.std.specs.Prelude.{◌≡◌, ◌+◌, ◌<◌, [], ◌∷◌, IfSome, MatchOption, length};
+ghost use Rattle.sched_settling.specs.Marks.{DatesRise, IsNextDate, NoDate, IsTouchedFirst, KeptComesFirst, comes_first, dates_from, dates_left, kept_dates};
 
 use moment_core::Moment;
+use run_lists::Runs;
 use std::collections::VecDeque;
 
-/// Of one graph: how many of its runs are running, and at which logical dates its queued ones may stand. These are the kept dates from
-/// a place on, and those of touched runs.
+/// Of one graph: how many of its runs are running, and at which logical dates its queued ones may stand. These are the kept dates, and
+/// those of touched runs. The kept dates are read where they are needed: they are those of the runs of the schedule under the draft at
+/// the kept positions, from a place on.
 #[derive(Drop)]
 pub struct Line<'a> {
     pub active: usize,
-    pub kept: &'a [Moment],
+    pub runs: &'a Runs,
+    pub kept: &'a [usize],
     pub from: usize,
     pub touched: VecDeque<Moment>,
 }
 
+// The first kept date that is left.
+fn kept_date(line: &Line<'_>) -> Option<Moment>
+    requires { DatesRise line.now }
+    ensures date { MatchOption result (kept_dates line.now ≡ [])
+        (λ date. kept_dates line.now ≡ date ∷ dates_from line.now (line.now.from + 1)) }
+    ensures inside { IfSome result (λ date. line.now.from < length line.now.kept.now) }
+{
+    let position = *line.kept.get(line.from)?;
+    Some(line.runs.get(position).logical)
+}
+
 // Whether the date comes before the kept ones that are left.
 fn comes_first(line: &Line<'_>, date: Moment) -> bool
-    ensures { result ≡ comes_first date (drop line.now.from line.now.kept.now) }
+    requires { DatesRise line.now }
+    ensures { result ≡ comes_first date (kept_dates line.now) }
 {
-    match line.kept.get(line.from) {
-        Some(kept) => date < *kept,
+    match kept_date(line) {
+        Some(kept) => date < kept,
         None => true,
     }
 }
 
 // The first touched date, where it comes before the kept ones that are left.
 fn touched_date(line: &Line<'_>) -> Option<Moment>
+    requires { DatesRise line.now }
     ensures { MatchOption result (KeptComesFirst line.now) (IsTouchedFirst line.now) }
 {
     let date = *line.touched.front()?;
@@ -35,15 +51,6 @@ fn touched_date(line: &Line<'_>) -> Option<Moment>
     } else {
         None
     }
-}
-
-// The first kept date that is left.
-fn kept_date(line: &Line<'_>) -> Option<Moment>
-    ensures date { MatchOption result (drop line.now.from line.now.kept.now ≡ [])
-        (λ date. drop line.now.from line.now.kept.now ≡ date ∷ drop (line.now.from + 1) line.now.kept.now) }
-    ensures inside { IfSome result (λ date. line.now.from < length line.now.kept.now) }
-{
-    Some(*line.kept.get(line.from)?)
 }
 
 // The first of the dates that are left, which is taken out.

@@ -57,12 +57,11 @@ pub fn settle(alloc: Global, draft: &mut Draft<'_>) -> Result<(), AllocError>
     ensures settled { OnOk result (draft.new.content ≡ settle draft.old.content) }
 {
     let marks = every_run(alloc, draft.run_count())?;
-    let mut lines = lines_of(alloc, draft, &[])?;
+    let mut lines = lines_of(alloc, draft)?;
     settle_from(alloc, draft, marks, &mut lines)
 }
 
-/// The same, over a schedule in which no move is possible: it looks at the runs that were touched and at those that follow them, and counts
-/// the running and queued runs of each graph.
+/// The same, over a schedule in which no move is possible: it looks at the runs that were touched and at those that follow them.
 pub fn settle_touched(alloc: Global, draft: &mut Draft<'_>) -> Result<(), AllocError>
     requires keyed { IsKeyed draft.old.content }
     requires still { move draft.old.base ≡ None }
@@ -73,6 +72,6 @@ pub fn settle_touched(alloc: Global, draft: &mut Draft<'_>) -> Result<(), AllocE
 {
     let touched = draft.touched(alloc)?;
     let marks = marks_from(alloc, touched.as_slice(), draft.run_count())?;
-    let mut lines = lines_of(alloc, draft, &[])?;
+    let mut lines = lines_of(alloc, draft)?;
     settle_from(alloc, draft, marks, &mut lines)
 }

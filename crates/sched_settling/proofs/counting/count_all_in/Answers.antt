@@ -11,7 +11,7 @@ pub loop-position-init : goal.loop-position-init
 loop-position-init c = each_same (λ id. IsCountedIn id []) c.args.draft.now.content.graphs c.args.lines.now.items (λ h g k y. counted_first h.dag.spec.dag_id k)
 
 pub run-requires : goal.run-requires
-run-requires c = within_at (length c.args.draft.now.content.runs) c.args.positions.now c.loop-position.position-index c.requires.within c.loop-position-test.true
+run-requires c = within_at (length c.args.draft.now.content.runs) c.args.touched.now c.loop-position.position-index c.requires.within c.loop-position-test.true
 
 pub count_in-requires-clause-long : goal.count_in-requires-clause-long
 count_in-requires-clause-long c = (c.loop-position.invariant).0 ∙ c.requires.long
@@ -20,7 +20,7 @@ pub loop-position-preserved : goal.loop-position-preserved
 loop-position-preserved c =
     let a : Schedule = c.args.draft.now.content in
     let i : ℕ = c.loop-position.position-index in
-    let ps : List ℕ = c.args.positions.now in
+    let ps : List ℕ = c.args.touched.now in
     let r : Run = c.run.result.now in
     let there : slice_get a.runs (get_or ps i 0) ≡ Some r = c.run.ensures in
     let counted : EachLine (λ id. IsCountedIn id (r ∷ [])) a.graphs c.loop-position.lines.items c.count_in.new.lines.items = c.in_ok-count_in.ensures in
@@ -32,4 +32,4 @@ pub returns : goal.returns
 returns c =
     let a : Schedule = c.args.draft.now.content in
     subst (λ (ps : List ℕ). EachLine (λ id. IsCountedIn id (runs_at a.runs ps)) a.graphs c.args.lines.now.items c.loop-position.lines.items)
-    (take_all c.loop-position.position-index c.args.positions.now c.loop-position-test.false) c.loop-position.invariant
+    (take_all c.loop-position.position-index c.args.touched.now c.loop-position-test.false) c.loop-position.invariant

@@ -49,7 +49,7 @@ returns-clause-started c = λ h there.
     let kept = c.requires.line h there in
     let active : c.args.line.now.active ≡ active_runs a h.dag.spec.dag_id = kept.active in
     let room : c.args.line.now.active < c.get-most.result = c.if-most-line.false in
-    started_in a c.set_phase.new.self.content c.args.graph n h c.args.line.now l c.requires.keyed.graphs there kept (record { here = first.here; before = first.before; others = first.others }) (record { kept = c.in-Some.ensures.rise.kept; touched = c.in-Some.ensures.rise.touched }) more
+    started_in a c.set_phase.new.self.content c.args.graph n h c.args.line.now l c.requires.keyed.graphs there kept (record { here = first.here; before = first.before; others = first.others }) (record { within = c.in-Some.ensures.rise.within; kept = c.in-Some.ensures.rise.kept; touched = c.in-Some.ensures.rise.touched }) more
     (paused_at a.graphs c.args.graph h false there c.if-is_paused_at.ensures) (omega arith)
     (ap (λ (d : DraftValue). d.content) c.set_phase.ensures ∙ ap (phase_at phase.Running n) (ap (λ (d : DraftValue). d.content) c.in_ok-own.ensures.ok))
 

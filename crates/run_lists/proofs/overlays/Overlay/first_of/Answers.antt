@@ -1,4 +1,4 @@
-use Rattle.std.proofs.Common.{◌≡◌, ◌∙◌, ℕ, sym, subst, arith}
+use Rattle.std.proofs.Common.{◌∙◌, ℕ, sym, subst, arith}
 use Rattle.run_lists.specs.Orders.{IsPositionFor}
 use Rattle.run_lists.proofs.FirstLemmas.{first_after, first_there, last_other}
 use Rattle.run_lists.proofs.overlays.Overlay.first_of.Goals as goal
