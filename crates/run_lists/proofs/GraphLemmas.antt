@@ -16,11 +16,11 @@ use Rattle.sched_model.specs.Lists.{rises}
 use Rattle.sched_model.specs.Schedule.{run_before}
 use Rattle.run_lists.specs.Orders.{graph_below, graph_up_to, holds_of, holds_at}
 use Rattle.run_lists.specs.Positions.{positions_from, positions_where, stands, stands_in}
-use Rattle.run_lists.proofs.OrderLemmas.{rise_pair}
+use Rattle.run_lists.proofs.OrderLemmas.{less_only, rise_pair, turned}
 use Rattle.run_lists.proofs.PlaceLemmas.{by_bool, rises_get}
 
 -- ---- of the positions of runs those of which something more holds
-first_dropped : (rs : List Run) (n : ℕ) (x : Run) (xs : List Run) → drop n rs ≡ x ∷ xs → (slice_get rs n ≡ Some x) × (drop (suc n) rs ≡ xs)
+pub first_dropped : (rs : List Run) (n : ℕ) (x : Run) (xs : List Run) → drop n rs ≡ x ∷ xs → (slice_get rs n ≡ Some x) × (drop (suc n) rs ≡ xs)
 first_dropped [] zero x xs e = absurd (let c : ◌≡◌ {A = List Run} [] (x ∷ xs) = e in cc)
 first_dropped [] (suc n) x xs e = absurd (let c : ◌≡◌ {A = List Run} [] (x ∷ xs) = e in cc)
 first_dropped (r ∷ rs) zero x xs e = let c : ◌≡◌ {A = List Run} (r ∷ rs) (x ∷ xs) = e in (let i : r ≡ x = cc in ap (λ (q : Run). Some q) i, let j : rs ≡ xs = cc in j)
@@ -66,11 +66,6 @@ less_then Less m e = inl refl
 less_then Equal m e = inr refl
 less_then Greater m e = absurd (true≢false (sym e))
 
-less_is : (o : Ordering) → is_less o ≡ true → o ≡ Less
-less_is Less e = refl
-less_is Equal e = absurd (true≢false (sym e))
-less_is Greater e = absurd (true≢false (sym e))
-
 equal_back : (o m : Ordering) → o ≡ ordering_reverse m → o ≡ Equal → m ≡ Equal
 equal_back o Less e f = absurd (let c : Equal ≡ Greater = sym f ∙ e in cc)
 equal_back o Equal e f = refl
@@ -79,14 +74,14 @@ equal_back o Greater e f = absurd (let c : Equal ≡ Less = sym f ∙ e in cc)
 -- what stands before a run of a graph below is of one, too
 below_before : (id : List ℕ) (r q : Run) → run_before r q ≡ true → graph_below id q ≡ true → graph_below id r ≡ true
 below_before id r q e f = elim (less_then (name_cmp r.graph q.graph) (nat_cmp r.logical q.logical) e) [
-  | inl l ↦ ap is_less (nat_list_cmp_total.trans r.graph q.graph id l (less_is (name_cmp q.graph id) f))
+  | inl l ↦ ap is_less (nat_list_cmp_total.trans r.graph q.graph id l (less_only (name_cmp q.graph id) f))
   | inr s ↦ ap is_less (nat_list_cmp_total.congr r.graph q.graph id s) ∙ f
 ]
 
 -- what stands after a run of a graph above is of one, too
 above_after : (id : List ℕ) (r q : Run) → run_before r q ≡ true → is_less (name_cmp id r.graph) ≡ true → is_less (name_cmp id q.graph) ≡ true
 above_after id r q e f = elim (less_then (name_cmp r.graph q.graph) (nat_cmp r.logical q.logical) e) [
-  | inl l ↦ ap is_less (nat_list_cmp_total.trans id r.graph q.graph (less_is (name_cmp id r.graph) f) l)
+  | inl l ↦ ap is_less (nat_list_cmp_total.trans id r.graph q.graph (less_only (name_cmp id r.graph) f) l)
   | inr s ↦
       let back : name_cmp q.graph r.graph ≡ Equal = equal_back (name_cmp r.graph q.graph) (name_cmp q.graph r.graph) (nat_list_cmp_total.antisymm r.graph q.graph) s in
       ap is_less (nat_list_cmp_total.antisymm id q.graph ∙ (ap ordering_reverse (nat_list_cmp_total.congr q.graph r.graph id back) ∙ sym (nat_list_cmp_total.antisymm id r.graph))) ∙ f
@@ -147,10 +142,6 @@ not_above : (o m : Ordering) → o ≡ ordering_reverse m → is_less o ≡ true
 not_above o Less e f = absurd (true≢false (sym f ∙ ap is_less e))
 not_above o Equal e f = refl
 not_above o Greater e f = refl
-
-turned : (b : Bool) → not b ≡ false → b ≡ true
-turned true e = refl
-turned false e = absurd (true≢false e)
 
 below_other : (id : List ℕ) (o : Option Run) → holds_of (graph_below id) o ≡ true → holds_of (λ (r : Run). same r.graph id) o ≡ false
 below_other id None e = refl

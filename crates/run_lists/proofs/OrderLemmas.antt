@@ -24,7 +24,7 @@ use Rattle.run_lists.proofs.PastLemmas.{all_get}
 key_total : IsTotalOrder (λ (k l : List ℕ × ℕ). ordering_then (name_cmp k.0 l.0) (nat_cmp k.1 l.1))
 key_total = then_total (on_total (λ (k : List ℕ × ℕ). k.0) nat_list_cmp_total) (on_total (λ (k : List ℕ × ℕ). k.1) nat_cmp_total)
 
-less_only : (o : Ordering) → is_less o ≡ true → o ≡ Less
+pub less_only : (o : Ordering) → is_less o ≡ true → o ≡ Less
 less_only Less e = refl
 less_only Equal e = absurd (true≢false (sym e))
 less_only Greater e = absurd (true≢false (sym e))
@@ -95,7 +95,7 @@ parted id date rs rise i j d l m h = elim (eq-or-lt_of_le l) [
       true≢false (sym (key_on id date (get_or rs i d) (get_or rs j d) t (rise_pair rs i j (get_or rs i d) (get_or rs j d) rise w (slice_get-get_or rs i d (omega arith)) (slice_get-get_or rs j d m))) ∙ not_false (key_before id date (get_or rs j d)) h)))
 ]
 
-turned : (b : Bool) → not b ≡ false → b ≡ true
+pub turned : (b : Bool) → not b ≡ false → b ≡ true
 turned true e = refl
 turned false e = absurd (true≢false e)
 

@@ -1,5 +1,5 @@
 -- The line of a graph in the schedule under a draft: its runs by the positions of the running ones and of the queued ones.
-use Rattle.std.proofs.Common.{◌≡◌, ◌∙◌, refl, ap, ℕ, zero, suc, ◌+◌, ◌≤◌, List, [], ◌∷◌, Bool, true, false, cond, length, map, filter, drop, count_by, Option, Some, slice_get, nat_lt, ◌||◌, arith}
+use Rattle.std.proofs.Common.{◌≡◌, None, subst, ◌++◌, ◌∙◌, refl, ap, ℕ, zero, suc, ◌+◌, ◌≤◌, List, [], ◌∷◌, Bool, true, false, cond, length, map, filter, drop, count_by, Option, Some, slice_get, nat_lt, ◌||◌, arith}
 use Rattle.std.proofs.lemmas.Bool.{lt-ltb, and_from, or_left}
 use Rattle.std.proofs.lemmas.List.Sums.{sum_by-cons}
 use Rattle.dag_check.specs.Orders.{is_in}
@@ -8,6 +8,7 @@ use Rattle.sched_state.specs.declared.runs.Run.{Run}
 use Rattle.sched_model.specs.Lists.{rises}
 use Rattle.sched_model.specs.Schedule.{Schedule, is_queued, run_before}
 use Rattle.run_lists.specs.Positions.{positions_from, positions_where, stands_in}
+use Rattle.run_lists.proofs.GraphLemmas.{first_dropped}
 use Rattle.sched_laws.proofs.DecisionLemmas.{by_bool}
 use Rattle.sched_settling.specs.Marks.{IsLine, are_within, date_at, date_in, dates_from}
 use Rattle.sched_settling.specs.Touched.{dates_queued}
@@ -38,12 +39,6 @@ count_from p i (r ∷ rs) =
     let none : cond {A = ℕ} (p r) 1 0 ≡ 0 = ap (λ b. cond {A = ℕ} b 1 0) f in
     let same : length ks ≡ count_by p (r ∷ rs) = omega (arith, t, all, none) in
     ap (λ b. length (cond b (i ∷ ks) ks)) f ∙ same)
-
-first_dropped : (rs : List Run) (n : ℕ) (x : Run) (xs : List Run) → drop n rs ≡ x ∷ xs → (slice_get rs n ≡ Some x) × (drop (suc n) rs ≡ xs)
-first_dropped [] zero x xs e = absurd (let c : ◌≡◌ {A = List Run} [] (x ∷ xs) = e in cc)
-first_dropped [] (suc n) x xs e = absurd (let c : ◌≡◌ {A = List Run} [] (x ∷ xs) = e in cc)
-first_dropped (r ∷ rs) zero x xs e = let c : ◌≡◌ {A = List Run} (r ∷ rs) (x ∷ xs) = e in (let i : r ≡ x = cc in ap (λ (q : Run). Some q) i, let j : rs ≡ xs = cc in j)
-first_dropped (r ∷ rs) (suc n) x xs e = first_dropped rs n x xs e
 
 date_there : (rs : List Run) (n : ℕ) (r : Run) → slice_get rs n ≡ Some r → date_in rs n ≡ r.logical
 date_there rs n r e = let c : ◌≡◌ {A = Option Run} (slice_get rs n) (Some r) = e in rw c refl
@@ -82,3 +77,10 @@ line_is a id l rise runs active kept from fresh =
             (ap (is_in (dates_queued id a.runs)) (run_date a n v.run v.there) ∙ in_at id a.runs n v.run v.there (and_from (same (v.run).graph id) (is_queued (v.run).phase) v.of v.queued));
       };
     }
+
+-- ---- lines that are made one after another
+pub pushed_at : (P : ℕ → Line → Type 0) (xs : List Line) (x : Line) → ((g : ℕ) (k : Line) → slice_get xs g ≡ Some k → P g k) → P (length xs) x → (g : ℕ) (k : Line) → slice_get (xs ++ x ∷ []) g ≡ Some k → P g k
+pushed_at P [] x h p zero k e = let c : ◌≡◌ {A = Option Line} (Some x) (Some k) = e in let is : x ≡ k = cc in subst (P 0) is p
+pushed_at P [] x h p (suc g) k e = absurd (let c : ◌≡◌ {A = Option Line} None (Some k) = e in cc)
+pushed_at P (y ∷ xs) x h p zero k e = h 0 k e
+pushed_at P (y ∷ xs) x h p (suc g) k e = pushed_at (λ j m. P (suc j) m) xs x (λ j m f. h (suc j) m f) p g k e

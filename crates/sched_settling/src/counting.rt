@@ -8,6 +8,7 @@ ghost use Rattle.sched_settling.specs.Marks.{AreLines, IsLine, are_within};
 ghost use Rattle.sched_settling.specs.Touched.{AreFresh, EachLine, IsCountedIn, IsCountedOff, IsRunCounted, bases_at, over_runs, runs_at, with_key};
 
 use crate::ending::count_down;
+use crate::graphs::graph_from;
 use crate::lines::Line;
 use graph_file::Name;
 use run_lists::Runs;
@@ -63,17 +64,23 @@ fn count_run(line: &mut Line<'_>, run: &Run) -> Result<(), AllocError>
     Ok(())
 }
 
-// The run is counted in, where its graph is there.
-fn count_in(draft: &Draft<'_>, lines: &mut Vec<Line<'_>>, run: &Run) -> Result<(), AllocError>
+// The run is counted in, where its graph is there. That is looked for from a position on, and where it was found is told.
+fn count_in(
+    draft: &Draft<'_>,
+    lines: &mut Vec<Line<'_>>,
+    from: usize,
+    run: &Run,
+) -> Result<usize, AllocError>
     requires graphs { rises graph_before draft.now.content.graphs ≡ true }
     requires long { length lines.old.items ≡ length draft.now.content.graphs }
     ensures { OnOk result (EachLine (λ id. IsCountedIn id (run.now ∷ []))
         draft.now.content.graphs lines.old.items lines.new.items) }
 {
-    if let Some(position) = draft.position_of(&run.graph) {
-        count_run(&mut lines[position], run)?;
-    }
-    Ok(())
+    let Some(graph) = graph_from(draft, from, &run.graph) else {
+        return Ok(from);
+    };
+    count_run(&mut lines[graph], run)?;
+    Ok(graph)
 }
 
 // The touched runs are counted in.
@@ -88,8 +95,10 @@ fn count_all_in(
     ensures { OnOk result (EachLine (λ id. IsCountedIn id (runs_at draft.now.content.runs touched.now))
         draft.now.content.graphs lines.old.items lines.new.items) }
 {
+    // They stand in the order of their graphs.
+    let mut graph = 0;
     for position in touched {
-        count_in(draft, lines, draft.run(*position))?;
+        graph = count_in(draft, lines, graph, draft.run(*position))?;
     }
     Ok(())
 }
@@ -101,8 +110,9 @@ fn is_running(run: &Run) -> bool
     matches!(run.phase, RunPhase::Running)
 }
 
-// The run that was there with the key of the one at a position is counted off, if it was running.
-fn count_off(draft: &Draft<'_>, lines: &mut Vec<Line<'_>>, position: usize)
+// The run that was there with the key of the one at a position is counted off, if it was running. Its graph is looked for from a position
+// on, and where it was found is told.
+fn count_off(draft: &Draft<'_>, lines: &mut Vec<Line<'_>>, from: usize, position: usize) -> usize
     requires graphs { rises graph_before draft.now.content.graphs ≡ true }
     requires runs { rises run_before draft.now.content.runs ≡ true }
     requires within { position < length draft.now.content.runs }
@@ -113,9 +123,10 @@ fn count_off(draft: &Draft<'_>, lines: &mut Vec<Line<'_>>, position: usize)
 {
     if let Some(base) = draft.before(position) {
         if is_running(base) {
-            count_down(draft, lines, &base.graph);
+            return count_down(draft, lines, from, &base.graph);
         }
     }
+    from
 }
 
 // The runs that were there with the keys of the touched ones are counted off.
@@ -127,8 +138,9 @@ fn count_all_off(draft: &Draft<'_>, lines: &mut Vec<Line<'_>>, touched: &[usize]
     ensures { EachLine (λ id. IsCountedOff id (bases_at draft.now.base.runs draft.now.content.runs touched.now))
         draft.now.content.graphs lines.old.items lines.new.items }
 {
+    let mut graph = 0;
     for position in touched {
-        count_off(draft, lines, *position);
+        graph = count_off(draft, lines, graph, *position);
     }
 }
 

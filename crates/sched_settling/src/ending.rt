@@ -10,6 +10,7 @@ ghost use Rattle.dag_check.specs.Orders.{is_in};
 ghost use Rattle.sched_settling.specs.Marks.{IsKeyed, IsEndedAt, AreLines, are_within, one_fewer, IsCountedDown};
 ghost use Rattle.sched_settling.specs.States.{states_in};
 
+use crate::graphs::graph_from;
 use crate::lines::Line;
 use crate::states::{dag_of, state_in};
 use dag_check::Graph;
@@ -80,15 +81,17 @@ fn count_one(line: &mut Line<'_>)
     line.active = line.active.saturating_sub(1);
 }
 
-// One running run of the graph fewer, where the graph is there.
-pub fn count_down(draft: &Draft<'_>, lines: &mut Vec<Line<'_>>, id: &Name)
+// One running run of the graph fewer, where the graph is there. That is looked for from a position on, and where it was found is told.
+pub fn count_down(draft: &Draft<'_>, lines: &mut Vec<Line<'_>>, from: usize, id: &Name) -> usize
     requires graphs { rises graph_before draft.now.content.graphs ≡ true }
     requires long { length lines.old.items ≡ length draft.now.content.graphs }
     ensures { IsCountedDown draft.now.content.graphs id.now lines.old.items lines.new.items }
 {
-    if let Some(position) = draft.position_of(id) {
-        count_one(&mut lines[position]);
-    }
+    let Some(graph) = graph_from(draft, from, id) else {
+        return from;
+    };
+    count_one(&mut lines[graph]);
+    graph
 }
 
 // The run at a position ends, if it can.
@@ -107,7 +110,7 @@ fn end_at(
 {
     if let Some(phase) = end_of(draft, draft.run(position)) {
         draft.own(alloc, position)?;
-        count_down(draft, lines, &draft.run(position).graph);
+        count_down(draft, lines, 0, &draft.run(position).graph);
         draft.set_phase(position, phase);
     }
     Ok(())

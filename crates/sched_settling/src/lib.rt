@@ -11,6 +11,7 @@
 mod counting;
 mod deciding;
 mod ending;
+mod graphs;
 mod lines;
 mod marking;
 mod settling;

@@ -23,7 +23,7 @@ loop-position-preserved c =
     let ps : List ℕ = c.args.touched.now in
     let r : Run = c.run.result.now in
     let there : slice_get a.runs (get_or ps i 0) ≡ Some r = c.run.ensures in
-    let counted : EachLine (λ id. IsCountedIn id (r ∷ [])) a.graphs c.loop-position.lines.items c.count_in.new.lines.items = c.in_ok-count_in.ensures in
+    let counted : EachLine (λ id. IsCountedIn id (r ∷ [])) a.graphs c.loop-position.lines.items c.count_in.new.lines.items = c.in_ok-graph.ensures in
     subst (λ (rs : List Run). EachLine (λ id. IsCountedIn id rs) a.graphs c.args.lines.now.items c.count_in.new.lines.items) (sym (runs_more a.runs ps i r c.loop-position-test.true there))
     (each_then (λ id. IsCountedIn id (runs_at a.runs (take i ps))) (λ id. IsCountedIn id (r ∷ [])) (λ id. IsCountedIn id (runs_at a.runs (take i ps) ++ r ∷ []))
     (λ id l m n s t. in_more_runs id (runs_at a.runs (take i ps)) r l m n s t) a.graphs c.args.lines.now.items c.loop-position.lines.items c.count_in.new.lines.items c.loop-position.invariant counted)

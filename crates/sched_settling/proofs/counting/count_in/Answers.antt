@@ -12,11 +12,11 @@ use Rattle.sched_settling.proofs.LineLemmas.{same_flips}
 use Rattle.sched_settling.proofs.CarryLemmas.{each_set, each_same, absent, counted_same, counted_other}
 use Rattle.sched_settling.proofs.counting.count_in.Goals as goal
 
-pub returns-in_ok-count_run : goal.returns-in_ok-count_run
-returns-in_ok-count_run c =
+pub returns : goal.returns
+returns c =
     let a : Schedule = c.args.draft.now.content in
     let r : Run = c.args.run.now in
-    let p : ℕ = c.in-Some.position in
+    let p : ℕ = c.in-Some.graph in
     let l : Line = c.index_mut.result.now in
     let t = element_at a.graphs p c.in-Some.ensures.within in
     let found : graph_among a.graphs r.graph ≡ Some t.0 = sym c.in-Some.ensures.position ∙ t.1 in

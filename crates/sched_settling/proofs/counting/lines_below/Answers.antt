@@ -6,7 +6,7 @@ use Rattle.sched_model.specs.Schedule.{Schedule}
 use Rattle.sched_settling.specs.Marks.{IsLine}
 use Rattle.sched_settling.specs.Touched.{over_runs}
 use Rattle.sched_settling.specs.declared.lines.Line.{Line}
-use Rattle.sched_settling.proofs.CountedLemmas.{pushed_at}
+use Rattle.sched_settling.proofs.StandingLemmas.{pushed_at}
 use Rattle.sched_settling.proofs.LineLemmas.{dag_at}
 use Rattle.sched_settling.proofs.counting.lines_below.Goals as goal
 

@@ -10,11 +10,11 @@ use Rattle.sched_settling.proofs.StateLemmas.{read_at}
 use Rattle.sched_settling.proofs.LineLemmas.{counted_some, counted_none}
 use Rattle.sched_settling.proofs.ending.count_down.Goals as goal
 
-pub returns-in-Some : goal.returns-in-Some
-returns-in-Some c =
+pub returns : goal.returns
+returns c =
     let a : Schedule = c.args.draft.now.content in
     let id = c.args.id.now in
-    let p : ℕ = c.in-Some.position in
+    let p : ℕ = c.in-Some.graph in
     let l : Line = c.index_mut.result.now in
     let t = element_at a.graphs p c.in-Some.ensures.within in
     let found : graph_among a.graphs id ≡ Some t.0 = sym c.in-Some.ensures.position ∙ t.1 in
