@@ -1,6 +1,7 @@
 pub mod InsertLemmas
 pub mod GraphLemmas
 pub mod TakeInLemmas
+pub mod WeightLemmas
 pub mod LoadingLemmas
 pub mod PlanLemmas
 pub mod FindLemmas

@@ -1,10 +1,11 @@
--- A schedule beside the numbers of what its tries without an end occupy.
+-- A schedule beside the numbers of what its tries without an end occupy, and beside the weights of its graphs.
 use Rattle.std.specs.Prelude.{◌≡◌, ℕ, ◌≤◌, Bool, true, List}
 use Rattle.pool_book.specs.Limits.{most_taken}
 use Rattle.sched_model.specs.Schedule.{Schedule}
 use Rattle.sched_model.specs.States.{occupied}
 use Rattle.sched_draft.specs.Books.{pools_in}
 use Rattle.sched_handout.specs.Occupied.{AreOccupied}
+use Rattle.sched_handout.specs.Weighing.{WeighGraphs}
 use Rattle.sched_handout.specs.declared.occupied.Occupied.{Occupied}
 use Rattle.sched_events.specs.SettledAndSound.{IsSoundAndSaid, IsSettled}
 use Rattle.sched_core.specs.declared.schedules.Schedule.TheInside.{Inside}
@@ -31,3 +32,8 @@ pub record IsHeldWith (is_settled : Bool) (a : Schedule) (t : Occupied) : Type 0
   pub settled : is_settled ≡ true → IsSettled a
   pub counted : IsCounted a
   pub occupied : AreOccupied a t
+
+-- with these numbers it is held, and these are the weights of its graphs
+pub record IsKept (s : Inside) : Type 0 where
+  pub held : IsHeldWith s.is_settled (content_inside s) s.occupied
+  pub weights : WeighGraphs s.graphs.items s.weights.items

@@ -26,8 +26,8 @@ pub struct Effect {
 pub enum GraphChange {
     // They stay.
     Same,
-    // A text is taken in, which says this graph.
-    Load(GraphText, Graph),
+    // A text is taken in, which says this graph, with the effective weights of its tasks.
+    Load(GraphText, Graph, Vec<u64>),
     // The graph with this id is paused, or is no more.
     Pause(Name, bool),
 }

@@ -18,6 +18,7 @@ use graph_file::{GraphFault, GraphSpec, Name, TaskSpec, read_graph};
 use pool_book::Pools;
 use record_restoring::is_within;
 use sched_events::Refusal;
+use sched_handout::weigh_tasks;
 use sched_state::{GraphText, Limits};
 use std::alloc::Global;
 
@@ -74,7 +75,8 @@ impl Schedule {
         ensures refused { IfErr result (IsRefusal self.now.content (Load text.now)) }
     {
         let text = text.copy(alloc)?;
-        Ok(self.graph_change(alloc, GraphChange::Load(text, dag))?)
+        let weights = weigh_tasks(alloc, &dag)?;
+        Ok(self.graph_change(alloc, GraphChange::Load(text, dag, weights))?)
     }
 }
 

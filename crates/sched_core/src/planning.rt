@@ -14,7 +14,7 @@ ghost use Rattle.sched_model.specs.States.{open_tries};
 ghost use Rattle.sched_handout.specs.Occupied.{AreOccupied};
 ghost use Rattle.sched_draft.specs.Books.{IsBookOf};
 ghost use Rattle.sched_core.specs.Books.{IsCounted};
-ghost use Rattle.sched_core.specs.Effects.{with_change, IsQuiet};
+ghost use Rattle.sched_core.specs.Effects.{with_change, IsQuiet, IsWeighed};
 ghost use Rattle.sched_core.specs.Inside.{IsOver, IsLast, completed, drafted_as, over};
 
 use crate::changes::{Change, Effect, GraphChange, Rest};
@@ -66,6 +66,7 @@ impl Schedule {
     fn quiet_change(&self, alloc: Global, graphs: GraphChange) -> Result<Change, AllocError>
         requires sound { IsSoundAndSaid (with_change graphs self.now.content) }
         requires quiet { IsQuiet graphs self.now.content }
+        requires weighed { IsWeighed graphs }
         requires settled { IsSettled self.now.content }
         ensures { IfOk result (λ change. change ≡ record {
           before = self.now.content;
@@ -91,6 +92,7 @@ impl Schedule {
     ) -> Result<Change, AllocError>
         requires sound { IsSoundAndSaid (with_change graphs self.now.content) }
         requires quiet { IsQuiet graphs self.now.content }
+        requires weighed { IsWeighed graphs }
         requires over { IsOver graphs self.now.content self.now.content }
         ensures { IfOk result (λ change. change ≡ record {
           before = self.now.content;
@@ -148,6 +150,7 @@ impl Schedule {
         requires sound { IsSound draft.content }
         requires over { IsOver graphs self.now.content draft.content }
         requires last { IsLast graphs draft.content }
+        requires weighed { IsWeighed graphs }
         requires kept { IsSettledAndSound (completed graphs (hand_out (settle draft.content))) }
         requires pools { draft.content.pools ≡ self.now.content.pools }
         requires open { open_tries draft.content ≡ open_tries self.now.content }
@@ -175,6 +178,7 @@ impl Schedule {
         requires sound { IsSound draft.content }
         requires over { IsOver graphs self.now.content draft.content }
         requires last { IsLast graphs draft.content }
+        requires weighed { IsWeighed graphs }
         requires kept { IsSettledAndSound (completed graphs (hand_out (settle draft.content))) }
         requires counted { IsCounted draft.content }
         requires occupied { AreOccupied draft.content occupied }
@@ -188,7 +192,7 @@ impl Schedule {
         let mut draft = draft;
         let mut occupied = occupied;
         self.settle_draft(alloc, &mut draft)?;
-        let jobs = hand_out(alloc, &mut draft, &mut occupied)?;
+        let jobs = hand_out(alloc, &mut draft, self.weights.as_slice(), &mut occupied)?;
         let rows = self.rows_changed(alloc, &draft, &graphs)?;
         let rest = Rest {
             occupied,

@@ -9,7 +9,7 @@ use crate::schedules::Schedule;
 use crate::views::open_in_all;
 use record_restoring::{KeyedRows, RestoreFault, ScheduleParts, restore_parts};
 use run_lists::Runs;
-use sched_handout::Occupied;
+use sched_handout::{Occupied, weigh_graphs};
 use sched_state::Limits;
 use std::alloc::Global;
 
@@ -36,11 +36,13 @@ impl Schedule {
             next,
             runs,
         } = restore_parts(alloc, limits, rows)?;
+        let weights = weigh_graphs(alloc, graphs.as_slice())?;
         let in_flight = open_in_all(&runs);
         let runs = Runs::of(alloc, runs)?;
         Ok(Schedule {
             limits,
             graphs,
+            weights,
             occupied: Occupied { in_flight, pools },
             clock,
             lanes,

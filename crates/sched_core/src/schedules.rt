@@ -2,7 +2,7 @@
 //!
 //! A change is planned against the schedule as it is, room is reserved for it, and it is committed: only the first two can fail,
 //! and neither changes what the schedule holds.
-ghost use Rattle.std.specs.Prelude.{◌≡◌, ◌+◌, ◌-◌, ◌≤◌, List, length, IfOk, IfErr, OnOk, true, vec_capacity, vec_len};
+ghost use Rattle.std.specs.Prelude.{◌≡◌, ◌+◌, ◌-◌, ◌≤◌, List, length, min, IfOk, IfErr, OnOk, true, vec_capacity, vec_len};
 ghost use Rattle.std.specs.Option.{option_copied};
 ghost use Rattle.sched_state.specs.declared.graphs.LoadedGraph as states;
 ghost use Rattle.sched_model.specs.Lists.{rises};
@@ -10,8 +10,9 @@ ghost use Rattle.sched_model.specs.Schedule.{empty_schedule, graph_before, graph
 ghost use Rattle.sched_model.specs.Changes.{with_graph};
 ghost use Rattle.sched_events.specs.SettledAndSound.{IsSoundAndSaid};
 ghost use Rattle.sched_events.specs.Outcomes.{IsStepped, IsRefusal};
+ghost use Rattle.sched_handout.specs.Weighing.{WeighTasks, WeighGraphs};
 ghost use Rattle.sched_core.specs.Changes.{HasRoom};
-ghost use Rattle.sched_core.specs.Effects.{changed};
+ghost use Rattle.sched_core.specs.Effects.{changed, IsWeighed};
 
 use crate::changes::{Change, Effect, GraphChange};
 use crate::default_pools::default_pools;
@@ -35,6 +36,8 @@ use std::marker::Model;
 pub struct Schedule {
     pub(crate) limits: Limits,
     pub(crate) graphs: Vec<LoadedGraph>,
+    // The effective weights of their tasks, by position and place: they stay as long as the graphs do.
+    pub(crate) weights: Vec<Vec<u64>>,
     // What the tries without an end take, and the pools.
     pub(crate) occupied: Occupied,
     pub(crate) clock: Moment,
@@ -47,18 +50,18 @@ pub struct Schedule {
 }
 
 impl Model for Schedule {
-    ghost use Rattle.std.specs.Prelude.{◌-◌, vec_len, vec_capacity};
-    ghost use Rattle.sched_core.specs.Books.{IsHeldWith, content_inside};
+    ghost use Rattle.std.specs.Prelude.{◌-◌, min, vec_len, vec_capacity};
+    ghost use Rattle.sched_core.specs.Books.{IsKept, content_inside};
     ghost use Rattle.sched_core.specs.Changes.{ScheduleValue};
 
     ghost Value = { ScheduleValue };
 
     ghost view = { λ s. record {
       content = content_inside s;
-      room = record { graphs = vec_capacity s.graphs - vec_len s.graphs; runs = s.runs.room };
+      room = record { graphs = min (vec_capacity s.graphs - vec_len s.graphs) (vec_capacity s.weights - vec_len s.weights); runs = s.runs.room };
     } };
 
-    ghost invariant = { λ s. IsHeldWith s.is_settled (content_inside s) s.occupied };
+    ghost invariant = { IsKept };
 }
 
 impl Schedule {
@@ -70,6 +73,7 @@ impl Schedule {
         Ok(Schedule {
             limits,
             graphs: Vec::new(alloc),
+            weights: Vec::new(alloc),
             occupied: Occupied {
                 in_flight: 0,
                 pools: default_pools(alloc)?,
@@ -130,7 +134,7 @@ impl Schedule {
         ensures content { self.new.content ≡ self.old.content }
         ensures room { OnOk result (HasRoom change.now self.new) }
     {
-        room_for_graphs(&mut self.graphs, &change.effect.graphs)?;
+        room_for_graphs(&mut self.graphs, &mut self.weights, &change.effect.graphs)?;
         match &change.effect.rest {
             Some(rest) => self.runs.reserve(&rest.edits),
             None => Ok(()),
@@ -150,7 +154,7 @@ impl Schedule {
             answer,
             rows: _,
         } = change;
-        change_graphs(&mut self.graphs, graphs);
+        change_graphs(&mut self.graphs, &mut self.weights, graphs);
         if let Some(rest) = rest {
             self.occupied = rest.occupied;
             self.clock = rest.clock;
@@ -174,41 +178,65 @@ impl Schedule {
     }
 }
 
-// Makes room for the graph that a change takes in.
-fn room_for_graphs(graphs: &mut Vec<LoadedGraph>, change: &GraphChange) -> Result<(), AllocError>
+// Makes room for the graph that a change takes in, and for its weights.
+fn room_for_graphs(
+    graphs: &mut Vec<LoadedGraph>,
+    weights: &mut Vec<Vec<u64>>,
+    change: &GraphChange,
+) -> Result<(), AllocError>
     ensures graphs { graphs.new.items ≡ graphs.old.items }
-    ensures room { OnOk result ((gs : List LoadedGraph) → length (changed change.now gs) ≤ length gs + (vec_capacity graphs.new - vec_len graphs.new)) }
+    ensures weights { weights.new.items ≡ weights.old.items }
+    ensures room { OnOk result ((gs : List LoadedGraph) → length (changed change.now gs) ≤ length gs
+        + min (vec_capacity graphs.new - vec_len graphs.new) (vec_capacity weights.new - vec_len weights.new)) }
 {
     match change {
-        GraphChange::Load(_, _) => graphs.reserve(1),
+        GraphChange::Load(_, _, _) => {
+            graphs.reserve(1)?;
+            weights.reserve(1)
+        }
         GraphChange::Same | GraphChange::Pause(_, _) => Ok(()),
     }
 }
 
-// The graphs are changed so.
-fn change_graphs(graphs: &mut Vec<LoadedGraph>, change: GraphChange)
+// The graphs are changed so, and their weights with them.
+fn change_graphs(graphs: &mut Vec<LoadedGraph>, weights: &mut Vec<Vec<u64>>, change: GraphChange)
     requires order { rises graph_before graphs.old.items ≡ true }
     requires room { length (changed change graphs.old.items) ≤ vec_capacity graphs.old }
-    ensures { graphs.new.items ≡ changed change graphs.old.items }
+    requires places { length (changed change graphs.old.items) ≤ vec_capacity weights.old }
+    requires weights { WeighGraphs graphs.old.items weights.old.items }
+    requires weighed { IsWeighed change }
+    ensures graphs { graphs.new.items ≡ changed change graphs.old.items }
+    ensures weights { WeighGraphs graphs.new.items weights.new.items }
 {
     match change {
         GraphChange::Same => {}
-        GraphChange::Load(text, dag) => take_in(graphs, text, dag),
+        GraphChange::Load(text, dag, row) => take_in(graphs, weights, text, dag, row),
         GraphChange::Pause(id, paused) => set_paused(graphs, &id, paused),
     }
 }
 
-// Takes a text in that says this: a known graph gets it in the place of its own, a new one is put at its place.
-fn take_in(graphs: &mut Vec<LoadedGraph>, text: GraphText, dag: Graph)
+// Takes a text in that says this, with these weights: a known graph gets them in the place of its own, a new one is put at its place.
+fn take_in(
+    graphs: &mut Vec<LoadedGraph>,
+    weights: &mut Vec<Vec<u64>>,
+    text: GraphText,
+    dag: Graph,
+    row: Vec<u64>,
+)
     requires order { rises graph_before graphs.old.items ≡ true }
     requires room { length (with_graph text dag graphs.old.items) ≤ vec_capacity graphs.old }
-    ensures { graphs.new.items ≡ with_graph text dag graphs.old.items }
+    requires places { length (with_graph text dag graphs.old.items) ≤ vec_capacity weights.old }
+    requires weights { WeighGraphs graphs.old.items weights.old.items }
+    requires row { WeighTasks dag row.items }
+    ensures graphs { graphs.new.items ≡ with_graph text dag graphs.old.items }
+    ensures weights { WeighGraphs graphs.new.items weights.new.items }
 {
     match position_of(graphs, &dag.spec().dag_id) {
         Some(place) => {
             let graph = &mut graphs[place];
             graph.text = text;
             graph.dag = dag;
+            weights[place] = row;
         }
         None => {
             let graph = LoadedGraph {
@@ -218,6 +246,7 @@ fn take_in(graphs: &mut Vec<LoadedGraph>, text: GraphText, dag: Graph)
             };
             let place = place_for_graph(graphs, &graph);
             let _ = graphs.insert(place, graph);
+            let _ = weights.insert(place, row);
         }
     }
 }

@@ -1,4 +1,5 @@
-use Rattle.std.proofs.Common.{◌≡◌, ◌+◌, ◌∙◌, ap, subst, sym, List, Bool, true, false, cond, insert, length, arith}
+use Rattle.std.proofs.Common.{◌≡◌, ◌+◌, ◌≤◌, ◌∙◌, ap, subst, sym, ℕ, List, Bool, true, false, cond, insert, length, arith}
+use Rattle.std.specs.Global.{Vec}
 use Rattle.std.specs.List.{list_any}
 use Rattle.std.specs.Result.{is_ok}
 use Rattle.graph_file.specs.declared.graph_specs.GraphSpec.{GraphSpec}
@@ -8,17 +9,19 @@ use Rattle.sched_state.specs.declared.graphs.LoadedGraph.{LoadedGraph}
 use Rattle.sched_model.specs.Changes.{new_graph, with_graph}
 use Rattle.sched_core.specs.Inside.{StandsAt, IsPlaceFor}
 use Rattle.sched_core.proofs.TakeInLemmas.{taken_known, taken_new, length-new}
+use Rattle.sched_handout.specs.Weighing.{WeighGraphs}
+use Rattle.sched_core.proofs.WeightLemmas.{weigh_set, weigh_insert}
 use Rattle.sched_core.proofs.schedules.take_in.Goals as goal
 
-pub returns-in-Some : goal.returns-in-Some
-returns-in-Some c =
+pub returns-in-Some-clause-graphs : goal.returns-in-Some-clause-graphs
+returns-in-Some-clause-graphs c =
     taken_known c.args.text c.args.dag c.args.graphs.now.items c.in-Some.place c.index_mut-graph.result.now
     (subst (λ (s : GraphSpec). StandsAt s.dag_id c.args.graphs.now.items c.in-Some.place) c.spec.ensures.spec
     (subst (λ (gs : List LoadedGraph). StandsAt c.spec.result.now.dag_id gs c.in-Some.place) c.deref.ensures.value c.in-Some.ensures))
     c.index_mut-graph.ensures.value c.requires.order
 
-pub returns-in-None : goal.returns-in-None
-returns-in-None c =
+pub returns-in-None-clause-graphs : goal.returns-in-None-clause-graphs
+returns-in-None-clause-graphs c =
     let gs = c.args.graphs.now.items in
     let new : LoadedGraph = new_graph c.args.text c.args.dag in
     let unknown = subst (λ (s : GraphSpec). list_any (λ (k : LoadedGraph). same k.dag.spec.dag_id s.dag_id) gs ≡ false) c.spec.ensures.spec
@@ -29,3 +32,28 @@ returns-in-None c =
     ∙ (ap (λ (b : Bool). cond b (insert gs c.place_for_graph-place.result new) gs) ok
     ∙ taken_new c.args.text c.args.dag gs c.place_for_graph-place.result unknown
     (subst (λ (ks : List LoadedGraph). IsPlaceFor graph_before new ks c.place_for_graph-place.result) c.deref-in-None.ensures.value c.place_for_graph-place.ensures))
+
+pub returns-in-Some-clause-weights : goal.returns-in-Some-clause-weights
+returns-in-Some-clause-weights c =
+    let gs : List LoadedGraph = c.args.graphs.now.items in
+    let stands : StandsAt c.args.dag.spec.dag_id gs c.in-Some.place =
+    subst (λ (s : GraphSpec). StandsAt s.dag_id gs c.in-Some.place) c.spec.ensures.spec
+    (subst (λ (ks : List LoadedGraph). StandsAt c.spec.result.now.dag_id ks c.in-Some.place) c.deref.ensures.value c.in-Some.ensures) in
+    weigh_set gs c.args.weights.now.items c.in-Some.place (record { text = c.args.text; dag = c.args.dag; paused = c.index_mut-graph.result.now.paused }) c.args.row stands.below c.requires.weights c.requires.row
+
+pub returns-in-None-clause-weights : goal.returns-in-None-clause-weights
+returns-in-None-clause-weights c =
+    let gs : List LoadedGraph = c.args.graphs.now.items in
+    let ws : List (Vec ℕ) = c.args.weights.now.items in
+    let place : ℕ = c.place_for_graph-place.result in
+    let new : LoadedGraph = new_graph c.args.text c.args.dag in
+    let unknown = subst (λ (s : GraphSpec). list_any (λ (k : LoadedGraph). same k.dag.spec.dag_id s.dag_id) gs ≡ false) c.spec.ensures.spec
+    (ap (list_any (λ (k : LoadedGraph). same k.dag.spec.dag_id c.spec.result.now.dag_id)) (sym c.deref.ensures.value) ∙ c.in-None.ensures) in
+    let long : length (with_graph c.args.text c.args.dag gs) ≡ length gs + 1 = length-new c.args.text c.args.dag gs unknown in
+    let ok : is_ok c.insert.result ≡ true = c.insert.ensures.succeeds (omega (arith, long, c.requires.room)) in
+    let beside : is_ok c.insert-in-None.result ≡ true = c.insert-in-None.ensures.succeeds (omega (arith, long, c.requires.places, c.requires.weights.long)) in
+    let graphs : c.insert.new.self.items ≡ insert gs place new = c.insert.ensures.items ∙ ap (λ (b : Bool). cond b (insert gs place new) gs) ok in
+    let rows : c.insert-in-None.new.self.items ≡ insert ws place c.args.row = c.insert-in-None.ensures.items ∙ ap (λ (b : Bool). cond b (insert ws place c.args.row) ws) beside in
+    let within : place ≤ length gs = subst (λ (ks : List LoadedGraph). place ≤ length ks) c.deref-in-None.ensures.value c.place_for_graph-place.ensures.within in
+    subst (λ (ks : List LoadedGraph). WeighGraphs ks c.insert-in-None.new.self.items) (sym graphs)
+    (subst (WeighGraphs (insert gs place new)) (sym rows) (weigh_insert gs ws place new c.args.row within c.requires.weights c.requires.row))

@@ -2,7 +2,7 @@ use Rattle.std.proofs.Common.{◌≡◌, ◌∙◌, ◌≤◌, ◌+◌, refl, le
 use Rattle.sched_state.specs.declared.graphs.LoadedGraph.{LoadedGraph}
 use Rattle.sched_state.specs.declared.runs.Run.{Run}
 use Rattle.sched_model.specs.Schedule.{Schedule}
-use Rattle.sched_core.specs.Books.{IsHeldWith, content_inside}
+use Rattle.sched_core.specs.Books.{IsHeldWith, IsKept, content_inside}
 use Rattle.sched_core.specs.Changes.{ScheduleValue, Planned}
 use Rattle.sched_core.specs.Effects.{applied, AreOfRuns}
 use Rattle.sched_core.specs.declared.changes.Effect.{Effect}
@@ -23,16 +23,20 @@ invariant_of-self c =
           let n = w.in-Some.rest in
           let f : Effect = record { graphs = e.graphs; rest = Some n } in
           let is : e ≡ f = ap (λ (o : Option Rest). let k : Effect = record { graphs = e.graphs; rest = o } in k) w.in-Some.is in
-          let done = done_held e f c.change.inside.before.value.content a c.self.inside.occupied c.self.inside.is_settled c.change.invariant.keeps is before c.self.invariant in
-          subst (λ (i : Inside). IsHeldWith true (content_inside i) i.occupied) (sym w.self-inside-is)
-          (subst (λ (rs : List Run). IsHeldWith true (record (applied f a) { graphs = c.change_graphs.new.graphs.items; runs = rs }) n.occupied) (sym w.write.ensures.runs)
-          (subst (λ (gs : List LoadedGraph). IsHeldWith true (record (applied f a) { graphs = gs }) n.occupied) (sym c.change_graphs.ensures) done))
+          let done = done_held e f c.change.inside.before.value.content a c.self.inside.occupied c.self.inside.is_settled c.change.invariant.keeps is before c.self.invariant.held in
+          subst (λ (i : Inside). IsKept (record i { is_settled = true })) (sym w.self-inside-is) (record {
+            held = subst (λ (rs : List Run). IsHeldWith true (record (applied f a) { graphs = c.change_graphs.new.graphs.items; runs = rs }) n.occupied) (sym w.write.ensures.runs)
+                (subst (λ (gs : List LoadedGraph). IsHeldWith true (record (applied f a) { graphs = gs }) n.occupied) (sym c.change_graphs.ensures.graphs) done);
+            weights = c.change_graphs.ensures.weights;
+          })
       | in_default w ↦
           let f : Effect = record { graphs = e.graphs; rest = None } in
           let is : e ≡ f = ap (λ (o : Option Rest). let k : Effect = record { graphs = e.graphs; rest = o } in k) w.in_default.is in
-          let done = done_held e f c.change.inside.before.value.content a c.self.inside.occupied c.self.inside.is_settled c.change.invariant.keeps is before c.self.invariant in
-          subst (λ (i : Inside). IsHeldWith true (content_inside i) i.occupied) (sym w.self-inside-is)
-          (subst (λ (gs : List LoadedGraph). IsHeldWith true (record a { graphs = gs }) c.self.inside.occupied) (sym c.change_graphs.ensures) done)
+          let done = done_held e f c.change.inside.before.value.content a c.self.inside.occupied c.self.inside.is_settled c.change.invariant.keeps is before c.self.invariant.held in
+          subst (λ (i : Inside). IsKept (record i { is_settled = true })) (sym w.self-inside-is) (record {
+            held = subst (λ (gs : List LoadedGraph). IsHeldWith true (record a { graphs = gs }) c.self.inside.occupied) (sym c.change_graphs.ensures.graphs) done;
+            weights = c.change_graphs.ensures.weights;
+          })
     ]
 
 pub write-requires-clause-edits : goal.write-requires-clause-edits

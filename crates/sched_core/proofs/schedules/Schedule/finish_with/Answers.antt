@@ -1,4 +1,5 @@
-use Rattle.std.proofs.Common.{◌≡◌, ◌∙◌, ◌-◌, sym, ap, subst, flat_map, true, Some}
+use Rattle.std.proofs.Common.{◌≡◌, ◌∙◌, ◌-◌, sym, ap, subst, ℕ, List, flat_map, true, Some}
+use Rattle.std.specs.Global.{Vec}
 use Rattle.std.specs.List.{range_with_len}
 use Rattle.record_changes.specs.Changes.{rows_between}
 use Rattle.run_lists.specs.Edits.{AreEditsOf, edited}
@@ -11,6 +12,7 @@ use Rattle.sched_events.proofs.StepLemmas.{without_settled}
 use Rattle.sched_draft.specs.Books.{pools_in}
 use Rattle.sched_handout.specs.Occupied.{AreOccupied}
 use Rattle.sched_handout.specs.Noted.{NoneFrom}
+use Rattle.sched_handout.specs.Weighing.{WeighGraphs}
 use Rattle.sched_handout.proofs.JobLemmas.{sound_none}
 use Rattle.sched_laws.proofs.SoundLemmas.{settle_sound}
 use Rattle.sched_draft.specs.Drafts.{DraftValue, SameDags}
@@ -23,11 +25,21 @@ use Rattle.sched_core.specs.Books.{IsHeldWith}
 use Rattle.sched_core.specs.Changes.{ScheduleValue, Planned}
 use Rattle.sched_core.proofs.ChangedRowLemmas.{draft_dags, last_after}
 use Rattle.sched_core.proofs.FinishLemmas.{finished_is, finished_held, finished_over, settled_next, settled_occupied}
+use Rattle.sched_core.proofs.WeightLemmas.{weigh_settled}
 use Rattle.sched_core.proofs.schedules.Schedule.finish_with.Goals as goal
 
 pub settle_draft-requires-clause-dags : goal.settle_draft-requires-clause-dags
 settle_draft-requires-clause-dags c =
     subst (λ (s : Schedule). SameDags s c.args.draft.content) (sym c.requires.based) (draft_dags c.args.graphs c.args.self.now.content c.args.draft.content c.requires.over)
+
+pub hand_out-requires-clause-weights : goal.hand_out-requires-clause-weights
+hand_out-requires-clause-weights c =
+    let a : Schedule = c.args.self.now.content in
+    let b : Schedule = c.args.draft.content in
+    let ws : List (Vec ℕ) = c.self.inside.weights.items in
+    let kept : WeighGraphs a.graphs ws = subst (λ (h : ScheduleValue). WeighGraphs h.content.graphs ws) c.self.view_is c.self.invariant.weights in
+    subst (λ (rows : List (Vec ℕ)). WeighGraphs c.settle_draft.new.draft.content.graphs rows) (sym c.as_slice.ensures.value)
+    (subst (λ (s : Schedule). WeighGraphs s.graphs ws) (sym c.in_ok-settle_draft.ensures.settled) (weigh_settled c.args.graphs a b ws c.requires.over kept))
 
 pub hand_out-requires-clause-taken : goal.hand_out-requires-clause-taken
 hand_out-requires-clause-taken c =
@@ -79,6 +91,7 @@ invariant_of-result c =
     let f : Effect = record { graphs = g; rest = Some n } in
     subst (λ (h : ScheduleValue). IsEffect f c.in_ok-rows.rows h.content) (sym c.of.ensures) (record {
       keeps = λ t was before. subst (λ (s : Schedule). IsHeldWith true s c.hand_out.new.taken) (sym is) held;
+      weighed = c.requires.weighed;
       edits = of;
       rows_are = c.in_ok-rows.ensures ∙ (ap (λ (s : Schedule). rows_between a (completed g s)) end ∙ ap (rows_between a) (sym is));
     })

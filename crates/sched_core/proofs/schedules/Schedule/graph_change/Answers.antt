@@ -19,7 +19,7 @@ returns-then-self c =
     let a : Schedule = c.args.self.now.content in
     let g = c.args.graphs in
     let b : Schedule = with_change g a in
-    let still : IsSettled a = subst (λ (h : ScheduleValue). IsSettled h.content) c.self.view_is (c.self.invariant.settled c.if-self.true) in
+    let still : IsSettled a = subst (λ (h : ScheduleValue). IsSettled h.content) c.self.view_is (c.self.invariant.held.settled c.if-self.true) in
     IfOk-weaker c.quiet_change.result
     (λ (change : Planned). change ≡ record { before = a; after = b; answer = no_runs })
     (λ (change : Planned). change ≡ record { before = a; after = hand_out (settle b); answer = record no_runs { jobs = handed a (hand_out (settle b)) } })

@@ -34,7 +34,7 @@ copied : (c : In_ok-occupied) → AreOccupied c.args.self.now.content c.in_ok-oc
 copied c =
     let a : Schedule = c.args.self.now.content in
     occupied_as a a c.self.inside.occupied c.in_ok-occupied.occupied refl refl c.in_ok-occupied.ensures.in_flight c.in_ok-occupied.ensures.pools
-    (subst (λ (h : ScheduleValue). AreOccupied h.content c.self.inside.occupied) c.self.view_is c.self.invariant.occupied)
+    (subst (λ (h : ScheduleValue). AreOccupied h.content c.self.inside.occupied) c.self.view_is c.self.invariant.held.occupied)
 
 pub returns-in_default : goal.returns-in_default
 returns-in_default c =
@@ -51,7 +51,7 @@ pub returns-in_default-graph_named : goal.returns-in_default-graph_named
 returns-in_default-graph_named c =
     let a : Schedule = c.args.self.now.content in
     let r : Run = c.get-run.result.now in
-    let sound : IsSound a = (subst (λ (h : ScheduleValue). IsSoundAndSaid h.content) c.self.view_is c.self.invariant.kept).sound in
+    let sound : IsSound a = (subst (λ (h : ScheduleValue). IsSoundAndSaid h.content) c.self.view_is c.self.invariant.held.kept).sound in
     let none : graph_named a r.graph ≡ None =
     ap (λ (h : ScheduleValue). graph_named h.content r.graph) (sym c.self.view_is) ∙ (ap (λ (gs : List LoadedGraph). find (λ (g : LoadedGraph). same g.dag.spec.dag_id r.graph) gs) (sym c.as_slice.ensures.value) ∙ (sym c.graph_named.ensures ∙ ap option_copied c.in_default-graph_named.is)) in
     absurd (graph_there c.args.serial a c.args.found.now r sound c.requires.found (run_is (goal.at.returns-in_default-graph_named c).After-get-run) none)
@@ -62,7 +62,7 @@ task_is : (c : In-Some) → slice_get c.args.self.now.content.runs c.args.found.
 task_is c run =
     let a : Schedule = c.args.self.now.content in
     let r : Run = c.get-run.result.now in
-    let sound : IsSound a = (subst (λ (h : ScheduleValue). IsSoundAndSaid h.content) c.self.view_is c.self.invariant.kept).sound in
+    let sound : IsSound a = (subst (λ (h : ScheduleValue). IsSoundAndSaid h.content) c.self.view_is c.self.invariant.held.kept).sound in
     let graph : graph_named a r.graph ≡ Some c.in-Some.graph.now =
     ap (λ (h : ScheduleValue). graph_named h.content r.graph) (sym c.self.view_is) ∙ (ap (λ (gs : List LoadedGraph). find (λ (g : LoadedGraph). same g.dag.spec.dag_id r.graph) gs) (sym c.as_slice.ensures.value) ∙ (sym c.graph_named.ensures ∙ ap option_copied c.in-Some.is)) in
     known_task c.args.serial a c.args.found.now r c.in-Some.graph.now sound c.requires.found run graph
@@ -75,8 +75,8 @@ ready : (c : After-task-task) → slice_get (tasks_of c.args.self.now.content c.
     → CanGiveBack c.task-task.result.now.pool c.args.found.now.one.slots c.in_ok-occupied.occupied
 ready c task some numbers =
     let a : Schedule = c.args.self.now.content in
-    let kept : IsSoundAndSaid a = subst (λ (h : ScheduleValue). IsSoundAndSaid h.content) c.self.view_is c.self.invariant.kept in
-    let counted : IsCounted a = subst (λ (h : ScheduleValue). IsCounted h.content) c.self.view_is c.self.invariant.counted in
+    let kept : IsSoundAndSaid a = subst (λ (h : ScheduleValue). IsSoundAndSaid h.content) c.self.view_is c.self.invariant.held.kept in
+    let counted : IsCounted a = subst (λ (h : ScheduleValue). IsCounted h.content) c.self.view_is c.self.invariant.held.counted in
     let turn : is_some (report_try (Ended c.in-Ended.field-0) a.now c.args.found.now.one) ≡ true = subst (λ (s : Stage). is_some (report_try s a.now c.args.found.now.one) ≡ true) c.in-Ended.is c.requires.turn in
     subst (λ (t : TaskSpec). CanGiveBack t.pool c.args.found.now.one.slots c.in_ok-occupied.occupied) (sym c.task-task.ensures)
     (can_give_back c.args.serial c.in-Ended.field-0 a c.args.found.now (task_of c.in-Some.graph.now.dag c.args.found.now.place) c.in_ok-occupied.occupied kept.sound c.requires.found turn task counted numbers some)
@@ -102,8 +102,8 @@ returns c =
     let at = goal.at.returns c in
     let a : Schedule = c.args.self.now.content in
     let t : TaskSpec = task_of c.in-Some.graph.now.dag c.args.found.now.place in
-    let kept : IsSoundAndSaid a = subst (λ (h : ScheduleValue). IsSoundAndSaid h.content) c.self.view_is c.self.invariant.kept in
-    let counted : IsCounted a = subst (λ (h : ScheduleValue). IsCounted h.content) c.self.view_is c.self.invariant.counted in
+    let kept : IsSoundAndSaid a = subst (λ (h : ScheduleValue). IsSoundAndSaid h.content) c.self.view_is c.self.invariant.held.kept in
+    let counted : IsCounted a = subst (λ (h : ScheduleValue). IsCounted h.content) c.self.view_is c.self.invariant.held.counted in
     let turn : is_some (report_try (Ended c.in-Ended.field-0) a.now c.args.found.now.one) ≡ true = subst (λ (s : Stage). is_some (report_try s a.now c.args.found.now.one) ≡ true) c.in-Ended.is c.requires.turn in
     let book : c.give_back.new.self.pools.pools ≡ with_pool t.pool (give_back c.args.found.now.one.slots) c.in_ok-occupied.occupied.pools.pools =
     c.give_back.ensures.pools ∙ (ap (λ n. with_pool c.task-task.result.now.pool (give_back n) c.in_ok-occupied.occupied.pools.pools) (c.of.ensures ∙ c.get.ensures.value)

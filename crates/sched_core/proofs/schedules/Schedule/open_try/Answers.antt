@@ -16,12 +16,12 @@ open_at-requires c = places_within (stands false) c.self.inside.runs.runs c.queu
 pub returns-then-is_some-clause-one : goal.returns-then-is_some-clause-one
 returns-then-is_some-clause-one c =
     let a : Schedule = c.args.self.now.content in
-    let kept = subst (λ (h : ScheduleValue). IsSoundAndSaid h.content) c.self.view_is c.self.invariant.kept in
+    let kept = subst (λ (h : ScheduleValue). IsSoundAndSaid h.content) c.self.view_is c.self.invariant.held.kept in
     found_running a c.args.serial c.self.inside.runs.runs c.running.result.now c.open_at-found.result c.is_some.result kept.sound (ap (λ (h : ScheduleValue). h.content.runs) c.self.view_is) c.running.ensures c.is_some.ensures c.if-is_some.true c.open_at-found.ensures.one
 
 pub returns-clause-one : goal.returns-clause-one
 returns-clause-one c =
     let a : Schedule = c.args.self.now.content in
-    let kept = subst (λ (h : ScheduleValue). IsSoundAndSaid h.content) c.self.view_is c.self.invariant.kept in
+    let kept = subst (λ (h : ScheduleValue). IsSoundAndSaid h.content) c.self.view_is c.self.invariant.held.kept in
     found_queued a c.args.serial c.self.inside.runs.runs c.running.result.now c.queued.result.now c.open_at-found.result c.open_at.result c.is_some.result kept.sound (ap (λ (h : ScheduleValue). h.content.runs) c.self.view_is) c.running.ensures c.queued.ensures
     c.is_some.ensures c.if-is_some.false c.open_at-found.ensures.one c.open_at.ensures.one

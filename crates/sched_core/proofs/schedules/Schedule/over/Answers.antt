@@ -36,14 +36,14 @@ finish_with-requires-clause-kept c = subst (λ (s : Schedule). IsSettledAndSound
 
 pub finish_with-requires-clause-counted : goal.finish_with-requires-clause-counted
 finish_with-requires-clause-counted c =
-    subst IsCounted (sym (content (goal.at.finish_with-requires-clause-counted c).After-set_pools)) (subst (λ (h : ScheduleValue). IsCounted h.content) c.self.view_is c.self.invariant.counted)
+    subst IsCounted (sym (content (goal.at.finish_with-requires-clause-counted c).After-set_pools)) (subst (λ (h : ScheduleValue). IsCounted h.content) c.self.view_is c.self.invariant.held.counted)
 
 pub finish_with-requires-clause-occupied : goal.finish_with-requires-clause-occupied
 finish_with-requires-clause-occupied c =
     let a : Schedule = c.args.self.now.content in
     let b : Schedule = over c.args.pools.now.pools a in
     let t : Occupied = record { in_flight = c.self.inside.occupied.in_flight; pools = c.in_ok-copy.field-0 } in
-    let flight : c.self.inside.occupied.in_flight ≡ in_flight a = c.self.invariant.occupied.in_flight ∙ ap (λ (h : ScheduleValue). in_flight h.content) c.self.view_is in
+    let flight : c.self.inside.occupied.in_flight ≡ in_flight a = c.self.invariant.held.occupied.in_flight ∙ ap (λ (h : ScheduleValue). in_flight h.content) c.self.view_is in
     subst (λ (s : Schedule). AreOccupied s t) (sym (content (goal.at.finish_with-requires-clause-occupied c).After-set_pools))
     (record { in_flight = flight; pools = subst (IsBookOf b) (sym c.in_ok-copy.ensures) c.requires.book })
 

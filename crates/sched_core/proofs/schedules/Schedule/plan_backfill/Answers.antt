@@ -41,7 +41,7 @@ filled c h =
     let id : List ℕ = c.args.graph.now in
     let b : Found = c.in-Some.named in
     let most : ℕ = c.saturating_sub-room.result in
-    let kept : IsSoundAndSaid a = subst (λ (s : ScheduleValue). IsSoundAndSaid s.content) c.self.view_is c.self.invariant.kept in
+    let kept : IsSoundAndSaid a = subst (λ (s : ScheduleValue). IsSoundAndSaid s.content) c.self.view_is c.self.invariant.held.kept in
     let good : nat_lt c.args.to c.args.from ≡ false = grind (arith, nat_tests, c.lt.ensures, c.if-lt.false) in
     let limit : c.self.inside.limits.runs ≡ a.limits.runs = ap (λ (s : ScheduleValue). s.content.limits.runs) c.self.view_is in
     let long : length c.self.inside.runs.runs ≡ length a.runs = ap (λ (s : ScheduleValue). length s.content.runs) c.self.view_is in
@@ -53,7 +53,7 @@ filled c h =
 drafted : (c : In_ok-made) → IsBackfillOf c.args.self.now.content c.args.graph.now c.args.from c.args.to c.saturating_sub-room.result (Some c.in-Some.named) → IsDraftOf (Backfill c.args.graph.now c.args.from c.args.to c.args.reset) c.args.self.now.content (added c)
 drafted c h =
     let done = filled c h in
-    record { ranged = tt; accepted = done.accepted; kept = subst (λ (s : ScheduleValue). IsSoundAndSaid s.content) c.self.view_is c.self.invariant.kept; is = done.is }
+    record { ranged = tt; accepted = done.accepted; kept = subst (λ (s : ScheduleValue). IsSoundAndSaid s.content) c.self.view_is c.self.invariant.held.kept; is = done.is }
 
 pub returns-in_err-cleared-clause-refused : goal.returns-in_err-cleared-clause-refused
 returns-in_err-cleared-clause-refused c =

@@ -42,7 +42,7 @@ cleared c =
 drafted : (c : In_ok-cleared) → IsDraftOf (Clear c.args.clearing.now) c.args.self.now.content c.set_back.new.draft.content
 drafted c =
     let done = cleared c in
-    record { ranged = tt; accepted = done.accepted; kept = subst (λ (s : ScheduleValue). IsSoundAndSaid s.content) c.self.view_is c.self.invariant.kept; is = done.is }
+    record { ranged = tt; accepted = done.accepted; kept = subst (λ (s : ScheduleValue). IsSoundAndSaid s.content) c.self.view_is c.self.invariant.held.kept; is = done.is }
 
 pub finish-requires-clause-based : goal.finish-requires-clause-based
 finish-requires-clause-based c = c.in_ok-cleared.ensures.base ∙ ap (λ (v : DraftValue). v.base) c.draft-draft.ensures

@@ -35,7 +35,7 @@ taken_in-requires-clause-quiet c =
     let taken = subst (λ (h : ScheduleValue). IsTaken h.content c.args.text.now dag) (sym c.self.view_is) c.in_ok-dag.ensures.taken in
     let unknown = subst (λ (s : GraphSpec). list_any (λ (g : LoadedGraph). same g.dag.spec.dag_id s.dag_id) a.graphs ≡ false) c.spec.ensures.spec
     (ap (list_any (λ (g : LoadedGraph). same g.dag.spec.dag_id c.spec.result.now.dag_id)) (sym c.deref.ensures.value) ∙ c.in-None.ensures) in
-    subst (λ (h : ScheduleValue). has_runs h.content dag.spec.dag_id ≡ false) c.self.view_is (unknown_no_runs a dag.spec.dag_id c.self.invariant.kept.sound unknown)
+    subst (λ (h : ScheduleValue). has_runs h.content dag.spec.dag_id ≡ false) c.self.view_is (unknown_no_runs a dag.spec.dag_id c.self.invariant.held.kept.sound unknown)
 
 pub taken_in-requires-clause-accepted : goal.taken_in-requires-clause-accepted
 taken_in-requires-clause-accepted c =
@@ -49,7 +49,7 @@ taken_in-requires-clause-accepted c =
     (accepted_new a c.args.text.now dag taken unknown room)
 
 pub graph_change-requires-clause-sound : goal.graph_change-requires-clause-sound
-graph_change-requires-clause-sound c = subst (λ (h : ScheduleValue). IsSoundAndSaid h.content) c.self.view_is c.self.invariant.kept
+graph_change-requires-clause-sound c = subst (λ (h : ScheduleValue). IsSoundAndSaid h.content) c.self.view_is c.self.invariant.held.kept
 
 pub returns-then-is_same-clause-accepted : goal.returns-then-is_same-clause-accepted
 returns-then-is_same-clause-accepted c =
@@ -61,9 +61,9 @@ returns-then-is_same-clause-accepted c =
     (subst (λ (gs : List LoadedGraph). StandsAt c.spec.result.now.dag_id gs c.in-Some.place) c.deref.ensures.value c.in-Some.ensures) in
     let known = known_is a.graphs dag.spec.dag_id c.in-Some.place g stands c.index.ensures in
     let text_is : same g.text c.args.text.now ≡ true = sym c.if-is_same.ensures in
-    let accepted = accepted_same a c.args.text.now dag c.in-Some.place g c.self.invariant.kept taken known.0 known.1 text_is in
-    let is = again_change a c.args.text.now dag c.in-Some.place g c.self.invariant.kept taken.says known.0 known.1 text_is in
-    let made : IsDraftOf (Load c.args.text.now) a a = record { ranged = tt; accepted = accepted; kept = c.self.invariant.kept; is = is } in
+    let accepted = accepted_same a c.args.text.now dag c.in-Some.place g c.self.invariant.held.kept taken known.0 known.1 text_is in
+    let is = again_change a c.args.text.now dag c.in-Some.place g c.self.invariant.held.kept taken.says known.0 known.1 text_is in
+    let made : IsDraftOf (Load c.args.text.now) a a = record { ranged = tt; accepted = accepted; kept = c.self.invariant.held.kept; is = is } in
     draft_planned no_runs c.in_ok-graph_change-in-Some.field-0 (subst (λ (h : ScheduleValue). IsDraftOf (Load c.args.text.now) h.content h.content) c.self.view_is made)
     refl c.in_ok-graph_change-in-Some.ensures
 
@@ -79,7 +79,7 @@ returns-then-has_runs-clause-refused c =
     let other : same g.text c.args.text.now ≡ false = sym c.if-is_same.ensures in
     let runs = subst (λ (s : GraphSpec). has_runs a s.dag_id ≡ true) c.spec.ensures.spec
     (ap (list_any (λ (r : Run). same r.graph c.spec.result.now.dag_id)) (sym c.as_slice.ensures) ∙ sym c.if-has_runs.ensures) in
-    inr (record { first = subst (λ (h : ScheduleValue). refused h.content (Load c.args.text.now) ≡ Some refusal.GraphDiffers) c.self.view_is (refused_differs a c.args.text.now dag c.in-Some.place g c.self.invariant.kept taken known.0 known.1 other runs); shown = tt })
+    inr (record { first = subst (λ (h : ScheduleValue). refused h.content (Load c.args.text.now) ≡ Some refusal.GraphDiffers) c.self.view_is (refused_differs a c.args.text.now dag c.in-Some.place g c.self.invariant.held.kept taken known.0 known.1 other runs); shown = tt })
 
 pub taken_in-requires-in-Some-clause-accepted : goal.taken_in-requires-in-Some-clause-accepted
 taken_in-requires-in-Some-clause-accepted c =
@@ -94,7 +94,7 @@ taken_in-requires-in-Some-clause-accepted c =
     let runs = subst (λ (s : GraphSpec). has_runs a s.dag_id ≡ false) c.spec.ensures.spec
     (ap (list_any (λ (r : Run). same r.graph c.spec.result.now.dag_id)) (sym c.as_slice.ensures) ∙ sym c.if-has_runs.ensures) in
     subst (λ (h : ScheduleValue). refused h.content (Load c.args.text.now) ≡ None) c.self.view_is
-    (accepted_other a c.args.text.now dag c.in-Some.place g c.self.invariant.kept taken known.0 known.1 other runs)
+    (accepted_other a c.args.text.now dag c.in-Some.place g c.self.invariant.held.kept taken known.0 known.1 other runs)
 
 pub taken_in-requires-in-Some-clause-quiet : goal.taken_in-requires-in-Some-clause-quiet
 taken_in-requires-in-Some-clause-quiet c =

@@ -26,7 +26,7 @@ pub quiet_change-requires-clause-sound : goal.quiet_change-requires-clause-sound
 quiet_change-requires-clause-sound c =
     let a : Schedule = c.args.self.now.content in
     let id : List ℕ = c.args.id.now in
-    let kept = subst (λ (h : ScheduleValue). IsSoundAndSaid h.content) c.self.view_is c.self.invariant.kept in
+    let kept = subst (λ (h : ScheduleValue). IsSoundAndSaid h.content) c.self.view_is c.self.invariant.held.kept in
     let there : is_none (graph_named a c.args.id.now) ≡ false =
     looked_up a c.as_slice.result.now c.args.id.now c.graph_named.result c.is_none.result (c.as_slice.ensures.value ∙ ap (λ (h : ScheduleValue). h.content.graphs) c.self.view_is)
     c.graph_named.ensures c.is_none.ensures ∙ c.if-is_none.false in
@@ -36,8 +36,8 @@ pub returns-then-self-clause-accepted : goal.returns-then-self-clause-accepted
 returns-then-self-clause-accepted c =
     let a : Schedule = c.args.self.now.content in
     let id : List ℕ = c.args.id.now in
-    let still : IsSettled a = subst (λ (h : ScheduleValue). IsSettled h.content) c.self.view_is (c.self.invariant.settled c.if-self.true) in
-    let kept = subst (λ (h : ScheduleValue). IsSoundAndSaid h.content) c.self.view_is c.self.invariant.kept in
+    let still : IsSettled a = subst (λ (h : ScheduleValue). IsSettled h.content) c.self.view_is (c.self.invariant.held.settled c.if-self.true) in
+    let kept = subst (λ (h : ScheduleValue). IsSoundAndSaid h.content) c.self.view_is c.self.invariant.held.kept in
     let there : is_none (graph_named a c.args.id.now) ≡ false =
     looked_up a c.as_slice.result.now c.args.id.now c.graph_named.result c.is_none.result (c.as_slice.ensures.value ∙ ap (λ (h : ScheduleValue). h.content.graphs) c.self.view_is)
     c.graph_named.ensures c.is_none.ensures ∙ c.if-is_none.false in
@@ -57,7 +57,7 @@ drafted c =
     record {
       ranged = tt;
       accepted = pause_accepted a c.args.id.now there;
-      kept = subst (λ (h : ScheduleValue). IsSoundAndSaid h.content) c.self.view_is c.self.invariant.kept;
+      kept = subst (λ (h : ScheduleValue). IsSoundAndSaid h.content) c.self.view_is c.self.invariant.held.kept;
       is = pause_draft a c.draft-draft.result.content c.args.id.now (ap (λ (v : DraftValue). v.content) c.draft-draft.ensures);
     }
 

@@ -51,7 +51,7 @@ drafted c place =
     let a : Schedule = c.args.self.now.content in
     let es : Entries = c.self.inside.occupied.pools.pools in
     let pools : pools_in es ≡ a.pools = ap (λ (h : ScheduleValue). h.content.pools) c.self.view_is in
-    let kept : IsSoundAndSaid a = subst (λ (h : ScheduleValue). IsSoundAndSaid h.content) c.self.view_is c.self.invariant.kept in
+    let kept : IsSoundAndSaid a = subst (λ (h : ScheduleValue). IsSoundAndSaid h.content) c.self.view_is c.self.invariant.held.kept in
     let short : nat_le c.args.size 1000000 ≡ true = grind (arith, nat_tests, c.get-size.ensures.value, c.get-size.ensures.high) in
     let ranged : is_sound_pool (new_pool c.args.name.now c.args.size) ≡ true = and_from _ _ (ap is_name (sym c.as_str-name.ensures.text) ∙ c.as_str-name.ensures.name) short in
     record {
@@ -80,8 +80,8 @@ pub over-requires-clause-book : goal.over-requires-clause-book
 over-requires-clause-book c =
     let a : Schedule = c.args.self.now.content in
     let es : Entries = c.self.inside.occupied.pools.pools in
-    let kept : IsSoundAndSaid a = subst (λ (h : ScheduleValue). IsSoundAndSaid h.content) c.self.view_is c.self.invariant.kept in
-    let book : IsBookOf a es = subst (λ (h : ScheduleValue). IsBookOf h.content es) c.self.view_is c.self.invariant.occupied.pools in
+    let kept : IsSoundAndSaid a = subst (λ (h : ScheduleValue). IsSoundAndSaid h.content) c.self.view_is c.self.invariant.held.kept in
+    let book : IsBookOf a es = subst (λ (h : ScheduleValue). IsBookOf h.content es) c.self.view_is c.self.invariant.held.occupied.pools in
     let is : c.resize.new.self.pools ≡ resized c.args.name.now c.args.size es =
     c.in_ok-resize.ensures.pools ∙ (ap (λ n. resized n c.args.size c.in_ok-pools.pools.pools) c.in_ok-name.ensures ∙ ap (resized c.args.name.now c.args.size) c.in_ok-pools.ensures) in
     record { pools = refl; taken = resized_taken a c.args.name.now c.args.size es c.resize.new.self.pools kept.sound book is }

@@ -29,7 +29,7 @@ drafted c =
     record {
       ranged = tt;
       accepted = restart_accepted a c.args.lanes few;
-      kept = subst (λ (h : ScheduleValue). IsSoundAndSaid h.content) c.self.view_is c.self.invariant.kept;
+      kept = subst (λ (h : ScheduleValue). IsSoundAndSaid h.content) c.self.view_is c.self.invariant.held.kept;
       is = restart_draft a a c.set_lanes.new.self.content c.args.lanes refl (restarted c);
     }
 

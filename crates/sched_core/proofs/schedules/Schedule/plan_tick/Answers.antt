@@ -36,7 +36,7 @@ drafted c =
     record {
       ranged = dated;
       accepted = tick_accepted a t back full;
-      kept = subst (λ (h : ScheduleValue). IsSoundAndSaid h.content) c.self.view_is c.self.invariant.kept;
+      kept = subst (λ (h : ScheduleValue). IsSoundAndSaid h.content) c.self.view_is c.self.invariant.held.kept;
       is = tick_draft a c.draft-draft.result.content c.set_clock.new.self.content (added c) t c.in_ok-named.named.runs.items (ap (λ (v : DraftValue). v.content) c.draft-draft.ensures) (ap (λ (v : DraftValue). v.content) c.set_clock.ensures) c.in_ok-named.ensures.runs refl;
     }
 

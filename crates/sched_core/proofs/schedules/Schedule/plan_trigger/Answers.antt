@@ -35,7 +35,7 @@ drafted c =
     record {
       ranged = tt;
       accepted = hand_full a d id run (ap (λ (v : DraftValue). v.content) c.draft-draft.ensures) h false full;
-      kept = subst (λ (s : ScheduleValue). IsSoundAndSaid s.content) c.self.view_is c.self.invariant.kept;
+      kept = subst (λ (s : ScheduleValue). IsSoundAndSaid s.content) c.self.view_is c.self.invariant.held.kept;
       is = trigger_draft a d (added c) id run c.in_ok-runs.runs.items (ap (λ (v : DraftValue). v.content) c.draft-draft.ensures) h.1.1 c.in_ok-runs.ensures refl;
     }
 

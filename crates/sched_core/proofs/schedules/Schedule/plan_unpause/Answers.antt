@@ -28,7 +28,7 @@ drafted c =
     record {
       ranged = tt;
       accepted = pause_accepted a c.args.id.now there;
-      kept = subst (λ (h : ScheduleValue). IsSoundAndSaid h.content) c.self.view_is c.self.invariant.kept;
+      kept = subst (λ (h : ScheduleValue). IsSoundAndSaid h.content) c.self.view_is c.self.invariant.held.kept;
       is = unpause_draft a c.draft-draft.result.content c.args.id.now (ap (λ (v : DraftValue). v.content) c.draft-draft.ensures);
     }
 

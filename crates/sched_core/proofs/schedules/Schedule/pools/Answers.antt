@@ -8,4 +8,4 @@ use Rattle.sched_core.proofs.schedules.Schedule.pools.Goals as goal
 
 pub returns : goal.returns
 returns c =
-    ap (map row_in) c.iter.ensures.rest ∙ (rows_held c.self.inside.is_settled (content_inside c.self.inside) c.self.inside.occupied c.self.invariant ∙ ap (λ (h : ScheduleValue). pool_rows h.content) c.self.view_is)
+    ap (map row_in) c.iter.ensures.rest ∙ (rows_held c.self.inside.is_settled (content_inside c.self.inside) c.self.inside.occupied c.self.invariant.held ∙ ap (λ (h : ScheduleValue). pool_rows h.content) c.self.view_is)

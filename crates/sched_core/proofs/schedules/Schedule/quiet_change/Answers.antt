@@ -11,4 +11,4 @@ rows_of_graphs-requires c = alike_dags c.args.graphs c.args.self.now.content.gra
 pub invariant_of-result : goal.invariant_of-result
 invariant_of-result c =
     subst (λ (h : ScheduleValue). IsEffect (record { graphs = c.args.graphs; rest = None }) c.in_ok-rows.rows h.content) (sym c.of.ensures)
-    (record { keeps = quiet_keeps c.args.graphs c.args.self.now.content c.requires.sound c.requires.quiet c.requires.settled; edits = tt; rows_are = c.in_ok-rows.ensures })
+    (record { keeps = quiet_keeps c.args.graphs c.args.self.now.content c.requires.sound c.requires.quiet c.requires.settled; weighed = c.requires.weighed; edits = tt; rows_are = c.in_ok-rows.ensures })

@@ -1,4 +1,4 @@
-use Rattle.std.proofs.Common.{◌≡◌, ◌∙◌, ◌≤◌, ◌+◌, ◌-◌, length, subst, sym, vec_len, vec_capacity, ℕ, List, Option, Some}
+use Rattle.std.proofs.Common.{◌≡◌, ◌∙◌, ◌≤◌, ◌+◌, ◌-◌, length, min, subst, sym, vec_len, vec_capacity, ℕ, List, Option, Some}
 use Rattle.std.proofs.lemmas.Result.{on_ok_weaker}
 use Rattle.run_lists.specs.Rooms.{HasPlaces, all_added}
 use Rattle.sched_state.specs.declared.graphs.LoadedGraph.{LoadedGraph}
@@ -15,7 +15,7 @@ pub returns-in-Some-clause-room : goal.returns-in-Some-clause-room
 returns-in-Some-clause-room c =
     let a : Schedule = c.change.inside.before.value.content in
     let e : Effect = c.change.inside.effect in
-    let places : ℕ = vec_capacity c.room_for_graphs.new.graphs - vec_len c.room_for_graphs.new.graphs in
+    let places : ℕ = min (vec_capacity c.room_for_graphs.new.graphs - vec_len c.room_for_graphs.new.graphs) (vec_capacity c.room_for_graphs.new.weights - vec_len c.room_for_graphs.new.weights) in
     let room : ℕ = c.reserve.new.self.room in
     on_ok_weaker c.reserve.result
     (λ (fit : HasPlaces c.in-Some.rest.edits room). record {

@@ -1,8 +1,10 @@
 use Rattle.std.proofs.Common.{◌≡◌, ◌∙◌, ◌≤◌, ◌+◌, false, refl, sym, ap, subst, sum_by, List, true≢false}
+use Rattle.sched_state.specs.declared.graphs.LoadedGraph.{LoadedGraph}
 use Rattle.sched_state.specs.declared.runs.Run.{Run}
 use Rattle.sched_model.specs.Handout.{last_serial}
 use Rattle.sched_model.specs.States.{in_flight}
 use Rattle.record_restoring.specs.Parts.{schedule_in}
+use Rattle.sched_handout.specs.Weighing.{WeighGraphs}
 use Rattle.sched_handout.specs.declared.occupied.Occupied.{Occupied}
 use Rattle.sched_core.specs.Books.{IsHeldWith}
 use Rattle.sched_core.specs.Inside.{open_in}
@@ -21,5 +23,8 @@ invariant_of-result c =
     let h = c.in_ok-limits.ensures.restored in
     let flight : c.open_in_all-in_flight.result ≡ in_flight (schedule_in p) = c.open_in_all-in_flight.ensures ∙ (ap (sum_by open_in) c.deref.ensures.value ∙ sym (flight_is (schedule_in p) h.sound)) in
     let t : Occupied = record { in_flight = c.open_in_all-in_flight.result; pools = p.pools } in
-    subst (λ (rs : List Run). IsHeldWith false (record (schedule_in p) { runs = rs }) t) (sym c.in_ok-runs.ensures)
-    (record { kept = record { sound = h.sound; said = h.said }; settled = λ e. absurd (true≢false (sym e)); counted = h.counted; occupied = read_occupied (schedule_in p) t h.counted flight refl h.taken })
+    record {
+      held = subst (λ (rs : List Run). IsHeldWith false (record (schedule_in p) { runs = rs }) t) (sym c.in_ok-runs.ensures)
+          (record { kept = record { sound = h.sound; said = h.said }; settled = λ e. absurd (true≢false (sym e)); counted = h.counted; occupied = read_occupied (schedule_in p) t h.counted flight refl h.taken });
+      weights = subst (λ (gs : List LoadedGraph). WeighGraphs gs c.in_ok-weights.weights.items) c.as_slice.ensures.value c.in_ok-weights.ensures;
+    }

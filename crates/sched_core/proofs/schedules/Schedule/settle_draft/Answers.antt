@@ -9,7 +9,7 @@ settle_touched-requires-clause-keyed c = record { ordered = sound_ordered c.args
 
 pub settle_touched-requires-clause-ordered : goal.settle_touched-requires-clause-ordered
 settle_touched-requires-clause-ordered c =
-    subst IsOrdered (sym c.requires.based) (subst (λ (h : ScheduleValue). IsOrdered h.content) c.self.view_is (sound_ordered _ c.self.invariant.kept.sound))
+    subst IsOrdered (sym c.requires.based) (subst (λ (h : ScheduleValue). IsOrdered h.content) c.self.view_is (sound_ordered _ c.self.invariant.held.kept.sound))
 
 pub settle-requires : goal.settle-requires
 settle-requires c = record { ordered = sound_ordered c.args.draft.now.content c.requires.sound; graphs = c.requires.sound.graphs_by_id }

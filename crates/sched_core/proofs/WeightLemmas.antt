@@ -1,0 +1,72 @@
+-- Weights stay beside their graphs: where a graph is put in, replaced or paused.
+use Rattle.std.proofs.Common.{◌≡◌, ◌∙◌, refl, sym, ap, subst, ℕ, zero, suc, ◌<◌, ◌≤◌, List, [], ◌∷◌, ◌++◌, Bool, length, map, take, drop, insert, Option, Some, slice_get, slice_set, arith}
+use Rattle.std.specs.Global.{Vec}
+use Rattle.sched_state.specs.declared.graphs.LoadedGraph.{LoadedGraph}
+use Rattle.sched_model.specs.Changes.{pause_graph}
+use Rattle.sched_model.specs.Schedule.{Schedule}
+use Rattle.sched_model.specs.Settle.{settle}
+use Rattle.sched_laws.proofs.GraphLemmas.{paused_dag}
+use Rattle.sched_events.proofs.StepLemmas.{settle_graphs}
+use Rattle.sched_handout.specs.Weighing.{WeighTasks, WeighGraphs}
+use Rattle.sched_core.specs.Inside.{IsOver, drafted}
+use Rattle.sched_core.specs.declared.changes.GraphChange.{GraphChange}
+use Rattle.sched_core.specs.declared.changes.GraphChange.TheVariants as graphs
+
+-- ---- one graph before the others
+weigh_first : (g : LoadedGraph) (w : Vec ℕ) (gs : List LoadedGraph) (ws : List (Vec ℕ)) → WeighGraphs (g ∷ gs) (w ∷ ws) → WeighTasks g.dag w.items
+weigh_first g w gs ws h = h.each 0 g w refl refl
+
+weigh_rest : (g : LoadedGraph) (w : Vec ℕ) (gs : List LoadedGraph) (ws : List (Vec ℕ)) → WeighGraphs (g ∷ gs) (w ∷ ws) → WeighGraphs gs ws
+weigh_rest g w gs ws h = record { long = omega (arith, h.long); each = λ n k v e f. h.each (suc n) k v e f }
+
+weigh_before : (g : LoadedGraph) (w : Vec ℕ) (gs : List LoadedGraph) (ws : List (Vec ℕ)) → WeighTasks g.dag w.items → WeighGraphs gs ws → WeighGraphs (g ∷ gs) (w ∷ ws)
+weigh_before g w gs ws first rest = record { long = ap suc rest.long; each = λ n k v e f. at n k v e f }
+  where
+    at : (n : ℕ) (k : LoadedGraph) (v : Vec ℕ) → slice_get (g ∷ gs) n ≡ Some k → slice_get (w ∷ ws) n ≡ Some v → WeighTasks k.dag v.items
+    at zero k v e f =
+        let c : ◌≡◌ {A = Option LoadedGraph} (Some g) (Some k) = e in
+        let d : ◌≡◌ {A = Option (Vec ℕ)} (Some w) (Some v) = f in
+        let i : g ≡ k = cc in
+        let j : w ≡ v = cc in
+        subst (λ (x : LoadedGraph). WeighTasks x.dag v.items) i (subst (λ (y : Vec ℕ). WeighTasks g.dag y.items) j first)
+    at (suc n) k v e f = rest.each n k v e f
+
+-- ---- a graph that is replaced, and one that is put in
+pub weigh_set : (gs : List LoadedGraph) (ws : List (Vec ℕ)) (i : ℕ) (g : LoadedGraph) (w : Vec ℕ) → i < length gs → WeighGraphs gs ws → WeighTasks g.dag w.items
+    → WeighGraphs (slice_set gs i g) (slice_set ws i w)
+weigh_set [] ws i g w b h new = absurd (omega (arith, b))
+weigh_set (k ∷ gs) [] i g w b h new = absurd (omega (arith, h.long))
+weigh_set (k ∷ gs) (v ∷ ws) zero g w b h new = weigh_before g w gs ws new (weigh_rest k v gs ws h)
+weigh_set (k ∷ gs) (v ∷ ws) (suc i) g w b h new =
+    weigh_before k v (slice_set gs i g) (slice_set ws i w) (weigh_first k v gs ws h) (weigh_set gs ws i g w (omega (arith, b)) (weigh_rest k v gs ws h) new)
+
+weigh_put : (gs : List LoadedGraph) (ws : List (Vec ℕ)) (i : ℕ) (g : LoadedGraph) (w : Vec ℕ) → i ≤ length gs → WeighGraphs gs ws → WeighTasks g.dag w.items
+    → WeighGraphs (take i gs ++ (g ∷ drop i gs)) (take i ws ++ (w ∷ drop i ws))
+weigh_put [] [] zero g w b h new = weigh_before g w [] [] new h
+weigh_put [] [] (suc i) g w b h new = absurd (omega (arith, b))
+weigh_put [] (v ∷ ws) i g w b h new = absurd (omega (arith, h.long))
+weigh_put (k ∷ gs) [] i g w b h new = absurd (omega (arith, h.long))
+weigh_put (k ∷ gs) (v ∷ ws) zero g w b h new = weigh_before g w (k ∷ gs) (v ∷ ws) new h
+weigh_put (k ∷ gs) (v ∷ ws) (suc i) g w b h new =
+    weigh_before k v (take i gs ++ (g ∷ drop i gs)) (take i ws ++ (w ∷ drop i ws)) (weigh_first k v gs ws h) (weigh_put gs ws i g w (omega (arith, b)) (weigh_rest k v gs ws h) new)
+
+pub weigh_insert : (gs : List LoadedGraph) (ws : List (Vec ℕ)) (i : ℕ) (g : LoadedGraph) (w : Vec ℕ) → i ≤ length gs → WeighGraphs gs ws → WeighTasks g.dag w.items
+    → WeighGraphs (insert gs i g) (insert ws i w)
+weigh_insert gs ws i g w b h new = weigh_put gs ws i g w b h new
+
+-- ---- a graph that is paused or not
+pub weigh_paused : (id : List ℕ) (paused : Bool) (gs : List LoadedGraph) (ws : List (Vec ℕ)) → WeighGraphs gs ws → WeighGraphs (map (pause_graph id paused) gs) ws
+weigh_paused id paused [] ws h = h
+weigh_paused id paused (g ∷ gs) [] h = absurd (omega (arith, h.long))
+weigh_paused id paused (g ∷ gs) (w ∷ ws) h =
+    weigh_before (pause_graph id paused g) w (map (pause_graph id paused) gs) ws (subst (λ d. WeighTasks d w.items) (sym (paused_dag id paused g)) (weigh_first g w gs ws h))
+    (weigh_paused id paused gs ws (weigh_rest g w gs ws h))
+
+weigh_drafted : (g : GraphChange) (gs : List LoadedGraph) (ws : List (Vec ℕ)) → WeighGraphs gs ws → WeighGraphs (drafted g gs) ws
+weigh_drafted graphs.Same gs ws h = h
+weigh_drafted (graphs.Load text dag weights) gs ws h = h
+weigh_drafted (graphs.Pause id paused) gs ws h = weigh_paused id paused gs ws h
+
+-- so a draft over a schedule, settled, has the weights of the schedule's graphs
+pub weigh_settled : (g : GraphChange) (a b : Schedule) (ws : List (Vec ℕ)) → IsOver g a b → WeighGraphs a.graphs ws → WeighGraphs (settle b).graphs ws
+weigh_settled g a b ws over h = subst (λ (gs : List LoadedGraph). WeighGraphs gs ws) (sym (settle_graphs b ∙ over.graphs)) (weigh_drafted g a.graphs ws h)
