@@ -11,6 +11,7 @@ pub mod PastLemmas
 pub mod OrderLemmas
 pub mod BeforeLemmas
 pub mod FirstLemmas
+pub mod SpanLemmas
 pub mod PickLemmas
 pub mod PlaceLemmas
 pub mod HoldLemmas

@@ -21,7 +21,7 @@ use Rattle.run_lists.specs.Orders.{key_before, IsPositionFor, position_in_order}
 use Rattle.run_lists.proofs.PastLemmas.{all_get}
 
 -- ---- the order of keys
-key_total : IsTotalOrder (λ (k l : List ℕ × ℕ). ordering_then (name_cmp k.0 l.0) (nat_cmp k.1 l.1))
+pub key_total : IsTotalOrder (λ (k l : List ℕ × ℕ). ordering_then (name_cmp k.0 l.0) (nat_cmp k.1 l.1))
 key_total = then_total (on_total (λ (k : List ℕ × ℕ). k.0) nat_list_cmp_total) (on_total (λ (k : List ℕ × ℕ). k.1) nat_cmp_total)
 
 pub less_only : (o : Ordering) → is_less o ≡ true → o ≡ Less
@@ -142,7 +142,7 @@ any_none : {X : Type 0} (p : X → Bool) (xs : List X) → ((n : ℕ) (x : X) �
 any_none p [] h = refl
 any_none p (x ∷ xs) h = ap (λ b. b || list_any p xs) (h zero x refl) ∙ any_none p xs (λ n y g. h (suc n) y g)
 
-never : (o : Ordering) → o ≡ ordering_reverse o → is_less o ≡ false
+pub never : (o : Ordering) → o ≡ ordering_reverse o → is_less o ≡ false
 never Less e = cc
 never Equal e = refl
 never Greater e = refl

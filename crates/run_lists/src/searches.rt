@@ -4,7 +4,7 @@ ghost use Rattle.std.specs.List.{list_any};
 ghost use Rattle.sched_state.specs.Lists.{insert_by};
 ghost use Rattle.sched_model.specs.Lists.{rises};
 ghost use Rattle.sched_model.specs.Schedule.{is_at, run_before};
-ghost use Rattle.run_lists.specs.Orders.{IsFirstOf, IsPositionFor, IsRunAt, position_in_order};
+ghost use Rattle.run_lists.specs.Orders.{IsFirstOf, IsPositionFor, IsPositionFrom, IsRunAt, IsSpanOf, position_in_order};
 ghost use Rattle.run_lists.specs.Touched.{touched_with};
 
 use crate::Overlay;
@@ -13,6 +13,7 @@ use graph_file::Name;
 use moment_core::Moment;
 use sched_state::Run;
 use std::alloc::AllocError;
+use std::ops::Range;
 
 impl Overlay<'_> {
     /// Where a run of this graph and date would be put in: before the first run that it would stand before.
@@ -59,6 +60,27 @@ impl Overlay<'_> {
         } else {
             after
         }
+    }
+
+    // Where the runs begin that do not stand before one of this graph and date.
+    fn position_from(&self, graph: &Name, logical: Moment) -> usize
+        requires { rises run_before self.now.runs ≡ true }
+        ensures { IsPositionFrom graph.now logical self.now.runs result }
+    {
+        let after = self.position_for(graph, logical);
+        if after > 0 && has_key(self.get(after - 1), graph, logical) {
+            after - 1
+        } else {
+            after
+        }
+    }
+
+    /// The positions of the runs of this graph with a date from the first to the last, both among them: they stand one after another.
+    pub fn span_of(&self, graph: &Name, first: Moment, last: Moment) -> Range<usize>
+        requires { rises run_before self.now.runs ≡ true }
+        ensures { IsSpanOf graph.now first last self.now.runs result.start result.end }
+    {
+        self.position_from(graph, first)..self.position_for(graph, last)
     }
 
     /// A run is put in at its place in the order, and touched; those behind it stand one position further on. Where a run with its key is

@@ -8,7 +8,7 @@ ghost use Rattle.instance_machine.specs.Instances.{map_tries};
 ghost use Rattle.instance_machine.specs.Reports.{reported_try, lost_try};
 ghost use Rattle.trigger_rules.specs.declared.verdicts.Verdict.TheVariants.{Wait};
 ghost use Rattle.run_lists.specs.Edits.{AreEditsOf, edited};
-ghost use Rattle.run_lists.specs.Orders.{IsFirstOf, IsRunAt, position_in_order};
+ghost use Rattle.run_lists.specs.Orders.{IsFirstOf, IsRunAt, IsSpanOf, position_in_order};
 ghost use Rattle.run_lists.specs.Overlays.{AreAllTouched};
 ghost use Rattle.run_lists.specs.Positions.{positions_where, stands};
 ghost use Rattle.run_lists.specs.Touched.{touched_with};
@@ -32,6 +32,7 @@ use run_lists::{Edits, Overlay, Runs};
 use sched_state::{Limits, LoadedGraph, Run, RunPhase};
 use std::alloc::{AllocError, Global};
 use std::marker::Model;
+use std::ops::Range;
 use trigger_rules::Verdict;
 
 /// A schedule that is being made over one that is there. Its graphs are those of that schedule, of which one may have another pause, and
@@ -170,6 +171,15 @@ impl<'a> Draft<'a> {
         ensures { IsFirstOf graph.now self.now.content.runs result }
     {
         self.runs.first_of(graph)
+    }
+
+    /// The positions of the runs of this graph with a date from the first to the last, both among them: they stand one after another. They are found
+    /// by binary searches.
+    pub fn span_of(&self, graph: &Name, first: Moment, last: Moment) -> Range<usize>
+        requires { rises run_before self.now.content.runs ≡ true }
+        ensures { IsSpanOf graph.now first last self.now.content.runs result.start result.end }
+    {
+        self.runs.span_of(graph, first, last)
     }
 
     /// The position of the run of this graph and date.
