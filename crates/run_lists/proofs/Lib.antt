@@ -10,7 +10,6 @@ pub mod LawLemmas
 pub mod PastLemmas
 pub mod OrderLemmas
 pub mod BeforeLemmas
-pub mod FirstLemmas
 pub mod SpanLemmas
 pub mod PickLemmas
 pub mod PlaceLemmas

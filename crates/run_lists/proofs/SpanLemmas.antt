@@ -16,7 +16,7 @@ use Rattle.sched_state.proofs.NameLemmas.{same_is}
 use Rattle.sched_state.proofs.OrderLemmas.{and_left, and_right}
 use Rattle.sched_model.specs.Lists.{rises}
 use Rattle.sched_model.specs.Schedule.{is_at, run_before}
-use Rattle.run_lists.specs.Orders.{IsPositionFor, IsPositionFrom, IsSpanOf, is_in_span, key_before, stands_before}
+use Rattle.run_lists.specs.Orders.{IsFirstOf, IsPositionFor, IsPositionFrom, IsSpanOf, graph_below, is_in_span, key_before, stands_before}
 use Rattle.run_lists.proofs.OrderLemmas.{key_same, key_total, less_only, never, rise_pair}
 use Rattle.run_lists.proofs.PlaceLemmas.{by_bool}
 
@@ -166,3 +166,25 @@ span_is id first last rs p q from for = record {
     and_false : (b : Bool) → (b && false) ≡ false
     and_false true = refl
     and_false false = refl
+
+-- ---- where the runs of a graph begin
+below_by : (id : List ℕ) (r : Run) → stands_before id 0 r ≡ true → graph_below id r ≡ true
+below_by id r e = elim (name_cmp r.graph id) as (λ o. is_less (ordering_then o (nat_cmp r.logical 0)) ≡ true → is_less o ≡ true) [
+  | Less ↦ λ f. refl
+  | Equal ↦ λ f. let l : r.logical < 0 = below r.logical 0 f in absurd (omega (arith, l))
+  | Greater ↦ λ f. f
+] e
+
+not_below_by : (id : List ℕ) (r : Run) → stands_before id 0 r ≡ false → graph_below id r ≡ false
+not_below_by id r e = elim (name_cmp r.graph id) as (λ o. is_less (ordering_then o (nat_cmp r.logical 0)) ≡ false → is_less o ≡ false) [
+  | Less ↦ λ f. f
+  | Equal ↦ λ f. refl
+  | Greater ↦ λ f. refl
+] e
+
+pub first_is : (id : List ℕ) (rs : List Run) (p : ℕ) → IsPositionFrom id 0 rs p → IsFirstOf id rs p
+first_is id rs p from = record {
+  within = from.within;
+  before = λ n r l g. below_by id r (from.passed n r l g);
+  reached = λ n r l g. not_below_by id r (from.reached n r l g);
+}

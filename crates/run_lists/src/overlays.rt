@@ -174,27 +174,13 @@ impl<'a> Overlay<'a> {
     pub fn running(&self, alloc: Global) -> Result<Vec<usize>, AllocError>
         ensures { IfOk result (λ positions. positions.items ≡ positions_where (stands true) self.now.runs) }
     {
-        self.standing(alloc, true)
-    }
-
-    /// The same, of the runs that are queued.
-    pub fn queued(&self, alloc: Global) -> Result<Vec<usize>, AllocError>
-        ensures { IfOk result (λ positions. positions.items ≡ positions_where (stands false) self.now.runs) }
-    {
-        self.standing(alloc, false)
-    }
-
-    // The positions of the runs that are running, in their order, or else of those that are queued.
-    fn standing(&self, alloc: Global, running: bool) -> Result<Vec<usize>, AllocError>
-        ensures { IfOk result (λ positions. positions.items ≡ positions_where (stands running) self.now.runs) }
-    {
-        let mut positions = self.base.standing(running).to_vec(alloc)?;
+        let mut positions = self.base.running().to_vec(alloc)?;
         // So no position can pass the greatest number.
         prove!(self.base.len() <= usize::MAX / 4);
         let mut place = self.edits.len();
         while place > 0 {
             place -= 1;
-            place_edit(&mut positions, &self.edits[place], running)?;
+            place_edit(&mut positions, &self.edits[place])?;
         }
         Ok(positions)
     }

@@ -129,19 +129,14 @@ pub fn make_room(positions: &mut Vec<usize>, count: usize) -> Result<(), AllocEr
     positions.reserve(count - positions.len())
 }
 
-/// The run was put in or written over where the edit says, among the runs that were there: whether its position is one of these now. An `Err`
-/// says that memory ran out.
-pub fn place_edit(positions: &mut Vec<usize>, edit: &Edit, running: bool) -> Result<(), AllocError>
+/// The run was put in or written over where the edit says, among the runs that were there: whether its position is one of these now, which
+/// are those of running runs. An `Err` says that memory ran out.
+pub fn place_edit(positions: &mut Vec<usize>, edit: &Edit) -> Result<(), AllocError>
     requires rising { rises nat_lt positions.old.items ≡ true }
     requires small { list_all (λ n. nat_lt (n + 1) (2 ^ 64)) positions.old.items ≡ true }
-    ensures { OnOk result (positions.new.items ≡ placed edit.now.is_new (stands running edit.now.run) edit.now.from positions.old.items) }
+    ensures { OnOk result (positions.new.items ≡ placed edit.now.is_new (stands true edit.now.run) edit.now.from positions.old.items) }
 {
     positions.reserve(1)?;
-    place(
-        positions,
-        edit.is_new,
-        edit.from,
-        stands(&edit.run, running),
-    );
+    place(positions, edit.is_new, edit.from, stands(&edit.run, true));
     Ok(())
 }

@@ -48,20 +48,6 @@ impl Overlay<'_> {
         }
     }
 
-    /// Where the runs of this graph begin, or would: they stand from there on, one after another.
-    pub fn first_of(&self, graph: &Name) -> usize
-        requires { rises run_before self.now.runs ≡ true }
-        ensures { IsFirstOf graph.now self.now.runs result }
-    {
-        // A run of the earliest date stands before that position.
-        let after = self.position_for(graph, Moment::at(0));
-        if after > 0 && self.get(after - 1).graph == *graph {
-            after - 1
-        } else {
-            after
-        }
-    }
-
     // Where the runs begin that do not stand before one of this graph and date.
     fn position_from(&self, graph: &Name, logical: Moment) -> usize
         requires { rises run_before self.now.runs ≡ true }
@@ -73,6 +59,14 @@ impl Overlay<'_> {
         } else {
             after
         }
+    }
+
+    /// Where the runs of this graph begin, or would: they stand from there on, one after another.
+    pub fn first_of(&self, graph: &Name) -> usize
+        requires { rises run_before self.now.runs ≡ true }
+        ensures { IsFirstOf graph.now self.now.runs result }
+    {
+        self.position_from(graph, Moment::at(0))
     }
 
     /// The positions of the runs of this graph with a date from the first to the last, both among them: they stand one after another.

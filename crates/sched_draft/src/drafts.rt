@@ -150,13 +150,6 @@ impl<'a> Draft<'a> {
         self.runs.running(alloc)
     }
 
-    /// The same, of the runs that are queued.
-    pub fn queued(&self, alloc: Global) -> Result<Vec<usize>, AllocError>
-        ensures { IfOk result (λ positions. positions.items ≡ positions_where (stands false) self.now.content.runs) }
-    {
-        self.runs.queued(alloc)
-    }
-
     /// The run at a position.
     pub fn run(&self, position: usize) -> &Run
         requires { position < length self.now.content.runs }
