@@ -7,6 +7,7 @@ pub mod MarkLemmas
 pub mod TouchLemmas
 pub mod WriteLemmas
 pub mod LawLemmas
+pub mod KeyLemmas
 pub mod PastLemmas
 pub mod OrderLemmas
 pub mod BeforeLemmas

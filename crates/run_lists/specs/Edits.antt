@@ -1,9 +1,11 @@
 -- The edits that make the runs after an event of those before: which they are, and where each run stands.
-use Rattle.std.specs.Prelude.{◌≡◌, ℕ, zero, suc, ◌+◌, ◌^◌, ◌<◌, ◌≤◌, Bool, true, false, List, [], ◌∷◌, length, map, Some, Result, Ok, Err, slice_get, slice_index_or}
+use Rattle.std.specs.Prelude.{◌≡◌, ℕ, zero, suc, ◌+◌, ◌^◌, ◌<◌, ◌≤◌, Bool, true, false, ◌&&◌, List, [], ◌∷◌, length, map, Option, Some, Result, Ok, Err, slice_get, slice_index_or}
 use Rattle.std.specs.List.{insert}
 use Rattle.std.specs.List.Sorted.{IsNonDecreasingBy}
 use Rattle.sched_state.specs.declared.runs.Run.{Run}
+use Rattle.graph_file.specs.Lists.{when}
 use Rattle.sched_model.specs.Lists.{at}
+use Rattle.sched_model.specs.Schedule.{is_at}
 use Rattle.run_lists.specs.declared.edits.Edit.{Edit}
 use Rattle.run_lists.specs.Marks.{HasKeyOf}
 
@@ -20,6 +22,14 @@ puts new old (e ∷ es) xs = put_in e.is_new e.from (new e.run) (old e.run) (put
 -- the runs that edits make of runs
 abbrev pub edited : List Edit → List Run → List Run
 edited es rs = puts (λ r. r) (λ r _. r) es rs
+
+-- the run that an edit adds, where it adds one
+abbrev pub added_run : Edit → Option Run
+added_run e = when e.is_new e.run
+
+-- whether it adds a run of this graph and date
+abbrev pub adds : List ℕ → ℕ → Edit → Bool
+adds id date e = e.is_new && is_at id date e.run
 
 -- how many runs an edit adds, and how many it hides
 abbrev pub added : Bool → ℕ

@@ -3,7 +3,8 @@
 //! An edit has two positions. That among the runs that were there (`from`) never changes; that among all runs (`at`) is one further for
 //! each run that an edit before it adds. So edits are found by `at`, and written by it, the first one first.
 ghost use Rattle.std.specs.Prelude.{◌≡◌, ◌+◌, ◌≤◌, length, IfOk};
-ghost use Rattle.run_lists.specs.Edits.{AreInOrder, AreCounted, AreFewFrom, AreBelow, AreFrom, IsFound, added_by, moved_from, positions_in};
+ghost use Rattle.std.specs.Option.{option_copied};
+ghost use Rattle.run_lists.specs.Edits.{added_run, AreInOrder, AreCounted, AreFewFrom, AreBelow, AreFrom, IsFound, added_by, moved_from, positions_in};
 
 use sched_state::Run;
 use std::alloc::{AllocError, Global};
@@ -36,6 +37,24 @@ impl Model for Edits {
     ghost Value = { List Edit };
 
     ghost view = { λ e. e.edits.items };
+}
+
+impl Edit {
+    /// The run that it adds, where it adds one.
+    pub fn added(&self) -> Option<&Run>
+        ensures { option_copied result ≡ added_run self.now }
+    {
+        if self.is_new { Some(&self.run) } else { None }
+    }
+}
+
+impl Edits {
+    /// The edits, in the order of their positions.
+    pub fn as_slice(&self) -> &[Edit]
+        ensures { result.now ≡ self.now }
+    {
+        self.edits.as_slice()
+    }
 }
 
 // How many edits are of positions below.

@@ -2,13 +2,16 @@
 //! were not touched.
 ghost use Rattle.std.specs.Prelude.{◌≡◌, ℕ, ◌+◌, ◌==◌, ◌||◌, true, false, List, [], sum_by, flat_map, Contains, Some, slice_get};
 ghost use Rattle.std.specs.BTreeSet.{insert_key};
+ghost use Rattle.std.specs.List.{list_any};
 ghost use Rattle.std.specs.Option.{option_to_list};
 ghost use Rattle.std.specs.Ordering.{nat_cmp};
 ghost use Rattle.dag_check.specs.Orders.{is_in};
 ghost use Rattle.sched_state.specs.declared.runs.Run.{Run};
 ghost use Rattle.sched_model.specs.Lists.{last_passing, rises};
-ghost use Rattle.sched_model.specs.Schedule.{run_before};
+ghost use Rattle.sched_model.specs.Schedule.{is_at, run_before};
 ghost use Rattle.sched_model.specs.States.{is_earlier};
+ghost use Rattle.run_lists.specs.declared.edits.Edit.{Edit};
+ghost use Rattle.run_lists.specs.Edits.{AreEditsOf, adds, edited};
 ghost use Rattle.run_lists.specs.Marks.{Mark, Over, Kept, touched_runs, replaced_runs, is_touched_at, touched_in, HasKeyOf};
 ghost use Rattle.run_lists.specs.Past.{neighbour, follows_touched};
 
@@ -46,6 +49,13 @@ pub fn touched_runs_stand_at_their_positions()
 /// A position that is put in is touched, and each other position is touched that was, and no more.
 pub fn one_position_more_is_touched()
     ensures { (m n : ℕ) (ns : List ℕ) → is_in (insert_key nat_cmp ns n) m ≡ (n == m || is_in ns m) }
+{}
+
+/// A run of a graph and date is there after edits exactly if one was there before, or the edits add one.
+pub fn keys_go_by_added_runs()
+    ensures { (id : List ℕ) (date : ℕ) (es : List Edit) (rs : List Run) → AreEditsOf rs es
+        → list_any (is_at id date) (edited es rs)
+        ≡ (list_any (adds id date) es || list_any (is_at id date) rs) }
 {}
 
 /// The last earlier run of a run's graph stands right before it.

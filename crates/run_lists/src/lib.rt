@@ -20,9 +20,9 @@ mod searches;
 
 pub use edits::{Edit, Edits};
 pub use laws::{
-    lists_go_by_touched_runs, no_run_is_lost, one_position_more_is_touched, other_runs_were_there,
-    sums_go_by_touched_runs, the_order_was_kept, the_past_goes_by_touched_runs,
-    the_past_stands_before, touched_runs_stand_at_their_positions,
+    keys_go_by_added_runs, lists_go_by_touched_runs, no_run_is_lost, one_position_more_is_touched,
+    other_runs_were_there, sums_go_by_touched_runs, the_order_was_kept,
+    the_past_goes_by_touched_runs, the_past_stands_before, touched_runs_stand_at_their_positions,
 };
 pub use overlays::Overlay;
 pub use runs::Runs;
