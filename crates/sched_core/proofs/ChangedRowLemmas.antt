@@ -115,28 +115,28 @@ each_dag gs hs (q ∷ rs) all (suc n) r e = each_dag gs hs rs all.1 n r e
 
 pub alike_dags : (g : GraphChange) (gs : List LoadedGraph) (b : Schedule) → IsLast g b → HaveSameDags gs (changed g gs) b.runs
 alike_dags graphs.Same gs b last = λ n r e. refl
-alike_dags (graphs.Load text dag weights) gs b last = each_dag gs (with_graph text dag gs) b.runs (dags_found gs (with_graph text dag gs) b.runs (found_after text dag gs b.runs last))
+alike_dags (graphs.Load text dag weights dates) gs b last = each_dag gs (with_graph text dag gs) b.runs (dags_found gs (with_graph text dag gs) b.runs (found_after text dag gs b.runs last))
 alike_dags (graphs.Pause id paused) gs b last = λ n r e. same_dag_paused id paused gs r.graph
 
 pub last_after : (g : GraphChange) (b : Schedule) → IsLast g b → IsLast g (hand_out (settle b))
 last_after graphs.Same b last = tt
-last_after (graphs.Load text dag weights) b last = no_runs_after b dag.spec.dag_id ∙ last
+last_after (graphs.Load text dag weights dates) b last = no_runs_after b dag.spec.dag_id ∙ last
 last_after (graphs.Pause id paused) b last = tt
 
 -- ---- a draft, and what it is made into
 drafted_dags : (g : GraphChange) (gs : List LoadedGraph) (rs : List Run) → HaveSameDags gs (drafted g gs) rs
 drafted_dags graphs.Same gs rs = λ n r e. refl
-drafted_dags (graphs.Load text dag weights) gs rs = λ n r e. refl
+drafted_dags (graphs.Load text dag weights dates) gs rs = λ n r e. refl
 drafted_dags (graphs.Pause id paused) gs rs = λ n r e. same_dag_paused id paused gs r.graph
 
 drafted_alike : (g : GraphChange) (gs : List LoadedGraph) (b : Schedule) → IsLast g b → HaveSameDags (drafted g gs) (changed g gs) b.runs
 drafted_alike graphs.Same gs b last = λ n r e. refl
-drafted_alike (graphs.Load text dag weights) gs b last = alike_dags (graphs.Load text dag weights) gs b last
+drafted_alike (graphs.Load text dag weights dates) gs b last = alike_dags (graphs.Load text dag weights dates) gs b last
 drafted_alike (graphs.Pause id paused) gs b last = λ n r e. refl
 
 completed_over : (g : GraphChange) (a d : Schedule) → IsOver g a d → completed g d ≡ record d { graphs = changed g a.graphs }
 completed_over graphs.Same a d over = ap (λ gs. record d { graphs = gs }) over.graphs
-completed_over (graphs.Load text dag weights) a d over = ap (λ gs. record d { graphs = with_graph text dag gs }) over.graphs
+completed_over (graphs.Load text dag weights dates) a d over = ap (λ gs. record d { graphs = with_graph text dag gs }) over.graphs
 completed_over (graphs.Pause id paused) a d over = ap (λ gs. record d { graphs = gs }) over.graphs
 
 pub draft_dags : (g : GraphChange) (a d : Schedule) → IsOver g a d → SameDags a d

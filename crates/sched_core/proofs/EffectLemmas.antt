@@ -39,13 +39,13 @@ rest_graphs (Some n) a = refl
 -- ---- changes that enable nothing
 pub quiet_settled : (g : GraphChange) (a : Schedule) → IsQuiet g a → IsSettled a → IsSettled (with_change g a)
 quiet_settled graphs.Same a quiet still = still
-quiet_settled (graphs.Load text dag weights) a quiet still = record { settled = load_still text dag a quiet still.settled; handed = load_no_hand text dag a quiet still.handed }
+quiet_settled (graphs.Load text dag weights dates) a quiet still = record { settled = load_still text dag a quiet still.settled; handed = load_no_hand text dag a quiet still.handed }
 quiet_settled (graphs.Pause id paused) a quiet still =
     subst (λ (p : Bool). IsSettled (set_paused id p a)) (sym quiet) (record { settled = pause_still id a still.settled; handed = pause_no_hand id a still.handed })
 
 quiet_open : (g : GraphChange) (a : Schedule) → IsQuiet g a → open_tries (with_change g a) ≡ open_tries a
 quiet_open graphs.Same a quiet = refl
-quiet_open (graphs.Load text dag weights) a quiet = load_open text dag a quiet
+quiet_open (graphs.Load text dag weights dates) a quiet = load_open text dag a quiet
 quiet_open (graphs.Pause id paused) a quiet = open_paused id paused a
 
 pub quiet_keeps : (g : GraphChange) (a : Schedule) → IsSoundAndSaid (with_change g a) → IsQuiet g a → IsSettled a → KeepsHold (record { graphs = g; rest = None }) a
@@ -61,12 +61,23 @@ quiet_step g a quiet still =
 -- and in any they may be made last
 pub quiet_last : (g : GraphChange) (a : Schedule) → IsQuiet g a → IsLast g a
 quiet_last graphs.Same a quiet = tt
-quiet_last (graphs.Load text dag weights) a quiet = quiet
+quiet_last (graphs.Load text dag weights dates) a quiet = quiet
 quiet_last (graphs.Pause id paused) a quiet = tt
+
+-- and then too
+pub quiet_after : (g : GraphChange) (a : Schedule) → IsQuiet g a → IsLast g (with_change g a)
+quiet_after graphs.Same a quiet = tt
+quiet_after (graphs.Load text dag weights dates) a quiet = quiet
+quiet_after (graphs.Pause id paused) a quiet = tt
+
+pub completed_last : (g : GraphChange) (b : Schedule) → IsLast g b → IsLast g (completed g b)
+completed_last graphs.Same b last = tt
+completed_last (graphs.Load text dag weights dates) b last = last
+completed_last (graphs.Pause id paused) b last = tt
 
 pub made_last : (g : GraphChange) (a : Schedule) → IsQuiet g a → IsOver g a a → completed g (hand_out (settle a)) ≡ hand_out (settle (with_change g a))
 made_last graphs.Same a quiet over = refl
-made_last (graphs.Load text dag weights) a quiet over = sym (load_beside text dag a quiet)
+made_last (graphs.Load text dag weights dates) a quiet over = sym (load_beside text dag a quiet)
 made_last (graphs.Pause id paused) a quiet over = ap (λ gs. let b : Schedule = record a { graphs = gs } in hand_out (settle b)) over.graphs
 
 -- so a quiet change is what the change and what follows of it are, with no try handed out
@@ -82,7 +93,7 @@ quiet_whole g a c quiet still is =
 -- ---- changes that are made last
 last_jobs : (g : GraphChange) (a b : Schedule) → IsLast g b → handed a (completed g (hand_out (settle b))) ≡ handed a (hand_out (settle b))
 last_jobs graphs.Same a b last = refl
-last_jobs (graphs.Load text dag weights) a b last = load_handed text dag a (hand_out (settle b)) (no_runs_after b dag.spec.dag_id ∙ last)
+last_jobs (graphs.Load text dag weights dates) a b last = load_handed text dag a (hand_out (settle b)) (no_runs_after b dag.spec.dag_id ∙ last)
 last_jobs (graphs.Pause id paused) a b last = refl
 
 pub last_whole : (g : GraphChange) (a d : Schedule) (answer : Answer) (c : Planned) → IsQuiet g a → IsOver g a a → d ≡ a → answer ≡ no_runs

@@ -53,7 +53,7 @@ drafted_is g a b d qs now lanes next runs over end pools_are now_is lanes_is nex
 completed_by : (g : GraphChange) (a : Schedule) (qs : List Pool) (now lanes next : ℕ) (runs : List Run)
     → record a { graphs = changed g a.graphs; pools = qs; now = now; lanes = lanes; next = next; runs = runs } ≡ completed g (record a { graphs = drafted g a.graphs; pools = qs; now = now; lanes = lanes; next = next; runs = runs })
 completed_by graphs.Same a qs now lanes next runs = refl
-completed_by (graphs.Load text dag weights) a qs now lanes next runs = refl
+completed_by (graphs.Load text dag weights dates) a qs now lanes next runs = refl
 completed_by (graphs.Pause id paused) a qs now lanes next runs = refl
 
 pub finished_is : (g : GraphChange) (a b d : Schedule) (qs : List Pool) (now lanes next : ℕ) (runs : List Run) → IsOver g a b → d ≡ hand_out (settle b)
@@ -64,12 +64,12 @@ finished_is g a b d qs now lanes next runs over end pools_are now_is lanes_is ne
 
 completed_open : (g : GraphChange) (b : Schedule) → IsLast g b → open_tries (completed g (hand_out (settle b))) ≡ open_tries (hand_out (settle b))
 completed_open graphs.Same b last = refl
-completed_open (graphs.Load text dag weights) b last = load_open text dag (hand_out (settle b)) (no_runs_after b dag.spec.dag_id ∙ last)
+completed_open (graphs.Load text dag weights dates) b last = load_open text dag (hand_out (settle b)) (no_runs_after b dag.spec.dag_id ∙ last)
 completed_open (graphs.Pause id paused) b last = refl
 
 completed_pools : (g : GraphChange) (b : Schedule) → (completed g b).pools ≡ b.pools
 completed_pools graphs.Same b = refl
-completed_pools (graphs.Load text dag weights) b = refl
+completed_pools (graphs.Load text dag weights dates) b = refl
 completed_pools (graphs.Pause id paused) b = refl
 
 -- settling leaves the next serial

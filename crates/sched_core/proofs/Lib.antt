@@ -2,6 +2,8 @@ pub mod InsertLemmas
 pub mod GraphLemmas
 pub mod TakeInLemmas
 pub mod WeightLemmas
+pub mod DateLemmas
+pub mod KeptLemmas
 pub mod LoadingLemmas
 pub mod PlanLemmas
 pub mod FindLemmas

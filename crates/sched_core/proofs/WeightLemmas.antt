@@ -64,7 +64,7 @@ weigh_paused id paused (g ∷ gs) (w ∷ ws) h =
 
 weigh_drafted : (g : GraphChange) (gs : List LoadedGraph) (ws : List (Vec ℕ)) → WeighGraphs gs ws → WeighGraphs (drafted g gs) ws
 weigh_drafted graphs.Same gs ws h = h
-weigh_drafted (graphs.Load text dag weights) gs ws h = h
+weigh_drafted (graphs.Load text dag weights dates) gs ws h = h
 weigh_drafted (graphs.Pause id paused) gs ws h = weigh_paused id paused gs ws h
 
 -- so a draft over a schedule, settled, has the weights of the schedule's graphs

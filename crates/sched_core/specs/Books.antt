@@ -5,6 +5,7 @@ use Rattle.sched_model.specs.Schedule.{Schedule}
 use Rattle.sched_model.specs.States.{occupied}
 use Rattle.sched_draft.specs.Books.{pools_in}
 use Rattle.sched_handout.specs.Occupied.{AreOccupied}
+use Rattle.sched_creation.specs.Dates.{HaveDates}
 use Rattle.sched_handout.specs.Weighing.{WeighGraphs}
 use Rattle.sched_handout.specs.declared.occupied.Occupied.{Occupied}
 use Rattle.sched_events.specs.SettledAndSound.{IsSoundAndSaid, IsSettled}
@@ -33,7 +34,8 @@ pub record IsHeldWith (is_settled : Bool) (a : Schedule) (t : Occupied) : Type 0
   pub counted : IsCounted a
   pub occupied : AreOccupied a t
 
--- with these numbers it is held, and these are the weights of its graphs
+-- with these numbers it is held, and these are the weights of its graphs, and the dates of their runs
 pub record IsKept (s : Inside) : Type 0 where
   pub held : IsHeldWith s.is_settled (content_inside s) s.occupied
   pub weights : WeighGraphs s.graphs.items s.weights.items
+  pub dates : HaveDates s.graphs.items s.runs.runs s.dates.items

@@ -1,5 +1,5 @@
 -- What the effect of a change makes of a schedule, and of what is occupied in it.
-use Rattle.std.specs.Prelude.{◌≡◌, Bool, true, false, List, Option, Some, None, map}
+use Rattle.std.specs.Prelude.{◌≡◌, Bool, true, false, List, [], Option, Some, None, map}
 use Rattle.sched_state.specs.declared.graphs.LoadedGraph.{LoadedGraph}
 use Rattle.run_lists.specs.Edits.{AreEditsOf, edited}
 use Rattle.sched_model.specs.Schedule.{Schedule, has_runs}
@@ -10,6 +10,7 @@ use Rattle.sched_handout.specs.declared.occupied.Occupied.{Occupied}
 use Rattle.record_rows.specs.Rows.{Rows}
 use Rattle.record_changes.specs.Changes.{rows_between}
 use Rattle.sched_core.specs.Books.{IsHeldWith}
+use Rattle.sched_core.specs.Inside.{IsLast}
 use Rattle.sched_core.specs.declared.changes.Effect.{Effect}
 use Rattle.sched_core.specs.declared.changes.GraphChange.{GraphChange}
 use Rattle.sched_core.specs.declared.changes.GraphChange.TheVariants as graphs
@@ -18,7 +19,7 @@ use Rattle.sched_core.specs.declared.changes.Rest.{Rest}
 -- what a change makes of the graphs
 abbrev pub changed : GraphChange → List LoadedGraph → List LoadedGraph
 changed graphs.Same gs = gs
-changed (graphs.Load text dag weights) gs = with_graph text dag gs
+changed (graphs.Load text dag weights dates) gs = with_graph text dag gs
 changed (graphs.Pause id paused) gs = map (pause_graph id paused) gs
 
 -- and of a schedule
@@ -47,21 +48,22 @@ numbers_after (Some n) t = n.occupied
 abbrev pub KeepsHold : Effect → Schedule → Type 0
 KeepsHold e a = (t : Occupied) (is_settled : Bool) → IsHeldWith is_settled a t → IsHeldWith true (applied e a) (numbers_after e.rest t)
 
--- a text that is taken in brings the weights of its graph
+-- a text that is taken in brings the weights of its graph, and no date
 abbrev pub IsWeighed : GraphChange → Type 0
 IsWeighed graphs.Same = Unit {0}
-IsWeighed (graphs.Load text dag weights) = WeighTasks dag weights.items
+IsWeighed (graphs.Load text dag weights dates) = WeighTasks dag weights.items × (dates.dates ≡ [])
 IsWeighed (graphs.Pause id paused) = Unit {0}
 
--- so it keeps the hold, brings weights with a text, its edits are of the schedule's runs, and these are the rows that the schedule lacks after it
+-- so it keeps the hold, brings weights with a text, which is of a graph without runs, its edits are of the schedule's runs, and these are the rows that the schedule lacks after it
 pub record IsEffect (e : Effect) (rows : Rows) (a : Schedule) : Type 0 where
   pub keeps : KeepsHold e a
   pub weighed : IsWeighed e.graphs
+  pub last : IsLast e.graphs (applied e a)
   pub edits : AreOfRuns e.rest a
   pub rows_are : rows ≡ rows_between a (applied e a)
 
 -- the change enables nothing in a schedule: a text takes in a graph without runs, or a graph is paused
 abbrev pub IsQuiet : GraphChange → Schedule → Type 0
 IsQuiet graphs.Same a = Unit {0}
-IsQuiet (graphs.Load text dag weights) a = has_runs a dag.spec.dag_id ≡ false
+IsQuiet (graphs.Load text dag weights dates) a = has_runs a dag.spec.dag_id ≡ false
 IsQuiet (graphs.Pause id paused) a = paused ≡ true

@@ -74,7 +74,7 @@ IsReadFault text r = (r ≡ refusal.Memory) ⊎ ((fault : GraphFault) × (r ≡ 
 -- the graphs of a draft: a pause is made before it is settled, a text is taken in after it
 abbrev pub drafted : GraphChange → List LoadedGraph → List LoadedGraph
 drafted graphs.Same gs = gs
-drafted (graphs.Load text dag weights) gs = gs
+drafted (graphs.Load text dag weights dates) gs = gs
 drafted (graphs.Pause id paused) gs = map (pause_graph id paused) gs
 
 -- the draft is over the same limits, and over these graphs
@@ -89,13 +89,13 @@ drafted_as named paused a = record { base = a; content = record a { graphs = wit
 -- what a settled draft is made into
 abbrev pub completed : GraphChange → Schedule → Schedule
 completed graphs.Same b = b
-completed (graphs.Load text dag weights) b = load_graph text dag b
+completed (graphs.Load text dag weights dates) b = load_graph text dag b
 completed (graphs.Pause id paused) b = b
 
 -- a text that is taken in after the draft takes in a graph without runs
 abbrev pub IsLast : GraphChange → Schedule → Type 0
 IsLast graphs.Same b = Unit {0}
-IsLast (graphs.Load text dag weights) b = has_runs b dag.spec.dag_id ≡ false
+IsLast (graphs.Load text dag weights dates) b = has_runs b dag.spec.dag_id ≡ false
 IsLast (graphs.Pause id paused) b = Unit {0}
 
 -- the schedule over the pools of a book

@@ -1,6 +1,7 @@
 pub mod Changes
 pub mod Books
 pub mod Effects
+pub mod Dates
 pub mod Finding
 pub mod Plans
 pub mod Views

@@ -36,7 +36,8 @@ impl Schedule {
     {
         let mut draft = self.draft(alloc, None, false);
         let room = (self.limits.runs() as usize).saturating_sub(self.runs.len());
-        let Some(named) = named_by_backfill(alloc, &draft, graph, from, to, room)? else {
+        let dates = self.dates.as_slice();
+        let Some(named) = named_by_backfill(alloc, &draft, dates, graph, from, to, room)? else {
             return Err(Refusal::UnknownGraph);
         };
         if to < from {

@@ -83,7 +83,7 @@ fn dags_changed(
 {
     match change {
         GraphChange::Same => Ok(Vec::new(alloc)),
-        GraphChange::Load(text, dag, _) => {
+        GraphChange::Load(text, dag, _, _) => {
             let id = &dag.spec().dag_id;
             dag_lacked(alloc, graphs, id, text, is_paused(graphs, id))
         }

@@ -8,6 +8,7 @@ use graph_file::Name;
 use moment_core::Moment;
 use record_rows::Rows;
 use run_lists::Edits;
+use run_planner::RunIndex;
 use sched_events::Answer;
 use sched_handout::Occupied;
 use sched_state::GraphText;
@@ -26,8 +27,8 @@ pub struct Effect {
 pub enum GraphChange {
     // They stay.
     Same,
-    // A text is taken in, which says this graph, with the effective weights of its tasks.
-    Load(GraphText, Graph, Vec<u64>),
+    // A text is taken in, which says this graph, with the effective weights of its tasks, and with no date.
+    Load(GraphText, Graph, Vec<u64>, RunIndex),
     // The graph with this id is paused, or is no more.
     Pause(Name, bool),
 }

@@ -11,6 +11,7 @@ mod backfilling;
 mod changed_rows;
 mod changes;
 mod clearing;
+mod dates;
 mod default_pools;
 mod finding;
 mod loading;

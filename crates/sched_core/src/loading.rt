@@ -17,6 +17,7 @@ use dag_check::{Graph, check};
 use graph_file::{GraphFault, GraphSpec, Name, TaskSpec, read_graph};
 use pool_book::Pools;
 use record_restoring::is_within;
+use run_planner::RunIndex;
 use sched_events::Refusal;
 use sched_handout::weigh_tasks;
 use sched_state::{GraphText, Limits};
@@ -76,7 +77,8 @@ impl Schedule {
     {
         let text = text.copy(alloc)?;
         let weights = weigh_tasks(alloc, &dag)?;
-        Ok(self.graph_change(alloc, GraphChange::Load(text, dag, weights))?)
+        let change = GraphChange::Load(text, dag, weights, RunIndex::new(alloc));
+        Ok(self.graph_change(alloc, change)?)
     }
 }
 

@@ -220,7 +220,7 @@ impl Schedule {
             return Err(Refusal::ClockBack(self.clock));
         }
         let mut draft = self.draft(alloc, None, false);
-        let named = named_by_tick(alloc, &draft, moment)?;
+        let named = named_by_tick(alloc, &draft, self.dates.as_slice(), moment)?;
         if (self.limits.runs() as usize) < self.runs.len() + named.runs.len() {
             return Err(Refusal::RecordFull);
         }

@@ -1,5 +1,8 @@
 //! The schedule that rows of the record say.
-ghost use Rattle.std.specs.Prelude.{◌≡◌, None, IfOk, IfErr};
+ghost use Rattle.std.specs.Prelude.{◌≡◌, None, IfOk, IfErr, true};
+ghost use Rattle.sched_creation.specs.Dates.{HaveDates};
+ghost use Rattle.sched_model.specs.Lists.{rises};
+ghost use Rattle.sched_model.specs.Schedule.{run_before};
 ghost use Rattle.sched_model.specs.Tables.{tables};
 ghost use Rattle.record_rules.specs.Reading.{schedule_of};
 ghost use Rattle.record_rules.specs.Faults.{record_fault};
@@ -9,9 +12,12 @@ use crate::schedules::Schedule;
 use crate::views::open_in_all;
 use record_restoring::{KeyedRows, RestoreFault, ScheduleParts, restore_parts};
 use run_lists::Runs;
+use run_planner::RunIndex;
+use sched_creation::dates_of_all;
+use sched_draft::{Base, Draft};
 use sched_handout::{Occupied, weigh_graphs};
 use sched_state::Limits;
-use std::alloc::Global;
+use std::alloc::{AllocError, Global};
 
 impl Schedule {
     /// The schedule that the rows are read as, where they break no rule of the record (docs/RECORD.md), or the first fault. Its tables are
@@ -39,10 +45,21 @@ impl Schedule {
         let weights = weigh_graphs(alloc, graphs.as_slice())?;
         let in_flight = open_in_all(&runs);
         let runs = Runs::of(alloc, runs)?;
+        let base = Base {
+            limits,
+            graphs: graphs.as_slice(),
+            pools: &pools,
+            clock,
+            lanes,
+            next,
+            runs: &runs,
+        };
+        let dates = dates_in(alloc, base)?;
         Ok(Schedule {
             limits,
             graphs,
             weights,
+            dates,
             occupied: Occupied { in_flight, pools },
             clock,
             lanes,
@@ -51,4 +68,13 @@ impl Schedule {
             is_settled: false,
         })
     }
+}
+
+// The logical dates of the runs of each graph.
+fn dates_in(alloc: Global, base: Base<'_>) -> Result<Vec<RunIndex>, AllocError>
+    requires { rises run_before base.runs ≡ true }
+    ensures { IfOk result (λ all. HaveDates base.entry.graphs base.entry.runs all.items) }
+{
+    let draft = Draft::over(alloc, base, None, false);
+    dates_of_all(alloc, &draft)
 }

@@ -2,19 +2,22 @@
 //!
 //! A change is planned against the schedule as it is, room is reserved for it, and it is committed: only the first two can fail,
 //! and neither changes what the schedule holds.
-ghost use Rattle.std.specs.Prelude.{◌≡◌, ◌+◌, ◌-◌, ◌≤◌, List, length, min, IfOk, IfErr, OnOk, true, vec_capacity, vec_len};
+ghost use Rattle.std.specs.Prelude.{◌≡◌, ◌+◌, ◌-◌, ◌≤◌, List, [], false, length, min, IfOk, IfErr, OnOk, true, vec_capacity, vec_len};
 ghost use Rattle.std.specs.Option.{option_copied};
 ghost use Rattle.sched_state.specs.declared.graphs.LoadedGraph as states;
 ghost use Rattle.sched_model.specs.Lists.{rises};
-ghost use Rattle.sched_model.specs.Schedule.{empty_schedule, graph_before, graph_named};
+ghost use Rattle.sched_model.specs.Schedule.{Schedule as Content, empty_schedule, graph_before, graph_named, has_runs};
 ghost use Rattle.sched_model.specs.Changes.{with_graph};
 ghost use Rattle.sched_events.specs.SettledAndSound.{IsSoundAndSaid};
 ghost use Rattle.sched_events.specs.Outcomes.{IsStepped, IsRefusal};
+ghost use Rattle.sched_creation.specs.Dates.{HaveDates};
 ghost use Rattle.sched_handout.specs.Weighing.{WeighTasks, WeighGraphs};
 ghost use Rattle.sched_core.specs.Changes.{HasRoom};
 ghost use Rattle.sched_core.specs.Effects.{changed, IsWeighed};
+ghost use Rattle.sched_core.specs.Inside.{IsLast};
 
 use crate::changes::{Change, Effect, GraphChange};
+use crate::dates::{note, room_for_dates};
 use crate::default_pools::default_pools;
 use crate::lookups::{graph_named, position_of};
 use crate::ordering::place_for_graph;
@@ -23,6 +26,7 @@ use dag_check::Graph;
 use graph_file::Name;
 use moment_core::Moment;
 use run_lists::Runs;
+use run_planner::RunIndex;
 use sched_events::{Answer, Event, Refusal};
 use sched_handout::Occupied;
 use sched_state::{GraphText, Limits, LoadedGraph, Run};
@@ -38,6 +42,8 @@ pub struct Schedule {
     pub(crate) graphs: Vec<LoadedGraph>,
     // The effective weights of their tasks, by position and place: they stay as long as the graphs do.
     pub(crate) weights: Vec<Vec<u64>>,
+    // The logical dates of their runs, by position.
+    pub(crate) dates: Vec<RunIndex>,
     // What the tries without an end take, and the pools.
     pub(crate) occupied: Occupied,
     pub(crate) clock: Moment,
@@ -50,7 +56,8 @@ pub struct Schedule {
 }
 
 impl Model for Schedule {
-    ghost use Rattle.std.specs.Prelude.{◌-◌, min, vec_len, vec_capacity};
+    ghost use Rattle.std.specs.Prelude.{◌-◌, map, min, vec_len, vec_capacity};
+    ghost use Rattle.run_planner.specs.Index.{Index};
     ghost use Rattle.sched_core.specs.Books.{IsKept, content_inside};
     ghost use Rattle.sched_core.specs.Changes.{ScheduleValue};
 
@@ -58,7 +65,11 @@ impl Model for Schedule {
 
     ghost view = { λ s. record {
       content = content_inside s;
-      room = record { graphs = min (vec_capacity s.graphs - vec_len s.graphs) (vec_capacity s.weights - vec_len s.weights); runs = s.runs.room };
+      room = record {
+        graphs = min (vec_capacity s.graphs - vec_len s.graphs) (min (vec_capacity s.weights - vec_len s.weights) (vec_capacity s.dates - vec_len s.dates));
+        runs = s.runs.room;
+        dates = map (λ (x : Index). x.room) s.dates.items;
+      };
     } };
 
     ghost invariant = { IsKept };
@@ -74,6 +85,7 @@ impl Schedule {
             limits,
             graphs: Vec::new(alloc),
             weights: Vec::new(alloc),
+            dates: Vec::new(alloc),
             occupied: Occupied {
                 in_flight: 0,
                 pools: default_pools(alloc)?,
@@ -134,7 +146,13 @@ impl Schedule {
         ensures content { self.new.content ≡ self.old.content }
         ensures room { OnOk result (HasRoom change.now self.new) }
     {
-        room_for_graphs(&mut self.graphs, &mut self.weights, &change.effect.graphs)?;
+        room_for_dates(&self.graphs, &mut self.dates, &change.effect.rest)?;
+        room_for_graphs(
+            &mut self.graphs,
+            &mut self.weights,
+            &mut self.dates,
+            &change.effect.graphs,
+        )?;
         match &change.effect.rest {
             Some(rest) => self.runs.reserve(&rest.edits),
             None => Ok(()),
@@ -154,7 +172,8 @@ impl Schedule {
             answer,
             rows: _,
         } = change;
-        change_graphs(&mut self.graphs, &mut self.weights, graphs);
+        note(&self.graphs, &mut self.dates, &rest);
+        change_graphs(&mut self.graphs, &mut self.weights, &mut self.dates, graphs);
         if let Some(rest) = rest {
             self.occupied = rest.occupied;
             self.clock = rest.clock;
@@ -178,58 +197,78 @@ impl Schedule {
     }
 }
 
-// Makes room for the graph that a change takes in, and for its weights.
+// Makes room for the graph that a change takes in, for its weights and for its dates.
 fn room_for_graphs(
     graphs: &mut Vec<LoadedGraph>,
     weights: &mut Vec<Vec<u64>>,
+    dates: &mut Vec<RunIndex>,
     change: &GraphChange,
 ) -> Result<(), AllocError>
     ensures graphs { graphs.new.items ≡ graphs.old.items }
     ensures weights { weights.new.items ≡ weights.old.items }
+    ensures dates { dates.new.items ≡ dates.old.items }
     ensures room { OnOk result ((gs : List LoadedGraph) → length (changed change.now gs) ≤ length gs
-        + min (vec_capacity graphs.new - vec_len graphs.new) (vec_capacity weights.new - vec_len weights.new)) }
+        + min (vec_capacity graphs.new - vec_len graphs.new) (min (vec_capacity weights.new - vec_len weights.new) (vec_capacity dates.new - vec_len dates.new))) }
 {
     match change {
-        GraphChange::Load(_, _, _) => {
+        GraphChange::Load(_, _, _, _) => {
             graphs.reserve(1)?;
-            weights.reserve(1)
+            weights.reserve(1)?;
+            dates.reserve(1)
         }
         GraphChange::Same | GraphChange::Pause(_, _) => Ok(()),
     }
 }
 
-// The graphs are changed so, and their weights with them.
-fn change_graphs(graphs: &mut Vec<LoadedGraph>, weights: &mut Vec<Vec<u64>>, change: GraphChange)
+// The graphs are changed so, and their weights and dates with them.
+fn change_graphs(
+    graphs: &mut Vec<LoadedGraph>,
+    weights: &mut Vec<Vec<u64>>,
+    dates: &mut Vec<RunIndex>,
+    change: GraphChange,
+)
     requires order { rises graph_before graphs.old.items ≡ true }
     requires room { length (changed change graphs.old.items) ≤ vec_capacity graphs.old }
-    requires places { length (changed change graphs.old.items) ≤ vec_capacity weights.old }
+    requires places { length (changed change graphs.old.items) ≤ min (vec_capacity weights.old) (vec_capacity dates.old) }
     requires weights { WeighGraphs graphs.old.items weights.old.items }
     requires weighed { IsWeighed change }
+    requires long { length dates.old.items ≡ length graphs.old.items }
     ensures graphs { graphs.new.items ≡ changed change graphs.old.items }
     ensures weights { WeighGraphs graphs.new.items weights.new.items }
+    ensures dates { (a : Content) → HaveDates graphs.old.items a.runs dates.old.items → IsLast change a
+        → HaveDates graphs.new.items a.runs dates.new.items }
 {
     match change {
         GraphChange::Same => {}
-        GraphChange::Load(text, dag, row) => take_in(graphs, weights, text, dag, row),
+        GraphChange::Load(text, dag, row, index) => {
+            take_in(graphs, weights, dates, text, dag, row, index)
+        }
         GraphChange::Pause(id, paused) => set_paused(graphs, &id, paused),
     }
 }
 
-// Takes a text in that says this, with these weights: a known graph gets them in the place of its own, a new one is put at its place.
+// Takes a text in that says this, with these weights and no date: a known graph gets the weights in the place of its own, and a new one is
+// put at its place.
 fn take_in(
     graphs: &mut Vec<LoadedGraph>,
     weights: &mut Vec<Vec<u64>>,
+    dates: &mut Vec<RunIndex>,
     text: GraphText,
     dag: Graph,
     row: Vec<u64>,
+    index: RunIndex,
 )
     requires order { rises graph_before graphs.old.items ≡ true }
     requires room { length (with_graph text dag graphs.old.items) ≤ vec_capacity graphs.old }
-    requires places { length (with_graph text dag graphs.old.items) ≤ vec_capacity weights.old }
+    requires places { length (with_graph text dag graphs.old.items) ≤ min (vec_capacity weights.old) (vec_capacity dates.old) }
     requires weights { WeighGraphs graphs.old.items weights.old.items }
     requires row { WeighTasks dag row.items }
+    requires index { index.dates ≡ [] }
+    requires long { length dates.old.items ≡ length graphs.old.items }
     ensures graphs { graphs.new.items ≡ with_graph text dag graphs.old.items }
     ensures weights { WeighGraphs graphs.new.items weights.new.items }
+    ensures dates { (a : Content) → HaveDates graphs.old.items a.runs dates.old.items → has_runs a dag.spec.dag_id ≡ false
+        → HaveDates graphs.new.items a.runs dates.new.items }
 {
     match position_of(graphs, &dag.spec().dag_id) {
         Some(place) => {
@@ -247,6 +286,7 @@ fn take_in(
             let place = place_for_graph(graphs, &graph);
             let _ = graphs.insert(place, graph);
             let _ = weights.insert(place, row);
+            let _ = dates.insert(place, index);
         }
     }
 }

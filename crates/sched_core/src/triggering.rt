@@ -21,7 +21,7 @@ impl Schedule {
     {
         let is_full = self.limits.runs() as usize <= self.runs.len();
         let mut draft = self.draft(alloc, None, false);
-        let Some(planned) = named_by_hand(alloc, &draft, id)? else {
+        let Some(planned) = named_by_hand(alloc, &draft, self.dates.as_slice(), id)? else {
             return Err(Refusal::UnknownGraph);
         };
         let run = match planned {

@@ -9,7 +9,11 @@ use Rattle.sched_state.specs.declared.graphs.LoadedGraph.{LoadedGraph}
 use Rattle.sched_model.specs.Changes.{new_graph, with_graph}
 use Rattle.sched_core.specs.Inside.{StandsAt, IsPlaceFor}
 use Rattle.sched_core.proofs.TakeInLemmas.{taken_known, taken_new, length-new}
+use Rattle.run_planner.specs.Index.{Index}
+use Rattle.sched_state.proofs.NameLemmas.{same_is}
+use Rattle.sched_creation.specs.Dates.{HaveDates}
 use Rattle.sched_handout.specs.Weighing.{WeighGraphs}
+use Rattle.sched_core.proofs.DateLemmas.{dates_set, dates_insert, no_dates}
 use Rattle.sched_core.proofs.WeightLemmas.{weigh_set, weigh_insert}
 use Rattle.sched_core.proofs.schedules.take_in.Goals as goal
 
@@ -57,3 +61,29 @@ returns-in-None-clause-weights c =
     let within : place ≤ length gs = subst (λ (ks : List LoadedGraph). place ≤ length ks) c.deref-in-None.ensures.value c.place_for_graph-place.ensures.within in
     subst (λ (ks : List LoadedGraph). WeighGraphs ks c.insert-in-None.new.self.items) (sym graphs)
     (subst (WeighGraphs (insert gs place new)) (sym rows) (weigh_insert gs ws place new c.args.row within c.requires.weights c.requires.row))
+
+pub returns-in-Some-clause-dates : goal.returns-in-Some-clause-dates
+returns-in-Some-clause-dates c a h none =
+    let gs : List LoadedGraph = c.args.graphs.now.items in
+    let place : ℕ = c.in-Some.place in
+    let stands : StandsAt c.args.dag.spec.dag_id gs place =
+    subst (λ (s : GraphSpec). StandsAt s.dag_id gs place) c.spec.ensures.spec
+    (subst (λ (ks : List LoadedGraph). StandsAt c.spec.result.now.dag_id ks place) c.deref.ensures.value c.in-Some.ensures) in
+    dates_set gs a.runs c.args.dates.now.items place (record { text = c.args.text; dag = c.args.dag; paused = c.index_mut-graph.result.now.paused }) stands.graph stands.there (sym (same_is stands.graph.dag.spec.dag_id c.args.dag.spec.dag_id stands.named)) h
+
+pub returns-in-None-clause-dates : goal.returns-in-None-clause-dates
+returns-in-None-clause-dates c a h none =
+    let gs : List LoadedGraph = c.args.graphs.now.items in
+    let xs : List Index = c.args.dates.now.items in
+    let place : ℕ = c.place_for_graph-place.result in
+    let new : LoadedGraph = new_graph c.args.text c.args.dag in
+    let unknown = subst (λ (s : GraphSpec). list_any (λ (k : LoadedGraph). same k.dag.spec.dag_id s.dag_id) gs ≡ false) c.spec.ensures.spec
+    (ap (list_any (λ (k : LoadedGraph). same k.dag.spec.dag_id c.spec.result.now.dag_id)) (sym c.deref.ensures.value) ∙ c.in-None.ensures) in
+    let long : length (with_graph c.args.text c.args.dag gs) ≡ length gs + 1 = length-new c.args.text c.args.dag gs unknown in
+    let ok : is_ok c.insert.result ≡ true = c.insert.ensures.succeeds (omega (arith, long, c.requires.room)) in
+    let beside : is_ok c.insert-in-None-2.result ≡ true = c.insert-in-None-2.ensures.succeeds (omega (arith, long, c.requires.places, c.requires.long)) in
+    let graphs : c.insert.new.self.items ≡ insert gs place new = c.insert.ensures.items ∙ ap (λ (b : Bool). cond b (insert gs place new) gs) ok in
+    let rows : c.insert-in-None-2.new.self.items ≡ insert xs place c.args.index = c.insert-in-None-2.ensures.items ∙ ap (λ (b : Bool). cond b (insert xs place c.args.index) xs) beside in
+    let within : place ≤ length gs = subst (λ (ks : List LoadedGraph). place ≤ length ks) c.deref-in-None.ensures.value c.place_for_graph-place.ensures.within in
+    subst (λ (ks : List LoadedGraph). HaveDates ks a.runs c.insert-in-None-2.new.self.items) (sym graphs)
+    (subst (HaveDates (insert gs place new) a.runs) (sym rows) (dates_insert gs a.runs xs place new c.args.index within h (no_dates c.args.dag.spec.dag_id a.runs c.args.index none c.requires.index)))

@@ -24,6 +24,7 @@ use Rattle.sched_core.specs.declared.changes.GraphChange.{GraphChange}
 use Rattle.sched_core.specs.Books.{IsHeldWith}
 use Rattle.sched_core.specs.Changes.{ScheduleValue, Planned}
 use Rattle.sched_core.proofs.ChangedRowLemmas.{draft_dags, last_after}
+use Rattle.sched_core.proofs.EffectLemmas.{completed_last}
 use Rattle.sched_core.proofs.FinishLemmas.{finished_is, finished_held, finished_over, settled_next, settled_occupied}
 use Rattle.sched_core.proofs.WeightLemmas.{weigh_settled}
 use Rattle.sched_core.proofs.schedules.Schedule.finish_with.Goals as goal
@@ -92,6 +93,7 @@ invariant_of-result c =
     subst (λ (h : ScheduleValue). IsEffect f c.in_ok-rows.rows h.content) (sym c.of.ensures) (record {
       keeps = λ t was before. subst (λ (s : Schedule). IsHeldWith true s c.hand_out.new.taken) (sym is) held;
       weighed = c.requires.weighed;
+      last = subst (IsLast g) (sym is) (completed_last g e (last_after g b c.requires.last));
       edits = of;
       rows_are = c.in_ok-rows.ensures ∙ (ap (λ (s : Schedule). rows_between a (completed g s)) end ∙ ap (rows_between a) (sym is));
     })

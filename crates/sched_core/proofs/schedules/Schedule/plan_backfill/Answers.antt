@@ -20,6 +20,7 @@ use Rattle.sched_core.proofs.BookLemmas.{repair_open, repair_pools}
 use Rattle.sched_core.proofs.PlanLemmas.{IsDraftOf, draft_is, draft_sound, draft_kept, draft_planned, told_by}
 use Rattle.sched_core.proofs.RepairLemmas.{found_is, back_waits, back_room, IsFilled, back_done}
 use Rattle.sched_core.proofs.schedules.Schedule.plan_backfill.Goals.{In-Some, In_ok-made}
+use Rattle.sched_core.proofs.KeptLemmas.{draft_dates}
 use Rattle.sched_core.proofs.schedules.Schedule.plan_backfill.Goals as goal
 
 -- what was found of the schedule that is there
@@ -109,3 +110,6 @@ returns-clause-accepted c =
     let done = filled at.In_ok-made h in
     draft_planned _ c.in_ok-finish.field-0 (draft_is c.add.new.draft.content (drafted at.In_ok-made h) c.in_ok-add.ensures.added)
     (told_by (Backfill c.args.graph.now c.args.from c.args.to c.args.reset) a c.quiet_answer.result c.in_ok-made.made _ c.in_ok-cleared.cleared c.quiet_answer.ensures done.ids_is (ap (λ (q : Answer). q.more) c.quiet_answer.ensures) done.count_is) c.in_ok-finish.ensures
+
+pub named_by_backfill-requires : goal.named_by_backfill-requires
+named_by_backfill-requires c = draft_dates c.self.inside c.args.self.now c.draft-draft.result.content c.as_slice-dates.result.now (ap (λ (s : ScheduleValue). s.content) c.self.view_is) c.self.invariant.dates (ap (λ (v : DraftValue). v.content) c.draft-draft.ensures) c.as_slice-dates.ensures.value

@@ -15,6 +15,7 @@ use Rattle.sched_laws.proofs.OccupyingLemmas.{open_added}
 use Rattle.sched_core.specs.Plans.{run_id}
 use Rattle.sched_core.proofs.PlanLemmas.{tick_accepted, tick_draft, tick_ids, tick_length, IsDraftOf, draft_is, draft_sound, draft_kept, draft_planned, told_by}
 use Rattle.sched_core.proofs.schedules.Schedule.plan_tick.Goals.{After-set_clock}
+use Rattle.sched_core.proofs.KeptLemmas.{draft_dates}
 use Rattle.sched_core.proofs.schedules.Schedule.plan_tick.Goals as goal
 
 -- the draft, with the clock set and the runs added
@@ -81,3 +82,6 @@ returns-clause-accepted c =
     let more = c.in_ok-named.ensures.more ∙ ap (λ (s : Schedule). leaves_more s t) (ap (λ (v : DraftValue). v.content) c.draft-draft.ensures) in
     draft_planned _ c.in_ok-finish.field-0 (draft_is c.add.new.draft.content (drafted (goal.at.returns-clause-accepted c).After-set_clock) c.in_ok-add.ensures.added)
     (told_by (Tick t) a c.quiet_answer.result c.in_ok-made.made c.in_ok-named.named.more _ c.quiet_answer.ensures ids more (ap (λ (q : Answer). q.cleared) c.quiet_answer.ensures)) c.in_ok-finish.ensures
+
+pub named_by_tick-requires-clause-dates : goal.named_by_tick-requires-clause-dates
+named_by_tick-requires-clause-dates c = draft_dates c.self.inside c.args.self.now c.draft-draft.result.content c.as_slice.result.now (ap (λ (s : ScheduleValue). s.content) c.self.view_is) c.self.invariant.dates (ap (λ (v : DraftValue). v.content) c.draft-draft.ensures) c.as_slice.ensures.value

@@ -15,6 +15,7 @@ use Rattle.sched_laws.proofs.OccupyingLemmas.{open_added}
 use Rattle.sched_core.proofs.PlanLemmas.{IsDraftOf, draft_is, draft_sound, draft_kept, draft_planned, told_by}
 use Rattle.sched_core.proofs.TriggerLemmas.{hand_full, trigger_draft, trigger_ids}
 use Rattle.sched_core.proofs.schedules.Schedule.plan_trigger.Goals.{In_ok-made}
+use Rattle.sched_core.proofs.KeptLemmas.{draft_dates}
 use Rattle.sched_core.proofs.schedules.Schedule.plan_trigger.Goals as goal
 
 -- the draft, with the run added
@@ -81,3 +82,6 @@ returns-clause-accepted c =
     let ids = trigger_ids a d id run c.in_ok-runs.runs.items c.in_ok-made.made (ap (λ (v : DraftValue). v.content) c.draft-draft.ensures) h.1.1 c.in_ok-runs.ensures (c.in_ok-made.ensures ∙ ap (map run_id) c.deref.ensures.value) in
     draft_planned _ c.in_ok-finish.field-0 (draft_is c.add.new.draft.content (drafted (goal.at.returns-clause-accepted c).In_ok-made) c.in_ok-add.ensures.added)
     (told_by (Trigger id) a c.quiet_answer.result c.in_ok-made.made _ _ c.quiet_answer.ensures ids (ap (λ (q : Answer). q.more) c.quiet_answer.ensures) (ap (λ (q : Answer). q.cleared) c.quiet_answer.ensures)) c.in_ok-finish.ensures
+
+pub named_by_hand-requires : goal.named_by_hand-requires
+named_by_hand-requires c = draft_dates c.self.inside c.args.self.now c.draft-draft.result.content c.as_slice.result.now (ap (λ (s : ScheduleValue). s.content) c.self.view_is) c.self.invariant.dates (ap (λ (v : DraftValue). v.content) c.draft-draft.ensures) c.as_slice.ensures.value

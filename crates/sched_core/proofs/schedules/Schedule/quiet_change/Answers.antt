@@ -2,7 +2,7 @@ use Rattle.std.proofs.Common.{sym, subst, None}
 use Rattle.sched_core.specs.Changes.{ScheduleValue}
 use Rattle.sched_core.specs.Effects.{IsEffect}
 use Rattle.sched_core.proofs.ChangedRowLemmas.{alike_dags}
-use Rattle.sched_core.proofs.EffectLemmas.{quiet_keeps, quiet_last}
+use Rattle.sched_core.proofs.EffectLemmas.{quiet_keeps, quiet_last, quiet_after}
 use Rattle.sched_core.proofs.schedules.Schedule.quiet_change.Goals as goal
 
 pub rows_of_graphs-requires : goal.rows_of_graphs-requires
@@ -11,4 +11,4 @@ rows_of_graphs-requires c = alike_dags c.args.graphs c.args.self.now.content.gra
 pub invariant_of-result : goal.invariant_of-result
 invariant_of-result c =
     subst (λ (h : ScheduleValue). IsEffect (record { graphs = c.args.graphs; rest = None }) c.in_ok-rows.rows h.content) (sym c.of.ensures)
-    (record { keeps = quiet_keeps c.args.graphs c.args.self.now.content c.requires.sound c.requires.quiet c.requires.settled; weighed = c.requires.weighed; edits = tt; rows_are = c.in_ok-rows.ensures })
+    (record { keeps = quiet_keeps c.args.graphs c.args.self.now.content c.requires.sound c.requires.quiet c.requires.settled; weighed = c.requires.weighed; last = quiet_after c.args.graphs c.args.self.now.content c.requires.quiet; edits = tt; rows_are = c.in_ok-rows.ensures })

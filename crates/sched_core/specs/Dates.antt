@@ -1,0 +1,38 @@
+-- The dates of graphs' runs beside the edits that add some.
+use Rattle.std.specs.Prelude.{◌≡◌, ℕ, ◌≤◌, Bool, ◌&&◌, ◌||◌, List, length, count_by, Option, Some, None, slice_get}
+use Rattle.std.specs.List.{list_any}
+use Rattle.run_planner.specs.Index.{Index, has_date}
+use Rattle.run_lists.specs.declared.edits.Edit.{Edit}
+use Rattle.run_lists.specs.Edits.{adds}
+use Rattle.sched_state.specs.Lists.{same}
+use Rattle.sched_state.specs.declared.graphs.LoadedGraph.{LoadedGraph}
+use Rattle.sched_core.specs.declared.changes.Rest.{Rest}
+
+-- an edit adds a run of the graph; how many of the edits do
+abbrev pub is_of : List ℕ → Edit → Bool
+is_of id e = e.is_new && same e.run.graph id
+
+abbrev pub added_of : List ℕ → List Edit → ℕ
+added_of id es = count_by (is_of id) es
+
+-- y has the dates of x, and those of the runs of the graph that the edits add
+abbrev pub IsNoted : List ℕ → List Edit → Index → Index → Type 0
+IsNoted id es x y = (d : ℕ) → has_date y.dates d ≡ (list_any (adds id d) es || has_date x.dates d)
+
+-- so have those of each graph
+pub record AreNoted (gs : List LoadedGraph) (es : List Edit) (xs ys : List Index) : Type 0 where
+  pub long : length ys ≡ length xs
+  pub each : (n : ℕ) (g : LoadedGraph) (x y : Index) → slice_get gs n ≡ Some g → slice_get xs n ≡ Some x → slice_get ys n ≡ Some y → IsNoted g.dag.spec.dag_id es x y
+
+-- there is room for the dates of the runs that the edits add
+abbrev pub HaveRoom : List LoadedGraph → List Edit → List Index → Type 0
+HaveRoom gs es xs = (n : ℕ) (g : LoadedGraph) (x : Index) → slice_get gs n ≡ Some g → slice_get xs n ≡ Some x → added_of g.dag.spec.dag_id es ≤ x.room
+
+-- the same of the rest of a change, where there is one: otherwise nothing is added
+abbrev pub AreNotedWith : List LoadedGraph → Option Rest → List Index → List Index → Type 0
+AreNotedWith gs None xs ys = ys ≡ xs
+AreNotedWith gs (Some n) xs ys = AreNoted gs n.edits xs ys
+
+abbrev pub HaveRoomWith : List LoadedGraph → Option Rest → List Index → Type 0
+HaveRoomWith gs None xs = Unit {0}
+HaveRoomWith gs (Some n) xs = HaveRoom gs n.edits xs
