@@ -7,6 +7,7 @@ pub mod KeptLemmas
 pub mod LoadingLemmas
 pub mod PlanLemmas
 pub mod FindLemmas
+pub mod StandingLemmas
 pub mod OpenLemmas
 pub mod ViewLemmas
 pub mod RowLemmas

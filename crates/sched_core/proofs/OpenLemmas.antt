@@ -22,7 +22,7 @@ use Rattle.sched_laws.proofs.DecisionLemmas.{by_bool}
 use Rattle.sched_laws.proofs.InstanceLemmas.{finished_over, parts_of}
 use Rattle.run_lists.specs.Positions.{positions_where, stands}
 use Rattle.sched_settling.specs.Touched.{runs_at}
-use Rattle.sched_settling.proofs.StandingLemmas.{runs_standing}
+use Rattle.sched_core.proofs.StandingLemmas.{runs_standing}
 use Rattle.sched_core.specs.Finding.{tries_in}
 use Rattle.sched_core.specs.declared.finding.Found.{Found}
 use Rattle.sched_core.proofs.FindLemmas.{find_first, find_join, none_back, none_front}

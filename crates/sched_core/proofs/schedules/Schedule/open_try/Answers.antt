@@ -2,7 +2,7 @@ use Rattle.std.proofs.Common.{true, false, subst, ap}
 use Rattle.sched_model.specs.Schedule.{Schedule}
 use Rattle.sched_events.specs.SettledAndSound.{IsSoundAndSaid}
 use Rattle.run_lists.specs.Positions.{stands}
-use Rattle.sched_settling.proofs.StandingLemmas.{places_within}
+use Rattle.sched_core.proofs.StandingLemmas.{places_within}
 use Rattle.sched_core.specs.Changes.{ScheduleValue}
 use Rattle.sched_core.proofs.OpenLemmas.{found_queued, found_running}
 use Rattle.sched_core.proofs.schedules.Schedule.open_try.Goals as goal
