@@ -1,17 +1,18 @@
 -- An event in a record that was opened for it.
-use Rattle.std.proofs.Common.{◌≡◌, ◌∙◌, ℕ, List, Option, Result, Ok, Err, OnOk, MatchResult, IsTrue, sym, subst, inl, inr}
+use Rattle.std.proofs.Common.{◌≡◌, ◌∙◌, ℕ, List, Option, Result, Ok, Err, OnOk, MatchResult, IsTrue, refl, sym, subst, inl, inr}
 use Rattle.std.specs.Io.KnownBytes.{Appends}
 use Rattle.sqlite.specs.Held.{Held}
 use Rattle.sqlite.specs.State.{State, HasCleanDisk}
 use Rattle.sched_state.specs.Limits.{ceilings}
 use Rattle.sched_model.specs.Schedule.{Schedule}
+use Rattle.sched_events.specs.declared.answers.Answer.{Answer}
 use Rattle.sched_events.specs.declared.events.Event.{Event}
 use Rattle.director.specs.Directors.{DirectorValue, Follows, Keeps, Opens, RestartsIn}
 use Rattle.director.specs.Faults.{IsOpenFault}
 use Rattle.director.specs.Lists.{IsOutcome}
 use Rattle.director.specs.declared.faults.Fault.{Fault}
 use Rattle.answer_lines.specs.RecordFaults.{failure_text}
-use Rattle.script_reader.specs.Statuses.{failure_status}
+use Rattle.script_reader.specs.Statuses.{failure_status, shown_for}
 use Rattle.command_runner.specs.Events.{IsStepDone, IsStepped, IsUnopened}
 use Rattle.command_runner.specs.Writes.{IsWritten}
 
@@ -63,4 +64,19 @@ failed {S} look d e fault left old new store told put status same_store outcome 
   outcome = outcome;
   followed = subst (λ (s : Held S). Follows d.schedule.content (look d.store) left.schedule.content (look s)) (sym same_store) followed;
   shown = written (failure_text fault) (failure_status fault) told old new put status same text_is is;
+}
+
+-- an event that was accepted
+pub accepted : {S E T : Type 0} (look : Held S → State) (d : DirectorValue S) (e : Event) (answer : Answer) (left : DirectorValue S) (old new : Option (List ℕ)) (store : Held S) (put : Result T E) (status : ℕ)
+    → store ≡ left.store
+    → IsOutcome d.schedule.content e (Ok answer) left.schedule.content
+    → Follows d.schedule.content (look d.store) left.schedule.content (look left.store)
+    → OnOk put (Appends old new (shown_for e (Ok answer))) → MatchResult put (λ _. status ≡ 0) (λ _. status ≡ 4)
+    → IsStepDone look d e old new store status
+accepted {S} look d e answer left old new store put status same_store outcome followed text_is is = record {
+  answer = Ok answer;
+  after = left.schedule.content;
+  outcome = outcome;
+  followed = subst (λ (s : Held S). Follows d.schedule.content (look d.store) left.schedule.content (look s)) (sym same_store) followed;
+  shown = written (shown_for e (Ok answer)) 0 0 old new put status refl text_is is;
 }

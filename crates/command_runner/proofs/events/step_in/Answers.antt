@@ -1,6 +1,11 @@
 use Rattle.sqlite.specs.Held.{state}
-use Rattle.command_runner.proofs.EventLemmas.{failed}
+use Rattle.command_runner.proofs.EventLemmas.{accepted, failed}
 use Rattle.command_runner.proofs.events.step_in.Goals as goal
+
+pub returns-in-Ok : goal.returns-in-Ok
+returns-in-Ok g c =
+    accepted (state g.S.Store) c.args.director c.args.event.now c.in-Ok.answer c.step.new.self _ _ c.close.result c.put-put.result
+    c.status_after.result c.close.ensures c.in-Ok.ensures.outcome c.in-Ok.ensures.followed c.put-put.ensures c.status_after.ensures
 
 pub returns-in-Err : goal.returns-in-Err
 returns-in-Err g c =
