@@ -18,7 +18,7 @@ use Rattle.run_lists.proofs.OverlayLemmas.{read_there, read_missed}
 use Rattle.run_lists.proofs.PastLemmas.{rises_over}
 use Rattle.run_lists.proofs.OrderLemmas.{rise_pair, key_same, key_itself}
 
-find_only : {X : Type 0} (p : X → Bool) (xs : List X) (n : ℕ) (x : X) → slice_get xs n ≡ Some x → p x ≡ true → ((m : ℕ) (z : X) → m < n → slice_get xs m ≡ Some z → p z ≡ false) → find p xs ≡ Some x
+pub find_only : {X : Type 0} (p : X → Bool) (xs : List X) (n : ℕ) (x : X) → slice_get xs n ≡ Some x → p x ≡ true → ((m : ℕ) (z : X) → m < n → slice_get xs m ≡ Some z → p z ≡ false) → find p xs ≡ Some x
 find_only {X} p [] n x e h u = absurd (let c : ◌≡◌ {A = Option X} None (Some x) = e in cc)
 find_only {X} p (y ∷ ys) zero x e h u =
     let c : ◌≡◌ {A = Option X} (Some y) (Some x) = e in let q : y ≡ x = cc in

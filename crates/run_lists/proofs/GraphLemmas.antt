@@ -87,7 +87,7 @@ above_after id r q e f = elim (less_then (name_cmp r.graph q.graph) (nat_cmp r.l
       ap is_less (nat_list_cmp_total.antisymm id q.graph ∙ (ap ordering_reverse (nat_list_cmp_total.congr q.graph r.graph id back) ∙ sym (nat_list_cmp_total.antisymm id r.graph))) ∙ f
 ]
 
-up_to_before : (id : List ℕ) (r q : Run) → run_before r q ≡ true → graph_up_to id q ≡ true → graph_up_to id r ≡ true
+pub up_to_before : (id : List ℕ) (r q : Run) → run_before r q ≡ true → graph_up_to id q ≡ true → graph_up_to id r ≡ true
 up_to_before id r q e f = by_bool {C = graph_up_to id r ≡ true} (is_less (name_cmp id r.graph))
     (λ g. absurd (true≢false (sym f ∙ ap not (above_after id r q e g))))
     (λ g. ap not g)
@@ -143,7 +143,7 @@ not_above o Less e f = absurd (true≢false (sym f ∙ ap is_less e))
 not_above o Equal e f = refl
 not_above o Greater e f = refl
 
-below_other : (id : List ℕ) (o : Option Run) → holds_of (graph_below id) o ≡ true → holds_of (λ (r : Run). same r.graph id) o ≡ false
+pub below_other : (id : List ℕ) (o : Option Run) → holds_of (graph_below id) o ≡ true → holds_of (λ (r : Run). same r.graph id) o ≡ false
 below_other id None e = refl
 below_other id (Some r) e = sym (is_eq-slice_cmp r.graph id) ∙ eq_less (name_cmp r.graph id) e
 
@@ -151,7 +151,7 @@ up_to_below : (id : List ℕ) (o : Option Run) → holds_of (graph_below id) o �
 up_to_below id None e = e
 up_to_below id (Some r) e = not_above (name_cmp r.graph id) (name_cmp id r.graph) (nat_list_cmp_total.antisymm r.graph id) e
 
-here_same : (id : List ℕ) (o : Option Run) → holds_of (graph_below id) o ≡ false → holds_of (graph_up_to id) o ≡ true → holds_of (λ (r : Run). same r.graph id) o ≡ true
+pub here_same : (id : List ℕ) (o : Option Run) → holds_of (graph_below id) o ≡ false → holds_of (graph_up_to id) o ≡ true → holds_of (λ (r : Run). same r.graph id) o ≡ true
 here_same id None e f = f
 here_same id (Some r) e f = sym (is_eq-slice_cmp r.graph id) ∙ eq_only (name_cmp r.graph id) (name_cmp id r.graph) (nat_list_cmp_total.antisymm r.graph id) e f
 

@@ -17,3 +17,4 @@ pub mod PlaceLemmas
 pub mod HoldLemmas
 pub mod ShiftLemmas
 pub mod GraphLemmas
+pub mod SearchLemmas

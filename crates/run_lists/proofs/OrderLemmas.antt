@@ -1,7 +1,6 @@
 -- Where a key stands among runs in their order.
 use Rattle.std.proofs.Common.{◌≡◌, ◌∙◌, refl, sym, ap, ℕ, zero, suc, ◌+◌, ◌<◌, ◌≤◌, Bool, true, false, cond, not, ◌||◌, List, [], ◌∷◌, length, ◌-◌, insert, get_or, Option, Some, None, slice_get, true≢false, inl, inr, arith}
 use Rattle.std.specs.List.{list_any, list_all}
-use Rattle.std.specs.List.Sorted.{IsPartitionedBy, IsPartitionPoint}
 use Rattle.std.specs.Cmp.{IsTotalOrder}
 use Rattle.std.specs.Ordering.{nat_cmp, ordering_then, ordering_reverse}
 use Rattle.std.specs.declared.cmp.Ordering.{Ordering}
@@ -9,12 +8,12 @@ use Rattle.std.specs.declared.cmp.Ordering.TheVariants.{Less, Equal, Greater}
 use Rattle.std.proofs.lemmas.Bool.{cases_lt, eqb-true, false_from_ne_true}
 use Rattle.std.proofs.lemmas.Cmp.{nat_list_cmp_total, nat_cmp_total}
 use Rattle.std.proofs.lemmas.List.Sums.{sum_by-cons}
-use Rattle.std.proofs.lemmas.Option.{slice_get_within, slice_get-get_or, get_or_from_slice_get}
+use Rattle.std.proofs.lemmas.Option.{slice_get_within, slice_get-get_or}
 use Rattle.std.proofs.Math.Nat.{eq-or-lt_of_le}
 use Rattle.sched_state.specs.Lists.{same, name_cmp, is_less, insert_by}
 use Rattle.sched_state.specs.declared.runs.Run.{Run}
 use Rattle.sched_state.proofs.NameLemmas.{same_is}
-use Rattle.sched_state.proofs.OrderLemmas.{and_left, and_right, not_false, on_total, then_total}
+use Rattle.sched_state.proofs.OrderLemmas.{and_left, and_right, on_total, then_total}
 use Rattle.sched_model.specs.Lists.{rises}
 use Rattle.sched_model.specs.Schedule.{run_before, is_at}
 use Rattle.run_lists.specs.Orders.{key_before, IsPositionFor, position_in_order}
@@ -87,25 +86,9 @@ between_upper id date rs low high middle r h rise m g k = record {
 pub between_none : (id : List ℕ) (date : ℕ) (rs : List Run) (low high : ℕ) → IsBetween id date rs low high → high ≤ low → IsPositionFor id date rs low
 between_none id date rs low high h l = record { within = omega (arith, h.order, h.within); passed = h.passed; reached = λ n r a f. h.reached n r (omega (arith, a, h.order)) f }
 
--- ---- a partition of a slice finds the same
-pub parted : (id : List ℕ) (date : ℕ) (rs : List Run) → rises run_before rs ≡ true → IsPartitionedBy (λ (r : Run). not (key_before id date r)) rs
-parted id date rs rise i j d l m h = elim (eq-or-lt_of_le l) [
-  | inl e ↦ ap (λ k. not (key_before id date (get_or rs k d))) e ∙ h
-  | inr w ↦ ap not (false_from_ne_true (key_before id date (get_or rs i d)) (λ t.
-      true≢false (sym (key_on id date (get_or rs i d) (get_or rs j d) t (rise_pair rs i j (get_or rs i d) (get_or rs j d) rise w (slice_get-get_or rs i d (omega arith)) (slice_get-get_or rs j d m))) ∙ not_false (key_before id date (get_or rs j d)) h)))
-]
-
 pub turned : (b : Bool) → not b ≡ false → b ≡ true
 turned true e = refl
 turned false e = absurd (true≢false e)
-
-pub position_parted : (id : List ℕ) (date : ℕ) (rs : List Run) (k : ℕ) → k ≤ length rs
-    → IsPartitionPoint (λ (r : Run). not (key_before id date r) ≡ true) (λ (r : Run). not (key_before id date r) ≡ false) rs k → IsPositionFor id date rs k
-position_parted id date rs k l h = record {
-  within = l;
-  passed = λ n r m g. ap (key_before id date) (sym (get_or_from_slice_get rs n r r g)) ∙ not_false _ (h.0 n r (omega arith) m);
-  reached = λ n r m g. ap (key_before id date) (sym (get_or_from_slice_get rs n r r g)) ∙ turned _ (h.1 n r m (slice_get_within rs n r g));
-}
 
 -- ---- a run is put in there
 pub insert_ordered : (r : Run) (rs : List Run) (n : ℕ) → IsPositionFor r.graph r.logical rs n → insert rs n r ≡ insert_by run_before r rs
@@ -138,7 +121,7 @@ position_counted r (q ∷ qs) (suc n) h =
     omega (arith, all, one, rest)
 
 -- ---- a run with the key
-any_none : {X : Type 0} (p : X → Bool) (xs : List X) → ((n : ℕ) (x : X) → slice_get xs n ≡ Some x → p x ≡ false) → list_any p xs ≡ false
+pub any_none : {X : Type 0} (p : X → Bool) (xs : List X) → ((n : ℕ) (x : X) → slice_get xs n ≡ Some x → p x ≡ false) → list_any p xs ≡ false
 any_none p [] h = refl
 any_none p (x ∷ xs) h = ap (λ b. b || list_any p xs) (h zero x refl) ∙ any_none p xs (λ n y g. h (suc n) y g)
 

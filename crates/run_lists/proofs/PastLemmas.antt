@@ -23,7 +23,7 @@ less_is true c = refl
 less_is false true = refl
 less_is false false = refl
 
-nat_less : (x y : ℕ) → is_less (nat_cmp x y) ≡ nat_lt x y
+pub nat_less : (x y : ℕ) → is_less (nat_cmp x y) ≡ nat_lt x y
 nat_less x y = less_is (nat_lt x y) (nat_eq x y)
 
 same_tie : (x y : List ℕ) → same x y ≡ is_eq (name_cmp x y)
@@ -66,7 +66,7 @@ never_itself : (r : Run) → is_earlier r r ≡ false
 never_itself r = false_from_ne_true (is_earlier r r) (λ e. let l : r.logical < r.logical = ltb-true _ _ (and_right (same r.graph r.graph) _ e) in omega arith)
 
 -- what stands between two runs of a graph is of that graph
-between : (x q r : Run) → run_before x q ≡ true → run_before q r ≡ true → same x.graph r.graph ≡ true → same q.graph r.graph ≡ true
+pub between : (x q r : Run) → run_before x q ≡ true → run_before q r ≡ true → same x.graph r.graph ≡ true → same q.graph r.graph ≡ true
 between x q r g h e = same_tie q.graph r.graph ∙ by (name_cmp x.graph q.graph) (name_cmp q.graph r.graph) refl refl
   where
     tied : (o : Ordering) → is_eq o ≡ true → o ≡ Equal
@@ -90,7 +90,7 @@ all_get {X} p [] n x h g = absurd (let c : ◌≡◌ {A = Option X} None (Some x
 all_get p (y ∷ ys) zero x h g = let e : y ≡ x = cc in ap p (sym e) ∙ and_left (p y) _ h
 all_get p (y ∷ ys) (suc n) x h g = all_get p ys n x (and_right (p y) _ h) g
 
-none_passes : {X : Type 0} (p : X → Bool) (xs : List X) → ((n : ℕ) (x : X) → slice_get xs n ≡ Some x → p x ≡ false) → last_passing p xs ≡ None
+pub none_passes : {X : Type 0} (p : X → Bool) (xs : List X) → ((n : ℕ) (x : X) → slice_get xs n ≡ Some x → p x ≡ false) → last_passing p xs ≡ None
 none_passes p [] h = refl
 none_passes p (x ∷ xs) h = ap (λ o. or_else o (when (p x) x)) (none_passes p xs (λ n y g. h (suc n) y g)) ∙ ap (λ b. when b x) (h zero x refl)
 

@@ -146,9 +146,9 @@ impl<'a> Overlay<'a> {
         edit.run.instances.item_mut(place)
     }
 
-    /// A run is put in at a position, and touched; those from there on stand one position further on, whether they are touched or not. The
-    /// edits behind it are moved. An `Err` says that memory ran out, and nothing has changed.
-    pub fn insert(&mut self, position: usize, run: Run) -> Result<(), AllocError>
+    // A run is put in at a position, and touched; those from there on stand one position further on, whether they are touched or not. The
+    // edits behind it are moved. An `Err` says that memory ran out, and nothing has changed.
+    pub(crate) fn insert(&mut self, position: usize, run: Run) -> Result<(), AllocError>
         requires { position ≤ length self.old.runs }
         ensures ok { OnOk result (self.new ≡ record self.old {
           runs = insert self.old.runs position run;

@@ -1,16 +1,18 @@
 //! The runs of a schedule, and how edits are written into them.
-ghost use Rattle.std.specs.Prelude.{◌≡◌, ◌+◌, ◌^◌, ◌<◌, ◌≤◌, [], true, false, length, IfOk, OnOk, MatchOption, Some, slice_get};
+ghost use Rattle.std.specs.Prelude.{◌≡◌, ◌+◌, ◌^◌, ◌<◌, ◌≤◌, ◌&&◌, [], true, false, length, find, nat_lt, IfOk, OnOk, Some, slice_get};
 ghost use Rattle.std.specs.List.{list_any};
+ghost use Rattle.std.specs.Option.{option_copied};
+ghost use Rattle.sched_state.specs.Lists.{same};
 ghost use Rattle.sched_state.specs.declared.runs.Run.{Run};
-ghost use Rattle.sched_model.specs.Lists.{rises};
+ghost use Rattle.sched_model.specs.Lists.{last_passing, rises};
 ghost use Rattle.sched_model.specs.Schedule.{is_at, run_before};
 ghost use Rattle.run_lists.specs.Edits.{AreEditsOf, added, edited, hidden, put_in};
-ghost use Rattle.run_lists.specs.Orders.{IsPositionFor, IsRunAt};
+ghost use Rattle.run_lists.specs.Orders.{IsPositionFrom};
 ghost use Rattle.run_lists.specs.Positions.{positions_where, stands, stands_in};
 ghost use Rattle.run_lists.specs.Rooms.{HasPlaces, all_added};
 
 use crate::edits::{Edit, Edits};
-use crate::ordering::{has_key, position_in, positions_of};
+use crate::ordering::{has_key, position_from, positions_of};
 use crate::positions::{make_room, place, positions_in, stands};
 use graph_file::Name;
 use moment_core::Moment;
@@ -53,7 +55,7 @@ impl Runs {
         }
     }
 
-    /// These runs. It goes through them once. An `Err` says that memory ran out.
+    /// These runs. It goes through them twice. An `Err` says that memory ran out.
     pub fn of(alloc: Global, runs: Vec<Run>) -> Result<Runs, AllocError>
         ensures { IfOk result (λ made. made.runs ≡ runs.items) }
     {
@@ -138,26 +140,52 @@ impl Runs {
         positions_of(self.standing(running), &self.runs, graph)
     }
 
-    /// Where a run of this graph and date would be put in: before the first run that it would stand before. It is found by a binary search.
-    pub fn position_for(&self, graph: &Name, logical: Moment) -> usize
+    // Where the runs begin that do not stand before one of this graph and date.
+    fn position_from(&self, graph: &Name, logical: Moment) -> usize
         requires { rises run_before self.now.runs ≡ true }
-        ensures { IsPositionFor graph.now logical self.now.runs result }
+        ensures { IsPositionFrom graph.now logical self.now.runs result }
     {
-        position_in(&self.runs, graph, logical)
+        position_from(&self.runs, graph, logical)
     }
 
-    /// The position of the run of this graph and date, and `None` exactly where there is no such run. It is found by a binary search.
-    pub fn find(&self, graph: &Name, logical: Moment) -> Option<usize>
+    /// The run of this graph and date, if there is one. It is found by a binary search.
+    pub fn run_of(&self, graph: &Name, logical: Moment) -> Option<&Run>
         requires { rises run_before self.now.runs ≡ true }
-        ensures { MatchOption result (list_any (is_at graph.now logical) self.now.runs ≡ false)
-            (λ position. IsRunAt graph.now logical self.now.runs position) }
+        ensures { option_copied result ≡ find (is_at graph.now logical) self.now.runs }
     {
-        let after = self.position_for(graph, logical);
-        if after > 0 && has_key(self.get(after - 1), graph, logical) {
-            Some(after - 1)
+        let position = self.position_from(graph, logical);
+        if position == self.len() {
+            return None;
+        }
+        let run = self.get(position);
+        if has_key(run, graph, logical) {
+            Some(run)
         } else {
             None
         }
+    }
+
+    /// The last run of this graph with an earlier date, if there is one: it stands right before where one of this date stands, or would. That
+    /// is found by a binary search.
+    pub fn last_before(&self, graph: &Name, logical: Moment) -> Option<&Run>
+        requires { rises run_before self.now.runs ≡ true }
+        ensures { option_copied result ≡ last_passing (λ q. same q.graph graph.now && nat_lt q.logical logical) self.now.runs }
+    {
+        let position = self.position_from(graph, logical);
+        if position == 0 {
+            return None;
+        }
+        let run = self.get(position - 1);
+        if run.graph == *graph { Some(run) } else { None }
+    }
+
+    /// Whether there is a run of this graph. Where its runs begin, or would, is found by a binary search.
+    pub fn has_runs(&self, graph: &Name) -> bool
+        requires { rises run_before self.now.runs ≡ true }
+        ensures { result ≡ list_any (λ r. same r.graph graph.now) self.now.runs }
+    {
+        let first = self.position_from(graph, Moment::at(0));
+        first < self.len() && self.get(first).graph == *graph
     }
 
     /// Makes room for the runs that the edits add. What room there was is kept, also where memory runs out, which is what an `Err` says.

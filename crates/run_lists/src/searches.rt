@@ -16,8 +16,8 @@ use std::alloc::AllocError;
 use std::ops::Range;
 
 impl Overlay<'_> {
-    /// Where a run of this graph and date would be put in: before the first run that it would stand before.
-    pub fn position_for(&self, graph: &Name, logical: Moment) -> usize
+    // Where a run of this graph and date would be put in: before the first run that it would stand before.
+    fn position_for(&self, graph: &Name, logical: Moment) -> usize
         requires { rises run_before self.now.runs ≡ true }
         ensures { IsPositionFor graph.now logical self.now.runs result }
     {

@@ -22,5 +22,4 @@ pub mod ChangedRowLemmas
 pub mod LoseLemmas
 pub mod ReportLemmas
 pub mod RoomLemmas
-pub mod PastLemmas
 pub mod EndedLemmas

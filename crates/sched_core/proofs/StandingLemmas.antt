@@ -1,19 +1,13 @@
 -- The runs at the positions of those that are running, or of those that are queued.
-use Rattle.std.proofs.Common.{◌≡◌, ◌∙◌, refl, ap, ℕ, suc, ◌+◌, ◌≤◌, List, [], ◌∷◌, ◌++◌, Bool, true, length, filter, drop, Option, nat_lt, arith}
+use Rattle.std.proofs.Common.{◌≡◌, ◌∙◌, refl, ap, ℕ, suc, List, [], ◌∷◌, ◌++◌, Bool, true, length, filter, drop, Option, arith}
 use Rattle.std.specs.Option.{option_to_list}
-use Rattle.std.proofs.lemmas.Bool.{lt-ltb, and_from}
 use Rattle.sched_state.specs.declared.runs.Run.{Run}
 use Rattle.run_lists.specs.Positions.{positions_from, positions_where}
 use Rattle.run_lists.proofs.GraphLemmas.{first_dropped}
 use Rattle.sched_laws.proofs.DecisionLemmas.{by_bool}
 use Rattle.sched_settling.specs.Marks.{are_within}
 use Rattle.sched_settling.specs.Touched.{runs_at}
-
-within_from : (p : Run → Bool) (i n : ℕ) (rs : List Run) → i + length rs ≤ n → are_within n (positions_from p i rs) ≡ true
-within_from p i n [] l = refl
-within_from p i n (r ∷ rs) l = by_bool {C = are_within n (positions_from p i (r ∷ rs)) ≡ true} (p r)
-    (λ f. rw f (and_from (nat_lt i n) _ (lt-ltb i n (omega (arith, l))) (within_from p (suc i) n rs (omega (arith, l)))))
-    (λ f. rw f (within_from p (suc i) n rs (omega (arith, l))))
+use Rattle.sched_settling.proofs.StandingLemmas.{within_from}
 
 pub places_within : (p : Run → Bool) (rs : List Run) (ps : List ℕ) → ps ≡ positions_where p rs → are_within (length rs) ps ≡ true
 places_within p rs ps e = ap (are_within (length rs)) e ∙ within_from p 0 (length rs) rs (omega arith)

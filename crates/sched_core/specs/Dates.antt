@@ -33,6 +33,7 @@ abbrev pub AreNotedWith : List LoadedGraph → Option Rest → List Index → Li
 AreNotedWith gs None xs ys = ys ≡ xs
 AreNotedWith gs (Some n) xs ys = AreNoted gs n.edits xs ys
 
+-- there is room for the dates of the runs that the rest of a change adds, where there is one
 abbrev pub HaveRoomWith : List LoadedGraph → Option Rest → List Index → Type 0
 HaveRoomWith gs None xs = Unit {0}
 HaveRoomWith gs (Some n) xs = HaveRoom gs n.edits xs

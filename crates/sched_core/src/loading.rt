@@ -11,7 +11,7 @@ ghost use Rattle.sched_events.specs.declared.events.Event.TheVariants.{Load};
 ghost use Rattle.sched_core.specs.Inside.{IsRead, IsReadFault, IsChecked, IsCheckFault, IsTaken};
 
 use crate::changes::{Change, GraphChange};
-use crate::lookups::{has_runs, position_of};
+use crate::lookups::position_of;
 use crate::schedules::Schedule;
 use dag_check::{Graph, check};
 use graph_file::{GraphFault, GraphSpec, Name, TaskSpec, read_graph};
@@ -42,7 +42,7 @@ impl Schedule {
                 if self.graphs[place].text.is_same(text) {
                     return Ok(self.graph_change(alloc, GraphChange::Same)?);
                 }
-                if has_runs(self.runs.as_slice(), id) {
+                if self.runs.has_runs(id) {
                     return Err(Refusal::GraphDiffers);
                 }
                 self.taken_in(alloc, text, dag)

@@ -1,13 +1,11 @@
-//! Looking up graphs and runs.
-ghost use Rattle.std.specs.Prelude.{◌≡◌, ◌&&◌, ◌<◌, find, count_by, Some};
-ghost use Rattle.std.specs.List.{list_any};
+//! Looking up graphs.
+ghost use Rattle.std.specs.Prelude.{◌≡◌, ◌<◌, find, Some};
 ghost use Rattle.std.specs.Option.{option_copied};
 ghost use Rattle.sched_state.specs.Lists.{same};
-ghost use Rattle.sched_model.specs.Schedule.{is_running};
 ghost use Rattle.sched_core.specs.Inside.{IsPlaceOf};
 
 use graph_file::Name;
-use sched_state::{LoadedGraph, Run};
+use sched_state::LoadedGraph;
 
 // The graph with this id.
 pub fn graph_named<'a>(graphs: &'a [LoadedGraph], id: &Name) -> Option<&'a LoadedGraph>
@@ -26,11 +24,4 @@ pub fn position_of(graphs: &[LoadedGraph], id: &Name) -> Option<usize>
         }
     }
     None
-}
-
-// Whether the graph has a run.
-pub fn has_runs(runs: &[Run], id: &Name) -> bool
-    ensures { result ≡ list_any (λ r. same r.graph id.now) runs.now }
-{
-    runs.iter().any(|run| run.graph == *id)
 }

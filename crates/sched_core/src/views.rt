@@ -1,11 +1,9 @@
 //! What a schedule shows of its runs and task instances. No view takes memory.
-ghost use Rattle.std.specs.Prelude.{◌≡◌, ◌+◌, ◌≤◌, ◌&&◌, find, sum_by, count_by, slice_get};
+ghost use Rattle.std.specs.Prelude.{◌≡◌, ◌+◌, ◌≤◌, find, sum_by, count_by, slice_get};
 ghost use Rattle.std.specs.Option.{option_copied};
 ghost use Rattle.sched_model.specs.Handout.{last_serial};
-ghost use Rattle.sched_model.specs.Lists.{last_passing};
-ghost use Rattle.sched_model.specs.Schedule.{is_at, is_running};
-ghost use Rattle.sched_model.specs.States.{active_runs, in_flight, is_earlier, is_open, previous};
-ghost use Rattle.sched_state.specs.Lists.{same};
+ghost use Rattle.sched_model.specs.Schedule.{is_at};
+ghost use Rattle.sched_model.specs.States.{active_runs, in_flight, is_open, previous};
 ghost use Rattle.sched_core.specs.Views.{instance_of};
 ghost use Rattle.sched_core.specs.Inside.{open_in};
 
@@ -13,7 +11,7 @@ use crate::schedules::Schedule;
 use graph_file::Name;
 use instance_machine::Instance;
 use moment_core::Moment;
-use sched_state::{Run, RunPhase};
+use sched_state::Run;
 
 impl Schedule {
     /// How many tries are without an end.
@@ -23,77 +21,35 @@ impl Schedule {
         self.occupied.in_flight
     }
 
-    /// The run of a graph with this logical date, if there is one.
+    /// The run of a graph with this logical date, if there is one. It is found by a binary search.
     pub fn run_of(&self, graph: &Name, logical: Moment) -> Option<&Run>
         ensures { option_copied result ≡ find (is_at graph.now logical) self.now.content.runs }
     {
-        run_at(self.runs.as_slice(), graph, logical)
+        self.runs.run_of(graph, logical)
     }
 
-    /// The run before, in its graph: the last one with an earlier logical date.
+    /// The run before, in its graph: the last one with an earlier logical date. It is found by a binary search.
     pub fn previous_run(&self, run: &Run) -> Option<&Run>
         ensures { option_copied result ≡ previous self.now.content run.now }
     {
-        previous_in(self.runs.as_slice(), run)
+        self.runs.last_before(&run.graph, run.logical)
     }
 
-    /// How many runs of the graph are running.
+    /// How many runs of the graph are running. They are found by two binary searches among the running runs.
     pub fn active_runs(&self, id: &Name) -> usize
         ensures { result ≡ active_runs self.now.content id.now }
     {
-        active_in(self.runs.as_slice(), id)
+        self.runs.running_of(id).len()
     }
 
     /// The instance of a task in the run of a graph with this logical date: none where there is no such run, or no such task.
     pub fn instance_of(&self, graph: &Name, logical: Moment, task: &Name) -> Option<&Instance>
         ensures { option_copied result ≡ instance_of self.now.content graph.now logical task.now }
     {
-        let run = run_at(self.runs.as_slice(), graph, logical)?;
+        let run = self.runs.run_of(graph, logical)?;
         let place = self.graph_of(graph)?.dag.place(task)?;
         instance_at(run.instances.as_slice(), place)
     }
-}
-
-// The run of a graph with this logical date.
-fn run_at<'a>(runs: &'a [Run], graph: &Name, logical: Moment) -> Option<&'a Run>
-    ensures { option_copied result ≡ find (is_at graph.now logical) runs.now }
-{
-    runs.iter()
-        .find(|run| run.graph == *graph && run.logical == logical)
-}
-
-// Whether the other run is an earlier one of the run's graph.
-fn is_earlier(run: &Run, other: &Run) -> bool
-    ensures { result ≡ is_earlier run.now other.now }
-{
-    other.graph == run.graph && other.logical < run.logical
-}
-
-// The run before, in its graph.
-fn previous_in<'a>(runs: &'a [Run], run: &Run) -> Option<&'a Run>
-    ensures { option_copied result ≡ last_passing (is_earlier run.now) runs.now }
-{
-    let mut found = None;
-    for other in runs {
-        if is_earlier(run, other) {
-            found = Some(other);
-        }
-    }
-    found
-}
-
-// Whether this is a running run of the graph.
-fn is_active(run: &Run, id: &Name) -> bool
-    ensures { result ≡ (same run.now.graph id.now && is_running run.now.phase) }
-{
-    run.graph == *id && matches!(run.phase, RunPhase::Running)
-}
-
-// How many runs of the graph are running.
-fn active_in(runs: &[Run], id: &Name) -> usize
-    ensures { result ≡ count_by (λ r. same r.graph id.now && is_running r.phase) runs.now }
-{
-    runs.iter().filter(|run| is_active(run, id)).count()
 }
 
 // The instance at a place.

@@ -159,9 +159,10 @@ pub record IsFinding (gs : List LoadedGraph) (rs : List Run) (ps : List ℕ) (cs
   pub found : AreFound gs (heads rs) reached cs
   pub left : ps ≡ positions_from (stands true) reached (drop reached rs)
 
--- the first position that is left, before which nothing else may offer
+-- the first position that is left: its run is running, and before it nothing else may offer
 pub record IsNext (gs : List LoadedGraph) (rs : List Run) (n : ℕ) (ps : List ℕ) (cs : List Candidate) : Type 0 where
   pub within : n < length rs
+  pub running : (r : Run) → slice_get rs n ≡ Some r → is_running r.phase ≡ true
   pub found : AreFound gs (heads rs) n cs
   pub left : ps ≡ positions_from (stands true) (suc n) (drop (suc n) rs)
 
@@ -187,7 +188,7 @@ next_in gs rs cs (x ∷ xs) n q rest d e h =
     let i : n ≡ q = cc in
     let j : rest ≡ positions_from (stands true) (suc n) xs = cc in
     subst (λ m. IsNext gs rs m rest cs) i
-    (record { within = slice_get_within rs n x f.0; found = h; left = j ∙ ap (positions_from (stands true) (suc n)) (sym f.1) }))
+    (record { within = slice_get_within rs n x f.0; running = λ r g. let d : ◌≡◌ {A = Option Run} (Some r) (Some x) = sym g ∙ f.0 in let is : r ≡ x = cc in ap (λ (q : Run). is_running q.phase) is ∙ on; found = h; left = j ∙ ap (positions_from (stands true) (suc n)) (sym f.1) }))
     (λ off.
     let c : q ∷ rest ≡ positions_from (stands true) (suc n) xs = e ∙ ap (λ b. cond b (n ∷ positions_from (stands true) (suc n) xs) (positions_from (stands true) (suc n) xs)) off in
     let one : n + 1 ≡ suc n = omega arith in

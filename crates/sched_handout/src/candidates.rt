@@ -1,9 +1,10 @@
 //! The runs that are looked at for offers.
-ghost use Rattle.std.specs.Prelude.{◌<◌, length, IfOk};
+ghost use Rattle.std.specs.Prelude.{◌≡◌, ◌<◌, true, length, Some, slice_get, IfOk};
+ghost use Rattle.sched_state.specs.declared.runs.Run.{Run};
+ghost use Rattle.sched_model.specs.Schedule.{is_running};
 ghost use Rattle.sched_handout.specs.Candidates.{AllMayOffer, AreCandidates, IsOffering, heads};
 
 use sched_draft::Draft;
-use sched_state::RunPhase;
 use std::alloc::{AllocError, Global};
 
 /// A run that may offer, by its position, with the position of its graph.
@@ -13,18 +14,13 @@ pub struct Candidate {
     pub graph: usize,
 }
 
-// The run at a position as a candidate, where it is running, and its graph is there and not paused.
+// The running run at a position as a candidate, where its graph is there and not paused.
 fn candidate_at(draft: &Draft<'_>, position: usize) -> Option<Candidate>
-    requires { position < length draft.now.content.runs }
+    requires within { position < length draft.now.content.runs }
+    requires running { (r : Run) → slice_get draft.now.content.runs position ≡ Some r → is_running r.phase ≡ true }
     ensures { IsOffering draft.now.content.graphs (heads draft.now.content.runs) position result }
 {
-    let run = draft.run(position);
-    if !matches!(run.phase, RunPhase::Running) {
-        return None;
-    }
-    let Some(graph) = draft.position_of(&run.graph) else {
-        return None;
-    };
+    let graph = draft.position_of(&draft.run(position).graph)?;
     if draft.is_paused_at(graph) {
         return None;
     }

@@ -17,14 +17,14 @@ use Rattle.sched_settling.proofs.CarryLemmas.{dates_rise_too, in_at}
 use Rattle.sched_settling.proofs.LineLemmas.{queued_run, run_date}
 
 -- ---- the positions of the runs of which something holds
-within_from : (p : Run → Bool) (i n : ℕ) (rs : List Run) → i + length rs ≤ n → are_within n (positions_from p i rs) ≡ true
+pub within_from : (p : Run → Bool) (i n : ℕ) (rs : List Run) → i + length rs ≤ n → are_within n (positions_from p i rs) ≡ true
 within_from p i n [] l = refl
 within_from p i n (r ∷ rs) l = by_bool {C = are_within n (positions_from p i (r ∷ rs)) ≡ true} (p r)
     (λ f. rw f (and_from (nat_lt i n) _ (lt-ltb i n (omega (arith, l))) (within_from p (suc i) n rs (omega (arith, l)))))
     (λ f. rw f (within_from p (suc i) n rs (omega (arith, l))))
 
 -- there are as many as such runs
-count_from : (p : Run → Bool) (i : ℕ) (rs : List Run) → length (positions_from p i rs) ≡ count_by p rs
+pub count_from : (p : Run → Bool) (i : ℕ) (rs : List Run) → length (positions_from p i rs) ≡ count_by p rs
 count_from p i [] = refl
 count_from p i (r ∷ rs) =
     let ks : List ℕ = positions_from p (suc i) rs in

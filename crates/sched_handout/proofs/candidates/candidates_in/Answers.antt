@@ -14,7 +14,8 @@ loop-position-init c =
 pub candidate_at-requires : goal.candidate_at-requires
 candidate_at-requires c =
     let a : Schedule = c.args.draft.now.content in
-    (finding_next a.graphs a.runs c.loop-position.all.items _ _ c.in-Some.position c.in-Some.ensures.steps.0 c.loop-position.invariant).within
+    let h = finding_next a.graphs a.runs c.loop-position.all.items _ _ c.in-Some.position c.in-Some.ensures.steps.0 c.loop-position.invariant in
+    record { within = h.within; running = h.running }
 
 pub loop-position-preserved : goal.loop-position-preserved
 loop-position-preserved c =

@@ -6,7 +6,6 @@ use Rattle.sched_state.specs.Lists.{same}
 use Rattle.sched_model.specs.Schedule.{has_runs}
 use Rattle.sched_model.specs.Schedule.{Schedule}
 use Rattle.sched_state.specs.declared.graphs.LoadedGraph.{LoadedGraph}
-use Rattle.sched_state.specs.declared.runs.Run.{Run}
 use Rattle.sched_core.proofs.GraphLemmas.{unknown_no_runs}
 use Rattle.sched_draft.specs.Books.{pools_in}
 use Rattle.sched_core.specs.Changes.{ScheduleValue}
@@ -67,6 +66,9 @@ returns-then-is_same-clause-accepted c =
     draft_planned no_runs c.in_ok-graph_change-in-Some.field-0 (subst (λ (h : ScheduleValue). IsDraftOf (Load c.args.text.now) h.content h.content) c.self.view_is made)
     refl c.in_ok-graph_change-in-Some.ensures
 
+pub has_runs-requires : goal.has_runs-requires
+has_runs-requires c = c.self.invariant.held.kept.sound.runs_by_key
+
 pub returns-then-has_runs-clause-refused : goal.returns-then-has_runs-clause-refused
 returns-then-has_runs-clause-refused c =
     let a : Schedule = record { limits = c.self.inside.limits; graphs = c.self.inside.graphs.items; pools = pools_in c.self.inside.occupied.pools.pools; now = c.self.inside.clock; lanes = c.self.inside.lanes; next = c.self.inside.next; runs = c.self.inside.runs.runs } in
@@ -77,8 +79,7 @@ returns-then-has_runs-clause-refused c =
     (subst (λ (gs : List LoadedGraph). StandsAt c.spec.result.now.dag_id gs c.in-Some.place) c.deref.ensures.value c.in-Some.ensures) in
     let known = known_is a.graphs dag.spec.dag_id c.in-Some.place g stands c.index.ensures in
     let other : same g.text c.args.text.now ≡ false = sym c.if-is_same.ensures in
-    let runs = subst (λ (s : GraphSpec). has_runs a s.dag_id ≡ true) c.spec.ensures.spec
-    (ap (list_any (λ (r : Run). same r.graph c.spec.result.now.dag_id)) (sym c.as_slice.ensures) ∙ sym c.if-has_runs.ensures) in
+    let runs = subst (λ (s : GraphSpec). has_runs a s.dag_id ≡ true) c.spec.ensures.spec (sym c.if-has_runs.ensures) in
     inr (record { first = subst (λ (h : ScheduleValue). refused h.content (Load c.args.text.now) ≡ Some refusal.GraphDiffers) c.self.view_is (refused_differs a c.args.text.now dag c.in-Some.place g c.self.invariant.held.kept taken known.0 known.1 other runs); shown = tt })
 
 pub taken_in-requires-in-Some-clause-accepted : goal.taken_in-requires-in-Some-clause-accepted
@@ -91,8 +92,7 @@ taken_in-requires-in-Some-clause-accepted c =
     (subst (λ (gs : List LoadedGraph). StandsAt c.spec.result.now.dag_id gs c.in-Some.place) c.deref.ensures.value c.in-Some.ensures) in
     let known = known_is a.graphs dag.spec.dag_id c.in-Some.place g stands c.index.ensures in
     let other : same g.text c.args.text.now ≡ false = sym c.if-is_same.ensures in
-    let runs = subst (λ (s : GraphSpec). has_runs a s.dag_id ≡ false) c.spec.ensures.spec
-    (ap (list_any (λ (r : Run). same r.graph c.spec.result.now.dag_id)) (sym c.as_slice.ensures) ∙ sym c.if-has_runs.ensures) in
+    let runs = subst (λ (s : GraphSpec). has_runs a s.dag_id ≡ false) c.spec.ensures.spec (sym c.if-has_runs.ensures) in
     subst (λ (h : ScheduleValue). refused h.content (Load c.args.text.now) ≡ None) c.self.view_is
     (accepted_other a c.args.text.now dag c.in-Some.place g c.self.invariant.held.kept taken known.0 known.1 other runs)
 
@@ -101,6 +101,5 @@ taken_in-requires-in-Some-clause-quiet c =
     let a : Schedule = record { limits = c.self.inside.limits; graphs = c.self.inside.graphs.items; pools = pools_in c.self.inside.occupied.pools.pools; now = c.self.inside.clock; lanes = c.self.inside.lanes; next = c.self.inside.next; runs = c.self.inside.runs.runs } in
     let dag = c.in_ok-dag.dag in
     let taken = subst (λ (h : ScheduleValue). IsTaken h.content c.args.text.now dag) (sym c.self.view_is) c.in_ok-dag.ensures.taken in
-    let runs = subst (λ (s : GraphSpec). has_runs a s.dag_id ≡ false) c.spec.ensures.spec
-    (ap (list_any (λ (r : Run). same r.graph c.spec.result.now.dag_id)) (sym c.as_slice.ensures) ∙ sym c.if-has_runs.ensures) in
+    let runs = subst (λ (s : GraphSpec). has_runs a s.dag_id ≡ false) c.spec.ensures.spec (sym c.if-has_runs.ensures) in
     subst (λ (h : ScheduleValue). has_runs h.content dag.spec.dag_id ≡ false) c.self.view_is runs
