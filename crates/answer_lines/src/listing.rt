@@ -14,7 +14,6 @@ use crate::runs::put_run;
 use crate::tasks::put_task;
 use command_words::Listing;
 use sched_core::Schedule;
-use sched_state::Run;
 use std::io::{self, Write};
 
 /// Writes a row for each run, task instance or pool, and `ok`.
@@ -38,16 +37,16 @@ fn put_runs<W: Write>(output: &mut W, schedule: &Schedule) -> io::Result<()>
     ensures { OnOk result (Appends (W.contents output.old) (W.contents output.new)
         (runs_text schedule.now.content.runs)) }
 {
-    put_run_rows(output, schedule.runs())?;
+    put_run_rows(output, schedule)?;
     put_ok(output)
 }
 
 // Writes a row for each run.
-fn put_run_rows<W: Write>(output: &mut W, runs: &[Run]) -> io::Result<()>
+fn put_run_rows<W: Write>(output: &mut W, schedule: &Schedule) -> io::Result<()>
     ensures { OnOk result (Appends (W.contents output.old) (W.contents output.new)
-        (flat_map run_line runs.now)) }
+        (flat_map run_line schedule.now.content.runs)) }
 {
-    for run in runs {
+    for run in schedule.runs() {
         put_run(output, run)?;
     }
     Ok(())

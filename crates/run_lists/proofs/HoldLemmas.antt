@@ -203,11 +203,11 @@ set_is [] (suc n) r = refl
 set_is (q ∷ qs) zero r = refl
 set_is (q ∷ qs) (suc n) r = ap (λ (ps : List Run). q ∷ ps) (set_is qs n r)
 
-pub put_over : (b : Bool) (rs : List Run) (n : ℕ) (r : Run) → b ≡ false → set rs n r ≡ put_in b n r (λ _. r) rs
-put_over b rs n r e = set_is rs n r ∙ ap (λ c. put_in c n r (λ _. r) rs) (sym e)
+pub put_over : (b : Bool) (rs qs : List Run) (n : ℕ) (r : Run) → b ≡ false → qs ≡ set rs n r → qs ≡ put_in b n r (λ _. r) rs
+put_over b rs qs n r e made = made ∙ (set_is rs n r ∙ ap (λ c. put_in c n r (λ _. r) rs) (sym e))
 
-pub put_new : (b ok : Bool) (rs qs : List Run) (n : ℕ) (r : Run) → b ≡ true → qs ≡ cond ok (insert rs n r) rs → ok ≡ true → qs ≡ put_in b n r (λ _. r) rs
-put_new b ok rs qs n r e made done = made ∙ (ap (λ c. cond c (insert rs n r) rs) done ∙ ap (λ c. put_in c n r (λ _. r) rs) (sym e))
+pub put_new : (b : Bool) (rs qs : List Run) (n : ℕ) (r : Run) → b ≡ true → qs ≡ insert rs n r → qs ≡ put_in b n r (λ _. r) rs
+put_new b rs qs n r e made = made ∙ ap (λ c. put_in c n r (λ _. r) rs) (sym e)
 
 -- ---- at most one more
 with_few : (n : ℕ) (ns : List ℕ) → length (with_position n ns) ≤ length ns + 1

@@ -1,7 +1,6 @@
 -- Where the runs of a graph with dates from one to another stand.
-use Rattle.std.proofs.Common.{◌≡◌, ◌∙◌, refl, sym, ap, ℕ, length, ◌+◌, ◌-◌, ◌<◌, ◌≤◌, ◌&&◌, Bool, true, false, List, get_or, Option, Some, slice_get, nat_le, nat_lt, true≢false, inl, inr, arith}
+use Rattle.std.proofs.Common.{◌≡◌, ◌∙◌, refl, sym, ap, ℕ, ◌+◌, ◌-◌, ◌<◌, ◌≤◌, ◌&&◌, Bool, true, false, List, get_or, Option, Some, slice_get, nat_le, nat_lt, true≢false, inl, inr, arith}
 use Rattle.std.specs.Cmp.{ranked}
-use Rattle.std.specs.List.Sorted.{IsPartitionedBy, IsPartitionPoint}
 use Rattle.std.specs.Ordering.{is_eq, nat_cmp, ordering_reverse, ordering_then}
 use Rattle.std.specs.declared.cmp.Ordering.{Ordering}
 use Rattle.std.specs.declared.cmp.Ordering.TheVariants.{Less, Equal, Greater}
@@ -9,7 +8,7 @@ use Rattle.std.proofs.lemmas.Bool.{and_from, eq-eqb, eqb-true, false_from_ne_tru
 use Rattle.std.proofs.lemmas.Bool.Decides.{nat_tests}
 use Rattle.std.proofs.lemmas.Cmp.{nat_list_cmp_total}
 use Rattle.std.proofs.lemmas.Map.Text.{is_eq-slice_cmp}
-use Rattle.std.proofs.lemmas.Option.{slice_get_within, slice_get-get_or, get_or_from_slice_get}
+use Rattle.std.proofs.lemmas.Option.{slice_get-get_or}
 use Rattle.std.proofs.Math.Nat.{eq-or-lt_of_le}
 use Rattle.sched_state.specs.Lists.{is_less, name_cmp, same}
 use Rattle.sched_state.specs.declared.runs.Run.{Run}
@@ -62,10 +61,6 @@ before_by id date r e f = elim (cmp_key id date r) as (λ o. cmp_key id date r �
   | Greater ↦ λ q. turned id date r Greater q
 ] refl
 
--- what stands before a run that stands before the key
-before_on : (id : List ℕ) (date : ℕ) (r q : Run) → run_before r q ≡ true → stands_before id date q ≡ true → stands_before id date r ≡ true
-before_on id date r q h g = ap is_less (key_total.trans (r.graph, r.logical) (q.graph, q.logical) (id, date) (less_only _ h) (less_only _ g))
-
 -- a run with the key stands in its place
 pub before_same : (id : List ℕ) (date : ℕ) (q x : Run) → is_at id date q ≡ true → stands_before id date x ≡ run_before x q
 before_same id date q x t =
@@ -75,20 +70,6 @@ before_same id date q x t =
 
 pub before_itself : (id : List ℕ) (date : ℕ) (q : Run) → is_at id date q ≡ true → stands_before id date q ≡ false
 before_itself id date q t = before_same id date q q t ∙ never (ordering_then (name_cmp q.graph q.graph) (nat_cmp q.logical q.logical)) (key_total.antisymm (q.graph, q.logical) (q.graph, q.logical))
-
--- ---- a partition of a slice finds where they stand
-pub from_parted : (id : List ℕ) (date : ℕ) (rs : List Run) → rises run_before rs ≡ true → IsPartitionedBy (stands_before id date) rs
-from_parted id date rs rise i j d l m h = elim (eq-or-lt_of_le l) [
-  | inl e ↦ ap (λ k. stands_before id date (get_or rs k d)) e ∙ h
-  | inr w ↦ before_on id date (get_or rs i d) (get_or rs j d) (rise_pair rs i j (get_or rs i d) (get_or rs j d) rise w (slice_get-get_or rs i d (omega arith)) (slice_get-get_or rs j d m)) h
-]
-
-pub from_place : (id : List ℕ) (date : ℕ) (rs : List Run) (k : ℕ) → k ≤ length rs → IsPartitionPoint (λ (r : Run). stands_before id date r ≡ true) (λ (r : Run). stands_before id date r ≡ false) rs k → IsPositionFrom id date rs k
-from_place id date rs k l h = record {
-  within = l;
-  passed = λ n r m g. ap (stands_before id date) (sym (get_or_from_slice_get rs n r r g)) ∙ h.0 n r (omega arith) m;
-  reached = λ n r m g. ap (stands_before id date) (sym (get_or_from_slice_get rs n r r g)) ∙ h.1 n r m (slice_get_within rs n r g);
-}
 
 -- ---- the position from which on they stand
 -- a run before the last one before that position has another key

@@ -11,33 +11,35 @@ ghost use Rattle.run_lists.specs.Orders.{IsPositionFrom};
 ghost use Rattle.run_lists.specs.Positions.{positions_where, stands, stands_in};
 ghost use Rattle.run_lists.specs.Rooms.{HasPlaces, all_added};
 
+use crate::Overlay;
 use crate::edits::{Edit, Edits};
-use crate::ordering::{has_key, position_from, positions_of};
+use crate::ordering::{has_key, positions_of};
 use crate::positions::{make_room, place, positions_in, stands};
 use graph_file::Name;
 use moment_core::Moment;
 use sched_state::Run;
 use std::alloc::{AllocError, Global};
 use std::marker::Model;
+use tiered_vec::TieredVec;
 
 /// The runs of a schedule, by graph and logical date, with the positions of those that are running and of those that are queued.
 ///
 /// Contracts see the runs, and for how many more there is room.
 #[derive(Debug, Drop)]
 pub struct Runs {
-    runs: Vec<Run>,
+    runs: TieredVec<Run>,
     running: Vec<usize>,
     queued: Vec<usize>,
 }
 
 impl Model for Runs {
-    ghost use Rattle.std.specs.Prelude.{◌-◌, true, false, vec_len, vec_capacity};
+    ghost use Rattle.std.specs.Prelude.{◌-◌, true, false, length, vec_capacity};
     ghost use Rattle.run_lists.specs.Positions.{IsIndex, room_of, stands};
     ghost use Rattle.run_lists.specs.Rooms.{RunsValue};
 
     ghost Value = { RunsValue };
 
-    ghost view = { λ r. record { runs = r.runs.items; room = room_of (vec_capacity r.runs) (vec_capacity r.running) (vec_capacity r.queued) - vec_len r.runs } };
+    ghost view = { λ r. record { runs = r.runs.items; room = room_of r.runs.room (vec_capacity r.running - length r.runs.items) (vec_capacity r.queued - length r.runs.items) } };
 
     ghost invariant = { λ r. IsIndex (stands true) r.runs.items r.running.items (vec_capacity r.running)
         × IsIndex (stands false) r.runs.items r.queued.items (vec_capacity r.queued) };
@@ -49,31 +51,31 @@ impl Runs {
         ensures { result.runs ≡ [] }
     {
         Runs {
-            runs: Vec::new(alloc),
+            runs: TieredVec::new(alloc),
             running: Vec::new(alloc),
             queued: Vec::new(alloc),
         }
     }
 
-    /// These runs. It goes through them twice. An `Err` says that memory ran out.
+    /// These runs. It goes through them three times. An `Err` says that memory ran out.
     pub fn of(alloc: Global, runs: Vec<Run>) -> Result<Runs, AllocError>
         ensures { IfOk result (λ made. made.runs ≡ runs.items) }
     {
         let running = positions_in(alloc, &runs, true)?;
         let queued = positions_in(alloc, &runs, false)?;
         Ok(Runs {
-            runs,
+            runs: TieredVec::of(alloc, runs)?,
             running,
             queued,
         })
     }
 
-    /// How many runs there are: fewer than 2^62, since each takes more than a few bytes.
+    /// How many runs there are: fewer than 2^62.
     pub fn len(&self) -> usize
         ensures len { result ≡ length self.now.runs }
         ensures small { result < 2 ^ 62 }
     {
-        self.runs.as_slice().len()
+        self.runs.len()
     }
 
     /// The run at a position.
@@ -81,14 +83,7 @@ impl Runs {
         requires { position < length self.now.runs }
         ensures { slice_get self.now.runs position ≡ Some result.now }
     {
-        &self.runs[position]
-    }
-
-    /// The runs, in their order.
-    pub fn as_slice(&self) -> &[Run]
-        ensures { result.now ≡ self.now.runs }
-    {
-        self.runs.as_slice()
+        self.runs.get(position)
     }
 
     /// The positions of the runs that are running, in their order.
@@ -137,7 +132,7 @@ impl Runs {
         requires { rises run_before self.now.runs ≡ true }
         ensures { result.now ≡ positions_where (stands_in graph.now running) self.now.runs }
     {
-        positions_of(self.standing(running), &self.runs, graph)
+        positions_of(self.standing(running), self, graph)
     }
 
     // Where the runs begin that do not stand before one of this graph and date.
@@ -145,7 +140,7 @@ impl Runs {
         requires { rises run_before self.now.runs ≡ true }
         ensures { IsPositionFrom graph.now logical self.now.runs result }
     {
-        position_from(&self.runs, graph, logical)
+        Overlay::new(*self.running.allocator(), self).position_from(graph, logical)
     }
 
     /// The run of this graph and date, if there is one. It is found by a binary search.
@@ -202,7 +197,7 @@ impl Runs {
     }
 
     /// Writes the edits, which are of these runs, and for which there is room. This takes no memory. The first edit is written first, at its
-    /// position among all runs; a run that is added moves those behind it.
+    /// position among all runs.
     pub fn write(&mut self, edits: Edits)
         requires edits { AreEditsOf self.old.runs edits }
         requires places { HasPlaces edits self.old.room }
@@ -231,9 +226,9 @@ impl Runs {
         place(&mut self.running, is_new, at, running);
         place(&mut self.queued, is_new, at, queued);
         if is_new {
-            let _ = self.runs.insert(at, run);
+            self.runs.insert(at, run);
         } else {
-            self.runs[at] = run;
+            self.runs.set(at, run);
         }
     }
 }

@@ -49,7 +49,7 @@ impl Overlay<'_> {
     }
 
     // Where the runs begin that do not stand before one of this graph and date.
-    fn position_from(&self, graph: &Name, logical: Moment) -> usize
+    pub(crate) fn position_from(&self, graph: &Name, logical: Moment) -> usize
         requires { rises run_before self.now.runs ≡ true }
         ensures { IsPositionFrom graph.now logical self.now.runs result }
     {

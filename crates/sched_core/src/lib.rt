@@ -36,6 +36,7 @@ pub use pool_book::Slots;
 pub use pool_rows::PoolRows;
 pub use record_restoring::{KeyedRows, RestoreFault};
 pub use rows::Instances;
+pub use run_lists::RunRows;
 pub use sched_events::{Answer, Event, InstanceRow, PoolRow, Refusal, RunId, State};
 pub use sched_state::{Clearing, GraphText, Job, Limits, LoadedGraph, Run, RunKind, RunPhase};
 pub use schedules::Schedule;

@@ -25,11 +25,11 @@ use crate::pausing::set_paused;
 use dag_check::Graph;
 use graph_file::Name;
 use moment_core::Moment;
-use run_lists::Runs;
+use run_lists::{RunRows, Runs};
 use run_planner::RunIndex;
 use sched_events::{Answer, Event, Refusal};
 use sched_handout::Occupied;
-use sched_state::{GraphText, Limits, LoadedGraph, Run};
+use sched_state::{GraphText, Limits, LoadedGraph};
 use std::alloc::{AllocError, Global};
 use std::marker::Model;
 
@@ -127,11 +127,18 @@ impl Schedule {
     }
 
     /// The runs, by graph id and logical date.
-    pub fn runs(&self) -> &[Run]
-        ensures runs { result.now ≡ self.now.content.runs }
+    pub fn runs(&self) -> RunRows<'_>
+        ensures runs { result ≡ self.now.content.runs }
         ensures kept { IsSoundAndSaid self.now.content }
     {
-        self.runs.as_slice()
+        self.runs.iter()
+    }
+
+    /// How many runs there are.
+    pub fn run_count(&self) -> usize
+        ensures { result ≡ length self.now.content.runs }
+    {
+        self.runs.len()
     }
 
     /// The graph with this id, with its text and its pause.

@@ -71,7 +71,7 @@ fn load_again<S: Alter, R: Clock>(
 ) -> io::Result<(usize, Duration)> {
     let start = Instant::now(rt)?;
     match store.load(alloc, Limits::full()) {
-        Ok(schedule) => Ok((schedule.runs().len(), start.elapsed(rt)?)),
+        Ok(schedule) => Ok((schedule.run_count(), start.elapsed(rt)?)),
         Err(_) => Err(io::Error::other("the record is not loaded")),
     }
 }

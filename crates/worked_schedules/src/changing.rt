@@ -26,7 +26,7 @@ pub fn load_changed<W: Write>(
     let loaded = load_after(alloc, played, sql).or_else(|_| load_after(alloc, played, sql))?;
     match loaded {
         Loaded::Sound(schedule) => {
-            let runs = schedule.runs().len();
+            let runs = schedule.run_count();
             let in_flight = schedule.in_flight();
             writeln!(output, "loaded: {runs} runs, {in_flight} tries in flight")
         }

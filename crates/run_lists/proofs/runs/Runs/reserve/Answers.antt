@@ -6,9 +6,9 @@ use Rattle.run_lists.proofs.runs.Runs.reserve.Goals as goal
 pub make_room-requires : goal.make_room-requires
 make_room-requires c =
     let few = index_few (stands true) c.self.inside.runs.items c.self.inside.running.items (vec_capacity c.self.inside.running) c.self.invariant.0 in
-    omega (arith, few, c.len.ensures, c.self.inside.runs.ok.0)
+    omega (arith, few, c.len.ensures)
 
 pub make_room-requires-2 : goal.make_room-requires-2
 make_room-requires-2 c =
     let few = index_few (stands false) c.self.inside.runs.items c.self.inside.queued.items (vec_capacity c.self.inside.queued) c.self.invariant.1 in
-    omega (arith, few, c.len.ensures, c.self.inside.runs.ok.0)
+    omega (arith, few, c.len.ensures)

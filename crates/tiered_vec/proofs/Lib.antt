@@ -1,0 +1,3 @@
+pub mod PlaceLemmas
+pub mod CarryLemmas
+pub mod RoomLemmas

@@ -1,0 +1,2 @@
+pub mod Tiered
+pub mod Tiers
