@@ -1,4 +1,5 @@
 //! Graph files: what is read of one, or why it is refused. The lines of a file stand behind one another, with ` ; ` between them.
+use crate::cuts::write_cuts;
 use crate::expressions::write_interval;
 use crate::moments::write_moment;
 use crate::tasks::write_tasks;
@@ -13,7 +14,7 @@ const TOP: &str = "dag_id = \"one\"\nschedule = \"@daily\"\nstart_date = \"2024-
 const TASK: &str = "[[task]]\ntask_id = \"t\"\noperator = \"noop\"\n";
 
 /// Writes the answer to a question about a graph file: of its top (`graph`, and `top` of a file with one task), of its tasks (`tasks` behind a
-/// top, `task` for more lines of one task), whether it is read (`size`, of tasks), or where it may be cut off (`cuts`).
+/// top, `task` for more lines of one task), whether it is read (`size`, of tasks), or what it is where it is cut off (`cuts`).
 pub fn write_answer(rt: &HostRuntime, word: &str, lines: &str) -> io::Result<()> {
     let lines = expanded(rt.alloc(), lines)?;
     let lines = replaced(rt.alloc(), lines.as_str(), &[(" ; ", "\n")])?;
@@ -123,23 +124,4 @@ fn write_size(rt: &HostRuntime, text: &str) -> io::Result<()> {
         Ok(_) => print!(rt; "{bytes} bytes, ok"),
         Err(fault) => print!(rt; "{bytes} bytes, {fault:?}"),
     }
-}
-
-// After how many bytes a file may be cut off and is still a graph.
-fn write_cuts(rt: &HostRuntime, text: &str) -> io::Result<()> {
-    rt.print("bytes")?;
-    for end in 0..=text.len() {
-        if let Some(cut) = text.get(..end) {
-            write_cut(rt, cut)?;
-        }
-    }
-    Ok(())
-}
-
-fn write_cut(rt: &HostRuntime, cut: &str) -> io::Result<()> {
-    if read_graph(rt.alloc(), cut).is_ok() {
-        let bytes = cut.len();
-        print!(rt; " {bytes}")?;
-    }
-    Ok(())
 }

@@ -7,6 +7,7 @@
 
 mod books;
 mod commands;
+mod cuts;
 mod dag_files;
 mod dags;
 mod events;

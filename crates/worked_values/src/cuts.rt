@@ -1,0 +1,64 @@
+//! Files that are cut off: what is read of what is left, and whether its tasks are a graph.
+use dag_check::check;
+use graph_file::read_graph;
+use std::alloc::{AllocError, Global};
+use std::io;
+
+// Cuts one after another that leave the same: the bytes that the first and the last of them leave, and what these are.
+#[derive(Drop)]
+struct Alike {
+    first: usize,
+    last: usize,
+    answer: String,
+}
+
+/// Writes what a file is that is cut off after so many bytes, for each number of them.
+pub fn write_cuts(rt: &HostRuntime, text: &str) -> io::Result<()> {
+    let mut alike = Alike {
+        first: 0,
+        last: 0,
+        answer: answer_to(rt.alloc(), "")?,
+    };
+    for end in 1..=text.len() {
+        let Some(left) = text.get(..end) else {
+            continue;
+        };
+        let answer = answer_to(rt.alloc(), left)?;
+        if answer == alike.answer {
+            alike.last = end;
+        } else {
+            write_alike(rt, &alike)?;
+            rt.print(", ")?;
+            alike = Alike {
+                first: end,
+                last: end,
+                answer,
+            };
+        }
+    }
+    write_alike(rt, &alike)
+}
+
+fn write_alike(rt: &HostRuntime, alike: &Alike) -> io::Result<()> {
+    let Alike {
+        first,
+        last,
+        answer,
+    } = alike;
+    if first == last {
+        print!(rt; "{first} {answer}")
+    } else {
+        print!(rt; "{first} to {last} {answer}")
+    }
+}
+
+// That a text is a graph, or its fault.
+fn answer_to(alloc: Global, text: &str) -> Result<String, AllocError> {
+    match read_graph(alloc, text) {
+        Ok(spec) => match check(alloc, spec) {
+            Ok(_) => String::from_str(alloc, "ok"),
+            Err((_, fault)) => format!(in alloc; "{fault:?}"),
+        },
+        Err(fault) => format!(in alloc; "{fault:?}"),
+    }
+}
