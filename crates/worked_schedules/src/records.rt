@@ -3,7 +3,7 @@ use crate::leaving::put_left;
 use answer_lines::put_listing;
 use command_words::Listing;
 use director::{Director, Fault};
-use meta_store::Store;
+use meta_store::{Store, StoreFault};
 use sched_core::{Answer, Event, Limits, Schedule};
 use sqlite::{Connection, MemStore};
 use std::alloc::{AllocError, Global};
@@ -39,14 +39,10 @@ impl Played {
 
     /// A record of its own that the same events have made.
     pub fn record(&self, alloc: Global) -> Result<Store<MemStore>, AllocError> {
-        let mut events = Vec::new(alloc);
-        for event in &self.events {
-            events.push(event.copy(alloc)?)?;
-        }
         let mut director = new_director(alloc, self.limits)?;
-        match director.run_list(alloc, events) {
-            Ok(_answers) => Ok(director.close()),
-            Err(_) => Err(AllocError),
+        match director.run_list(alloc, copied(alloc, &self.events)?) {
+            Ok(answers) if answers.iter().all(|answer| answer.is_ok()) => Ok(director.close()),
+            _ => Err(AllocError),
         }
     }
 
@@ -71,8 +67,7 @@ impl Played {
         } = self;
         let shown = shown(alloc, director.schedule())?;
         let read = read_back(alloc, director.close(), limits)?;
-        let listed = by_list(alloc, limits, events)?;
-        Ok(shown == read && shown == listed)
+        Ok(shown == read && are_led_to(alloc, limits, &events, &shown)?)
     }
 }
 
@@ -125,17 +120,73 @@ fn shown(alloc: Global, schedule: &Schedule) -> io::Result<Vec<u8>> {
     Ok(text)
 }
 
+// What is shown of the schedule that the record is read as: nothing where it is not read.
 fn read_back(alloc: Global, mut store: Store<MemStore>, limits: Limits) -> io::Result<Vec<u8>> {
     match store.load(alloc, limits) {
         Ok(schedule) => shown(alloc, &schedule),
-        Err(_) => Err(io::Error::other("the record is not read")),
+        Err(StoreFault::Memory) => Err(io::Error::from(AllocError)),
+        Err(_) => Ok(Vec::new(alloc)),
     }
 }
 
-fn by_list(alloc: Global, limits: Limits, events: Vec<Event>) -> io::Result<Vec<u8>> {
-    let mut director = new_director(alloc, limits)?;
-    match director.run_list(alloc, events) {
-        Ok(_answers) => shown(alloc, director.schedule()),
-        Err(_) => Err(io::Error::other("the list is not done")),
+fn copied(alloc: Global, events: &[Event]) -> Result<Vec<Event>, AllocError> {
+    let mut copies = Vec::new(alloc);
+    for event in events {
+        copies.push(event.copy(alloc)?)?;
     }
+    Ok(copies)
+}
+
+// What a list of events left.
+#[derive(Drop)]
+struct Listed {
+    // The events that were accepted.
+    accepted: Vec<Event>,
+    shown: Vec<u8>,
+    // What is shown of the schedule that the record is read as.
+    read: Vec<u8>,
+}
+
+impl Listed {
+    fn is(&self, shown: &[u8]) -> bool {
+        self.shown.as_slice() == shown && self.read.as_slice() == shown
+    }
+}
+
+// Whether events lead in one list to what is shown. Where memory ran out in it, it is done again, and what it left has to be what those
+// events lead to that were accepted.
+fn are_led_to(alloc: Global, limits: Limits, events: &[Event], shown: &[u8]) -> io::Result<bool> {
+    let listed = by_list(alloc, limits, events)?;
+    if listed.accepted.len() == events.len() {
+        return Ok(listed.is(shown));
+    }
+    let accepted = by_list(alloc, limits, listed.accepted.as_slice())?;
+    Ok(listed.is(accepted.shown.as_slice()) && by_list(alloc, limits, events)?.is(shown))
+}
+
+fn by_list(alloc: Global, limits: Limits, events: &[Event]) -> io::Result<Listed> {
+    let mut director = new_director(alloc, limits)?;
+    let accepted = match director.run_list(alloc, copied(alloc, events)?) {
+        Ok(answers) => accepted_of(alloc, events, &answers)?,
+        Err((_, stepped)) => copied(alloc, events.get(..stepped).unwrap_or(events))?,
+    };
+    Ok(Listed {
+        accepted,
+        shown: shown(alloc, director.schedule())?,
+        read: read_back(alloc, director.close(), limits)?,
+    })
+}
+
+fn accepted_of(
+    alloc: Global,
+    events: &[Event],
+    answers: &[Result<Answer, Fault>],
+) -> Result<Vec<Event>, AllocError> {
+    let mut accepted = Vec::new(alloc);
+    for (event, answer) in events.iter().zip(answers) {
+        if answer.is_ok() {
+            accepted.push(event.copy(alloc)?)?;
+        }
+    }
+    Ok(accepted)
 }
