@@ -1,4 +1,5 @@
 //! The questions, by their first words.
+use crate::events::{changing_events, retried_events};
 use crate::files::new_database;
 use crate::playing::play;
 use crate::times::{fill_new, put_counts};
@@ -31,8 +32,18 @@ fn write_rows(host: &HostRuntime, subject: &str, rest: &str) -> io::Result<()> {
     match subject {
         "rows" => play_new(host),
         "fill" => write_counts(host, rest),
-        _ => stopping::write_answers(host, host.alloc()),
+        _ => write_stops(host, rest),
     }
+}
+
+// Writes what the stops of a round leave, of events with a task that is tried again or without one.
+fn write_stops(host: &HostRuntime, rest: &str) -> io::Result<()> {
+    let alloc = host.alloc();
+    let events = match rest {
+        "retried" => retried_events(alloc)?,
+        _ => changing_events(alloc)?,
+    };
+    stopping::write_answers(host, alloc, &events)
 }
 
 // Steps the worked events with a new record.

@@ -2,11 +2,12 @@
 //!
 //! A question is a line of standard input; it is printed with its answer behind ` =>`. A line that begins with `#` and an empty line are printed as they are.
 //! Of records: `rows` steps a list of events with a record, and prints the rows that each writes and those that are read at the end; `fill RUNS TRIES` says how many
-//! rows a greater round writes. `stop` stops a round at each call of its files in turn, and says for each step whether the rows before it or after it were
-//! found. `refuse N` runs a script of one task over a new record, of whose log N writes in a row are refused, after 0, 1, 2 .. that are not, until a run meets none;
-//! runs that print the same share a line. Of workers: `log WORD..` has one do tries of these operators, `busy WORD..` one whose operator of `command` has another
-//! try taken up; `count WORKERS TRIES` has several do so many tries; `meet gates` and `meet operators` have two wait for one another, and `held TRIES` has one wait until
-//! the other has done the rest.
+//! rows a greater round writes. `stop` stops a round at each call of its files in turn, and says for each step whether the schedule before it or after it was
+//! found, in the rows and in what a director makes of them; `stop retried` does so with events by which a task is tried again. `refuse N` runs a script of one task
+//! over a new record, of whose log N writes in a row are refused, after 0, 1, 2 .. that are not, until a run meets none. Runs that
+//! print the same share a line. Of workers:
+//! `log WORD..` has one do tries of these operators, `busy WORD..` one whose operator of `command` has another try taken up; `count WORKERS TRIES` has several do so
+//! many tries; `meet gates` and `meet operators` have two wait for one another, and `held TRIES` has one wait until the other has done the rest.
 //!
 //! With the words `time RUNS` no question is read: a new record is filled with so many runs of 256 tasks and then loaded, and it is printed how long that took.
 //! With `costs RUNS` it is filled with so many runs of one task, and it is printed how long each kind of event takes then: its plan, the room that is made for it,

@@ -1,7 +1,7 @@
 //! The events, one after another.
 ghost use Rattle.std.specs.Prelude.{◌≡◌, false};
 
-use crate::events::worked_events;
+use crate::events::{name_of, worked_events};
 use crate::printed::print_rows;
 use director::{Director, Fault};
 use meta_store::{Store, StoreFault};
@@ -47,21 +47,6 @@ fn step_all<S: Alter + Drop, R: Print>(
             rt.println("not opened")?;
             Ok(store)
         }
-    }
-}
-
-fn name_of(event: &Event) -> &'static str {
-    match event {
-        Event::Load(_) => "load",
-        Event::Tick(_) => "tick",
-        Event::Trigger(_) => "trigger",
-        Event::Backfill { .. } => "backfill",
-        Event::Clear(_) => "clear",
-        Event::Pause(_) => "pause",
-        Event::Unpause(_) => "unpause",
-        Event::Resize(_, _) => "resize",
-        Event::Report(_, _) => "report",
-        Event::Restart(_) => "restart",
     }
 }
 

@@ -1,35 +1,27 @@
 //! A round over a store: a record is made and opened, the events are stepped, and the record is opened anew, until a call of the disk fails.
 ghost use Rattle.std.specs.Prelude.{◌≡◌, false};
 
-use crate::events::worked_events;
+use crate::events::name_of;
 use director::Director;
 use meta_store::Store;
 use sched_core::{Event, Limits};
 use sqlite::{Alter, Connection};
 use std::alloc::{AllocError, Global};
 
-/// What a round does, step by step.
-pub const STEPS: [&str; 8] = [
-    "create", "open", "load", "tick", "backfill", "report", "reopen", "close",
-];
+/// The lanes with which a record is opened.
+pub const LANES: u32 = 4;
 
-/// The place of the last step, which is done by the files.
-pub const CLOSE: usize = 7;
-
-const LANES: u32 = 4;
-
-// The load of a graph, the tick, the backfill of three runs, and the report that a try has begun: their places in the worked events.
-const PLACES: [usize; 4] = [1, 2, 4, 6];
-
-/// The events of a round, each of which changes rows.
-pub fn round_events(alloc: Global) -> Result<Vec<Event>, AllocError> {
-    let mut events = Vec::new(alloc);
-    for (place, event) in worked_events(alloc)?.into_iter().enumerate() {
-        if PLACES.contains(&place) {
-            events.push(event)?;
-        }
+/// What a round does, step by step. The last step is done by the files.
+pub fn step_names(alloc: Global, events: &[Event]) -> Result<Vec<&'static str>, AllocError> {
+    let mut names = Vec::new(alloc);
+    names.push("create")?;
+    names.push("open")?;
+    for event in events {
+        names.push(name_of(event))?;
     }
-    Ok(events)
+    names.push("reopen")?;
+    names.push("close")?;
+    Ok(names)
 }
 
 /// All steps but the last: the record, or the step that failed, by its place, and the store.

@@ -1,19 +1,28 @@
-//! What a record holds, as text.
+//! What a record holds, and what is opened of it, as text.
 ghost use Rattle.std.specs.Prelude.{◌≡◌, false, IfOk};
 
 use crate::files::{Failing, RecordFiles, RecordStore, empty_files, open};
-use crate::rounds::{create, run, step_all};
+use crate::rounds::{LANES, create, run, step_all};
+use director::{Director, Fault};
 use meta_store::{Store, StoreFault};
-use sched_core::Event;
+use sched_core::{Event, Limits};
 use sqlite::{Alter, Connection};
 use std::alloc::{AllocError, Global};
 
 const NO_RECORD: &str = "no record";
 
+/// What a record holds.
+#[derive(PartialEq, Drop)]
+pub struct Held {
+    rows: String,
+    /// The rows of the restarted schedule, once a director has opened the record.
+    pub opened: String,
+}
+
 /// What the record holds before each step of a round that is not stopped, and at its end.
-pub fn states(alloc: Global, events: &[Event]) -> Result<Vec<String>, AllocError> {
+pub fn states(alloc: Global, events: &[Event]) -> Result<Vec<Held>, AllocError> {
     let mut states = Vec::new(alloc);
-    states.push(String::from_str(alloc, NO_RECORD)?)?;
+    states.push(held_by(alloc, empty(alloc)?)?)?;
     states.push(created(alloc)?)?;
     for place in 0..=events.len() {
         states.push(stepped(alloc, &events[..place])?)?;
@@ -23,15 +32,15 @@ pub fn states(alloc: Global, events: &[Event]) -> Result<Vec<String>, AllocError
     Ok(states)
 }
 
-fn created(alloc: Global) -> Result<String, AllocError> {
+fn created(alloc: Global) -> Result<Held, AllocError> {
     held_new(alloc, empty(alloc)?)
 }
 
-fn stepped(alloc: Global, events: &[Event]) -> Result<String, AllocError> {
+fn stepped(alloc: Global, events: &[Event]) -> Result<Held, AllocError> {
     held_after(alloc, empty(alloc)?, events)
 }
 
-fn opened_anew(alloc: Global, events: &[Event]) -> Result<String, AllocError> {
+fn opened_anew(alloc: Global, events: &[Event]) -> Result<Held, AllocError> {
     held_anew(alloc, empty(alloc)?, events)
 }
 
@@ -46,11 +55,11 @@ fn empty(alloc: Global) -> Result<Connection<RecordStore>, AllocError>
 }
 
 // What a new record holds.
-fn held_new<S: Alter + Drop>(alloc: Global, conn: Connection<S>) -> Result<String, AllocError>
+fn held_new<S: Alter + Drop>(alloc: Global, conn: Connection<S>) -> Result<Held, AllocError>
     requires { conn.in_transaction ≡ false }
 {
     match create(alloc, conn) {
-        Ok(record) => held(alloc, record),
+        Ok(record) => held_of(alloc, record),
         Err(_) => Err(AllocError),
     }
 }
@@ -60,11 +69,11 @@ fn held_after<S: Alter + Drop>(
     alloc: Global,
     conn: Connection<S>,
     events: &[Event],
-) -> Result<String, AllocError>
+) -> Result<Held, AllocError>
     requires { conn.in_transaction ≡ false }
 {
     match step_all(alloc, conn, events) {
-        Ok(director) => held(alloc, director.close()),
+        Ok(director) => held_of(alloc, director.close()),
         Err(_) => Err(AllocError),
     }
 }
@@ -74,31 +83,50 @@ fn held_anew<S: Alter + Drop>(
     alloc: Global,
     conn: Connection<S>,
     events: &[Event],
-) -> Result<String, AllocError>
+) -> Result<Held, AllocError>
     requires { conn.in_transaction ≡ false }
 {
     match run(alloc, conn, events) {
-        Ok(record) => held(alloc, record),
+        Ok(record) => held_of(alloc, record),
         Err(_) => Err(AllocError),
     }
 }
 
 /// What the record in these files holds.
-pub fn held_in(alloc: Global, files: RecordFiles) -> Result<String, AllocError> {
+pub fn held_in(alloc: Global, files: RecordFiles) -> Result<Held, AllocError> {
     match open(alloc, files) {
         Ok(conn) => held_by(alloc, conn),
+        Err(_) => Ok(Held {
+            rows: String::from_str(alloc, "not opened")?,
+            opened: String::from_str(alloc, "not opened")?,
+        }),
+    }
+}
+
+fn held_by<S: Alter + Drop>(alloc: Global, conn: Connection<S>) -> Result<Held, AllocError>
+    requires { conn.in_transaction ≡ false }
+{
+    held_of(alloc, Store::adopt(conn))
+}
+
+fn held_of<S: Alter + Drop>(alloc: Global, record: Store<S>) -> Result<Held, AllocError> {
+    let mut record = record;
+    Ok(Held {
+        rows: rows_of(alloc, &mut record)?,
+        opened: opened_of(alloc, record)?,
+    })
+}
+
+// The rows of the restarted schedule, once a director has opened this record.
+fn opened_of<S: Alter + Drop>(alloc: Global, record: Store<S>) -> Result<String, AllocError> {
+    match Director::open(alloc, record, LANES, Limits::full()) {
+        Ok(director) => rows_of(alloc, &mut director.close()),
+        Err((_, Fault::Store(StoreFault::NotOurs))) => String::from_str(alloc, NO_RECORD),
         Err(_) => String::from_str(alloc, "not opened"),
     }
 }
 
-fn held_by<S: Alter + Drop>(alloc: Global, conn: Connection<S>) -> Result<String, AllocError>
-    requires { conn.in_transaction ≡ false }
-{
-    held(alloc, Store::adopt(conn))
-}
-
-fn held<S: Alter + Drop>(alloc: Global, record: Store<S>) -> Result<String, AllocError> {
-    let mut record = record;
+fn rows_of<S: Alter>(alloc: Global, record: &mut Store<S>) -> Result<String, AllocError> {
     match record.load_rows(alloc) {
         Ok(rows) => format!(in alloc; "{rows:?}"),
         Err(StoreFault::NotOurs) => String::from_str(alloc, NO_RECORD),

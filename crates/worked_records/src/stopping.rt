@@ -1,11 +1,12 @@
 //! Rounds that are stopped at each call of the disk in turn.
 //!
-//! A round makes a record in two files in memory, opens a director on it, steps four events, opens the record anew and closes it. In each
+//! A round makes a record in two files in memory, opens a director on it, steps some events, opens the record anew and closes it. In each
 //! round one file, or both, fail each call after the first so many. Where a step fails, the files are opened again twice: as they were
-//! written, as after the end of the process, and without what was not synced, as after a crash of the machine.
+//! written, as after the end of the process, and without what was not synced, as after a crash of the machine. Their rows are looked at, and
+//! those that they have once a director has restarted the schedule.
 use crate::files::{Failing, RecordFiles, as_written, crash};
-use crate::rounds::{STEPS, round_events};
-use crate::states::{held_in, states};
+use crate::rounds::step_names;
+use crate::states::{Held, held_in, states};
 use crate::stops::{Stop, stopped_run};
 use crate::tallies::{Left, Tally};
 use sched_core::Event;
@@ -15,10 +16,12 @@ use std::io;
 // More calls than a round makes.
 const MANY: u64 = 10_000;
 
-/// Writes for each step of a round what was found after it was stopped.
-pub fn write_answers<R: Print>(rt: &R, alloc: Global) -> io::Result<()> {
-    let steps = steps_stopped(alloc)?;
-    for (name, left) in STEPS.iter().zip(&steps) {
+/// Writes for each step of a round of these events what was found after it was stopped.
+pub fn write_answers<R: Print>(rt: &R, alloc: Global, events: &[Event]) -> io::Result<()> {
+    let names = step_names(alloc, events)?;
+    let mut steps = vec![in alloc; Left::none(); names.len()]?;
+    stop_steps(alloc, events, &mut steps)?;
+    for (name, left) in names.iter().zip(&steps) {
         print!(rt; "{name}: as written ")?;
         put_tally(rt, left.written)?;
         rt.print("; after a crash ")?;
@@ -28,15 +31,13 @@ pub fn write_answers<R: Print>(rt: &R, alloc: Global) -> io::Result<()> {
     Ok(())
 }
 
-// What the stops of each step left.
-fn steps_stopped(alloc: Global) -> io::Result<Vec<Left>> {
-    let events = round_events(alloc)?;
-    let states = states(alloc, &events)?;
-    let mut steps = vec![in alloc; Left::none(); STEPS.len()]?;
+// Counts what the stops of each step leave.
+fn stop_steps(alloc: Global, events: &[Event], steps: &mut [Left]) -> io::Result<()> {
+    let states = states(alloc, events)?;
     for failing in [Failing::Log, Failing::Database, Failing::Both] {
-        stop_all(alloc, failing, &events, &states, &mut steps)?;
+        stop_all(alloc, failing, events, &states, steps)?;
     }
-    Ok(steps)
+    Ok(())
 }
 
 // Stops rounds at one call after another, until one is not stopped.
@@ -44,7 +45,7 @@ fn stop_all(
     alloc: Global,
     failing: Failing,
     events: &[Event],
-    states: &[String],
+    states: &[Held],
     steps: &mut [Left],
 ) -> io::Result<()> {
     for calls in 0..MANY {
@@ -57,7 +58,7 @@ fn stop_all(
 }
 
 // Counts what a stop left.
-fn judge(alloc: Global, states: &[String], steps: &mut [Left], stop: Stop) -> io::Result<()> {
+fn judge(alloc: Global, states: &[Held], steps: &mut [Left], stop: Stop) -> io::Result<()> {
     let Stop { step, files } = stop;
     let (written, crashed) = held_after(alloc, files)?;
     let before = states.get(step);
@@ -69,8 +70,8 @@ fn judge(alloc: Global, states: &[String], steps: &mut [Left], stop: Stop) -> io
     Ok(())
 }
 
-// What these files hold as they were written, and after a crash.
-fn held_after(alloc: Global, files: RecordFiles) -> io::Result<(String, String)> {
+/// What these files hold as they were written, and after a crash.
+pub fn held_after(alloc: Global, files: RecordFiles) -> io::Result<(Held, Held)> {
     let mut files = files;
     let written = held_in(alloc, as_written(alloc, &files)?)?;
     crash(&mut files);

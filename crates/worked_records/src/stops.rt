@@ -2,7 +2,7 @@
 ghost use Rattle.std.specs.Prelude.{◌≡◌, false};
 
 use crate::files::{Failing, RecordFiles, RecordStore, empty_files, open};
-use crate::rounds::{CLOSE, run};
+use crate::rounds::run;
 use meta_store::Store;
 use sched_core::Event;
 use sqlite::Connection;
@@ -11,7 +11,7 @@ use std::alloc::Global;
 /// Where a round was stopped, and the files that it left.
 #[derive(Drop)]
 pub struct Stop {
-    /// The place of the step in `STEPS`.
+    /// The place of the step.
     pub step: usize,
     pub files: RecordFiles,
 }
@@ -28,15 +28,15 @@ fn run_and_close(alloc: Global, conn: Connection<RecordStore>, events: &[Event])
     requires { conn.in_transaction ≡ false }
 {
     match run(alloc, conn, events) {
-        Ok(record) => close(record),
+        Ok(record) => close(record, events.len().saturating_add(3)),
         Err((step, store)) => Some(stop_of(step, store)),
     }
 }
 
-fn close(record: Store<RecordStore>) -> Option<Stop> {
+fn close(record: Store<RecordStore>, step: usize) -> Option<Stop> {
     match record.release().close_files() {
         Ok(_) => None,
-        Err((_, store)) => Some(stop_of(CLOSE, store)),
+        Err((_, store)) => Some(stop_of(step, store)),
     }
 }
 

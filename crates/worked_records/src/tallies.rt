@@ -1,4 +1,5 @@
 //! What stops left, counted.
+use crate::states::Held;
 
 /// What the stops of a step left, in two readings.
 #[derive(Clone, Copy)]
@@ -37,7 +38,7 @@ impl Tally {
     }
 
     /// Counts a stop that left this.
-    pub fn count(&mut self, left: &str, before: &str, after: &str) {
+    pub fn count(&mut self, left: &Held, before: &Held, after: &Held) {
         if left == before {
             self.before = self.before.saturating_add(1);
         } else if left == after {
@@ -51,9 +52,9 @@ impl Tally {
     pub fn kinds(&self) -> &'static str {
         match (self.before > 0, self.after > 0) {
             (false, false) => "neither",
-            (true, false) => "the rows before",
-            (false, true) => "the rows after",
-            (true, true) => "the rows before or after",
+            (true, false) => "the schedule before",
+            (false, true) => "the schedule after",
+            (true, true) => "the schedule before or after",
         }
     }
 }
