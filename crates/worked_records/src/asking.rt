@@ -3,7 +3,7 @@ use crate::events::{changing_events, retried_events};
 use crate::files::new_database;
 use crate::playing::play;
 use crate::times::{fill_new, put_counts};
-use crate::{counts, held_back, logs, meetings, refusals, stopping};
+use crate::{counts, drains, held_back, logs, meetings, refusals, stopping};
 use std::io;
 use std::sync::Wait;
 use std::thread::Threads;
@@ -22,6 +22,7 @@ pub fn write_line<T: Threads + Wait + Sync>(
     match subject {
         "rows" | "fill" | "stop" => write_rows(host, subject, rest),
         "refuse" => write_refusals(rt, host, rest),
+        "fuse" => write_drains(rt, host),
         _ => write_work(rt, host, subject, rest),
     }
 }
@@ -59,6 +60,11 @@ fn write_counts(host: &HostRuntime, rest: &str) -> io::Result<()> {
         (Ok(runs), Ok(tries)) => put_counts(host, &fill_new(host, runs, tries)?),
         _ => host.println("no numbers"),
     }
+}
+
+fn write_drains<T: Threads + Wait + Sync>(rt: &T, host: &HostRuntime) -> io::Result<()> {
+    host.println("")?;
+    drains::write_answers(rt, host)
 }
 
 fn write_refusals<T: Threads + Wait + Sync>(

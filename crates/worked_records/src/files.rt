@@ -94,6 +94,16 @@ pub fn refused_by(files: &RecordFiles) -> u64 {
     files.log.inner().refused()
 }
 
+/// Whether one of the files fails each call.
+pub fn is_failing(files: &mut RecordFiles) -> bool {
+    fails(&mut files.log) || fails(&mut files.db)
+}
+
+// Whether the file may not be used any more, or fails a call.
+fn fails(file: &mut Faulty) -> bool {
+    !file.may_be_used() || file.len().is_err()
+}
+
 /// A new database, in files that fail no call.
 pub fn new_database(alloc: Global) -> io::Result<Connection<RecordStore>>
     ensures { IfOk result (λ conn. conn.in_transaction ≡ false) }

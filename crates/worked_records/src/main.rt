@@ -4,8 +4,8 @@
 //! Of records: `rows` steps a list of events with a record, and prints the rows that each writes and those that are read at the end; `fill RUNS TRIES` says how many
 //! rows a greater round writes. `stop` stops a round at each call of its files in turn, and says for each step whether the schedule before it or after it was
 //! found, in the rows and in what a director makes of them; `stop retried` does so with events by which a task is tried again. `refuse N` runs a script of one task
-//! over a new record, of whose log N writes in a row are refused, after 0, 1, 2 .. that are not, until a run meets none. Runs that
-//! print the same share a line. Of workers:
+//! over a new record, of whose log N writes in a row are refused, after 0, 1, 2 .. that are not, until a run meets none. `fuse` runs it over files that fail each call
+//! after the first 0, 1, 2 .., and says how many events were accepted and what the record is opened as then. Runs that print the same share a line. Of workers:
 //! `log WORD..` has one do tries of these operators, `busy WORD..` one whose operator of `command` has another try taken up; `count WORKERS TRIES` has several do so
 //! many tries; `meet gates` and `meet operators` have two wait for one another, and `held TRIES` has one wait until the other has done the rest.
 //!
@@ -14,10 +14,12 @@
 //! its write and its commit.
 #![tactic(auto)]
 
+mod alike;
 mod asking;
 mod callers;
 mod costs;
 mod counts;
+mod drains;
 mod events;
 mod files;
 mod filling;

@@ -5,7 +5,7 @@ ghost use Rattle.script_runner.specs.TaskOperators.{kind_of};
 ghost use Rattle.script_runner.specs.Teams.{IsWhole};
 
 use crate::callers::Caller;
-use crate::files::{RecordFiles, Writes, flaky_files, open, refused_by};
+use crate::files::{RecordFiles, Writes, flaky_files, open};
 use crate::gates::Waiting;
 use crate::teams::Worker;
 use answer_lines::{Shown, put};
@@ -28,8 +28,8 @@ const LANES: u32 = 4;
 pub struct Played {
     /// What it printed, in one line.
     pub printed: String,
-    /// How many writes were refused.
-    pub refused: u64,
+    /// The files that it left.
+    pub files: RecordFiles,
     /// The events that were accepted, and what became of the workers, where the script was run.
     pub work: Option<Performed>,
 }
@@ -61,19 +61,32 @@ pub fn run<T: Threads + Wait + Sync>(
     requires workers { length team.items ≤ 16 }
     requires whole { All (λ w. IsWhole (kind_of (λ _. kinds.Command)) w.0.items) team.items }
 {
+    run_over(rt, host, flaky_files(host.alloc(), writes), team, script)
+}
+
+/// The same over these files.
+pub fn run_over<T: Threads + Wait + Sync>(
+    rt: &T,
+    host: &HostRuntime,
+    files: RecordFiles,
+    team: Vec<Worker>,
+    script: &str,
+) -> io::Result<Played>
+    requires workers { length team.items ≤ 16 }
+    requires whole { All (λ w. IsWhole (kind_of (λ _. kinds.Command)) w.0.items) team.items }
+{
     let alloc = host.alloc();
-    let files = flaky_files(alloc, writes);
     let mut printed = Vec::new(alloc);
-    let (end, refused) = run_on_files(rt, host, files, team, script, &mut printed);
+    let (end, files) = run_on_files(rt, host, files, team, script, &mut printed);
     let End { status, work } = end?;
     Ok(Played {
         printed: in_one_line(alloc, printed, status)?,
-        refused,
+        files,
         work,
     })
 }
 
-// The same over such files, and how many writes were refused.
+// The same, with the files that it leaves.
 fn run_on_files<T: Threads + Wait + Sync>(
     rt: &T,
     host: &HostRuntime,
@@ -81,16 +94,16 @@ fn run_on_files<T: Threads + Wait + Sync>(
     team: Vec<Worker>,
     script: &str,
     printed: &mut Vec<u8>,
-) -> (io::Result<End>, u64)
+) -> (io::Result<End>, RecordFiles)
     requires workers { length team.items ≤ 16 }
     requires whole { All (λ w. IsWhole (kind_of (λ _. kinds.Command)) w.0.items) team.items }
 {
     match open(host.alloc(), files) {
         Ok(conn) => {
             let (conn, end) = run_on_connection(rt, host, conn, team, script, printed);
-            (end, refused_by(&conn.into_store().close()))
+            (end, conn.into_store().close())
         }
-        Err(files) => (not_run(printed, "not opened"), refused_by(&files)),
+        Err(files) => (not_run(printed, "not opened"), files),
     }
 }
 
