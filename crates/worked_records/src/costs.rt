@@ -12,6 +12,9 @@ use std::rt::Clock;
 // The runs that the schedule has where no number is said.
 const RUNS: u64 = 1_000;
 
+// The most runs that one backfill makes.
+const RUNS_AT_ONCE: u64 = 1_000;
+
 // How often each kind of event is stepped.
 const ROUNDS: u64 = 5;
 
@@ -76,13 +79,20 @@ impl Kind {
     }
 }
 
-/// Makes so many runs of a paused graph, steps each kind of event of another graph some times, and prints how long that took.
-pub fn write_costs(host: &HostRuntime, runs: Option<String>) -> io::Result<()> {
+/// Makes so many runs of a graph, all of which end unless they are to stay queued, steps each kind of event of another graph some times, and
+/// prints how long that took.
+pub fn write_costs(
+    host: &HostRuntime,
+    runs: Option<String>,
+    state: Option<String>,
+) -> io::Result<()> {
     let runs = runs.and_then(|word| word.parse::<u64>().ok());
     let runs = runs.unwrap_or(RUNS);
+    let are_queued = matches!(state.as_ref().map(|word| word.as_str()), Some("queued"));
     let alloc = host.alloc();
     let mut timed = begin(alloc, new_database(alloc)?)?;
-    prepare(host, alloc, &mut timed, runs)?;
+    prepare(host, alloc, &mut timed, are_queued)?;
+    fill_past(host, alloc, &mut timed, runs, are_queued)?;
     println!(host; "{runs} runs")?;
     for kind in KINDS {
         let work = measure(host, alloc, &mut timed, kind)?;
@@ -91,37 +101,78 @@ pub fn write_costs(host: &HostRuntime, runs: Option<String>) -> io::Result<()> {
     Ok(())
 }
 
-// The lanes, the graphs, the clock, and the runs of the past.
+// The lanes, the graphs and the clock. The graph of the past is paused where its runs are to stay queued.
 fn prepare<S: Alter + Drop, R: Clock>(
     rt: &R,
     alloc: Global,
     timed: &mut Timed<S>,
-    runs: u64,
+    is_paused: bool,
 ) -> io::Result<()> {
     let mut work = Work::none();
     timed.step(rt, alloc, &Event::Restart(LANES), &mut work)?;
     timed.step(rt, alloc, &load(alloc, PAST)?, &mut work)?;
     timed.step(rt, alloc, &load(alloc, ONE)?, &mut work)?;
     timed.step(rt, alloc, &tick(NOW), &mut work)?;
-    fill_past(rt, alloc, timed, runs, &mut work)
+    if is_paused {
+        timed.step(rt, alloc, &Event::Pause(name(alloc, "past")?), &mut work)?;
+    }
+    Ok(())
 }
 
+// The runs of the past, some at once: where they are not to stay queued, the try of each is reported before the next ones are made.
 fn fill_past<S: Alter + Drop, R: Clock>(
     rt: &R,
     alloc: Global,
     timed: &mut Timed<S>,
     runs: u64,
-    work: &mut Work,
+    are_queued: bool,
 ) -> io::Result<()> {
-    timed.step(rt, alloc, &Event::Pause(name(alloc, "past")?), work)?;
-    let minutes = runs.saturating_sub(1).saturating_mul(60);
-    let backfill = Event::Backfill {
+    for number in 0..runs.div_ceil(RUNS_AT_ONCE) {
+        let first = number.saturating_mul(RUNS_AT_ONCE);
+        let end = runs.min(first.saturating_add(RUNS_AT_ONCE));
+        backfill(rt, alloc, timed, first, end)?;
+        if !are_queued {
+            report_all(rt, alloc, timed, first, end)?;
+        }
+    }
+    Ok(())
+}
+
+// A backfill of the runs of the past with these numbers.
+fn backfill<S: Alter + Drop, R: Clock>(
+    rt: &R,
+    alloc: Global,
+    timed: &mut Timed<S>,
+    first: u64,
+    end: u64,
+) -> io::Result<()> {
+    let event = Event::Backfill {
         graph: name(alloc, "past")?,
-        from: moment(FIRST),
-        to: moment(FIRST.saturating_add(minutes)),
+        from: minute(first),
+        to: minute(end.saturating_sub(1)),
         reset: false,
     };
-    timed.step(rt, alloc, &backfill, work)
+    timed.step(rt, alloc, &event, &mut Work::none())
+}
+
+// The tries of these runs of the past, each of which has one.
+fn report_all<S: Alter + Drop, R: Clock>(
+    rt: &R,
+    alloc: Global,
+    timed: &mut Timed<S>,
+    first: u64,
+    end: u64,
+) -> io::Result<()> {
+    for number in first..end {
+        report(
+            rt,
+            alloc,
+            timed,
+            number.saturating_add(1),
+            &mut Work::none(),
+        )?;
+    }
+    Ok(())
 }
 
 // What so many events of a kind took.
@@ -151,17 +202,17 @@ fn step_kind<S: Alter + Drop, R: Clock>(
     match kind {
         Kind::Report => {
             timed.step(rt, alloc, &tick(next_hour(now)), &mut other)?;
-            report(rt, alloc, timed, work)
+            report_last(rt, alloc, timed, work)
         }
         Kind::TickWithRun => {
             timed.step(rt, alloc, &tick(next_hour(now)), work)?;
-            report(rt, alloc, timed, &mut other)
+            report_last(rt, alloc, timed, &mut other)
         }
         Kind::TickWithout => timed.step(rt, alloc, &tick(now.saturating_add(1)), work),
         Kind::Trigger => step_trigger(rt, alloc, timed, work),
         Kind::Clear => {
             timed.step(rt, alloc, &clear(alloc, NOW)?, work)?;
-            report(rt, alloc, timed, &mut other)
+            report_last(rt, alloc, timed, &mut other)
         }
         Kind::Unpause => {
             timed.step(rt, alloc, &Event::Pause(name(alloc, "one")?), &mut other)?;
@@ -182,7 +233,7 @@ fn step_trigger<S: Alter + Drop, R: Clock>(
     let now = timed.schedule.now().secs();
     timed.step(rt, alloc, &tick(now.saturating_add(1)), &mut other)?;
     timed.step(rt, alloc, &Event::Trigger(name(alloc, "one")?), work)?;
-    report(rt, alloc, timed, &mut other)
+    report_last(rt, alloc, timed, &mut other)
 }
 
 fn next_hour(seconds: u64) -> u64 {
@@ -190,13 +241,24 @@ fn next_hour(seconds: u64) -> u64 {
 }
 
 // The try that was handed out last begins and ends.
-fn report<S: Alter + Drop, R: Clock>(
+fn report_last<S: Alter + Drop, R: Clock>(
     rt: &R,
     alloc: Global,
     timed: &mut Timed<S>,
     work: &mut Work,
 ) -> io::Result<()> {
     let serial = timed.schedule.next_serial().saturating_sub(1);
+    report(rt, alloc, timed, serial, work)
+}
+
+// The try with this serial begins and ends.
+fn report<S: Alter + Drop, R: Clock>(
+    rt: &R,
+    alloc: Global,
+    timed: &mut Timed<S>,
+    serial: u64,
+    work: &mut Work,
+) -> io::Result<()> {
     timed.step(rt, alloc, &Event::Report(serial, Stage::Started), work)?;
     let end = Event::Report(serial, Stage::Ended(Outcome::Success));
     timed.step(rt, alloc, &end, work)
@@ -241,6 +303,11 @@ fn resize(alloc: Global) -> io::Result<Event> {
 
 fn name(alloc: Global, text: &str) -> Result<Name, AllocError> {
     Name::read(alloc, text).map_err(|_| AllocError)
+}
+
+// A minute of the past.
+fn minute(number: u64) -> Moment {
+    moment(FIRST.saturating_add(number.saturating_mul(60)))
 }
 
 fn moment(seconds: u64) -> Moment {

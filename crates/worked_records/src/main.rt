@@ -10,8 +10,8 @@
 //! many tries; `meet gates` and `meet operators` have two wait for one another, and `held TRIES` has one wait until the other has done the rest.
 //!
 //! With the words `time RUNS` no question is read: a new record is filled with so many runs of 256 tasks and then loaded, and it is printed how long that took.
-//! With `costs RUNS` it is filled with so many runs of one task, and it is printed how long each kind of event takes then: its plan, the room that is made for it,
-//! its write and its commit.
+//! With `costs RUNS` it is filled with so many runs of one task, which end, and it is printed how long each kind of event takes then: its plan, the room that is
+//! made for it, its write and its commit. With `costs RUNS queued` these runs stay queued.
 #![tactic(auto)]
 
 mod alike;
@@ -56,7 +56,7 @@ fn main(rt: HostRuntime) -> io::Result<()> {
     let word = words.nth(1);
     match word.as_ref().map_or("", |word| word.as_str()) {
         "time" => write_times(&rt, words.next()),
-        "costs" => write_costs(&rt, words.next()),
+        "costs" => write_costs(&rt, words.next(), words.next()),
         _ => write_page(&rt, &rt),
     }
 }
