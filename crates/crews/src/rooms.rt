@@ -52,7 +52,7 @@ impl<L: Ledger, G: Gate, O: Operator> Room<L, G, O> {
         })
     }
 
-    /// Takes apart what came back. It takes no memory.
+    /// Takes apart what came back, and drops the name of the desk. It takes no memory.
     pub(crate) fn take_apart(self, results: Vec<Worked<L, G, O>>) -> Parts<L, G, O>
         requires { length results.items ≤ self }
         ensures ends { result.ends.items ≡ map (λ r. r.0) results.items }
@@ -66,7 +66,7 @@ impl<L: Ledger, G: Gate, O: Operator> Room<L, G, O> {
             ..
         } = self;
         for (end, pass, share) in results {
-            ends.push_reserved(end);
+            ends.push_reserved(end.end());
             passes.push_reserved(pass);
             shares.push_reserved(share);
         }

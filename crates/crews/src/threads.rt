@@ -13,10 +13,10 @@ use std::sync::Wait;
 use std::sync::ledger::Ledger;
 use std::thread;
 use std::thread::{Promise, PromisedHandle, Scope, Threads};
-use work::{Crew, Gate, Pause, WorkerEnd, work};
+use work::{Crew, EndAt, Gate, Pause, work};
 
 /// What the thread of a worker gives back: the end of the crew, the pass and the share.
-pub type Worked<L, G, O> = (WorkerEnd<G, O>, WorkerPass, Share<L>);
+pub type Worked<L, G, O> = (EndAt<L, G, O>, WorkerPass, Share<L>);
 
 /// The promise of a worker's thread: it worked from this pass, this share and this kit.
 #[derive(Drop)]
@@ -29,7 +29,7 @@ pub struct Works<L: Ledger, O: Operator> {
     pub kit: Snapshot<Kit<O>>,
 }
 
-impl<L: Ledger, G: Gate, O: Operator> Promise<(WorkerEnd<G, O>, WorkerPass, Share<L>)>
+impl<L: Ledger, G: Gate, O: Operator> Promise<(EndAt<L, G, O>, WorkerPass, Share<L>)>
     for Works<L, O> {
     ghost use Rattle.crews.specs.Threads.{HasWorked};
 

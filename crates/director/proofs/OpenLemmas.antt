@@ -30,7 +30,7 @@ module _ (l : Bounds) (lanes : ℕ) where
   pub restart_fails : (db : Database) (a : Schedule) (f : Fault) → ReadsAs l db a → IsFaultOf a (Restart lanes) f → IsOpenFault l lanes db f
   restart_fails db a (Refused r) read cause = λ rows stored. (reads db a read rows stored, subst (λ (x : Schedule). IsCause x (Restart lanes) r) (read rows stored).is cause)
   restart_fails db a (Store s) read of =
-      ((λ memory. absurd (let g : store.Refused of.0 ≡ store.Memory = sym of.2 ∙ memory in cc)), subst (IsLoadFault l db) (sym of.2) of.1)
+      ((λ memory. absurd (let g : store.Refused of.1.0 ≡ store.Memory = sym of.1.2 ∙ memory in cc)), subst (IsLoadFault l db) (sym of.1.2) of.1.1)
   restart_fails db a Memory read of = tt
 
   -- ---- what is opened

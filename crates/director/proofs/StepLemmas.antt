@@ -38,11 +38,11 @@ store_fails {T} s r of told =
     subst (λ (x : Result T Fault). IfErr x IsFaultOfStore) (sym p.1) (of_store s p.0 of p.2)
 
 -- what stands against the step of an event, where it was planned
-pub stands_against : {T : Type 0} (a : Schedule) (e : Event) (r : Result T Fault) → IfErr r IsFaultOfStore → IfErr r (IsFaultOf a e)
-stands_against a e (Ok x) h = tt
-stands_against a e (Err (Refused f)) h = absurd h
-stands_against a e (Err (Store f)) h = h
-stands_against a e (Err Memory) h = tt
+pub stands_against : {T : Type 0} (a : Schedule) (e : Event) (r : Result T Fault) → refused a e ≡ None → IfErr r IsFaultOfStore → IfErr r (IsFaultOf a e)
+stands_against a e (Ok x) none h = tt
+stands_against a e (Err (Refused f)) none h = absurd h
+stands_against a e (Err (Store f)) none h = (none, h)
+stands_against a e (Err Memory) none h = tt
 
 -- it is no refusal of the event
 pub is_no_refusal : {T : Type 0} (P : Type 0) (r : Result T Fault) → IfErr r IsFaultOfStore → IfErr r (λ f. IsRefused f → P)

@@ -1,5 +1,5 @@
 -- Why a director does not step.
-use Rattle.std.specs.Prelude.{◌≡◌, ◌≢◌, ◌⊎◌, ℕ, false}
+use Rattle.std.specs.Prelude.{◌≡◌, ◌≢◌, ◌⊎◌, ℕ, false, None}
 use Rattle.sqlite.specs.declared.error.Error.{Error}
 use Rattle.sqlite.specs.Effect.{Database}
 use Rattle.record_rows.specs.Rows.{Rows}
@@ -11,6 +11,7 @@ pub use Rattle.meta_store.specs.declared.faults.StoreFault.{StoreFault}
 pub use Rattle.meta_store.specs.declared.faults.StoreFault.TheVariants as store
 use Rattle.sched_model.specs.Schedule.{Schedule}
 use Rattle.sched_state.specs.Limits.{Bounds}
+use Rattle.sched_events.specs.Causes.{refused}
 use Rattle.sched_events.specs.Outcomes.{IsCause}
 use Rattle.sched_events.specs.declared.events.Event.{Event}
 use Rattle.sched_events.specs.declared.events.Event.TheVariants.{Restart}
@@ -26,10 +27,10 @@ IsOfRefusal r f = ((r ≡ refusal.Memory) × (f ≡ Memory)) ⊎ ((r ≢ refusal
 abbrev pub IsOfStore : StoreFault → Fault → Type 0
 IsOfStore s f = ((s ≡ store.Memory) × (f ≡ Memory)) ⊎ ((s ≢ store.Memory) × (f ≡ Store s))
 
--- an event is not stepped: for the first cause that stands against it, for an error of SQLite, or for want of memory
+-- an event is not stepped: for the first cause that stands against it; where none stands, for an error of SQLite; or for want of memory
 abbrev pub IsFaultOf : Schedule → Event → Fault → Type 0
 IsFaultOf a e (Refused r) = IsCause a e r
-IsFaultOf a e (Store f) = (error : Error) × (is_memory error ≡ false) × (f ≡ store.Refused error)
+IsFaultOf a e (Store f) = (refused a e ≡ None) × ((error : Error) × (is_memory error ≡ false) × (f ≡ store.Refused error))
 IsFaultOf a e Memory = Unit {0}
 
 -- what the store or want of memory says against a step that is planned

@@ -1,10 +1,11 @@
 -- What was done of a script, after one command more.
-use Rattle.std.proofs.Common.{◌≡◌, ◌∙◌, ◌⊎◌, inl, inr, ℕ, ◌+◌, max, Bool, true, false, true≢false, List, [], ◌∷◌, ◌++◌, map, flat_map, Option, Some, None, is_none, Result, Ok, Err, is_err, refl, sym, ap, subst, arith, append_assoc, append-nil}
+use Rattle.std.proofs.Common.{◌≡◌, ◌∙◌, inl, inr, ℕ, ◌+◌, max, Bool, true, false, true≢false, List, [], ◌∷◌, ◌++◌, map, flat_map, Option, Some, None, is_none, Result, Ok, Err, is_err, refl, sym, ap, subst, arith, append_assoc, append-nil}
 use Rattle.std.proofs.lemmas.Grind.{flat_map-append}
 use Rattle.std.proofs.lemmas.List.{map-append, replicate_more}
 use Rattle.std.proofs.lemmas.List.Elements.{All-push}
-use Rattle.std.specs.Io.KnownBytes.{Appends}
+use Rattle.std.specs.Io.KnownBytes.{Appends, Keeps}
 use Rattle.sched_model.specs.Schedule.{Schedule}
+use Rattle.sched_model.specs.States.{in_flight}
 use Rattle.sched_events.specs.declared.answers.Answer.{Answer}
 use Rattle.sched_events.specs.declared.events.Event.{Event}
 use Rattle.script_commands.specs.Commands.{Request, IsNext, IsFirst, IsGiven, commands_in}
@@ -12,18 +13,20 @@ use Rattle.word_app.specs.App.{Texts}
 use Rattle.script_commands.specs.declared.commands.ScriptCommand.TheVariants.{Step, LoadFile, TickNow, Drain, List as ListRows, Explain}
 use Rattle.sessions.specs.Exchanges.{looks, Exchange}
 use Rattle.sessions.specs.Readings.{Reading}
-use Rattle.sessions.specs.Lines.{is_drain, opened_by, opens, reading_of, reads_drain, ticked, Takes}
+use Rattle.sessions.specs.Lines.{reading_of, ticked, Takes}
 use Rattle.sessions.specs.declared.clocks.ClockFault.{ClockFault}
 use Rattle.sessions.specs.declared.line_reading.Line.{Line}
 use Rattle.sessions.specs.declared.line_reading.Line.TheVariants as Says
 use Rattle.director.specs.declared.faults.Fault.{Fault}
 use Rattle.answer_lines.specs.RunFaults.{clock_text}
-use Rattle.script_reader.specs.Shown.{IsWritten}
+use Rattle.answer_lines.specs.Shown.{shown_text}
+use Rattle.answer_lines.specs.declared.shown.Shown.TheVariants.{Done as ShowsDone}
+use Rattle.script_reader.specs.Shown.{AnswersDrain}
 use Rattle.script_reader.specs.Statuses.{shown_for, status_of}
 use Rattle.std.specs.Result.{IsErrAnd}
 use Rattle.script_reader.specs.Commands.{Leaves, Does, is_end, line_of, texts_of}
-use Rattle.script_reader.specs.Done.{FileText, Done, IsAnswered, IsDone, IsPerhaps, MayBeDone, IsOpen, HasDone}
-use Rattle.script_reader.proofs.ShownLemmas.{drain_text, read_written, written_more}
+use Rattle.script_reader.specs.Done.{FileText, Done, IsAnswered, IsDone, IsPerhaps, MayBeDone, IsOpen, HasDone, asked_from, waiting}
+use Rattle.script_reader.proofs.ShownLemmas.{appends_keep, appends_then}
 use Rattle.script_reader.proofs.StatusLemmas.{at_once, given_done, raised}
 
 -- one command more that is answered when it is read
@@ -51,44 +54,45 @@ one_more f xs x = flat_map-append f xs (x ∷ []) ∙ ap (λ l. flat_map f xs ++
 asked_more : (done : List Done) (d : Done) (rest : List Request) → asked_in (done ++ d ∷ []) ++ rest ≡ asked_in done ++ (d.asked ∷ rest)
 asked_more done d rest = ap (λ l. l ++ rest) (map-append (λ (x : Done). x.asked) done (d ∷ [])) ∙ append_assoc (asked_in done) (d.asked ∷ []) rest
 
-module _ (names : Texts) where
+module _ (names : Texts) (drained : Bool) where
   -- ---- the command that comes next: what is given for it, and what is left
   pub record Next (first left' : Option (List ℕ)) (done : List Request) (given : Request) : Type 0 where
     pub wanted : Request
     pub same : IsGiven wanted given
-    pub read : (known : List ℕ) → first ≡ Some known → (bytes : List ℕ) × (left' ≡ Some bytes) × (commands_in names known ≡ done ++ (wanted ∷ commands_in names bytes))
+    pub read : (known : List ℕ) → first ≡ Some known → (bytes : List ℕ) × (left' ≡ Some bytes) × (asked_from names drained known ≡ done ++ (wanted ∷ commands_in names bytes))
 
-  pub next : (first left left' : Option (List ℕ)) (done : List Request) (given : Request) → ((known : List ℕ) → first ≡ Some known → (bytes : List ℕ) × (left ≡ Some bytes) × (commands_in names known ≡ done ++ commands_in names bytes)) → ((known : List ℕ) → left ≡ Some known → IsNext names known (Some given) left') → Next first left' done given
+  pub next : (first left left' : Option (List ℕ)) (done : List Request) (given : Request) → ((known : List ℕ) → first ≡ Some known → (bytes : List ℕ) × (left ≡ Some bytes) × (asked_from names drained known ≡ done ++ commands_in names bytes)) → ((known : List ℕ) → left ≡ Some known → IsNext names known (Some given) left') → Next first left' done given
   next None left left' done given read is = record { wanted = given; same = inl refl; read = λ known e. cc }
   next (Some known) left left' done given read is =
-      let at : (bytes : List ℕ) × (left ≡ Some bytes) × (commands_in names known ≡ done ++ commands_in names bytes) = read known refl in
+      let at : (bytes : List ℕ) × (left ≡ Some bytes) × (asked_from names drained known ≡ done ++ commands_in names bytes) = read known refl in
       let now : IsFirst names (commands_in names at.0) given left' = is at.0 at.1 in
       record {
         wanted = now.wanted;
         same = now.same;
         read = λ other e.
-            let here : commands_in names other ≡ commands_in names known = cc in
+            let here : asked_from names drained other ≡ asked_from names drained known = cc in
             (now.left, now.known, here ∙ (at.2 ∙ ap (λ (rs : List Request). done ++ rs) now.first));
       }
 
+module _ (names : Texts) where
   -- what is left is that of a reader that is as it was
   pub next_at : {R : Type 0} (remaining : R → Option (List ℕ)) (left : Option (List ℕ)) (given : Request) (a b : R) → b ≡ a → ((known : List ℕ) → left ≡ Some known → IsNext names known (Some given) (remaining a)) → (known : List ℕ) → left ≡ Some known → IsNext names known (Some given) (remaining b)
   next_at remaining left given a b same is known e = subst (λ r. IsNext names known (Some given) (remaining r)) (sym same) (is known e)
 
-module _ (names : Texts) (before : ℕ) where
+module _ (names : Texts) (before : ℕ) (drained : Bool) where
   -- what is known where no line waits
-  module _ (first : Option (List ℕ)) (gives : List FileText → Type 0) (shows : List ℕ → Type 0) (told : List Exchange) (ticks : List Reading) (left : Option (List ℕ)) (status : ℕ) (ended : Bool) (h : HasDone names before first gives shows told ticks None left status false ended) where
+  module _ (first : Option (List ℕ)) (gives : List FileText → Type 0) (shows : List ℕ → Type 0) (told : List Exchange) (ticks : List Reading) (left : Option (List ℕ)) (status : ℕ) (ended : Bool) (h : HasDone names before drained first gives shows told ticks None left status false ended) where
     pub none_open : gives (texts_in h.done)
     none_open = subst gives (ap (λ l. texts_in h.done ++ l) h.opens.1 ∙ append-nil (texts_in h.done)) h.texts
 
-    pub none_left : (known : List ℕ) → first ≡ Some known → (bytes : List ℕ) × (left ≡ Some bytes) × (commands_in names known ≡ asked_in h.done ++ commands_in names bytes)
+    pub none_left : (known : List ℕ) → first ≡ Some known → (bytes : List ℕ) × (left ≡ Some bytes) × (asked_from names drained known ≡ asked_in h.done ++ commands_in names bytes)
     none_left known e =
         let r = h.read known e in
         let b = r.3 refl in
         (b.0, b.1, r.1 ∙ ap (λ l. asked_in h.done ++ (l ++ r.0)) h.opens.0 ∙ ap (λ l. asked_in h.done ++ l) b.2)
 
     -- the script is over
-    pub over : (left' : Option (List ℕ)) → ((known : List ℕ) → left ≡ Some known → (commands_in names known ≡ []) × (left' ≡ Some [])) → HasDone names before first gives shows told ticks None left' status false true
+    pub over : (left' : Option (List ℕ)) → ((known : List ℕ) → left ≡ Some known → (commands_in names known ≡ []) × (left' ≡ Some [])) → HasDone names before drained first gives shows told ticks None left' status false true
     unfolding commands_in
     over left' is = record {
       done = h.done;
@@ -105,7 +109,7 @@ module _ (names : Texts) (before : ℕ) where
     }
 
     -- it could not be read or answered further, perhaps after a command that was not answered
-    pub broken : (gives' : List FileText → Type 0) (shows' : List ℕ → Type 0) (left' : Option (List ℕ)) (status' : ℕ) → (gives (texts_in h.done) → gives' (texts_in h.done)) → status' ≡ status → HasDone names before first gives' shows' told ticks None left' status' true false
+    pub broken : (gives' : List FileText → Type 0) (shows' : List ℕ → Type 0) (left' : Option (List ℕ)) (status' : ℕ) → (gives (texts_in h.done) → gives' (texts_in h.done)) → status' ≡ status → HasDone names before drained first gives' shows' told ticks None left' status' true false
     broken gives' shows' left' status' to same = record {
       done = h.done;
       open_asked = [];
@@ -121,12 +125,12 @@ module _ (names : Texts) (before : ℕ) where
     }
 
     module _ (left' : Option (List ℕ)) (given : Request) (is : (known : List ℕ) → left ≡ Some known → IsNext names known (Some given) left') where
-      pub after : Next names first left' (asked_in h.done) given
-      after = next names first left left' (asked_in h.done) given none_left is
+      pub after : Next names drained first left' (asked_in h.done) given
+      after = next names drained first left left' (asked_in h.done) given none_left is
 
       -- a command that is answered when it is read
       pub answered_more : (gives' : List FileText → Type 0) (shows' : List ℕ → Type 0) (seen : List Exchange) (status' own : ℕ) (text : List ℕ) → (gives (texts_in h.done) → gives' (texts_in h.done)) → (shows (shown_in h.done) → shows' (shown_in h.done ++ text)) → status' ≡ max status own → MayBeDone given [] [] seen own text
-          → HasDone names before first gives' shows' (told ++ seen) ticks None left' status' false false
+          → HasDone names before drained first gives' shows' (told ++ seen) ticks None left' status' false false
       answered_more gives' shows' seen status' own text to show more may =
           let n = after in
           let d : Done = only_asked n.wanted seen own text in
@@ -146,7 +150,7 @@ module _ (names : Texts) (before : ℕ) where
 
       -- a command that leaves a line to the run
       pub opened_more : (gives' : List FileText → Type 0) (shows' : List ℕ → Type 0) (line : Option Line) (texts : List FileText) → IsOpen line (after.wanted ∷ []) texts → (gives (texts_in h.done) → gives' (texts_in h.done ++ texts)) → (shows (shown_in h.done) → shows' (shown_in h.done))
-          → HasDone names before first gives' shows' told ticks line left' status false false
+          → HasDone names before drained first gives' shows' told ticks line left' status false false
       opened_more gives' shows' line texts opens to show =
           let n = after in
           record {
@@ -168,54 +172,35 @@ module _ (names : Texts) (before : ℕ) where
   leaves_given wanted given line (inl same) l = same
   leaves_given wanted given line (inr (memory, lack)) l = absurd (subst (λ (r : Request). Leaves r line) memory l)
 
-  -- a drain is done when it is read; another waits for its answer
-  record IsDrained (r : Request) (line : Line) : Type 0 where
-    waits : opens line ≡ None
-    texts : texts_of r (Some line) ≡ []
-    done : MayBeDone r [] [] [] 0 (drain_text (is_drain line))
-
-  record IsLeft (r : Request) (line : Line) : Type 0 where
-    opens_are : IsOpen (opens line) (r ∷ []) (texts_of r (Some line))
-    silent : drain_text (is_drain line) ≡ []
-
-  left_to_run : (r : Request) (line : Line) → Leaves r line → IsDrained r line ⊎ IsLeft r line
-  left_to_run (Ok (Step e)) line is = inr (subst (λ (l : Line). IsLeft (Ok (Step e)) l) (sym is) (record { opens_are = inl (refl, refl); silent = refl }))
-  left_to_run (Ok (LoadFile path)) line (text, is) = inr (subst (λ (l : Line). IsLeft (Ok (LoadFile path)) l) (sym is) (record { opens_are = inr (path, text, refl, refl, refl); silent = refl }))
-  left_to_run (Ok TickNow) line is = inr (subst (λ (l : Line). IsLeft (Ok TickNow) l) (sym is) (record { opens_are = (refl, refl); silent = refl }))
-  left_to_run (Ok Drain) line is = inl (subst (λ (l : Line). IsDrained (Ok Drain) l) (sym is) (record { waits = refl; texts = refl; done = (refl, refl, refl, refl, refl) }))
+  left_to_run : (r : Request) (line : Line) → Leaves r line → IsOpen (Some line) (r ∷ []) (texts_of r (Some line))
+  left_to_run (Ok (Step e)) line is = subst (λ (l : Line). IsOpen (Some l) (Ok (Step e) ∷ []) (texts_of (Ok (Step e)) (Some l))) (sym is) (inl (refl, refl))
+  left_to_run (Ok (LoadFile path)) line (text, is) = subst (λ (l : Line). IsOpen (Some l) (Ok (LoadFile path) ∷ []) (texts_of (Ok (LoadFile path)) (Some l))) (sym is) (inr (path, text, refl, refl, refl))
+  left_to_run (Ok TickNow) line is = subst (λ (l : Line). IsOpen (Some l) (Ok TickNow ∷ []) (texts_of (Ok TickNow) (Some l))) (sym is) (refl, refl)
+  left_to_run (Ok Drain) line is = subst (λ (l : Line). IsOpen (Some l) (Ok Drain ∷ []) (texts_of (Ok Drain) (Some l))) (sym is) (refl, refl)
   left_to_run (Ok (ListRows listing)) line is = absurd is
   left_to_run (Ok (Explain question)) line is = absurd is
   left_to_run (Err fault) line is = absurd is
 
   -- ---- one command more, whatever is done of it
-  module _ (first : Option (List ℕ)) (gives gives' : List FileText → Type 0) (shows shows' : List ℕ → Type 0) (told : List Exchange) (ticks : List Reading) (left left' : Option (List ℕ)) (status status' : ℕ) (ended : Bool) (h : HasDone names before first gives shows told ticks None left status false ended) (given : Request) (is : (known : List ℕ) → left ≡ Some known → IsNext names known (Some given) left') where
+  module _ (first : Option (List ℕ)) (gives gives' : List FileText → Type 0) (shows shows' : List ℕ → Type 0) (told : List Exchange) (ticks : List Reading) (left left' : Option (List ℕ)) (status status' : ℕ) (ended : Bool) (h : HasDone names before drained first gives shows told ticks None left status false ended) (given : Request) (is : (known : List ℕ) → left ≡ Some known → IsNext names known (Some given) left') where
     -- it leaves a line to the run
-    pub line_more : (line : Line) → Leaves given line → status' ≡ status → ((xs : List FileText) → gives xs → gives' (xs ++ texts_of given (Some line))) → ((xs : List ℕ) → shows xs → shows' (xs ++ drain_text (is_drain line)))
-        → HasDone names before first gives' shows' told ticks (opens line) left' status' false false
+    pub line_more : (line : Line) → Leaves given line → status' ≡ status → ((xs : List FileText) → gives xs → gives' (xs ++ texts_of given (Some line))) → ((xs : List ℕ) → shows xs → shows' xs)
+        → HasDone names before drained first gives' shows' told ticks (Some line) left' status' false false
     line_more line leaves same to show =
         let n = after first gives shows told ticks left status ended h left' given is in
         let wanted : given ≡ n.wanted = leaves_given n.wanted given line n.same leaves in
-        let xs = texts_in h.done in
-        let ys = shown_in h.done in
-        subst (λ (m : ℕ). HasDone names before first gives' shows' told ticks (opens line) left' m false false) (sym same)
-        (elim (left_to_run given line leaves) [
-          | inl drained ↦
-              subst (λ (w : Option Line). HasDone names before first gives' shows' told ticks w left' status false false) (sym drained.waits)
-              (subst (λ (t : List Exchange). HasDone names before first gives' shows' t ticks None left' status false false) (append-nil told)
-              (answered_more first gives shows told ticks left status ended h left' given is gives' shows' [] status 0 (drain_text (is_drain line)) (λ g. subst gives' (ap (λ l. xs ++ l) drained.texts ∙ append-nil xs) (to xs g)) (show ys) (omega arith) drained.done))
-          | inr waiting ↦
-              opened_more first gives shows told ticks left status ended h left' given is gives' shows' (opens line) (texts_of given (Some line))
-              (subst (λ (r : Request). IsOpen (opens line) (r ∷ []) (texts_of given (Some line))) wanted waiting.opens_are) (to xs) (λ s. subst shows' (ap (λ l. ys ++ l) waiting.silent ∙ append-nil ys) (show ys s))
-        ])
+        subst (λ (m : ℕ). HasDone names before drained first gives' shows' told ticks (Some line) left' m false false) (sym same)
+        (opened_more first gives shows told ticks left status ended h left' given is gives' shows' (Some line) (texts_of given (Some line))
+        (subst (λ (r : Request). IsOpen (Some line) (r ∷ []) (texts_of given (Some line))) wanted (left_to_run given line leaves)) (to (texts_in h.done)) (show (shown_in h.done)))
 
     -- it is answered
-    pub none_more : (a : Schedule) (own : ℕ) (text : List ℕ) → ((xs : List FileText) → gives xs → gives' (xs ++ [])) → ((xs : List ℕ) → shows xs → shows' (xs ++ text)) → status' ≡ max status own → IsAnswered a given own text → HasDone names before first gives' shows' (told ++ looks 1 a) ticks None left' status' false false
+    pub none_more : (a : Schedule) (own : ℕ) (text : List ℕ) → ((xs : List FileText) → gives xs → gives' (xs ++ [])) → ((xs : List ℕ) → shows xs → shows' (xs ++ text)) → status' ≡ max status own → IsAnswered a given own text → HasDone names before drained first gives' shows' (told ++ looks 1 a) ticks None left' status' false false
     none_more a own text to show more at =
         let xs = texts_in h.done in
         answered_more first gives shows told ticks left status ended h left' given is gives' shows' (looks 1 a) status' own text (λ g. subst gives' (append-nil xs) (to xs g)) (show (shown_in h.done)) more (at_once a given own text at)
 
     -- it cannot be answered
-    pub fault_more : ((xs : List FileText) → gives xs → gives' (xs ++ [])) → status' ≡ status → HasDone names before first gives' shows' told ticks None left' status' true false
+    pub fault_more : ((xs : List FileText) → gives xs → gives' (xs ++ [])) → status' ≡ status → HasDone names before drained first gives' shows' told ticks None left' status' true false
     fault_more to same =
         let xs = texts_in h.done in
         broken first gives shows told ticks left status ended h gives' shows' left' status' (λ g. subst gives' (append-nil xs) (to xs g)) same
@@ -246,15 +231,18 @@ module _ (names : Texts) (before : ℕ) where
     is = one;
     done = (none, inr (moment, ap reading_of same, subst (λ (y : Event). IsPerhaps y (inr (e, q) ∷ []) (status_of q) (shown_for e q)) same (perhaps e q)));
   }
-  closed Says.Drain asked texts e q waiting takes = absurd waiting
+  closed Says.Drain asked texts e q waits takes = absurd takes
 
   pub closed_untold : (asked : List Request) (texts : List FileText) (fault : ClockFault) → IsOpen (Some Says.TickNow) asked texts → IsClosed asked texts (Err fault ∷ []) [] 4 (clock_text fault)
   closed_untold asked texts fault (one, none) = record { one = Ok TickNow; is = one; done = (none, inl (fault, refl, refl, refl, refl)) }
 
-  module _ (first : Option (List ℕ)) (gives : List FileText → Type 0) (shows shows' : List ℕ → Type 0) (told : List Exchange) (ticks : List Reading) (line : Line) (left : Option (List ℕ)) (status : ℕ) (ended : Bool) (h : HasDone names before first gives shows told ticks (Some line) left status false ended) where
+  pub closed_drain : (asked : List Request) (texts : List FileText) (a : Schedule) → in_flight a ≡ 0 → IsOpen (Some Says.Drain) asked texts → IsClosed asked texts [] (looks 1 a) 0 (shown_text ShowsDone)
+  closed_drain asked texts a idle (one, none) = record { one = Ok Drain; is = one; done = (none, refl, ((a, refl, idle), refl, refl)) }
+
+  module _ (first : Option (List ℕ)) (gives : List FileText → Type 0) (shows shows' : List ℕ → Type 0) (told : List Exchange) (ticks : List Reading) (line : Line) (left : Option (List ℕ)) (status : ℕ) (ended : Bool) (h : HasDone names before drained first gives shows told ticks (Some line) left status false ended) where
     closed_more : (added : List Exchange) (moments : List Reading) (own status' : ℕ) (text : List ℕ) (broken : Bool) → IsClosed h.open_asked h.open_texts moments added own text
         → status' ≡ max status own → (broken ≡ false → (xs : List ℕ) → shows xs → shows' (xs ++ text))
-        → HasDone names before first gives shows' (told ++ added) (ticks ++ moments) None left status' broken ended
+        → HasDone names before drained first gives shows' (told ++ added) (ticks ++ moments) None left status' broken ended
     closed_more added moments own status' text broken c more show =
         let d : Done = record { asked = c.one; texts = h.open_texts; readings = moments; exchanges = added; status = own; shown = text } in
         record {
@@ -274,20 +262,20 @@ module _ (names : Texts) (before : ℕ) where
         }
 
     pub told_more : (e : Event) (q : Result Answer Fault) (status' : ℕ) (broken : Bool) → Takes line e → status' ≡ max status (status_of q) → (broken ≡ false → (xs : List ℕ) → shows xs → shows' (xs ++ shown_for e q))
-        → HasDone names before first gives shows' (told ++ inr (e, q) ∷ []) (ticks ++ ticked line e) None left status' broken ended
+        → HasDone names before drained first gives shows' (told ++ inr (e, q) ∷ []) (ticks ++ ticked line e) None left status' broken ended
     told_more e q status' broken takes is show = closed_more (inr (e, q) ∷ []) (ticked line e) (status_of q) status' (shown_for e q) broken (closed line h.open_asked h.open_texts e q h.opens takes) is show
 
   -- the clock gave no moment
   pub untold_more : (first : Option (List ℕ)) (gives : List FileText → Type 0) (shows shows' : List ℕ → Type 0) (told : List Exchange) (ticks : List Reading) (left : Option (List ℕ)) (status status' : ℕ) (fault : ClockFault) (broken ended : Bool)
-      → HasDone names before first gives shows told ticks (Some Says.TickNow) left status false ended → status' ≡ max status 4 → (broken ≡ false → (xs : List ℕ) → shows xs → shows' (xs ++ clock_text fault))
-      → HasDone names before first gives shows' told (ticks ++ Err fault ∷ []) None left status' broken ended
+      → HasDone names before drained first gives shows told ticks (Some Says.TickNow) left status false ended → status' ≡ max status 4 → (broken ≡ false → (xs : List ℕ) → shows xs → shows' (xs ++ clock_text fault))
+      → HasDone names before drained first gives shows' told (ticks ++ Err fault ∷ []) None left status' broken ended
   untold_more first gives shows shows' told ticks left status status' fault broken ended h more show =
-      subst (λ (t : List Exchange). HasDone names before first gives shows' t (ticks ++ Err fault ∷ []) None left status' broken ended) (append-nil told)
+      subst (λ (t : List Exchange). HasDone names before drained first gives shows' t (ticks ++ Err fault ∷ []) None left status' broken ended) (append-nil told)
       (closed_more first gives shows shows' told ticks Says.TickNow left status ended h [] (Err fault ∷ []) 4 status' (clock_text fault) broken (closed_untold h.open_asked h.open_texts fault h.opens) more show)
 
   -- it is not said to have ended where it was not said before, and what was shown was written
   pub ended_less : (first : Option (List ℕ)) (gives : List FileText → Type 0) (shows shows' : List ℕ → Type 0) (told : List Exchange) (ticks : List Reading) (waits : Option Line) (left : Option (List ℕ)) (status : ℕ) (is_broken ended ended' : Bool) → (ended' ≡ true → ended ≡ true) → (is_broken ≡ false → (xs : List ℕ) → shows xs → shows' xs)
-      → HasDone names before first gives shows told ticks waits left status is_broken ended → HasDone names before first gives shows' told ticks waits left status is_broken ended'
+      → HasDone names before drained first gives shows told ticks waits left status is_broken ended → HasDone names before drained first gives shows' told ticks waits left status is_broken ended'
   ended_less first gives shows shows' told ticks waits left status is_broken ended ended' less show h = record {
     done = h.done;
     open_asked = h.open_asked;
@@ -302,16 +290,63 @@ module _ (names : Texts) (before : ℕ) where
     output = λ sound. show sound (shown_in h.done) (h.output sound);
   }
 
+  -- the output was flushed
+  pub flushed : (first from was now : Option (List ℕ)) (gives : List FileText → Type 0) (told : List Exchange) (ticks : List Reading) (left : Option (List ℕ)) (status : ℕ) (ended : Bool) → Keeps was now
+      → HasDone names before drained first gives (Appends from was) told ticks None left status false ended → HasDone names before drained first gives (Appends from now) told ticks None left status false ended
+  flushed first from was now gives told ticks left status ended keeps h = ended_less first gives (Appends from was) (Appends from now) told ticks None left status false ended ended (λ so. so) (λ fine xs w. appends_keep from was now xs w keeps) h
+
+  -- a drain that waits, if one does, is answered of a schedule in which no try is in flight
+  pub drain_answered : (first from was now : Option (List ℕ)) (gives : List FileText → Type 0) (told : List Exchange) (ticks : List Reading) (left : Option (List ℕ)) (status : ℕ) (drains ended : Bool) (a : Schedule) → (drains ≡ true → in_flight a ≡ 0) → AnswersDrain drains was now
+      → HasDone names before drained first gives (Appends from was) told ticks (waiting None drains) left status false ended
+      → (times : ℕ) × HasDone names before drained first gives (Appends from now) (told ++ looks times a) ticks None left status false false
+  drain_answered first from was now gives told ticks left status false ended a idle same h = (
+    0,
+    subst (λ (t : List Exchange). HasDone names before drained first gives (Appends from now) t ticks None left status false false) (sym (append-nil told))
+        (ended_less first gives (Appends from was) (Appends from now) told ticks None left status false ended false (λ no. absurd (true≢false (sym no))) (λ fine xs w. subst (λ n. Appends from n xs) (sym same) w) h),
+  )
+  drain_answered first from was now gives told ticks left status true ended a idle more h = (
+    1,
+    subst (λ (r : List Reading). HasDone names before drained first gives (Appends from now) (told ++ looks 1 a) r None left status false false) (append-nil ticks)
+        (ended_less first gives (Appends from now) (Appends from now) (told ++ looks 1 a) (ticks ++ []) None left status false ended false (λ no. absurd (true≢false (sym no))) (λ fine xs w. w)
+        (closed_more first gives (Appends from was) (Appends from now) told ticks Says.Drain left status ended h (looks 1 a) [] 0 status (shown_text ShowsDone) false (closed_drain h.open_asked h.open_texts a (idle refl) h.opens) (omega arith)
+        (λ fine xs w. appends_then from was now xs (shown_text ShowsDone) w more))),
+  )
+
+  -- the answer of a drain that waits, if one does, could not be written
+  drain_unwritten : (first : Option (List ℕ)) (gives : List FileText → Type 0) (shows shows' : List ℕ → Type 0) (told : List Exchange) (ticks : List Reading) (left left' : Option (List ℕ)) (status : ℕ) (drains ended : Bool)
+      → HasDone names before drained first gives shows told ticks (waiting None drains) left status false ended
+      → HasDone names before drained first gives shows' told ticks None left' status true false
+  drain_unwritten first gives shows shows' told ticks left left' status false ended h = broken first gives shows told ticks left status ended h gives shows' left' status (λ g. g) refl
+  drain_unwritten first gives shows shows' told ticks left left' status true ended h = record {
+    done = h.done;
+    open_asked = [];
+    open_texts = [];
+    each = h.each;
+    opens = (refl, refl);
+    texts = subst gives (ap (λ l. texts_in h.done ++ l) h.opens.1) h.texts;
+    exchanged = h.exchanged;
+    read_of = h.read_of;
+    read = λ known e. let r = h.read known e in (h.open_asked ++ r.0, r.1, (λ no. absurd (true≢false (sym no))), λ no. absurd (true≢false no));
+    status_is = h.status_is;
+    output = λ no. absurd (true≢false no);
+  }
+
   -- ---- the same of what was read
   at_err : {E : Type 0} (Q : E → Type 0) (r : Result (Option Line) E) → IsErrAnd r Q → (first : Option (List ℕ)) (gives : List FileText → Type 0) (shows : List ℕ → Type 0) (told : List Exchange) (ticks : List Reading) (left : Option (List ℕ)) (status : ℕ)
-      → HasDone names before first gives shows told ticks None left status true false → HasDone names before first gives shows told ticks (opened_by r) left status (is_err r) (is_end r)
+      → HasDone names before drained first gives shows told ticks None left status true false → HasDone names before drained first gives shows told ticks (line_of r) left status (is_err r) (is_end r)
   at_err Q (Ok x) is first gives shows told ticks left status h = absurd is
   at_err Q (Err e) is first gives shows told ticks left status h = h
 
   -- the script could not be read or answered further
   pub broken_off : {E : Type 0} (Q : E → Type 0) (r : Result (Option Line) E) → IsErrAnd r Q → (first : Option (List ℕ)) (gives : List FileText → Type 0) (shows shows' : List ℕ → Type 0) (told : List Exchange) (ticks : List Reading) (left left' : Option (List ℕ)) (status : ℕ) (ended : Bool)
-      → HasDone names before first gives shows told ticks None left status false ended → HasDone names before first gives shows' told ticks (opened_by r) left' status (is_err r) (is_end r)
+      → HasDone names before drained first gives shows told ticks None left status false ended → HasDone names before drained first gives shows' told ticks (line_of r) left' status (is_err r) (is_end r)
   broken_off Q r is first gives shows shows' told ticks left left' status ended h = at_err Q r is first gives shows' told ticks left' status (broken first gives shows told ticks left status ended h gives shows' left' status (λ g. g) refl)
+
+  pub drain_broken : {E : Type 0} (Q : E → Type 0) (r : Result (Option Line) E) → IsErrAnd r Q → (first : Option (List ℕ)) (gives : List FileText → Type 0) (shows shows' : List ℕ → Type 0) (told : List Exchange) (ticks : List Reading) (left left' : Option (List ℕ)) (status : ℕ) (drains ended : Bool) (a : Schedule)
+      → HasDone names before drained first gives shows told ticks (waiting None drains) left status false ended → HasDone names before drained first gives shows' (told ++ looks 0 a) ticks (line_of r) left' status (is_err r) (is_end r)
+  drain_broken Q r is first gives shows shows' told ticks left left' status drains ended a h =
+      subst (λ (t : List Exchange). HasDone names before drained first gives shows' t ticks (line_of r) left' status (is_err r) (is_end r)) (sym (append-nil told))
+      (at_err Q r is first gives shows' told ticks left' status (drain_unwritten first gives shows shows' told ticks left left' status drains ended h))
 
   no_texts : (r : Request) → texts_of r None ≡ []
   no_texts (Ok (Step e)) = refl
@@ -322,35 +357,32 @@ module _ (names : Texts) (before : ℕ) where
   no_texts (Ok (Explain question)) = refl
   no_texts (Err fault) = refl
 
-  module _ {E : Type 0} (drained : Bool) (from was now : Option (List ℕ)) (drains : Bool) (first : Option (List ℕ)) (gives gives' : List FileText → Type 0) (told : List Exchange) (ticks : List Reading) (left left' : Option (List ℕ)) (status status' : ℕ) (ended : Bool)
-      (h : HasDone names before first gives (IsWritten drained from was false) told ticks None left status false ended)
-      (given : Request) (is : (known : List ℕ) → left ≡ Some known → IsNext names known (Some given) left') (a : Schedule) (d : Result (Option Line) E) (to : (xs : List FileText) → gives xs → gives' (xs ++ texts_of given (line_of d))) (does : Does a given d status status' was now) (same : drains ≡ reads_drain d) where
+  module _ {E : Type 0} (from was now : Option (List ℕ)) (first : Option (List ℕ)) (gives gives' : List FileText → Type 0) (told : List Exchange) (ticks : List Reading) (left left' : Option (List ℕ)) (status status' : ℕ) (ended : Bool)
+      (h : HasDone names before drained first gives (Appends from was) told ticks None left status false ended)
+      (given : Request) (is : (known : List ℕ) → left ≡ Some known → IsNext names known (Some given) left') (a : Schedule) (d : Result (Option Line) E) (to : (xs : List FileText) → gives xs → gives' (xs ++ texts_of given (line_of d))) (does : Does a given d status status' was now) where
     -- a command could not be answered
-    pub unanswered : {A : Type 0} (Q : A → Type 0) (r : Result (Option Line) A) → IsErrAnd r Q → (e : E) → d ≡ Err e → HasDone names before first gives' (IsWritten drained from now drains) told ticks (opened_by r) left' status' (is_err r) (is_end r)
+    pub unanswered : {A : Type 0} (Q : A → Type 0) (r : Result (Option Line) A) → IsErrAnd r Q → (e : E) → d ≡ Err e → HasDone names before drained first gives' (Appends from now) told ticks (line_of r) left' status' (is_err r) (is_end r)
     unanswered Q r err e by =
-        at_err Q r err first gives' (IsWritten drained from now drains) told ticks left' status'
-        (fault_more first gives gives' (IsWritten drained from was false) (IsWritten drained from now drains) told ticks left left' status status' ended h given is
+        at_err Q r err first gives' (Appends from now) told ticks left' status'
+        (fault_more first gives gives' (Appends from was) (Appends from now) told ticks left left' status status' ended h given is
         (λ xs g. subst (λ l. gives' (xs ++ l)) (no_texts given) (subst (λ (x : Result (Option Line) E). gives' (xs ++ texts_of given (line_of x))) by (to xs g)))
         (subst (λ (x : Result (Option Line) E). Does a given x status status' was now) by does))
 
     -- it left a line to the run
-    pub left_line : (line : Line) → d ≡ Ok (Some line) → HasDone names before first gives' (IsWritten drained from now drains) told ticks (opens line) left' status' false false
+    pub left_line : (line : Line) → d ≡ Ok (Some line) → HasDone names before drained first gives' (Appends from now) told ticks (Some line) left' status' false false
     left_line line by =
         let l : Leaves given line × (status' ≡ status) × (now ≡ was) = subst (λ (x : Result (Option Line) E). Does a given x status status' was now) by does in
-        let flag : drains ≡ is_drain line = same ∙ ap (λ (x : Result (Option Line) E). reads_drain x) by in
-        line_more first gives gives' (IsWritten drained from was false) (IsWritten drained from now drains) told ticks left left' status status' ended h given is line l.0 l.1
+        line_more first gives gives' (Appends from was) (Appends from now) told ticks left left' status status' ended h given is line l.0 l.1
         (λ xs g. subst (λ (x : Result (Option Line) E). gives' (xs ++ texts_of given (line_of x))) by (to xs g))
-        (λ xs w.
-        subst (λ n. IsWritten drained from n drains (xs ++ drain_text (is_drain line))) (sym l.2)
-        (subst (λ b. IsWritten drained from was b (xs ++ drain_text (is_drain line))) (sym flag) (read_written drained from was (is_drain line) xs w)))
+        (λ xs w. subst (λ n. Appends from n xs) (sym l.2) w)
 
     -- it was answered
-    pub left_none : d ≡ Ok None → HasDone names before first gives' (IsWritten drained from now false) (told ++ looks 1 a) ticks None left' status' false false
+    pub left_none : d ≡ Ok None → HasDone names before drained first gives' (Appends from now) (told ++ looks 1 a) ticks None left' status' false false
     left_none by =
         let l : (own : ℕ) × (shown : List ℕ) × (status' ≡ max status own) × Appends was now shown × IsAnswered a given own shown = subst (λ (x : Result (Option Line) E). Does a given x status status' was now) by does in
-        none_more first gives gives' (IsWritten drained from was false) (IsWritten drained from now false) told ticks left left' status status' ended h given is a l.0 l.1
+        none_more first gives gives' (Appends from was) (Appends from now) told ticks left left' status status' ended h given is a l.0 l.1
         (λ xs g. subst (λ l. gives' (xs ++ l)) (no_texts given) (subst (λ (x : Result (Option Line) E). gives' (xs ++ texts_of given (line_of x))) by (to xs g)))
-        (λ xs w. written_more drained from was now xs l.1 w l.3) l.2 l.4
+        (λ xs w. appends_then from was now xs l.1 w l.3) l.2 l.4
 
 -- words that are read in the same way ask for the same
 pub next_named : (names other : Texts) → names ≡ other → (known : List ℕ) (asked : Option Request) (left : Option (List ℕ)) → IsNext other known asked left → IsNext names known asked left

@@ -1,5 +1,5 @@
 -- What was done of a script, told of the states of its reader.
-use Rattle.std.proofs.Common.{inr, ◌≡◌, ◌∙◌, ℕ, max, Bool, true, false, true≢false, not, ◌&&◌, List, [], ◌∷◌, ◌++◌, Option, Some, None, is_some, Result, Ok, Err, is_err, refl, sym, subst}
+use Rattle.std.proofs.Common.{inr, ◌≡◌, ◌∙◌, ℕ, max, Bool, true, false, true≢false, not, ◌&&◌, List, [], ◌∷◌, ◌++◌, Option, Some, None, is_some, Result, Ok, Err, is_err, refl, sym, ap, subst}
 use Rattle.std.specs.Io.KnownBytes.{Appends}
 use Rattle.sched_events.specs.declared.answers.Answer.{Answer}
 use Rattle.sched_events.specs.declared.events.Event.{Event}
@@ -14,14 +14,13 @@ use Rattle.sessions.specs.declared.line_reading.Line.{Line}
 use Rattle.sessions.specs.declared.line_reading.Line.TheVariants as Says
 use Rattle.sessions.specs.declared.line_reading.LineFault.{LineFault}
 use Rattle.answer_lines.specs.RunFaults.{clock_text}
-use Rattle.script_reader.specs.Commands.{is_end}
-use Rattle.script_reader.specs.Done.{FileText, HasDone}
+use Rattle.script_reader.specs.Commands.{is_end, line_of}
+use Rattle.script_reader.specs.Done.{FileText, HasDone, waiting}
 use Rattle.script_reader.specs.Readers.{IsQuiet, Tells}
-use Rattle.script_reader.specs.Shown.{IsWritten}
 use Rattle.script_reader.specs.Statuses.{shown_for, status_of}
 use Rattle.script_reader.specs.declared.reader.ScriptReader.{ScriptReader}
 use Rattle.script_reader.proofs.DoneLemmas.{ended_less, told_more, untold_more}
-use Rattle.script_reader.proofs.ShownLemmas.{written_more}
+use Rattle.script_reader.proofs.ShownLemmas.{appends_then}
 
 first_of : (b c : Bool) → (b && c) ≡ true → b ≡ true
 first_of true c e = refl
@@ -37,46 +36,45 @@ module _ {R W F P : Type 0} (remaining : R → Option (List ℕ)) (contents : W 
     pub over : new.is_over ≡ old.is_over
     pub drains : new.has_drained ≡ old.has_drained
 
-  abbrev written : W → Bool → List ℕ → Type 0
-  written output drains = IsWritten s.has_drained (contents s.output) (contents output) drains
+  abbrev written : W → List ℕ → Type 0
+  written output = Appends (contents s.output) (contents output)
 
   abbrev given : F → List FileText → Type 0
   given sources texts = gives s.sources texts sources
 
   -- what was done is said of the reader once it is answered
   moved : (told : List Exchange) (ticks : List Reading) (stays : Stays) (words : old.words.names ≡ s.words.names) (quiet : old.has_drained ≡ false)
-      → HasDone s.words.names s.status (remaining s.input) (given old.sources) (written new.output false) told ticks None (remaining old.input) new.status (is_some new.failed) (old.is_over && not s.is_over)
+      → HasDone s.words.names s.status s.has_drained (remaining s.input) (given old.sources) (written new.output) told ticks None (remaining old.input) new.status (is_some new.failed) (old.is_over && not s.is_over)
       → Tells remaining contents gives s told ticks None new
   moved told ticks stays words quiet h = (
     stays.words ∙ words,
-    subst (λ (d : Bool). HasDone s.words.names s.status (remaining s.input) (given new.sources) (written new.output d) told ticks None (remaining new.input) new.status (is_some new.failed) (new.is_over && not s.is_over)) (sym (stays.drains ∙ quiet))
-        (subst (λ (b : Bool). HasDone s.words.names s.status (remaining s.input) (given new.sources) (written new.output false) told ticks None (remaining new.input) new.status (is_some new.failed) (b && not s.is_over)) (sym stays.over)
-        (subst (λ (f : F). HasDone s.words.names s.status (remaining s.input) (given f) (written new.output false) told ticks None (remaining new.input) new.status (is_some new.failed) (old.is_over && not s.is_over)) (sym stays.sources)
-        (subst (λ (r : R). HasDone s.words.names s.status (remaining s.input) (given old.sources) (written new.output false) told ticks None (remaining r) new.status (is_some new.failed) (old.is_over && not s.is_over)) (sym stays.input) h))),
+    subst (λ (d : Bool). HasDone s.words.names s.status s.has_drained (remaining s.input) (given new.sources) (written new.output) told ticks (waiting None d) (remaining new.input) new.status (is_some new.failed) (new.is_over && not s.is_over)) (sym (stays.drains ∙ quiet))
+        (subst (λ (b : Bool). HasDone s.words.names s.status s.has_drained (remaining s.input) (given new.sources) (written new.output) told ticks None (remaining new.input) new.status (is_some new.failed) (b && not s.is_over)) (sym stays.over)
+        (subst (λ (f : F). HasDone s.words.names s.status s.has_drained (remaining s.input) (given f) (written new.output) told ticks None (remaining new.input) new.status (is_some new.failed) (old.is_over && not s.is_over)) (sym stays.sources)
+        (subst (λ (r : R). HasDone s.words.names s.status s.has_drained (remaining s.input) (given old.sources) (written new.output) told ticks None (remaining r) new.status (is_some new.failed) (old.is_over && not s.is_over)) (sym stays.input) h))),
     record { waiting = λ no. stays.drains ∙ quiet; over = λ ends. stays.drains ∙ quiet },
   )
 
   sound : (told : List Exchange) (ticks : List Reading) (line : Line) → old.failed ≡ None → Tells remaining contents gives s told ticks (Some line) old
-      → HasDone s.words.names s.status (remaining s.input) (given old.sources) (written old.output false) told ticks (Some line) (remaining old.input) old.status false (old.is_over && not s.is_over)
+      → HasDone s.words.names s.status s.has_drained (remaining s.input) (given old.sources) (written old.output) told ticks (Some line) (remaining old.input) old.status false (old.is_over && not s.is_over)
   sound told ticks line none h =
-      subst (λ (d : Bool). HasDone s.words.names s.status (remaining s.input) (given old.sources) (written old.output d) told ticks (Some line) (remaining old.input) old.status false (old.is_over && not s.is_over)) (h.2.waiting refl)
-      (subst (λ (o : Option LineFault). HasDone s.words.names s.status (remaining s.input) (given old.sources) (written old.output old.has_drained) told ticks (Some line) (remaining old.input) old.status (is_some o) (old.is_over && not s.is_over)) none h.1)
+      subst (λ (o : Option LineFault). HasDone s.words.names s.status s.has_drained (remaining s.input) (given old.sources) (written old.output) told ticks (Some line) (remaining old.input) old.status (is_some o) (old.is_over && not s.is_over)) none h.1
 
   pub answered_tells : (told : List Exchange) (ticks : List Reading) (line : Line) (e : Event) (q : Result Answer Fault) → Stays
       → new.status ≡ max old.status (status_of q) → (is_some new.failed ≡ false → Appends (contents old.output) (contents new.output) (shown_for e q)) → old.failed ≡ None → Takes line e
       → Tells remaining contents gives s told ticks (Some line) old → Tells remaining contents gives s (told ++ inr (e, q) ∷ []) (ticks ++ ticked line e) None new
   answered_tells told ticks line e q stays status shown none takes h =
       moved (told ++ inr (e, q) ∷ []) (ticks ++ ticked line e) stays h.0 (h.2.waiting refl)
-      (told_more s.words.names s.status (remaining s.input) (given old.sources) (written old.output false) (written new.output false) told ticks line (remaining old.input) old.status (old.is_over && not s.is_over) (sound told ticks line none h) e q new.status (is_some new.failed) takes status
-      (λ fine xs w. written_more s.has_drained (contents s.output) (contents old.output) (contents new.output) xs (shown_for e q) w (shown fine)))
+      (told_more s.words.names s.status s.has_drained (remaining s.input) (given old.sources) (written old.output) (written new.output) told ticks line (remaining old.input) old.status (old.is_over && not s.is_over) (sound told ticks line none h) e q new.status (is_some new.failed) takes status
+      (λ fine xs w. appends_then (contents s.output) (contents old.output) (contents new.output) xs (shown_for e q) w (shown fine)))
 
   pub untold_tells : (told : List Exchange) (ticks : List Reading) (fault : ClockFault) → Stays
       → new.status ≡ max old.status 4 → (is_some new.failed ≡ false → Appends (contents old.output) (contents new.output) (clock_text fault)) → old.failed ≡ None
       → Tells remaining contents gives s told ticks (Some Says.TickNow) old → Tells remaining contents gives s told (ticks ++ Err fault ∷ []) None new
   untold_tells told ticks fault stays more shown none h =
       moved told (ticks ++ Err fault ∷ []) stays h.0 (h.2.waiting refl)
-      (untold_more s.words.names s.status (remaining s.input) (given old.sources) (written old.output false) (written new.output false) told ticks (remaining old.input) old.status new.status fault (is_some new.failed) (old.is_over && not s.is_over) (sound told ticks Says.TickNow none h) more
-      (λ fine xs w. written_more s.has_drained (contents s.output) (contents old.output) (contents new.output) xs (clock_text fault) w (shown fine)))
+      (untold_more s.words.names s.status s.has_drained (remaining s.input) (given old.sources) (written old.output) (written new.output) told ticks (remaining old.input) old.status new.status fault (is_some new.failed) (old.is_over && not s.is_over) (sound told ticks Says.TickNow none h) more
+      (λ fine xs w. appends_then (contents s.output) (contents old.output) (contents new.output) xs (clock_text fault) w (shown fine)))
 
 -- ---- what the calls of a session see
 -- no drain waits where a line does, or where the script has ended
@@ -90,29 +88,39 @@ quiet_read (Ok (Some Says.Drain)) over was_over drains d o = record {
 quiet_read (Ok None) over was_over drains d o = record { waiting = λ no. d; over = λ ends. d }
 quiet_read (Err e) over was_over drains d o = record { waiting = λ no. d; over = λ ends. d }
 
+-- what waits once that was read
+waiting_read : {E : Type 0} (next : Result (Option Line) E) (drains : Bool) → drains ≡ reads_drain next → waiting (opened_by next) drains ≡ line_of next
+waiting_read (Ok (Some (Says.Event e))) drains d = refl
+waiting_read (Ok (Some Says.TickNow)) drains d = refl
+waiting_read (Ok (Some Says.Drain)) drains d = ap (waiting None) d
+waiting_read (Ok None) drains d = ap (waiting None) d
+waiting_read (Err e) drains d = ap (waiting None) d
+
 module _ {R W F P : Type 0} (remaining : R → Option (List ℕ)) (contents : W → Option (List ℕ)) (gives : F → List FileText → F → Type 0) (s old : ScriptReader R W F P) where
   -- what a read does, where words are read in the same way, and this schedule is looked at
-  abbrev pub Reads : {E : Type 0} → R → W → F → ℕ → Bool → Schedule → List Exchange → List Reading → Result (Option Line) E → Type 0
-  Reads input output sources status drains seen told ticks next =
+  abbrev pub Reads : {E : Type 0} → R → W → F → ℕ → Schedule → List Exchange → List Reading → Result (Option Line) E → Type 0
+  Reads input output sources status seen told ticks next =
       (drained : Bool) (names : Texts) (before : ℕ) (first from : Option (List ℕ)) (f : F) (has_ended : Bool) → names ≡ old.words.names
-      → HasDone names before first (λ given. gives f given old.sources) (IsWritten drained from (contents old.output) old.has_drained) told ticks None (remaining old.input) old.status false has_ended
-      → (times : ℕ) × HasDone names before first (λ given. gives f given sources) (IsWritten drained from (contents output) drains) (told ++ looks times seen) ticks (opened_by next) (remaining input) status (is_err next) (is_end next)
+      → HasDone names before drained first (λ given. gives f given old.sources) (Appends from (contents old.output)) told ticks (waiting None old.has_drained) (remaining old.input) old.status false has_ended
+      → (times : ℕ) × HasDone names before drained first (λ given. gives f given sources) (Appends from (contents output)) (told ++ looks times seen) ticks (line_of next) (remaining input) status (is_err next) (is_end next)
 
   -- of a reader that has these parts after a read
-  pub read_tells : {E : Type 0} (input : R) (output : W) (sources : F) (status : ℕ) (failed : Option LineFault) (over drains : Bool) (seen : Schedule) (told : List Exchange) (ticks : List Reading) (next : Result (Option Line) E) → Reads input output sources status drains seen told ticks next
+  pub read_tells : {E : Type 0} (input : R) (output : W) (sources : F) (status : ℕ) (failed : Option LineFault) (over drains : Bool) (seen : Schedule) (told : List Exchange) (ticks : List Reading) (next : Result (Option Line) E) → Reads input output sources status seen told ticks next
       → old.failed ≡ None → is_some failed ≡ is_err next → over ≡ is_end next → drains ≡ reads_drain next
       → Tells remaining contents gives s told ticks None old
-      → (times : ℕ) × HasDone s.words.names s.status (remaining s.input) (λ given. gives s.sources given sources) (IsWritten s.has_drained (contents s.output) (contents output) drains) (told ++ looks times seen) ticks (opened_by next) (remaining input) status (is_some failed) (over && not s.is_over)
+      → (times : ℕ) × HasDone s.words.names s.status s.has_drained (remaining s.input) (λ given. gives s.sources given sources) (Appends (contents s.output) (contents output)) (told ++ looks times seen) ticks (waiting (opened_by next) drains) (remaining input) status (is_some failed) (over && not s.is_over)
       × IsQuiet (opened_by next) (over && not s.is_over) drains
   read_tells input output sources status failed over drains seen told ticks next read none broken ended flag h =
-      let shows : List ℕ → Type 0 = IsWritten s.has_drained (contents s.output) (contents output) drains in
-      let was : HasDone s.words.names s.status (remaining s.input) (λ given. gives s.sources given old.sources) (IsWritten s.has_drained (contents s.output) (contents old.output) old.has_drained) told ticks None (remaining old.input) old.status false (old.is_over && not s.is_over) =
-      subst (λ (o : Option LineFault). HasDone s.words.names s.status (remaining s.input) (λ given. gives s.sources given old.sources) (IsWritten s.has_drained (contents s.output) (contents old.output) old.has_drained) told ticks None (remaining old.input) old.status (is_some o) (old.is_over && not s.is_over)) none h.1 in
+      let files : List FileText → Type 0 = λ given. gives s.sources given sources in
+      let shows : List ℕ → Type 0 = Appends (contents s.output) (contents output) in
+      let was : HasDone s.words.names s.status s.has_drained (remaining s.input) (λ given. gives s.sources given old.sources) (Appends (contents s.output) (contents old.output)) told ticks (waiting None old.has_drained) (remaining old.input) old.status false (old.is_over && not s.is_over) =
+      subst (λ (o : Option LineFault). HasDone s.words.names s.status s.has_drained (remaining s.input) (λ given. gives s.sources given old.sources) (Appends (contents s.output) (contents old.output)) told ticks (waiting None old.has_drained) (remaining old.input) old.status (is_some o) (old.is_over && not s.is_over)) none h.1 in
       let now = read s.has_drained s.words.names s.status (remaining s.input) (contents s.output) s.sources (old.is_over && not s.is_over) (sym h.0) was in
       let all : List Exchange = told ++ looks now.0 seen in (
         now.0,
-        ended_less s.words.names s.status (remaining s.input) (λ given. gives s.sources given sources) shows shows all ticks (opened_by next) (remaining input) status (is_some failed) (is_end next) (over && not s.is_over)
+        ended_less s.words.names s.status s.has_drained (remaining s.input) files shows shows all ticks (waiting (opened_by next) drains) (remaining input) status (is_some failed) (is_end next) (over && not s.is_over)
             (λ both. sym ended ∙ first_of over (not s.is_over) both) (λ fine xs w. w)
-            (subst (λ (b : Bool). HasDone s.words.names s.status (remaining s.input) (λ given. gives s.sources given sources) shows all ticks (opened_by next) (remaining input) status b (is_end next)) (sym broken) now.1),
+            (subst (λ (w : Option Line). HasDone s.words.names s.status s.has_drained (remaining s.input) files shows all ticks w (remaining input) status (is_some failed) (is_end next)) (sym (waiting_read next drains flag))
+            (subst (λ (b : Bool). HasDone s.words.names s.status s.has_drained (remaining s.input) files shows all ticks (line_of next) (remaining input) status b (is_end next)) (sym broken) now.1)),
         quiet_read next over s.is_over drains flag ended,
       )

@@ -3,6 +3,7 @@ use Rattle.std.proofs.Common.{inr, true≢false, refl, sym, arith}
 use Rattle.std.specs.Prelude.{◌≡◌, ◌⊎◌, ◌==◌, ◌&&◌, not, ℕ, max, Bool, true, false, List, [], ◌∷◌, ◌++◌, length, map, All, Option, Some, None, Result, Ok, Err}
 use Rattle.std.specs.List.{flat_map}
 use Rattle.sched_model.specs.Schedule.{Schedule}
+use Rattle.sched_model.specs.States.{in_flight}
 use Rattle.sched_events.specs.declared.answers.Answer.{Answer}
 use Rattle.sched_events.specs.declared.events.Event.{Event}
 use Rattle.sched_events.specs.declared.events.Event.TheVariants.{Load, Tick}
@@ -64,6 +65,11 @@ IsTickPerhaps readings exchanges status shown =
     ((fault : ClockFault) × (readings ≡ Err fault ∷ []) × (exchanges ≡ []) × (status ≡ 4) × (shown ≡ clock_text fault))
     ⊎ ((moment : ℕ) × (readings ≡ Ok moment ∷ []) × IsPerhaps (Tick moment) exchanges status shown)
 
+-- a drain was answered: of a schedule that was looked at for it, in which no try is in flight
+abbrev pub IsDrained : List Exchange → ℕ → List ℕ → Type 0
+IsDrained exchanges status shown =
+    ((a : Schedule) × (exchanges ≡ looks 1 a) × (in_flight a ≡ 0)) × (status ≡ 0) × (shown ≡ shown_text ShowsDone)
+
 -- The status and the text of a command that is answered when it is read, of this schedule: 0 and the rows for a list; 0 and the reasons for a question
 -- that has an answer, and those of its fault for one that has none; those of the fault of what is no command, and of a file that is not read.
 abbrev pub IsAnswered : Schedule → Request → ℕ → List ℕ → Type 0
@@ -78,12 +84,12 @@ IsAnswered a (Ok Drain) status shown = ⊥
 IsAnswered a (Err fault) status shown = (status ≡ command_status fault) × (shown ≡ command_fault_text fault)
 
 -- What may be done of a command, and the status and the text of that. A command that is answered when it is read is answered of the schedule that it
--- looked at.
+-- looked at, and so is a drain.
 abbrev pub MayBeDone : Request → List FileText → List Reading → List Exchange → ℕ → List ℕ → Type 0
 MayBeDone (Ok (Step e)) texts readings exchanges status shown = (texts ≡ []) × (readings ≡ []) × (IsPerhaps e exchanges status shown ⊎ IsUnhad e exchanges status shown)
 MayBeDone (Ok (LoadFile path)) texts readings exchanges status shown = (readings ≡ []) × IsLoadPerhaps path texts exchanges status shown
 MayBeDone (Ok TickNow) texts readings exchanges status shown = (texts ≡ []) × IsTickPerhaps readings exchanges status shown
-MayBeDone (Ok Drain) texts readings exchanges status shown = (texts ≡ []) × (readings ≡ []) × (exchanges ≡ []) × (status ≡ 0) × (shown ≡ shown_text ShowsDone)
+MayBeDone (Ok Drain) texts readings exchanges status shown = (texts ≡ []) × (readings ≡ []) × IsDrained exchanges status shown
 MayBeDone asked texts readings exchanges status shown = (texts ≡ []) × (readings ≡ []) × ((a : Schedule) × (exchanges ≡ looks 1 a) × IsAnswered a asked status shown)
 
 abbrev pub IsDone : Done → Type 0
@@ -109,13 +115,24 @@ IsOpen (Some (Says.Event e)) asked texts =
     ((asked ≡ Ok (Step e) ∷ []) × (texts ≡ []))
     ⊎ ((path text : List ℕ) × (asked ≡ Ok (LoadFile path) ∷ []) × (texts ≡ (path, text) ∷ []) × (e ≡ Load text))
 IsOpen (Some Says.TickNow) asked texts = (asked ≡ Ok TickNow ∷ []) × (texts ≡ [])
-IsOpen (Some Says.Drain) asked texts = ⊥
+IsOpen (Some Says.Drain) asked texts = (asked ≡ Ok Drain ∷ []) × (texts ≡ [])
 
--- What was done of a script, of whose bytes these were there at first: commands one after another, with the texts that the sources gave, with these
--- exchanges, and with these readings of the clock; what was shown of them; this line waits for its answer; and these bytes are left. That
--- is left and what was shown is not said where the script could not be read or answered further. Where the script has ended, no command is left. The
--- status is the greatest of what was done and of the one before.
-pub record HasDone (names : Texts) (before : ℕ) (first : Option (List ℕ)) (gives : List FileText → Type 0) (shows : List ℕ → Type 0) (exchanges : List Exchange) (readings : List Reading) (waits : Option Line) (left : Option (List ℕ)) (status : ℕ) (is_broken has_ended : Bool) : Type 0 where
+-- the line whose command waits for its answer: the one that the run was given and has not answered, or else a drain that was read last
+abbrev pub waiting : Option Line → Bool → Option Line
+waiting (Some line) drains = Some line
+waiting None true = Some Says.Drain
+waiting None false = None
+
+-- the commands of these bytes, behind a drain that was read before them and still waits for its answer, if one does
+abbrev pub asked_from : Texts → Bool → List ℕ → List Request
+asked_from names true known = Ok Drain ∷ commands_in names known
+asked_from names false known = commands_in names known
+
+-- What was done of a script, of whose bytes these were there at first, and where a drain waited for its answer at first or not: commands one after
+-- another, that drain before those of the bytes, with the texts that the sources gave, with these exchanges, and with these readings of the clock; what was
+-- shown of them; this line waits for its answer; and these bytes are left. What is left and what was shown is not said where the script could not be read
+-- or answered further. Where the script has ended, no command is left. The status is the greatest of what was done and of the one before.
+pub record HasDone (names : Texts) (before : ℕ) (drained : Bool) (first : Option (List ℕ)) (gives : List FileText → Type 0) (shows : List ℕ → Type 0) (exchanges : List Exchange) (readings : List Reading) (waits : Option Line) (left : Option (List ℕ)) (status : ℕ) (is_broken has_ended : Bool) : Type 0 where
   pub done : List Done
   pub open_asked : List Request
   pub open_texts : List FileText
@@ -125,7 +142,7 @@ pub record HasDone (names : Texts) (before : ℕ) (first : Option (List ℕ)) (g
   pub exchanged : exchanges ≡ flat_map (λ d. d.exchanges) done
   pub read_of : readings ≡ flat_map (λ d. d.readings) done
   pub read : (known : List ℕ) → first ≡ Some known
-      → (rest : List Request) × (commands_in names known ≡ map (λ d. d.asked) done ++ (open_asked ++ rest))
+      → (rest : List Request) × (asked_from names drained known ≡ map (λ d. d.asked) done ++ (open_asked ++ rest))
       × (has_ended ≡ true → rest ≡ []) × (is_broken ≡ false → (bytes : List ℕ) × (left ≡ Some bytes) × (rest ≡ commands_in names bytes))
   pub status_is : status ≡ max before (greatest_status done)
   pub output : is_broken ≡ false → shows (flat_map (λ d. d.shown) done)
@@ -135,18 +152,32 @@ pub not_both : (b : Bool) → (b && not b) ≡ true → true ≡ false
 not_both true e = sym e
 not_both false e = sym e
 
-pub begun : (names : Texts) (first : Option (List ℕ)) (gives : List FileText → Type 0) (shows : List ℕ → Type 0) (status : ℕ) (broken was_over : Bool) → gives [] → shows [] → HasDone names status first gives shows [] [] None first status broken (was_over && not was_over)
+-- where nothing was read, at most the drain waits that did before
+abbrev first_open : Bool → List Request
+first_open true = Ok Drain ∷ []
+first_open false = []
+
+first_opens : (drained : Bool) → IsOpen (waiting None drained) (first_open drained) []
+first_opens true = (refl, refl)
+first_opens false = (refl, refl)
+
+first_asked : (names : Texts) (drained : Bool) (known : List ℕ) → asked_from names drained known ≡ first_open drained ++ commands_in names known
+first_asked names true known = refl
+first_asked names false known = refl
+
+pub begun : (names : Texts) (drained : Bool) (first : Option (List ℕ)) (gives : List FileText → Type 0) (shows : List ℕ → Type 0) (status : ℕ) (broken was_over : Bool) → gives [] → shows []
+    → HasDone names status drained first gives shows [] [] (waiting None drained) first status broken (was_over && not was_over)
 unfolding greatest_status
-begun names first gives shows status broken was_over none unshown = record {
+begun names drained first gives shows status broken was_over none unshown = record {
   done = [];
-  open_asked = [];
+  open_asked = first_open drained;
   open_texts = [];
   each = λ k d below. absurd (omega arith);
-  opens = (refl, refl);
+  opens = first_opens drained;
   texts = none;
   exchanged = refl;
   read_of = refl;
-  read = λ known e. (commands_in names known, refl, (λ ends. absurd (true≢false (not_both was_over ends))), λ _. (known, e, refl));
+  read = λ known e. (commands_in names known, first_asked names drained known, (λ ends. absurd (true≢false (not_both was_over ends))), λ _. (known, e, refl));
   status_is = let none : greatest_status [] ≡ 0 = refl in omega (arith, none);
   output = λ _. unshown;
 }

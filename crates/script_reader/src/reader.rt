@@ -2,6 +2,7 @@
 ghost use Rattle.std.specs.Prelude.{◌≡◌, ◌++◌, ℕ, max, List, Bool, true, false, None, Some, Option, Ok, Err, is_err, IfOk, IfSome, MatchResult, OnOk};
 ghost use Rattle.std.specs.Io.KnownBytes.{Appends};
 ghost use Rattle.sched_model.specs.Schedule.{Schedule as ScheduleModel};
+ghost use Rattle.sched_model.specs.States.{in_flight};
 ghost use Rattle.script_commands.specs.Commands.{is_asked};
 ghost use Rattle.script_commands.specs.declared.commands.ScriptCommand.TheVariants.{LoadFile, Explain};
 ghost use Rattle.answer_lines.specs.CommandFaults.{command_fault_text};
@@ -9,10 +10,10 @@ ghost use Rattle.command_words.specs.Lines.{IsListed};
 ghost use Rattle.word_app.specs.App.{Texts};
 ghost use Rattle.sessions.specs.Exchanges.{looks, Exchange};
 ghost use Rattle.sessions.specs.Readings.{Reading};
-ghost use Rattle.sessions.specs.Lines.{may_be_read, opened_by, reads_drain};
+ghost use Rattle.sessions.specs.Lines.{may_be_read, reads_drain};
 ghost use Rattle.script_reader.specs.Commands.{Does, is_end, line_of, texts_of};
-ghost use Rattle.script_reader.specs.Done.{FileText, HasDone};
-ghost use Rattle.script_reader.specs.Shown.{AnswersDrain, IsWritten};
+ghost use Rattle.script_reader.specs.Done.{FileText, HasDone, waiting};
+ghost use Rattle.script_reader.specs.Shown.{AnswersDrain};
 ghost use Rattle.script_reader.specs.Statuses as spec;
 
 use crate::console::{Console, Spot};
@@ -86,15 +87,17 @@ impl<R: Read + Drop, W: Write + Drop, F: Sources, P: Console> ScriptReader<R, W,
         })
     }
 
-    // Reads and answers commands, up to one that leaves a line to the run; nothing where the script is over.
+    // Answers a drain that was read, of this schedule; then reads and answers commands, up to one that leaves a line to the run; nothing where the script
+    // is over.
     pub(crate) fn read_line(&mut self, schedule: &Schedule) -> io::Result<Option<Line>>
+        requires drained { self.old.has_drained ≡ true → in_flight schedule.now.content ≡ 0 }
         ensures words { self.new.words ≡ self.old.words }
         ensures told { (drained : Bool) (names : Texts) (before : ℕ) (first from : Option (List ℕ)) (s : F) (exchanges : List Exchange) (readings : List Reading) (has_ended : Bool)
             → names ≡ self.old.words.names
-            → HasDone names before first (λ given. F.gives s given self.old.sources) (IsWritten drained from (W.contents self.old.output) self.old.has_drained)
-            exchanges readings None (R.remaining self.old.input) self.old.status false has_ended
-            → (times : ℕ) × HasDone names before first (λ given. F.gives s given self.new.sources) (IsWritten drained from (W.contents self.new.output) self.new.has_drained)
-            (exchanges ++ looks times schedule.now.content) readings (opened_by result) (R.remaining self.new.input) self.new.status (is_err result) (is_end result) }
+            → HasDone names before drained first (λ given. F.gives s given self.old.sources) (Appends from (W.contents self.old.output))
+            exchanges readings (waiting None self.old.has_drained) (R.remaining self.old.input) self.old.status false has_ended
+            → (times : ℕ) × HasDone names before drained first (λ given. F.gives s given self.new.sources) (Appends from (W.contents self.new.output))
+            (exchanges ++ looks times schedule.now.content) readings (line_of result) (R.remaining self.new.input) self.new.status (is_err result) (is_end result) }
         ensures failed { self.new.failed ≡ self.old.failed }
         ensures drains { self.new.has_drained ≡ reads_drain result }
         ensures line { IfOk result (λ next. IfSome next (λ line. may_be_read line ≡ true)) }

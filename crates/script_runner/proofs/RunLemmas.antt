@@ -8,6 +8,7 @@ use Rattle.operators.specs.declared.kits.Kit.{Kit}
 use Rattle.sched_state.specs.Limits.{ceilings}
 use Rattle.sched_model.specs.Schedule.{Schedule}
 use Rattle.sched_model.specs.States.{in_flight}
+use Rattle.sched_events.specs.SettledAndSound.{IsSoundAndSaid}
 use Rattle.sched_events.specs.Steps.{steps}
 use Rattle.sched_events.specs.declared.events.Event.{Event}
 use Rattle.word_app.specs.App.{Texts}
@@ -23,13 +24,12 @@ use Rattle.sessions.specs.declared.line_reading.LineFault.{LineFault}
 use Rattle.conduct.specs.Faults.{came_to_its_end, is_unstarted}
 use Rattle.conduct.specs.Run.{IsConducted}
 use Rattle.conduct.specs.declared.conducting.Conducted.{Conducted}
-use Rattle.script_reader.specs.Done.{FileText, Done, HasDone, IsOpen, greatest_status}
+use Rattle.script_reader.specs.Done.{FileText, Done, HasDone, IsOpen, asked_from, greatest_status, waiting}
 use Rattle.script_reader.specs.Ends.{IsEndStatus}
 use Rattle.script_reader.proofs.StatusLemmas.{all_whole}
 use Rattle.sessions.specs.Told.{AreTold}
 use Rattle.crews.specs.declared.settling.Settled.{Settled}
 use Rattle.script_reader.specs.Readers.{Tells}
-use Rattle.script_reader.specs.Shown.{IsWritten}
 use Rattle.script_reader.specs.declared.reader.ScriptReader.{ScriptReader}
 use Rattle.script_runner.specs.Named.{AreNamed}
 use Rattle.script_runner.specs.Runs.{IsRun}
@@ -46,11 +46,11 @@ ends_well answers status (Err fault.Memory) is z = absurd (omega arith)
 ends_well answers status (Err fault.Unequal) is z = absurd (omega arith)
 
 -- ---- the events of the minutes beside the script's lines
-pub named : {T : Type 0} (words : Texts) (before : ℕ) (first : Option (List ℕ)) (gives : List FileText → Type 0) (clock : List Reading → Type 0) (shows output : List ℕ → Type 0) (told : List Exchange) (start : Schedule) (minutes : List Event) (moments : List Reading) (waits : Option Line) (left : Option (List ℕ)) (answers status : ℕ) (broken over was_over : Bool) (outcome : Result T ConductFault)
-    → IsListed words → before ≡ 0 → HasDone words before first gives shows told moments waits left answers broken (over && not was_over) → (is_ok outcome ≡ true → (broken ≡ false) × ((xs : List ℕ) → shows xs → output xs)) → TookPlace told minutes start → clock moments → was_over ≡ false
+pub named : {T : Type 0} (words : Texts) (before : ℕ) (drained : Bool) (first : Option (List ℕ)) (gives : List FileText → Type 0) (clock : List Reading → Type 0) (shows output : List ℕ → Type 0) (told : List Exchange) (start : Schedule) (minutes : List Event) (moments : List Reading) (waits : Option Line) (left : Option (List ℕ)) (answers status : ℕ) (broken over was_over : Bool) (outcome : Result T ConductFault)
+    → IsListed words → before ≡ 0 → drained ≡ false → HasDone words before drained first gives shows told moments waits left answers broken (over && not was_over) → (is_ok outcome ≡ true → (broken ≡ false) × ((xs : List ℕ) → shows xs → output xs)) → TookPlace told minutes start → clock moments → was_over ≡ false
     → (came_to_its_end outcome ≡ true → (over ≡ true) × (waits ≡ None)) → IsEndStatus answers outcome status
     → AreNamed first gives clock output start minutes outcome status
-named words before first gives clock shows output told start minutes moments waits left answers status broken over was_over outcome listed zero h writes took given fresh whole is =
+named words before drained first gives clock shows output told start minutes moments waits left answers status broken over was_over outcome listed zero undrained h writes took given fresh whole is =
     let greatest : answers ≡ greatest_status h.done = omega (arith, h.status_is, zero) in
     record {
       words = words;
@@ -69,7 +69,7 @@ named words before first gives clock shows output told start minutes moments wai
       read = λ known e.
           let r = h.read known e in (
             r.0,
-            r.1,
+            ap (λ b. asked_from words b known) (sym undrained) ∙ r.1,
             λ came.
                 let end = whole came in
                 let none : IsOpen None h.open_asked h.open_texts = subst (λ (w : Option Line). IsOpen w h.open_asked h.open_texts) end.1 h.opens in
@@ -92,17 +92,19 @@ module _ {S G O : Type 0} (look : Held S → State) (runs : O → List (ℕ × O
   pub is_run : (bytes : Option (List ℕ)) (gives : List FileText → Type 0) (clock : List Reading → Type 0) (output : List ℕ → Type 0) (lanes : ℕ) (kits : List (Kit O)) (before : State) (d : DirectorValue S) (conducted : Conducted S G O) (status : ℕ)
       (are_told : Schedule → List Event → Option Line → Type 0) (untouched quiet : Type 0) (failed : Option LineFault) (over : Bool)
       → IsConducted look runs taken lanes kits d conducted are_told untouched failed over → (untouched → quiet)
+      → IsSoundAndSaid d.schedule.content
       → (HasCleanDisk (look d.store) → Opens ceilings 0 before.now d.schedule.content d.opened)
       → (HasCleanDisk (look d.store) → RestartsIn ceilings 0 before.now (look d.store).now)
       → AreNamed bytes gives clock output d.schedule.content conducted.minutes.items conducted.outcome status
       → IsRun look runs taken bytes gives clock output quiet lanes kits before conducted.director.store conducted.minutes.items conducted.outcome status
-  is_run bytes gives clock output lanes kits before d conducted status are_told untouched quiet failed over c to opened restarted named =
+  is_run bytes gives clock output lanes kits before d conducted status are_told untouched quiet failed over c to sound opened restarted named =
       let a = d.schedule.content in
       let es = conducted.minutes.items in
       record {
         first = a;
         given = d.opened;
         opened = λ clean. opened (c.followed.clean clean);
+        sound = sound;
         accepted = c.accepted;
         begun = c.begun;
         started = λ came. (c.whole came).2;
@@ -154,29 +156,35 @@ module _ {S G O R W F P C : Type 0} (look : Held S → State) (runs : O → List
     pub sources_are : sources ≡ last.sources
     pub output_is : OnOk conducted.outcome (output ≡ last.output)
 
+  -- at the end of the run no drain waits
+  undrained : (lanes : ℕ) (kits : List (Kit O)) (d : DirectorValue S) (conducted : Conducted S G O) (first last : ScriptReader R W F P) (clock later : C)
+      → (c : IsConducted look runs taken lanes kits d conducted (AreTold (Tells remaining contents gives) ticks first clock last later) ((last ≡ first) × (later ≡ clock)) last.failed last.is_over)
+      → IsFresh first → came_to_its_end conducted.outcome ≡ true → (last.is_over ≡ true) × (waiting c.waits last.has_drained ≡ None)
+  undrained lanes kits d conducted first last clock later c fresh came =
+      let end = c.whole came in
+      let quiet : last.has_drained ≡ false = c.told.told.2.over (ap (λ b. b && not first.is_over) end.0 ∙ ap not fresh.over) in
+      (end.0, ap (λ w. waiting w last.has_drained) end.1 ∙ ap (waiting None) quiet)
+
   -- what was written, where the run ended well
   writes : (lanes : ℕ) (kits : List (Kit O)) (d : DirectorValue S) (conducted : Conducted S G O) (first last : ScriptReader R W F P) (clock later : C) (output : W)
       → IsConducted look runs taken lanes kits d conducted (AreTold (Tells remaining contents gives) ticks first clock last later) ((last ≡ first) × (later ≡ clock)) last.failed last.is_over
-      → IsFresh first → OnOk conducted.outcome (output ≡ last.output) → is_ok conducted.outcome ≡ true
-      → (is_some last.failed ≡ false) × ((xs : List ℕ) → IsWritten first.has_drained (contents first.output) (contents last.output) last.has_drained xs → Appends (contents first.output) (contents output) xs)
-  writes lanes kits d conducted first last clock later output c fresh at well =
-      let end = c.whole (ok_came conducted.outcome well) in
-      let quiet : last.has_drained ≡ false = c.told.told.2.over (ap (λ b. b && not first.is_over) end.0 ∙ ap not fresh.over) in
+      → OnOk conducted.outcome (output ≡ last.output) → is_ok conducted.outcome ≡ true
+      → (is_some last.failed ≡ false) × ((xs : List ℕ) → Appends (contents first.output) (contents last.output) xs → Appends (contents first.output) (contents output) xs)
+  writes lanes kits d conducted first last clock later output c at well =
       let same : output ≡ last.output = ok_so (output ≡ last.output) conducted.outcome at well in (
         ok_sound _ last.failed conducted.outcome c.fault well,
-        λ xs w.
-            subst (λ (o : W). Appends (contents first.output) (contents o) xs) (sym same)
-            (subst (λ (b : Bool). IsWritten first.has_drained (contents first.output) (contents last.output) b xs) quiet w fresh.drains),
+        λ xs w. subst (λ (o : W). Appends (contents first.output) (contents o) xs) (sym same) w,
       )
 
   pub ran : (lanes : ℕ) (kits : List (Kit O)) (before : State) (d : DirectorValue S) (conducted : Conducted S G O) (first last : ScriptReader R W F P) (clock later : C)
       → IsConducted look runs taken lanes kits d conducted (AreTold (Tells remaining contents gives) ticks first clock last later) ((last ≡ first) × (later ≡ clock)) last.failed last.is_over
+      → IsSoundAndSaid d.schedule.content
       → (HasCleanDisk (look d.store) → Opens ceilings 0 before.now d.schedule.content d.opened)
       → (HasCleanDisk (look d.store) → RestartsIn ceilings 0 before.now (look d.store).now)
       → IsFresh first
       → (store : Held S) (minutes : List Event) (outcome : Result (Settled G O) ConductFault) (status : ℕ) (sources : F) (output : W) → ComesBack conducted last store minutes outcome status sources output
       → IsRun look runs taken (remaining first.input) (λ given. gives first.sources given sources) (λ moments. ticks clock moments later) (λ shown. Appends (contents first.output) (contents output) shown) ((sources ≡ first.sources) × (later ≡ clock)) lanes kits before store minutes outcome status
-  ran lanes kits before d conducted first last clock later c opened restarted fresh store minutes outcome status sources output back =
+  ran lanes kits before d conducted first last clock later c sound opened restarted fresh store minutes outcome status sources output back =
       let es = conducted.minutes.items in
       let t = c.told in
       let bytes = remaining first.input in
@@ -185,10 +193,10 @@ module _ {S G O R W F P C : Type 0} (look : Held S → State) (runs : O → List
       let text : List ℕ → Type 0 = λ shown. Appends (contents first.output) (contents output) shown in
       let quiet : Type 0 = (last.sources ≡ first.sources) × (later ≡ clock) in
       let named_here : AreNamed bytes files times text d.schedule.content es conducted.outcome status =
-      named first.words.names first.status bytes files times (IsWritten first.has_drained (contents first.output) (contents last.output) last.has_drained) text t.exchanges d.schedule.content es t.readings c.waits (remaining last.input) last.status status (is_some last.failed) last.is_over first.is_over conducted.outcome
-      fresh.listed fresh.status t.told.1 (writes lanes kits d conducted first last clock later output c fresh back.output_is) t.took_place t.given fresh.over (λ well. ((c.whole well).0, (c.whole well).1)) back.status_is
+      named first.words.names first.status first.has_drained bytes files times (Appends (contents first.output) (contents last.output)) text t.exchanges d.schedule.content es t.readings (waiting c.waits last.has_drained) (remaining last.input) last.status status (is_some last.failed) last.is_over first.is_over conducted.outcome
+      fresh.listed fresh.status fresh.drains t.told.1 (writes lanes kits d conducted first last clock later output c back.output_is) t.took_place t.given fresh.over (undrained lanes kits d conducted first last clock later c fresh) back.status_is
       in
-      let here = is_run look runs taken bytes files times text lanes kits before d conducted status _ ((last ≡ first) × (later ≡ clock)) quiet last.failed last.is_over c (λ same. (ap (λ (r : ScriptReader R W F P). r.sources) same.0, same.1)) opened restarted named_here in
+      let here = is_run look runs taken bytes files times text lanes kits before d conducted status _ ((last ≡ first) × (later ≡ clock)) quiet last.failed last.is_over c (λ same. (ap (λ (r : ScriptReader R W F P). r.sources) same.0, same.1)) sound opened restarted named_here in
       subst (λ (f : F). IsRun look runs taken bytes (λ given. gives first.sources given f) times text ((f ≡ first.sources) × (later ≡ clock)) lanes kits before store minutes outcome status) (sym back.sources_are)
       (subst (λ (s : Held S). IsRun look runs taken bytes files times text quiet lanes kits before s minutes outcome status) (sym back.store_is)
       (subst (λ (l : List Event). IsRun look runs taken bytes files times text quiet lanes kits before conducted.director.store l outcome status) (sym back.minutes_are)

@@ -16,10 +16,11 @@ use Rattle.script_reader.specs.Ends.{IsEndStatus}
 
 -- The events that are answered in these minutes, from this schedule on, are, in order, those that the commands of a script name, of these bytes, where they
 -- are known, by the words that `list` takes. A command that is answered when it is read is answered of the schedule of the minutes up to it, and an event
--- that was not accepted has its cause there. A text of `load PATH` is the next that the sources gave, for its path, and a moment of `tick now` the next
--- that the clock gave. Where the run came to its end, all commands are done; where it did not, one that was read may still wait for its answer. Where it
--- ended well, the output has grown by what shows each command, in their order. The status is the greatest of what was done, where the run ended well, and
--- that of its fault otherwise; where it is 0, the event of each command is there.
+-- that was not accepted has its cause there; a drain is answered of the schedule of minutes up to it in which no try is in flight. A text of
+-- `load PATH` is the next that the sources gave, for its path, and a moment of `tick now` the next that the clock gave. Where the run came to its end, all
+-- commands are done; where it did not, one that was read may still wait for its answer. Where it ended well, the output has grown by what shows each command,
+-- in their order. The status is the greatest of what was done, where the run ended well, and that of its fault otherwise; where it is 0, the event of each
+-- command is there.
 pub record AreNamed {T : Type 0} (bytes : Option (List ℕ)) (sources : List FileText → Type 0) (clock : List Reading → Type 0) (output : List ℕ → Type 0) (first : Schedule) (minutes : List Event) (outcome : Result T ConductFault) (status : ℕ) : Type 0 where
   pub words : Texts
   pub listed : IsListed words

@@ -9,6 +9,7 @@ use Rattle.record_tables.specs.Holds.{Stores}
 use Rattle.sched_state.specs.Limits.{ceilings}
 use Rattle.sched_model.specs.Schedule.{Schedule}
 use Rattle.sched_model.specs.States.{in_flight}
+use Rattle.sched_events.specs.SettledAndSound.{IsSoundAndSaid}
 use Rattle.sched_events.specs.Steps.{steps, handed_along, AreAccepted}
 use Rattle.sched_events.specs.declared.answers.Answer.{Answer}
 use Rattle.sched_events.specs.declared.events.Event.{Event}
@@ -32,6 +33,8 @@ pub record IsRun {S G O : Type 0} (look : Held S → State) (runs : O → List (
   pub first : Schedule
   pub given : Answer
   pub opened : HasCleanDisk (look store) → Opens ceilings 0 before.now first given
+  -- it follows the rules of schedules, whatever the disk gave
+  pub sound : IsSoundAndSaid first
   -- each of the minutes was accepted, one after another; they begin with the restart, and have no other. With a fault they may be none
   pub accepted : AreAccepted minutes first
   pub begun : BeginWithRestart lanes minutes

@@ -92,6 +92,8 @@ pub fn run_on<
     };
     match Director::open(alloc, store, 0, Limits::full()) {
         Ok(director) => {
+            // what is known of the schedule that was opened
+            let _ = director.schedule().runs();
             let conducted = conduct(
                 rt,
                 alloc,

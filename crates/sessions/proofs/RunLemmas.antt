@@ -1,5 +1,5 @@
 -- What is true of a session, over a step that was taken and one that was not.
-use Rattle.std.proofs.Common.{◌≡◌, ◌∙◌, ℕ, ◌+◌, ◌<◌, true, false, List, [], ◌∷◌, ◌++◌, length, map, None, Result, Ok, refl, sym, ap, subst, arith, append-nil, length-append}
+use Rattle.std.proofs.Common.{◌≡◌, ◌∙◌, ℕ, ◌+◌, ◌<◌, true, false, List, [], ◌∷◌, ◌++◌, length, map, None, Result, Ok, Err, refl, sym, ap, subst, arith, append-nil, length-append}
 use Rattle.std.proofs.lemmas.List.{length-map, map-append}
 use Rattle.sqlite.specs.Held.{Held}
 use Rattle.sqlite.specs.State.{State}
@@ -176,6 +176,19 @@ module _ {S : Type 0} (look : Held S → State) where
         missed = h.missed ∙ was.missed;
         opened = h.opened ∙ was.opened;
         followed = follows_then _ _ _ _ _ _ was.followed h.followed;
+      }
+
+  pub unchanged_then : (e : Event) (s t u : Session S) (r : Result Answer Fault) (fault : Fault) → IsUnchanged s t → IsTried look e t r u → r ≡ Err fault → IsUnchanged s u
+  unchanged_then e s t u r fault was tried is =
+      let h : IsOutcome t.director.schedule.content e (Err fault) u.director.schedule.content =
+      subst (λ (x : Result Answer Fault). IsOutcome t.director.schedule.content e x u.director.schedule.content) is tried.outcome in
+      record {
+        same = h.1 ∙ was.same;
+        minutes = tried.minutes ∙ was.minutes;
+        pass = tried.pass ∙ was.pass;
+        missed = tried.missed ∙ was.missed;
+        opened = tried.opened ∙ was.opened;
+        followed = follows_then _ _ _ _ _ _ was.followed tried.followed;
       }
 
   -- ---- a report that was heard, and what was done with it

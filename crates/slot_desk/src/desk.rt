@@ -9,7 +9,7 @@ use crate::holds::Hold;
 use crate::locked::LockedBook;
 use crate::shares::{Share, empty_share};
 use std::alloc::{AllocError, Global};
-use std::marker::Model;
+use std::marker::{Model, PhantomData};
 use std::sync::ledger::{Blank, Ledger};
 use std::sync::{Mutex, Wait};
 
@@ -21,7 +21,32 @@ pub struct SlotDesk<L: Ledger> {
     locked: Mutex<LockedBook<L>>,
 }
 
-/// A hold that was taken out of the book. It is made by `SlotDesk::leave` alone. Contracts see it as the hold.
+/// A hold that was taken out of the book of the desk that `L` names. It is made by `SlotDesk::leave` alone. Contracts see it as the hold.
+#[derive(Drop)]
+pub struct LeftAt<L: Ledger> {
+    left: Left,
+    desk: PhantomData<L>,
+}
+
+impl<L: Ledger> Model for LeftAt<L> {
+    ghost use Rattle.slot_desk.specs.declared.holds.Hold.{Hold};
+
+    ghost Value = { Hold };
+
+    ghost view = { λ l. l.left };
+}
+
+impl<L: Ledger> LeftAt<L> {
+    /// What was left, without the name of its desk.
+    pub fn left(self) -> Left
+        ensures { result ≡ self }
+    {
+        let LeftAt { left, .. } = self;
+        left
+    }
+}
+
+/// A hold that was taken out of the book of a desk. It is made of a `LeftAt` alone. Contracts see it as the hold.
 #[derive(Debug, Drop)]
 pub struct Left {
     hold: Hold,
@@ -99,14 +124,17 @@ impl<L: Ledger> SlotDesk<L> {
         rt: &R,
         share: &mut Share<L>,
         serial: u64,
-    ) -> Result<Left, DeskFault>
+    ) -> Result<LeftAt<L>, DeskFault>
         ensures hold { IfOk result (λ left. (left.serial ≡ serial) × Contains share.old left) }
         ensures left { IfOk result (λ _. share.new ≡ without serial share.old) }
         ensures same { IfErr result (λ _. share.new ≡ share.old) }
         ensures fault { IfErr result (λ fault. WasRefusedLeave share.old serial fault) }
     {
         let hold = self.locked.lock(rt).leave(share, serial)?;
-        Ok(Left { hold })
+        Ok(LeftAt {
+            left: Left { hold },
+            desk: PhantomData,
+        })
     }
 
     /// What is held, once all shares are back. It waits for nobody and takes no memory.

@@ -17,7 +17,7 @@ mod locked;
 mod shares;
 
 pub use book::{Book, LimitedBook};
-pub use desk::{Left, SlotDesk, Total};
+pub use desk::{Left, LeftAt, SlotDesk, Total};
 pub use faults::DeskFault;
 pub use holds::Hold;
 pub use shares::Share;

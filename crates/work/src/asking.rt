@@ -5,24 +5,24 @@ ghost use Rattle.ruled_dispatch.specs.Lanes.{taken_of, told_of, IsWorkerOf};
 ghost use Rattle.slot_desk.specs.Holds.{has_serial, without};
 ghost use Rattle.work.specs.Logs.{hold_of};
 
-use crate::logs::Logged;
+use crate::logs::Log;
 use crate::pauses::Pause;
 use graph_file::Name;
 use ruled_dispatch::{Lanes, Report, WorkerPass};
 use sched_state::Job;
-use slot_desk::{Hold, Left, Share, SlotDesk};
+use slot_desk::{Hold, LeftAt, Share, SlotDesk};
 use std::alloc::Global;
 use std::sync::Wait;
 use std::sync::ledger::Ledger;
 
 /// Makes room for one more entry in the log.
-pub fn reserve<R: Wait>(rt: &R, log: &mut Vec<Logged>)
+pub fn reserve<L: Ledger, R: Wait>(rt: &R, log: &mut Log<L>)
     ensures same { log.new.items ≡ log.old.items }
     ensures room { vec_len log.new < vec_capacity log.new }
 {
     let mut pause = Pause::new();
     for _ in rt.forever() {
-        if log.reserve(1).is_ok() {
+        if log.reserve().is_ok() {
             return;
         }
         pause.wait(rt);
@@ -81,7 +81,7 @@ pub fn leave<L: Ledger, R: Wait>(
     desk: &SlotDesk<L>,
     share: &mut Share<L>,
     serial: u64,
-) -> Left
+) -> LeftAt<L>
     ensures hold { (result.serial ≡ serial) × Contains share.old result }
     ensures left { share.new ≡ without serial share.old }
 {

@@ -1,9 +1,13 @@
 //! What a worker works with: a kit of operators, and a gate.
-use crate::logs::Logged;
+ghost use Rattle.std.specs.Prelude.{◌≡◌};
+
+use crate::logs::{Log, Logged};
 use instance_machine::Outcome;
 use operators::{BoxedOperator, Kit, Operator};
 use sched_state::Job;
+use std::marker::{Model, PhantomData};
 use std::sync::Wait;
+use std::sync::ledger::Ledger;
 
 /// What each job of a worker passes before it is performed and afterwards, while its slots are entered at the desk.
 ///
@@ -44,4 +48,44 @@ pub struct WorkerEnd<G: Gate, O: Operator = BoxedOperator> {
     pub gate: G,
     /// What it did, job by job, in order.
     pub log: Vec<Logged>,
+}
+
+/// What comes back from a worker at the desk that `L` names: at this desk the slots of each job of its log were left. Contracts see it as
+/// what comes back.
+#[derive(Drop)]
+pub struct EndAt<L: Ledger, G: Gate, O: Operator = BoxedOperator> {
+    end: WorkerEnd<G, O>,
+    desk: PhantomData<L>,
+}
+
+impl<L: Ledger, G: Gate, O: Operator> Model for EndAt<L, G, O> {
+    ghost use Rattle.work.specs.declared.crews.WorkerEnd.{WorkerEnd};
+
+    ghost Value = { WorkerEnd G O };
+
+    ghost view = { λ e. e.end };
+}
+
+impl<L: Ledger, G: Gate, O: Operator> EndAt<L, G, O> {
+    /// The end of a crew, with its log of this desk.
+    pub(crate) fn new(crew: Crew<G, O>, log: Log<L>) -> EndAt<L, G, O>
+        ensures kit { result.kit ≡ crew.kit }
+        ensures gate { result.gate ≡ crew.gate }
+        ensures log { result.log ≡ log }
+    {
+        let Crew { kit, gate } = crew;
+        let log = log.into_entries();
+        EndAt {
+            end: WorkerEnd { kit, gate, log },
+            desk: PhantomData,
+        }
+    }
+
+    /// What comes back, without the name of the desk.
+    pub fn end(self) -> WorkerEnd<G, O>
+        ensures { result ≡ self }
+    {
+        let EndAt { end, .. } = self;
+        end
+    }
 }

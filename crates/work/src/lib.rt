@@ -16,7 +16,7 @@ mod pauses;
 mod trying;
 mod working;
 
-pub use crews::{Crew, Gate, OpenGate, WorkerEnd};
+pub use crews::{Crew, EndAt, Gate, OpenGate, WorkerEnd};
 pub use logs::Logged;
 pub use pauses::Pause;
 pub use working::work;

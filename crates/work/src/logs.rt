@@ -1,7 +1,14 @@
-//! What a worker writes down of a job.
+//! What a worker writes down of its jobs.
+//!
+//! While it works each entry, and the log, name the desk by `L`. So what was left at another desk comes into no log of this one.
+ghost use Rattle.std.specs.Prelude.{◌≡◌, ◌<◌, ◌++◌, ◌∷◌, [], IfOk, vec_len, vec_capacity};
+
 use instance_machine::Outcome;
 use sched_state::Job;
-use slot_desk::Left;
+use slot_desk::{Left, LeftAt};
+use std::alloc::{AllocError, Global};
+use std::marker::{Model, PhantomData};
+use std::sync::ledger::Ledger;
 
 /// A job that a worker did.
 #[derive(Debug, Drop)]
@@ -14,4 +21,84 @@ pub struct Logged {
     pub outcome: Outcome,
     /// The slots that were left at the desk afterwards.
     pub left: Left,
+}
+
+/// A job that a worker did at the desk that `L` names. Contracts see it as the job that it did.
+#[derive(Drop)]
+pub struct LoggedAt<L: Ledger> {
+    pub job: Job,
+    pub begun: bool,
+    pub outcome: Outcome,
+    pub left: LeftAt<L>,
+}
+
+impl<L: Ledger> Model for LoggedAt<L> {
+    ghost use Rattle.work.specs.declared.logs.Logged.{Logged};
+
+    ghost Value = { Logged };
+
+    ghost view = { λ e. record { job = e.job; begun = e.begun; outcome = e.outcome; left = e.left } };
+}
+
+/// The jobs that a worker did at the desk that `L` names, in order. Contracts see it as the list that it keeps.
+#[derive(Drop)]
+pub struct Log<L: Ledger> {
+    entries: Vec<Logged>,
+    desk: PhantomData<L>,
+}
+
+impl<L: Ledger> Model for Log<L> {
+    ghost use Rattle.std.specs.Global.{Vec};
+    ghost use Rattle.work.specs.declared.logs.Logged.{Logged};
+
+    ghost Value = { Vec Logged };
+
+    ghost view = { λ l. l.entries };
+}
+
+impl<L: Ledger> Log<L> {
+    /// A log without a job. It takes no memory.
+    pub fn new(alloc: Global) -> Log<L>
+        ensures { result.items ≡ [] }
+    {
+        Log {
+            entries: Vec::new(alloc),
+            desk: PhantomData,
+        }
+    }
+
+    /// Makes room for one more job.
+    pub fn reserve(&mut self) -> Result<(), AllocError>
+        ensures same { self.new.items ≡ self.old.items }
+        ensures room { IfOk result (λ _. vec_len self.new < vec_capacity self.new) }
+    {
+        self.entries.reserve(1)
+    }
+
+    /// Puts a job behind the others. It takes no memory.
+    pub fn push_reserved(&mut self, entry: LoggedAt<L>)
+        requires { vec_len self.old < vec_capacity self.old }
+        ensures { self.new.items ≡ self.old.items ++ entry ∷ [] }
+    {
+        let LoggedAt {
+            job,
+            begun,
+            outcome,
+            left,
+        } = entry;
+        self.entries.push_reserved(Logged {
+            job,
+            begun,
+            outcome,
+            left: left.left(),
+        });
+    }
+
+    /// The jobs, without the name of their desk.
+    pub fn into_entries(self) -> Vec<Logged>
+        ensures { result ≡ self }
+    {
+        let Log { entries, .. } = self;
+        entries
+    }
 }

@@ -8,7 +8,7 @@ ghost use Rattle.work.specs.Accounts.{IsEntry, MayEnd};
 
 use crate::asking::{enter, leave, tell};
 use crate::crews::{Crew, Gate};
-use crate::logs::Logged;
+use crate::logs::LoggedAt;
 use crate::pauses::Pause;
 use instance_machine::{Outcome, Stage};
 use operators::{BeginFault, Kit, Operator};
@@ -35,7 +35,7 @@ pub fn do_job<L: Ledger, G: Gate, O: Operator, R: Wait>(
     seat: &mut Seat<L>,
     crew: &mut Crew<G, O>,
     job: Job,
-) -> Logged
+) -> LoggedAt<L>
     requires pass { IsWorkerOf lanes.now seat.old.pass }
     requires kit { IsKit O.kind_of crew.old.kit }
     ensures job { result.job ≡ job }
@@ -67,7 +67,7 @@ pub fn do_job<L: Ledger, G: Gate, O: Operator, R: Wait>(
         stage: Stage::Ended(outcome),
     };
     tell(rt, lanes, &mut seat.pass, ended);
-    Logged {
+    LoggedAt {
         job,
         begun,
         outcome,

@@ -8,7 +8,8 @@ ghost use Rattle.work.specs.Accounts.{IsAccount};
 ghost use Rattle.work.specs.Passes.{StaysWith};
 
 use crate::asking::reserve;
-use crate::crews::{Crew, Gate, WorkerEnd};
+use crate::crews::{Crew, EndAt, Gate};
+use crate::logs::Log;
 use crate::trying::{Seat, do_job};
 use operators::Operator;
 use ruled_dispatch::{JobOrStop, Lanes, WorkerPass};
@@ -28,7 +29,7 @@ pub fn work<L: Ledger, G: Gate, O: Operator, R: Wait>(
     pass: WorkerPass,
     share: Share<L>,
     crew: Crew<G, O>,
-) -> (WorkerEnd<G, O>, WorkerPass, Share<L>)
+) -> (EndAt<L, G, O>, WorkerPass, Share<L>)
     requires pass { IsWorkerOf lanes.now pass }
     requires kit { IsKit O.kind_of crew.kit }
     ensures taken { taken_of result.1 ≡ (taken_of pass ++ jobs_of result.0.log.items) ++ items.Stop ∷ [] }
@@ -40,7 +41,7 @@ pub fn work<L: Ledger, G: Gate, O: Operator, R: Wait>(
 {
     let mut crew = crew;
     let mut seat = Seat { pass, share };
-    let mut log = Vec::new(alloc);
+    let mut log = Log::new(alloc);
     for _ in rt.forever() {
         reserve(rt, &mut log);
         match lanes.wait_to_take(rt, &mut seat.pass) {
@@ -48,9 +49,8 @@ pub fn work<L: Ledger, G: Gate, O: Operator, R: Wait>(
                 log.push_reserved(do_job(rt, alloc, lanes, desk, &mut seat, &mut crew, job));
             }
             JobOrStop::Stop => {
-                let Crew { kit, gate } = crew;
                 let Seat { pass, share } = seat;
-                return (WorkerEnd { kit, gate, log }, pass, share);
+                return (EndAt::new(crew, log), pass, share);
             }
         }
     }

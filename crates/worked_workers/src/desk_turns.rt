@@ -134,7 +134,7 @@ fn write_leaving<L: Ledger, R: Wait + Print>(
     match desk.leave(rt, share, serial) {
         Ok(left) => {
             rt.print(" left:")?;
-            write_hold(rt, left.hold())
+            write_hold(rt, left.left().hold())
         }
         Err(fault) => print!(rt; " {fault:?}"),
     }

@@ -14,7 +14,7 @@ returns-clause-promises g c =
     keeps_promises a _ e c.in_ok-change.change c.keep.result c.in_ok-change.ensures.accepted c.runs-kept.ensures.kept c.keep.ensures.after (c.accepted_events_keep_the_promises.ensures.each e a)
 
 pub returns-clause-fault : goal.returns-clause-fault
-returns-clause-fault g c = stands_against c.args.schedule.now.content c.args.event.now c.keep.result c.keep.ensures.fault
+returns-clause-fault g c = stands_against c.args.schedule.now.content c.args.event.now c.keep.result c.in_ok-change.ensures.accepted.accepted c.keep.ensures.fault
 
 pub returns-clause-untouched : goal.returns-clause-untouched
 returns-clause-untouched g c = is_no_refusal _ c.keep.result c.keep.ensures.fault

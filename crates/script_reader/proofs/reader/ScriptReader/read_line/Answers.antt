@@ -1,10 +1,9 @@
-use Rattle.std.proofs.Common.{rules, ◌+◌, ◌++◌, List, false, Some, None, Ok, Err, refl, sym, ap, subst, ◌∙◌, append-nil}
+use Rattle.std.proofs.Common.{rules, ◌+◌, ◌++◌, List, false, Some, None, Ok, Err, refl, sym, ap, subst, ◌∙◌}
 use Rattle.std.specs.declared.io.Error.{Error}
+use Rattle.std.specs.Io.KnownBytes.{Appends}
 use Rattle.sessions.specs.Exchanges.{looks, Exchange}
 use Rattle.script_reader.specs.Done.{HasDone}
-use Rattle.script_reader.specs.Shown.{IsWritten}
-use Rattle.script_reader.proofs.DoneLemmas.{as_ok, broken, broken_off, ended_less, left_line, left_none, next_at, next_named, one_look_more, over, unanswered}
-use Rattle.script_reader.proofs.ShownLemmas.{drain_written, written_on}
+use Rattle.script_reader.proofs.DoneLemmas.{as_ok, broken, broken_off, drain_answered, drain_broken, flushed, left_line, left_none, next_at, next_named, one_look_more, over, unanswered}
 use Rattle.script_reader.proofs.reader.ScriptReader.read_line.Goals as goal
 
 pub loop-command-init : goal.loop-command-init
@@ -15,35 +14,35 @@ loop-command-init g c =
       failed = a.failed;
       drains = a.drains;
       told = λ drained names before first from s told ticks ended e h.
-          let shows = IsWritten drained from (g.W.Write.contents c.args.self.now.output) c.args.self.now.has_drained in
-          let done =
-          ended_less names before first (λ given. g.F.Sources.gives s given c.args.self.now.sources) shows (IsWritten drained from (g.W.Write.contents c.answer_drain.new.self.output) false) told ticks None (g.R.Read.remaining c.args.self.now.input) c.args.self.now.status false ended false (λ no. absurd (cc))
-          (λ fine xs w. drain_written drained from (g.W.Write.contents c.args.self.now.output) (g.W.Write.contents c.answer_drain.new.self.output) c.args.self.now.has_drained xs w a.shown) h
-          in
-          let at = rw (sym a.sources) at done in
+          let at = rw (sym a.sources) at h in
           let on = rw (sym a.input) at at in
           let by = rw (sym a.status) at on in
-          let at_first = rw (sym (append-nil told)) at by in
-          (0, at_first);
+          drain_answered names before drained first from (g.W.Write.contents c.args.self.now.output) (g.W.Write.contents c.answer_drain.new.self.output) (λ given. g.F.Sources.gives s given c.answer_drain.new.self.sources) told ticks (g.R.Read.remaining c.answer_drain.new.self.input) c.answer_drain.new.self.status c.args.self.now.has_drained ended c.args.schedule.now.content c.requires.drained a.shown by;
     }
+
+pub returns-in_err-answer_drain-clause-told : goal.returns-in_err-answer_drain-clause-told
+returns-in_err-answer_drain-clause-told g c = λ drained names before first from s told ticks ended e h.
+    let a = c.in_err-answer_drain.ensures in
+    let at = rw (sym a.sources) at h in
+    let by = rw (sym a.status) at at in
+    (0, drain_broken names before drained _ _ c.from_residual.ensures.1 first (λ given. g.F.Sources.gives s given c.answer_drain.new.self.sources) _ _ told ticks _ _ c.answer_drain.new.self.status c.args.self.now.has_drained ended c.args.schedule.now.content by)
 
 pub returns-in_err-flush-clause-told : goal.returns-in_err-flush-clause-told
 returns-in_err-flush-clause-told g c = λ drained names before first from s told ticks ended e h.
     let was = c.loop-command.invariant.told drained names before first from s told ticks ended e h in
-    (was.0, broken_off names before _ _ c.from_residual-in_err-flush.ensures.1 first (λ given. g.F.Sources.gives s given c.loop-command.self.sources) _ _ (told ++ looks was.0 c.args.schedule.now.content) ticks _ _ _ false was.1)
+    (was.0, broken_off names before drained _ _ c.from_residual-in_err-flush.ensures.1 first (λ given. g.F.Sources.gives s given c.loop-command.self.sources) _ _ (told ++ looks was.0 c.args.schedule.now.content) ticks _ _ _ false was.1)
 
 pub returns-in_err-next_command-clause-told : goal.returns-in_err-next_command-clause-told
 returns-in_err-next_command-clause-told g c = λ drained names before first from s told ticks ended e h.
     let was = c.loop-command.invariant.told drained names before first from s told ticks ended e h in
-    (was.0, broken_off names before _ _ c.from_residual-in_err-next_command.ensures.1 first (λ given. g.F.Sources.gives s given c.loop-command.self.sources) _ _ (told ++ looks was.0 c.args.schedule.now.content) ticks _ _ _ false was.1)
+    (was.0, broken_off names before drained _ _ c.from_residual-in_err-next_command.ensures.1 first (λ given. g.F.Sources.gives s given c.loop-command.self.sources) _ _ (told ++ looks was.0 c.args.schedule.now.content) ticks _ _ _ false was.1)
 
 pub returns-in-None-clause-told : goal.returns-in-None-clause-told
 returns-in-None-clause-told g c = λ drained names before first from s told ticks ended e h.
     let was = c.loop-command.invariant.told drained names before first from s told ticks ended e h in (
       was.0,
-      over names before first (λ given. g.F.Sources.gives s given c.loop-command.self.sources) _ (told ++ looks was.0 c.args.schedule.now.content) ticks _ _ false
-          (ended_less names before first (λ given. g.F.Sources.gives s given c.loop-command.self.sources) (IsWritten drained from (g.W.Write.contents c.loop-command.self.output) false) (IsWritten drained from (g.W.Write.contents c.flush.new.self) c.loop-command.self.has_drained) (told ++ looks was.0 c.args.schedule.now.content) ticks None (g.R.Read.remaining c.loop-command.self.input) c.loop-command.self.status false false false (λ no. no)
-          (λ fine xs w. subst (λ b. IsWritten drained from (g.W.Write.contents c.flush.new.self) b xs) (sym c.loop-command.invariant.drains) (written_on drained from (g.W.Write.contents c.loop-command.self.output) (g.W.Write.contents c.flush.new.self) xs w c.in_ok-flush.ensures.bytes)) was.1) _
+      over names before drained first (λ given. g.F.Sources.gives s given c.loop-command.self.sources) _ (told ++ looks was.0 c.args.schedule.now.content) ticks _ _ false
+          (flushed names before drained first from (g.W.Write.contents c.loop-command.self.output) (g.W.Write.contents c.flush.new.self) (λ given. g.F.Sources.gives s given c.loop-command.self.sources) (told ++ looks was.0 c.args.schedule.now.content) ticks (g.R.Read.remaining c.loop-command.self.input) c.loop-command.self.status false c.in_ok-flush.ensures.bytes was.1) _
           (λ known k. next_named names c.loop-command.self.words.names (e ∙ sym (ap (λ w. w.names) c.loop-command.invariant.words)) known None (g.R.Read.remaining c.next_command.new.input) (let next = rw c.in-None.is at (c.in_ok-next_command.ensures.next known k) in next)),
     )
 
@@ -51,10 +50,9 @@ pub returns-in_err-do_command-in-Some-clause-told : goal.returns-in_err-do_comma
 returns-in_err-do_command-in-Some-clause-told g c = λ drained names before first from s told ticks ended e h.
     let was = c.loop-command.invariant.told drained names before first from s told ticks ended e h in (
       was.0,
-      unanswered names before {E = Error} drained from _ _ _ first (λ given. g.F.Sources.gives s given c.loop-command.self.sources) (λ given. g.F.Sources.gives s given c.do_command.new.self.sources) (told ++ looks was.0 c.args.schedule.now.content) ticks _ _ _ _ false
-          (ended_less names before first (λ given. g.F.Sources.gives s given c.loop-command.self.sources) (IsWritten drained from (g.W.Write.contents c.loop-command.self.output) false) (IsWritten drained from (g.W.Write.contents c.flush.new.self) false) (told ++ looks was.0 c.args.schedule.now.content) ticks None (g.R.Read.remaining c.loop-command.self.input) c.loop-command.self.status false false false (λ no. no)
-          (λ fine xs w. written_on drained from _ _ xs w c.in_ok-flush.ensures.bytes) was.1)
-          c.in-Some.request (next_at names g.R.Read.remaining _ c.in-Some.request c.next_command.new.input c.do_command.new.self.input c.in_err-do_command-in-Some.ensures.input (λ known k. next_named names c.loop-command.self.words.names (e ∙ sym (ap (λ w. w.names) c.loop-command.invariant.words)) known (Some c.in-Some.request) (g.R.Read.remaining c.next_command.new.input) (let next = rw c.in-Some.is at (c.in_ok-next_command.ensures.next known k) in next))) c.args.schedule.now.content (Err c.in_err-do_command-in-Some.field-0.0) (c.in_err-do_command-in-Some.ensures.texts s) c.in_err-do_command-in-Some.ensures.does c.in_err-do_command-in-Some.ensures.drains
+      unanswered names before drained {E = Error} from _ _ first (λ given. g.F.Sources.gives s given c.loop-command.self.sources) (λ given. g.F.Sources.gives s given c.do_command.new.self.sources) (told ++ looks was.0 c.args.schedule.now.content) ticks _ _ _ _ false
+          (flushed names before drained first from (g.W.Write.contents c.loop-command.self.output) (g.W.Write.contents c.flush.new.self) (λ given. g.F.Sources.gives s given c.loop-command.self.sources) (told ++ looks was.0 c.args.schedule.now.content) ticks (g.R.Read.remaining c.loop-command.self.input) c.loop-command.self.status false c.in_ok-flush.ensures.bytes was.1)
+          c.in-Some.request (next_at names g.R.Read.remaining _ c.in-Some.request c.next_command.new.input c.do_command.new.self.input c.in_err-do_command-in-Some.ensures.input (λ known k. next_named names c.loop-command.self.words.names (e ∙ sym (ap (λ w. w.names) c.loop-command.invariant.words)) known (Some c.in-Some.request) (g.R.Read.remaining c.next_command.new.input) (let next = rw c.in-Some.is at (c.in_ok-next_command.ensures.next known k) in next))) c.args.schedule.now.content (Err c.in_err-do_command-in-Some.field-0.0) (c.in_err-do_command-in-Some.ensures.texts s) c.in_err-do_command-in-Some.ensures.does
           _ _ c.from_residual-in_err-do_command-in-Some.ensures.1 _ refl,
     )
 
@@ -62,10 +60,9 @@ pub returns-in-Some-2-clause-told : goal.returns-in-Some-2-clause-told
 returns-in-Some-2-clause-told g c = λ drained names before first from s told ticks ended e h.
     let was = c.loop-command.invariant.told drained names before first from s told ticks ended e h in (
       was.0,
-      left_line names before {E = Error} drained from _ _ _ first (λ given. g.F.Sources.gives s given c.loop-command.self.sources) (λ given. g.F.Sources.gives s given c.do_command.new.self.sources) (told ++ looks was.0 c.args.schedule.now.content) ticks _ _ _ _ false
-          (ended_less names before first (λ given. g.F.Sources.gives s given c.loop-command.self.sources) (IsWritten drained from (g.W.Write.contents c.loop-command.self.output) false) (IsWritten drained from (g.W.Write.contents c.flush.new.self) false) (told ++ looks was.0 c.args.schedule.now.content) ticks None (g.R.Read.remaining c.loop-command.self.input) c.loop-command.self.status false false false (λ no. no)
-          (λ fine xs w. written_on drained from _ _ xs w c.in_ok-flush.ensures.bytes) was.1)
-          c.in-Some.request (next_at names g.R.Read.remaining _ c.in-Some.request c.next_command.new.input c.do_command.new.self.input c.in_ok-do_command-in-Some.ensures.input (λ known k. next_named names c.loop-command.self.words.names (e ∙ sym (ap (λ w. w.names) c.loop-command.invariant.words)) known (Some c.in-Some.request) (g.R.Read.remaining c.next_command.new.input) (let next = rw c.in-Some.is at (c.in_ok-next_command.ensures.next known k) in next))) c.args.schedule.now.content (Ok c.in_ok-do_command-in-Some.field-0) (c.in_ok-do_command-in-Some.ensures.texts s) c.in_ok-do_command-in-Some.ensures.does c.in_ok-do_command-in-Some.ensures.drains
+      left_line names before drained {E = Error} from _ _ first (λ given. g.F.Sources.gives s given c.loop-command.self.sources) (λ given. g.F.Sources.gives s given c.do_command.new.self.sources) (told ++ looks was.0 c.args.schedule.now.content) ticks _ _ _ _ false
+          (flushed names before drained first from (g.W.Write.contents c.loop-command.self.output) (g.W.Write.contents c.flush.new.self) (λ given. g.F.Sources.gives s given c.loop-command.self.sources) (told ++ looks was.0 c.args.schedule.now.content) ticks (g.R.Read.remaining c.loop-command.self.input) c.loop-command.self.status false c.in_ok-flush.ensures.bytes was.1)
+          c.in-Some.request (next_at names g.R.Read.remaining _ c.in-Some.request c.next_command.new.input c.do_command.new.self.input c.in_ok-do_command-in-Some.ensures.input (λ known k. next_named names c.loop-command.self.words.names (e ∙ sym (ap (λ w. w.names) c.loop-command.invariant.words)) known (Some c.in-Some.request) (g.R.Read.remaining c.next_command.new.input) (let next = rw c.in-Some.is at (c.in_ok-next_command.ensures.next known k) in next))) c.args.schedule.now.content (Ok c.in_ok-do_command-in-Some.field-0) (c.in_ok-do_command-in-Some.ensures.texts s) c.in_ok-do_command-in-Some.ensures.does
           _ (as_ok Error _ _ c.in-Some-2.is),
     )
 
@@ -76,14 +73,13 @@ loop-command-preserved g c = record {
   drains = (search rules);
   told = λ drained names before first from s told ticks ended e h.
       let was = c.loop-command.invariant.told drained names before first from s told ticks ended e h in
-      let now = left_none names before {E = Error} drained from _ _ _ first (λ given. g.F.Sources.gives s given c.loop-command.self.sources) (λ given. g.F.Sources.gives s given c.do_command.new.self.sources) (told ++ looks was.0 c.args.schedule.now.content) ticks _ _ _ _ false
-      (ended_less names before first (λ given. g.F.Sources.gives s given c.loop-command.self.sources) (IsWritten drained from (g.W.Write.contents c.loop-command.self.output) false) (IsWritten drained from (g.W.Write.contents c.flush.new.self) false) (told ++ looks was.0 c.args.schedule.now.content) ticks None (g.R.Read.remaining c.loop-command.self.input) c.loop-command.self.status false false false (λ no. no)
-      (λ fine xs w. written_on drained from _ _ xs w c.in_ok-flush.ensures.bytes) was.1)
-      c.in-Some.request (next_at names g.R.Read.remaining _ c.in-Some.request c.next_command.new.input c.do_command.new.self.input c.in_ok-do_command-in-Some.ensures.input (λ known k. next_named names c.loop-command.self.words.names (e ∙ sym (ap (λ w. w.names) c.loop-command.invariant.words)) known (Some c.in-Some.request) (g.R.Read.remaining c.next_command.new.input) (let next = rw c.in-Some.is at (c.in_ok-next_command.ensures.next known k) in next))) c.args.schedule.now.content (Ok c.in_ok-do_command-in-Some.field-0) (c.in_ok-do_command-in-Some.ensures.texts s) c.in_ok-do_command-in-Some.ensures.does c.in_ok-do_command-in-Some.ensures.drains (as_ok Error _ _ c.in-None-2.is) in
-      (was.0 + 1, subst (λ (t : List Exchange). HasDone names before first (λ given. g.F.Sources.gives s given c.do_command.new.self.sources) (IsWritten drained from (g.W.Write.contents c.do_command.new.self.output) false) t ticks None (g.R.Read.remaining c.do_command.new.self.input) c.do_command.new.self.status false false) (one_look_more told was.0 c.args.schedule.now.content) now);
+      let now = left_none names before drained {E = Error} from _ _ first (λ given. g.F.Sources.gives s given c.loop-command.self.sources) (λ given. g.F.Sources.gives s given c.do_command.new.self.sources) (told ++ looks was.0 c.args.schedule.now.content) ticks _ _ _ _ false
+      (flushed names before drained first from (g.W.Write.contents c.loop-command.self.output) (g.W.Write.contents c.flush.new.self) (λ given. g.F.Sources.gives s given c.loop-command.self.sources) (told ++ looks was.0 c.args.schedule.now.content) ticks (g.R.Read.remaining c.loop-command.self.input) c.loop-command.self.status false c.in_ok-flush.ensures.bytes was.1)
+      c.in-Some.request (next_at names g.R.Read.remaining _ c.in-Some.request c.next_command.new.input c.do_command.new.self.input c.in_ok-do_command-in-Some.ensures.input (λ known k. next_named names c.loop-command.self.words.names (e ∙ sym (ap (λ w. w.names) c.loop-command.invariant.words)) known (Some c.in-Some.request) (g.R.Read.remaining c.next_command.new.input) (let next = rw c.in-Some.is at (c.in_ok-next_command.ensures.next known k) in next))) c.args.schedule.now.content (Ok c.in_ok-do_command-in-Some.field-0) (c.in_ok-do_command-in-Some.ensures.texts s) c.in_ok-do_command-in-Some.ensures.does (as_ok Error _ _ c.in-None-2.is) in
+      (was.0 + 1, subst (λ (t : List Exchange). HasDone names before drained first (λ given. g.F.Sources.gives s given c.do_command.new.self.sources) (Appends from (g.W.Write.contents c.do_command.new.self.output)) t ticks None (g.R.Read.remaining c.do_command.new.self.input) c.do_command.new.self.status false false) (one_look_more told was.0 c.args.schedule.now.content) now);
 }
 
 pub returns-clause-told : goal.returns-clause-told
 returns-clause-told g c = λ drained names before first from s told ticks ended e h.
     let was = c.loop-command.invariant.told drained names before first from s told ticks ended e h in
-    (was.0, broken names before first (λ given. g.F.Sources.gives s given c.loop-command.self.sources) _ (told ++ looks was.0 c.args.schedule.now.content) ticks _ _ false was.1 (λ given. g.F.Sources.gives s given c.loop-command.self.sources) _ _ _ (λ x. x) refl)
+    (was.0, broken names before drained first (λ given. g.F.Sources.gives s given c.loop-command.self.sources) _ (told ++ looks was.0 c.args.schedule.now.content) ticks _ _ false was.1 (λ given. g.F.Sources.gives s given c.loop-command.self.sources) _ _ _ (λ x. x) refl)

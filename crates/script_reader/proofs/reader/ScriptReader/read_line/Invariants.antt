@@ -2,8 +2,8 @@ use Rattle.std.proofs.Common.{◌≡◌, ◌++◌, ℕ, List, Bool, false, Optio
 use Rattle.word_app.specs.App.{Texts}
 use Rattle.sessions.specs.Exchanges.{looks, Exchange}
 use Rattle.sessions.specs.Readings.{Reading}
-use Rattle.script_reader.specs.Done.{HasDone}
-use Rattle.script_reader.specs.Shown.{IsWritten}
+use Rattle.std.specs.Io.KnownBytes.{Appends}
+use Rattle.script_reader.specs.Done.{HasDone, waiting}
 use Rattle.script_reader.proofs.reader.ScriptReader.read_line.Given as goal
 
 -- what was done before is still done, and more that was answered of the schedule
@@ -14,6 +14,6 @@ invariant-loop-command g l = record {
   drains : l.self.has_drained ≡ false;
   told : (drained : Bool) (names : Texts) (before : ℕ) (first from : Option (List ℕ)) (s : g.row.F.Denot) (told : List Exchange) (ticks : List Reading) (has_ended : Bool)
       → names ≡ l.fn.self.words.names
-      → HasDone names before first (λ given. g.F.Sources.gives s given l.fn.self.sources) (IsWritten drained from (g.W.Write.contents l.fn.self.output) l.fn.self.has_drained) told ticks None (g.R.Read.remaining l.fn.self.input) l.fn.self.status false has_ended
-      → (times : ℕ) × HasDone names before first (λ given. g.F.Sources.gives s given l.self.sources) (IsWritten drained from (g.W.Write.contents l.self.output) false) (told ++ looks times l.fn.schedule.content) ticks None (g.R.Read.remaining l.self.input) l.self.status false false;
+      → HasDone names before drained first (λ given. g.F.Sources.gives s given l.fn.self.sources) (Appends from (g.W.Write.contents l.fn.self.output)) told ticks (waiting None l.fn.self.has_drained) (g.R.Read.remaining l.fn.self.input) l.fn.self.status false has_ended
+      → (times : ℕ) × HasDone names before drained first (λ given. g.F.Sources.gives s given l.self.sources) (Appends from (g.W.Write.contents l.self.output)) (told ++ looks times l.fn.schedule.content) ticks None (g.R.Read.remaining l.self.input) l.self.status false false;
 }
