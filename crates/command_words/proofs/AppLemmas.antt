@@ -1,5 +1,7 @@
 -- The command is one whose matches clap states.
 use Rattle.std.proofs.Common.{◌≡◌, true, refl}
+use Rattle.std.specs.List.{list_all}
+use Rattle.clap.specs.Simple.{built}
 use Rattle.clap.specs.Words.{is_simple, is_simple_and_free}
 use Rattle.clap.proofs.OnLiterals.{clap_on_literals}
 use Rattle.word_app.specs.App.{Texts, dagsched}
@@ -11,3 +13,12 @@ simple names = refl
 pub free : (names : Texts) → is_simple_and_free (dagsched names) ≡ true
 unfolding clap_on_literals
 free names = refl
+
+-- `help` is no command, of the program and of its commands
+pub no_help_command : (names : Texts) → (built (dagsched names)).top.disable_help_subcommand ≡ true
+unfolding clap_on_literals
+no_help_command names = refl
+
+pub no_help_commands : (names : Texts) → list_all (λ s. s.disable_help_subcommand) (built (dagsched names)).subs ≡ true
+unfolding clap_on_literals
+no_help_commands names = refl

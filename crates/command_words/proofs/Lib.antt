@@ -4,3 +4,4 @@ mod MatchLemmas
 mod WordsLemmas
 mod ReadingLemmas
 mod EnteredLemmas
+mod HelpLemmas

@@ -29,4 +29,4 @@ pub use commands::{
 };
 pub use laws::{words_ask_for_no_report, words_come_from_clap};
 pub use paths::FilePath;
-pub use readers::{CommandReader, read_command, refusal_text};
+pub use readers::{CommandReader, help_text, read_command, refusal_text};

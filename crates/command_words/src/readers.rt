@@ -6,7 +6,7 @@ ghost use Rattle.std.specs.Prelude.{◌≡◌, ◌≢◌, IfOk, is_some, map, st
 ghost use Rattle.clap.specs.Words.{found_of, rows_of, subcommand_rows_of, matches_of, subcommand_of, fault_of, kind_of, FailsBy};
 ghost use Rattle.word_app.specs.App.{Texts, dagsched};
 ghost use Rattle.command_words.specs.Lines as spec;
-ghost use Rattle.command_words.specs.Lines.{IsListed, IsRead, is_refused};
+ghost use Rattle.command_words.specs.Lines.{IsListed, IsRead, asks_for_help, is_refused};
 
 use crate::commands::{CommandLine, UsageFault};
 use crate::lines::line_in;
@@ -68,6 +68,14 @@ pub fn refusal_text(alloc: Global, words: &[String]) -> Result<Option<String>, A
     refusal_by(alloc, listed(), words)
 }
 
+/// clap's text where it answers the words by help, as `--help` and `-h` ask for it, with a newline at its end; `None` exactly where it does not. An
+/// `Err` says that memory ran out.
+pub fn help_text(alloc: Global, words: &[String]) -> Result<Option<String>, AllocError>
+    ensures { (names : Texts) × IsListed names × IfOk result (λ text. is_some text ≡ asks_for_help names (map string_bytes words.now)) }
+{
+    help_by(alloc, listed(), words)
+}
+
 // The words that `list` takes.
 fn listed() -> &'static [&'static str]
     ensures { IsListed result }
@@ -105,6 +113,30 @@ fn shown(alloc: Global, error: &Error) -> Result<Option<String>, AllocError>
             let text = format!(in alloc; "{error}")?;
             Ok(Some(text))
         }
+    }
+}
+
+// clap's text for the words, where it answers them by help.
+fn help_by(alloc: Global, names: &[&str], words: &[String]) -> Result<Option<String>, AllocError>
+    ensures { IfOk result (λ text. is_some text ≡ asks_for_help names.entry (map string_bytes words.now)) }
+{
+    match parsed(alloc, names, words) {
+        Ok(_) => Ok(None),
+        Err(error) => help_in(alloc, &error),
+    }
+}
+
+// The text of an error that shows help.
+fn help_in(alloc: Global, error: &Error) -> Result<Option<String>, AllocError>
+    ensures { IfOk result (λ text. (is_some text ≡ spec.shows_help (kind_of error.now)) × (kind_of error.now ≢ ErrorKind.OutOfMemory)) }
+{
+    match error.kind() {
+        ErrorKind::OutOfMemory => Err(AllocError),
+        ErrorKind::DisplayHelp => {
+            let text = format!(in alloc; "{error}")?;
+            Ok(Some(text))
+        }
+        _ => Ok(None),
     }
 }
 
