@@ -7,7 +7,8 @@
 //! ```
 //!
 //! The record is the one in the file at PATH, which is made where it is not there, or else a new one, in memory. `docs/SCRIPTS.md` is the page of all
-//! words, answers and statuses. A usage fault of the program's own words goes to standard error, and so do sentences for a person.
+//! words, answers and statuses. Help goes to standard output, and a usage fault of the program's own words to standard error, as do sentences for a
+//! person.
 #![tactic(auto)]
 
 mod records;
@@ -17,7 +18,8 @@ mod usage;
 mod volatile;
 
 use crate::records::{in_file, in_memory};
-use crate::usage::put_usage;
+use crate::scripts::has_logs;
+use crate::usage::{put_refusal, put_usage};
 use command_words::{Command, CommandLine, UsageFault, read_command};
 use std::env;
 use std::io::{self, ErrorKind};
@@ -55,6 +57,7 @@ fn run_words<T: Threads + Wait + Sync>(threads: &T, rt: &HostRuntime) -> io::Res
     match read_command(rt.alloc(), words.as_slice()) {
         Ok(line) => do_line(threads, rt, line, words),
         Err(UsageFault::Memory) => Err(io::Error::from(ErrorKind::OutOfMemory)),
+        Err(UsageFault::Words) => put_refusal(rt, words.as_slice()),
         Err(fault) => put_usage(rt, fault, words.as_slice()),
     }
 }
@@ -79,6 +82,10 @@ fn do_line<T: Threads + Wait + Sync>(
     } = line;
     if is_of_scripts(&command) {
         return put_usage(rt, UsageFault::NotHere, words.as_slice());
+    }
+    // before the record is opened, so that it stays as it is where nothing is run
+    if !has_logs(rt, &command)? {
+        return Ok(4);
     }
     match record_path {
         Some(path) => in_file(threads, rt, path.as_str(), &command, words),

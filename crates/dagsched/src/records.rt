@@ -29,10 +29,10 @@ pub fn in_file<T: Threads + Wait + Sync>(
     let was_there = fs::metadata(rt, path).is_ok();
     match Connection::open(rt, path) {
         Ok(conn) => {
-            let (conn, status) = on_connection(threads, rt, conn, command, words)?;
             if !was_there {
-                tell_made(rt, path, command);
+                tell_made(rt, path);
             }
+            let (conn, status) = on_connection(threads, rt, conn, command, words)?;
             match conn.close() {
                 Ok(()) => Ok(status),
                 Err(_) => Ok(status.max(3)),

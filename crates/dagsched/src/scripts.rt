@@ -1,7 +1,7 @@
 //! A script that is run on a record.
 use crate::records::put_failure;
 use crate::telling::tell;
-use command_words::{FilePath, ScriptOptions};
+use command_words::{Command, FilePath, ScriptOptions};
 use meta_store::Store;
 use script_reader::Script;
 use script_runner::{FileSources, SentenceConsole, SystemClock, operators_for, run_team};
@@ -24,7 +24,7 @@ pub fn run_script<S: Alter + Drop, T: Threads + Wait + Sync>(
     let alloc = rt.alloc();
     let scratch = options.scratch.as_str();
     let logs = options.logs.as_ref().map(FilePath::as_str);
-    make_folders(rt, scratch, logs);
+    make_scratch(rt, scratch);
     let _held = hold(rt, scratch);
     let team = operators_for(*rt, alloc, options.workers.get(), scratch, logs)?;
     let script = Script {
@@ -51,34 +51,58 @@ pub fn run_script<S: Alter + Drop, T: Threads + Wait + Sync>(
     }
 }
 
-// Makes the folders that tries of commands need. One that is there is taken; without one each such try fails, which is said.
-fn make_folders(rt: &HostRuntime, scratch: &str, logs: Option<&str>) {
-    say_lacking(rt, scratch, fs::create_dir(rt, scratch));
-    if let Some(logs) = logs {
-        say_lacking(rt, logs, fs::create_dir_all(rt, logs));
+/// Whether what the command runs has the folder of its logs, if it names one. A folder that is not there is made. Where there is none, or nothing
+/// can be made in it, that is told.
+pub fn has_logs(rt: &HostRuntime, command: &Command) -> io::Result<bool> {
+    let Command::Run(options) = command else {
+        return Ok(true);
+    };
+    let Some(logs) = options.logs.as_ref().map(FilePath::as_str) else {
+        return Ok(true);
+    };
+    let made = fs::create_dir_all(rt, logs);
+    match lack_of(rt, logs, made, "so no script is run")? {
+        Some(text) => {
+            tell(rt, text.as_str());
+            Ok(false)
+        }
+        None => Ok(true),
     }
 }
 
-// Says that a folder is not there, where it was not made and none was there before, or that nothing can be made in it.
-fn say_lacking(rt: &HostRuntime, folder: &str, made: io::Result<()>) {
-    let text = match made {
-        Err(error) if !fs::metadata(rt, folder).is_ok_and(|found| found.is_dir()) => {
-            format!(in rt.alloc();
-                "dagsched: the folder {folder} cannot be made, so tries of commands will fail: {error}"
-            )
-        }
-        _ => match try_in(rt, folder) {
-            Err(error) if error.kind() != ErrorKind::OutOfMemory => {
-                format!(in rt.alloc();
-                    "dagsched: nothing can be made in the folder {folder}, so tries of commands will fail: {error}"
-                )
-            }
-            _ => return,
-        },
-    };
-    if let Ok(text) = text {
+// Makes the folder of the tries. Without it each try of a command fails, which is told.
+fn make_scratch(rt: &HostRuntime, scratch: &str) {
+    let made = fs::create_dir(rt, scratch);
+    if let Ok(Some(text)) = lack_of(rt, scratch, made, "so tries of commands will fail") {
         tell(rt, text.as_str());
     }
+}
+
+// Why a folder is of no use, and what comes of it: it was not made and none was there before, or nothing can be made in it.
+fn lack_of(
+    rt: &HostRuntime,
+    folder: &str,
+    made: io::Result<()>,
+    so: &str,
+) -> io::Result<Option<String>> {
+    let (before, after, error) = match made {
+        Err(error) if !is_folder(rt, folder) => ("", " cannot be made", error),
+        _ => match try_in(rt, folder) {
+            Err(error) => ("nothing can be made in ", "", error),
+            Ok(()) => return Ok(None),
+        },
+    };
+    if error.kind() == ErrorKind::OutOfMemory {
+        return Err(error);
+    }
+    let text = format!(in rt.alloc();
+        "dagsched: {before}the folder {folder}{after}, {so}: {error}"
+    )?;
+    Ok(Some(text))
+}
+
+fn is_folder(rt: &HostRuntime, path: &str) -> bool {
+    fs::metadata(rt, path).is_ok_and(|found| found.is_dir())
 }
 
 // Holds the folder of the tries as long as this lives. Where another program holds it, that is said, since each would read what the other's tries write.
@@ -102,6 +126,10 @@ fn try_in(rt: &HostRuntime, folder: &str) -> io::Result<()> {
     let inner = format!(in rt.alloc(); "{folder}/dagsched-try")?;
     match fs::create_dir(rt, inner.as_str()) {
         Err(error) if error.kind() != ErrorKind::AlreadyExists => Err(error),
-        _ => fs::remove_dir(rt, inner.as_str()),
+        _ => match fs::remove_dir(rt, inner.as_str()) {
+            // one that another program made, which does the same here, is gone with it
+            Err(error) if error.kind() != ErrorKind::NotFound => Err(error),
+            _ => Ok(()),
+        },
     }
 }

@@ -83,11 +83,8 @@ fn unmade_text(rt: &HostRuntime, path: &str) -> Result<String, AllocError> {
     }
 }
 
-/// Tells of a record that was made for a command that looks at one or changes one.
-pub fn tell_made(rt: &HostRuntime, path: &str, command: &Command) {
-    if matches!(command, Command::Run(_)) {
-        return;
-    }
+/// Tells of a file that was made for a record, so that a path that is misspelled is seen at once.
+pub fn tell_made(rt: &HostRuntime, path: &str) {
     if let Ok(text) = format!(in rt.alloc();
         "dagsched: {path} was not there, so a new record was made"
     ) {

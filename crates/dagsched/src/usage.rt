@@ -1,9 +1,20 @@
 //! What is said of words that are no command.
-use crate::telling::tell_fault;
+use crate::telling::{tell, tell_fault};
 use answer_lines::{Shown, put};
-use command_words::{UsageFault, refusal_text};
+use command_words::{UsageFault, help_text, refusal_text};
 use script_commands::CommandFault;
-use std::io;
+use std::{fs, io};
+
+/// Prints the help where the words ask for it, and else says why clap refuses them; the status.
+pub fn put_refusal(rt: &HostRuntime, words: &[String]) -> io::Result<u8> {
+    match help_text(rt.alloc(), words)? {
+        Some(text) => {
+            print!(rt; "{text}")?;
+            Ok(0)
+        }
+        None => put_usage(rt, UsageFault::Words, words),
+    }
+}
 
 /// Says on standard error why the words are no command, and how to use the program where clap refuses them; the status.
 pub fn put_usage(rt: &HostRuntime, fault: UsageFault, words: &[String]) -> io::Result<u8> {
@@ -11,6 +22,7 @@ pub fn put_usage(rt: &HostRuntime, fault: UsageFault, words: &[String]) -> io::R
     put(&mut rt.stderr(), Shown::NoCommand(fault_line))?;
     if fault == UsageFault::Words {
         put_text(rt, words)?;
+        tell_script(rt, words);
     }
     tell_fault(rt, words, Shown::NoCommand(fault_line));
     Ok(2)
@@ -22,4 +34,31 @@ fn put_text(rt: &HostRuntime, words: &[String]) -> io::Result<()> {
         Some(text) => eprint!(rt; "{text}"),
         None => Ok(()),
     }
+}
+
+// Tells how a script is read, where the words name a file for one.
+fn tell_script(rt: &HostRuntime, words: &[String]) {
+    let Some(word) = script_word(words) else {
+        return;
+    };
+    if fs::metadata(rt, word).is_ok_and(|found| found.is_file()) {
+        if let Ok(text) = format!(in rt.alloc();
+            "dagsched: a script is read from standard input: dagsched run < {word}"
+        ) {
+            tell(rt, text.as_str());
+        }
+    }
+}
+
+// The first word that is no option, no value of one, and not `run`.
+fn script_word(words: &[String]) -> Option<&str> {
+    let mut is_value = false;
+    for word in words {
+        let word = word.as_str();
+        if !is_value && !word.starts_with('-') && word != "run" {
+            return Some(word);
+        }
+        is_value = word.starts_with('-') && !word.contains('=');
+    }
+    None
 }
