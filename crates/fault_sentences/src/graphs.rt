@@ -1,6 +1,6 @@
 //! Sentences on the texts of graphs.
 use crate::asked::Asked;
-use crate::keys::{key_sentence, unknown_sentence};
+use crate::keys::{key_sentence, schedule_sentence, unknown_sentence};
 use crate::notes::{Note, Rest};
 use crate::places::{file_text, line_of_task, place_text};
 use cron_timetable::CronFault;
@@ -71,13 +71,15 @@ fn placed_sentence(
 ) -> Result<Option<String>, AllocError> {
     match fault {
         GraphFault::Cron(cron) => cron_sentence(alloc, asked, text, cron, file),
-        GraphFault::UnknownKey(place) => match unknown_name(place, file) {
-            Some(name) => {
-                let said = unknown_sentence(alloc, place, name)?;
-                at_key(alloc, asked, text, file, place, name, said.as_str())
+        GraphFault::UnknownKey(place) => {
+            match (unknown_name(place, file), place.table_in(file)) {
+                (Some(name), Some(table)) => {
+                    let said = unknown_sentence(alloc, place, name, table)?;
+                    at_key(alloc, asked, text, file, place, name, said.as_str())
+                }
+                _ => Ok(None),
             }
-            None => Ok(None),
-        },
+        }
         GraphFault::WrongType(place)
         | GraphFault::MissingKey(place)
         | GraphFault::BadName(place)
@@ -107,7 +109,7 @@ fn cron_sentence(
         Some(value) => value.as_str().unwrap_or(""),
         None => "",
     };
-    let said = format!(in alloc; "{name} \"{schedule}\": {fault}")?;
+    let said = schedule_sentence(alloc, schedule, fault)?;
     at_key(alloc, asked, text, file, Place::Top, name, said.as_str())
 }
 
@@ -143,7 +145,7 @@ pub fn dag_sentence(
                 asked,
                 text,
                 tasks,
-                *place,
+                *place as usize,
                 None,
                 "another task has this id",
             )
@@ -157,7 +159,7 @@ pub fn dag_sentence(
                 asked,
                 text,
                 tasks,
-                *place,
+                *place as usize,
                 upstream,
                 "is no task of this file",
             )
@@ -169,7 +171,7 @@ pub fn dag_sentence(
                 asked,
                 text,
                 tasks,
-                *place,
+                *place as usize,
                 upstream,
                 "stands there twice",
             )
@@ -179,17 +181,37 @@ pub fn dag_sentence(
     }
 }
 
+// That the first task of a text with this pool names one that is not there.
+pub fn pool_sentence(
+    alloc: Global,
+    asked: Asked<'_>,
+    text: &str,
+    pool: &Name,
+) -> Result<Option<String>, AllocError> {
+    let Ok(spec) = read_graph(alloc, text) else {
+        return Ok(None);
+    };
+    let tasks = spec.tasks.as_slice();
+    let Some(place) = tasks.iter().position(|task| task.pool == *pool) else {
+        return Ok(None);
+    };
+    let pool = pool.as_str();
+    let said = format!(in alloc;
+        "there is no pool \"{pool}\": make it first, by resize {pool} SLOTS"
+    )?;
+    task_sentence(alloc, asked, text, tasks, place, None, said.as_str())
+}
+
 // What is said of a task, or of one of its upstreams.
 fn task_sentence(
     alloc: Global,
     asked: Asked<'_>,
     text: &str,
     tasks: &[TaskSpec],
-    place: u32,
+    place: usize,
     upstream: Option<&Name>,
     said: &str,
 ) -> Result<Option<String>, AllocError> {
-    let place = place as usize;
     let Some(task) = tasks.get(place) else {
         return Ok(None);
     };

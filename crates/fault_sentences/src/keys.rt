@@ -1,5 +1,7 @@
 //! Sentences on the keys of a graph's text and their values.
+use crate::airflow::airflow_text;
 use crate::moments::moment_text;
+use cron_timetable::CronFault;
 use graph_file::{GraphFault, Key, Kind, Operator, Place, Role, is_name};
 use moment_core::Moment;
 use std::alloc::{AllocError, Global};
@@ -11,10 +13,27 @@ const MOST_EDITS: usize = 2;
 
 const MOST_LETTERS: usize = 64;
 
-// What is said of the first name at a place that is no key there.
-pub fn unknown_sentence(alloc: Global, place: Place, name: &str) -> Result<String, AllocError> {
-    if let Some(said) = other_place(place, name) {
-        return format!(in alloc; "\"{name}\" {said}");
+// The words that a schedule may be, beside cron expressions.
+static SCHEDULES: [&str; 8] = [
+    "@hourly",
+    "@daily",
+    "@weekly",
+    "@monthly",
+    "@quarterly",
+    "@yearly",
+    "@once",
+    "None",
+];
+
+// What is said of the first name in the table at a place that is no key there.
+pub fn unknown_sentence(
+    alloc: Global,
+    place: Place,
+    name: &str,
+    table: &Table,
+) -> Result<String, AllocError> {
+    if let Some(said) = airflow_text(name) {
+        return format!(in alloc; "unknown key \"{name}\": {said}");
     }
     let mut keys = Vec::new(alloc);
     for key in place.keys() {
@@ -22,7 +41,35 @@ pub fn unknown_sentence(alloc: Global, place: Place, name: &str) -> Result<Strin
     }
     let hint = hint_of(alloc, name, keys.as_slice())?;
     let hint = hint.as_str();
-    format!(in alloc; "unknown key \"{name}\"{hint}")
+    let said = match table.get(name) {
+        Some(value) if has_table(value) => Some(table_text(place, name)),
+        _ => other_place(place, name),
+    };
+    match said {
+        Some(said) => format!(in alloc; "\"{name}\" {said}{hint}"),
+        None => format!(in alloc; "unknown key \"{name}\"{hint}"),
+    }
+}
+
+// Whether a value is a table or has some.
+fn has_table(value: &Value) -> bool {
+    match value.as_array() {
+        Some(items) => items.as_slice().iter().any(|item| item.is_table()),
+        None => value.is_table(),
+    }
+}
+
+// What is said of a table that no graph file has.
+fn table_text(place: Place, name: &str) -> &'static str {
+    match place {
+        Place::Top if name == "pool" || name == "pools" => {
+            "is no table here: a pool is made by the command resize NAME SLOTS, before the load"
+        }
+        Place::Top => {
+            "is no table here: the only one is [[task]], and the keys of the graph stand above it"
+        }
+        Place::Task(_) => "is no table here: a task has none",
+    }
 }
 
 // What is said of a key that stands at the wrong place.
@@ -63,7 +110,7 @@ pub fn key_sentence(
 ) -> Result<String, AllocError> {
     let name = key.name();
     match (fault, table.get(name)) {
-        (GraphFault::MissingKey(_), _) => format!(in alloc; "{name} is missing"),
+        (GraphFault::MissingKey(_), _) => missing_sentence(alloc, key),
         (GraphFault::WrongType(_), Some(value)) => kind_sentence(alloc, key, value),
         (GraphFault::BadName(_), Some(value)) => {
             let word = misnamed(value);
@@ -73,6 +120,36 @@ pub fn key_sentence(
         }
         (_, value) => value_sentence(alloc, key, value, table),
     }
+}
+
+// That a key is missing, and what its value may be where that is a word.
+fn missing_sentence(alloc: Global, key: Key) -> Result<String, AllocError> {
+    let name = key.name();
+    let (words, more) = match key.role() {
+        Role::Schedule => (SCHEDULES.as_slice(), ", or a cron expression, as 0 2 * * *"),
+        role => (role.words(), ""),
+    };
+    if words.is_empty() {
+        return format!(in alloc; "{name} is missing");
+    }
+    let list = list_of(alloc, words)?;
+    let list = list.as_str();
+    format!(in alloc; "{name} is missing: it is one of {list}{more}")
+}
+
+// Why a schedule is refused.
+pub fn schedule_sentence(
+    alloc: Global,
+    schedule: &str,
+    fault: CronFault,
+) -> Result<String, AllocError> {
+    let name = Key::Schedule.name();
+    if fault == CronFault::UnknownPreset {
+        return word_sentence(alloc, name, schedule, SCHEDULES.as_slice());
+    }
+    let hint = hint_of(alloc, schedule, SCHEDULES.as_slice())?;
+    let hint = hint.as_str();
+    format!(in alloc; "{name} \"{schedule}\": {fault}{hint}")
 }
 
 // That a value is of another type than its key's.
@@ -98,6 +175,9 @@ fn kind_sentence(alloc: Global, key: Key, value: &Value) -> Result<String, Alloc
         }
         Value::Datetime(_) => {
             format!(in alloc; "{name}: {wanted} is wanted, and this is a date: put it in quotes")
+        }
+        Value::Table(_) if matches!(key.kind(), Kind::Tables) => {
+            format!(in alloc; "{name}: {wanted} is wanted: write [[{name}]], with two brackets")
         }
         Value::Float(_) | Value::Array(_) | Value::Table(_) => {
             let found = value.type_str();
@@ -181,14 +261,27 @@ fn word_sentence(
             "{name}: \"{word}\" wants a schedule that has ticks, and None and @once have none"
         );
     }
+    if let Some(said) = airflow_text(word) {
+        return format!(in alloc; "{name} \"{word}\": {said}");
+    }
+    let list = list_of(alloc, words)?;
+    let hint = hint_of(alloc, word, words)?;
+    let (hint, list) = (hint.as_str(), list.as_str());
+    if hint.is_empty() {
+        format!(in alloc; "{name}: \"{word}\" is none of {list}")
+    } else {
+        format!(in alloc; "{name}: \"{word}\" is unknown{hint} The words are {list}")
+    }
+}
+
+// Words, with commas between them.
+fn list_of(alloc: Global, words: &[&str]) -> Result<String, AllocError> {
     let mut list = String::new(alloc);
-    for other in words {
+    for word in words {
         if !list.is_empty() {
             list.push_str(", ")?;
         }
-        list.push_str(other)?;
+        list.push_str(word)?;
     }
-    let hint = hint_of(alloc, word, words)?;
-    let (hint, list) = (hint.as_str(), list.as_str());
-    format!(in alloc; "{name}: \"{word}\" is none of {list}{hint}")
+    Ok(list)
 }

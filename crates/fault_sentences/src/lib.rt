@@ -13,9 +13,11 @@
 //! it ends. Easy to get wrong: where memory runs out there is no sentence, and that is no fault of the command.
 #![tactic(auto)]
 
+mod airflow;
 mod asked;
 mod commands;
 mod graphs;
+mod idle;
 mod keys;
 mod lines;
 mod moments;
@@ -28,4 +30,4 @@ mod tries;
 pub use asked::Asked;
 pub use lines::one_line;
 pub use notes::{Note, note_of, unreadable_note};
-pub use tries::{ended_since, lost_at_restart};
+pub use tries::{ended_since, first_in_flight, lost_at_restart};

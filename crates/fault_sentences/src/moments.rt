@@ -1,5 +1,8 @@
-//! What is said of texts that are no moments.
+//! What is said of dates, and of texts that are no moments.
 use moment_core::MomentFault;
+
+// Where the dates of a graph's runs are found, and what is easily missed.
+pub const DATES_HINT: &str = "list runs shows those it has; a day alone is its first second";
 
 // What may stand in the place of a text that is no moment, for this reason.
 pub fn moment_text(fault: Option<MomentFault>) -> &'static str {

@@ -2,6 +2,7 @@
 use crate::asked::Asked;
 use crate::commands::command_sentence;
 use crate::graphs::load_note;
+use crate::idle::{Idle, idle_note};
 use crate::records::{clock_sentence, end_sentence, store_sentence};
 use crate::refusals::{refusal_note, unexplained_sentence};
 use answer_lines::{Fault, Shown};
@@ -31,6 +32,8 @@ pub enum Rest {
     Try(u64),
     /// The first task of this graph that needs more slots than its pool has.
     Slots(Name),
+    /// Why a command changed nothing.
+    Idle(Idle),
 }
 
 /// What is to be told of what was put for a command, of an event where it is one. `None` where there is nothing to tell.
@@ -42,6 +45,7 @@ pub fn note_of(
 ) -> Result<Option<Note>, AllocError> {
     match shown {
         Shown::Answer(Event::Load(text), _) => load_note(alloc, text.as_str()),
+        Shown::Answer(done, answer) => idle_note(alloc, done, answer),
         Shown::Failure(fault) => failure_note(alloc, asked, event, fault),
         Shown::NoCommand(fault) => alone(command_sentence(alloc, asked, fault)?),
         Shown::NoMoment(fault) => alone(clock_sentence(alloc, fault)?),
@@ -106,17 +110,21 @@ impl Note {
     fn push_rest(&self, sentence: &mut String, schedule: &Schedule) -> Result<(), AllocError> {
         match &self.rest {
             Rest::Nothing => Ok(()),
-            Rest::Clock => {
-                let now = schedule.now();
-                write!(sentence, "; the record's clock stands at {now}")
-            }
+            Rest::Clock => push_clock(sentence, schedule),
             Rest::Try(serial) => push_try(sentence, schedule, *serial),
             Rest::Slots(graph) => match schedule.graph_of(graph) {
                 Some(graph) => push_slots(sentence, schedule, graph),
                 None => Ok(()),
             },
+            Rest::Idle(idle) => idle.push_why(sentence, schedule),
         }
     }
+}
+
+// Adds the moment that the clock has reached.
+pub fn push_clock(sentence: &mut String, schedule: &Schedule) -> Result<(), AllocError> {
+    let now = schedule.now();
+    write!(sentence, "; the record's clock stands at {now}")
 }
 
 // Adds the task instance whose try has this serial.

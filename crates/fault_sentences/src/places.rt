@@ -54,8 +54,28 @@ fn line_of_key(text: &str, file: &Table, place: Place, key: &str) -> Option<usiz
         .position(|line| is_of_key(line, key));
     match found {
         Some(at) => Some(task.saturating_add(at).saturating_add(1)),
-        None if task == 0 => None,
+        None if task == 0 => line_of_table(text, key),
         None => Some(task),
+    }
+}
+
+// The line, from 1, that begins the table of this name, or the first of the tables.
+fn line_of_table(text: &str, name: &str) -> Option<usize> {
+    let at = text.lines().position(|line| begins_table(line, name))?;
+    Some(at.saturating_add(1))
+}
+
+fn begins_table(line: &str, name: &str) -> bool {
+    let Some(rest) = line.trim_start().strip_prefix("[") else {
+        return false;
+    };
+    let rest = rest.strip_prefix("[").unwrap_or(rest);
+    match rest.trim_start().strip_prefix(name) {
+        Some(rest) => {
+            let rest = rest.trim_start();
+            rest.starts_with(']') || rest.starts_with('.')
+        }
+        None => false,
     }
 }
 

@@ -1,6 +1,7 @@
 //! Sentences on events that are refused, and on questions without an answer.
 use crate::asked::Asked;
-use crate::graphs::{dag_sentence, graph_sentence};
+use crate::graphs::{dag_sentence, graph_sentence, pool_sentence};
+use crate::moments::DATES_HINT;
 use crate::notes::{Note, Rest};
 use answer_lines::ExplainFault;
 use graph_file::Name;
@@ -45,11 +46,8 @@ fn sentence_of(
         (Refusal::DagFault(fault), Some(Event::Load(text))) => {
             dag_sentence(alloc, asked, text.as_str(), fault)
         }
-        (Refusal::UnknownPool(pool), _) => {
-            let pool = pool.as_str();
-            Ok(Some(format!(in alloc;
-                "there is no pool \"{pool}\": make it first, by resize {pool} SLOTS"
-            )?))
+        (Refusal::UnknownPool(pool), Some(Event::Load(text))) => {
+            pool_sentence(alloc, asked, text.as_str(), pool)
         }
         (Refusal::ClockBack(now), _) => Ok(Some(format!(in alloc;
             "the moment lies before {now}, which the record's clock has reached: it never goes back"
@@ -124,7 +122,7 @@ pub fn unexplained_sentence(
     match fault {
         ExplainFault::UnknownGraph => Ok(Some(format!(in alloc; "there is no graph \"{graph}\"")?)),
         ExplainFault::UnknownRun => Ok(Some(format!(in alloc;
-            "the graph \"{graph}\" has no run of the date {logical}: list runs shows those it has; a day alone is its first second"
+            "the graph \"{graph}\" has no run of the date {logical}: {DATES_HINT}"
         )?)),
         ExplainFault::UnknownTask => {
             Ok(Some(format!(in alloc; "the graph \"{graph}\" has no task \"{task}\"")?))

@@ -19,38 +19,72 @@ pub fn ended_since(
     tallied(alloc, schedule, &Which::From(serial))
 }
 
-/// Which task instances the restart has lost: those whose last try was lost at the moment at which the clock stands. It goes over all task instances once.
+/// Which task instances the restart has lost: those that have a try that was lost at the moment at which the clock stands, whatever became of them since. It goes
+/// over all tries once.
 pub fn lost_at_restart(alloc: Global, schedule: &Schedule) -> Result<Option<String>, AllocError> {
     tallied(alloc, schedule, &Which::LostAt(schedule.now().secs()))
 }
 
-// Which last tries are looked at.
+/// The least serial of the tries that have no end, or that of the next try where there are none. It goes over all task instances once.
+pub fn first_in_flight(schedule: &Schedule) -> u64 {
+    let mut first = schedule.next_serial();
+    for run in schedule.runs() {
+        first = first_in_run(run, first);
+    }
+    first
+}
+
+// The least of this serial and those of the run's tries that have no end.
+fn first_in_run(run: &Run, first: u64) -> u64 {
+    let mut first = first;
+    for instance in run.instances.as_slice() {
+        if let Some(last) = instance.tries().last() {
+            if last.ended.is_none() {
+                first = first.min(last.serial);
+            }
+        }
+    }
+    first
+}
+
+// Which tries are told of.
 #[derive(Drop)]
 enum Which {
-    // Those from this serial on.
+    // The last ones, from this serial on.
     From(u64),
     // Those that were lost in this second.
     LostAt(u64),
 }
 
 impl Which {
-    fn has(&self, last: &Try) -> bool {
+    // The first try of an instance that is told of.
+    fn try_of<'a>(&self, instance: &'a Instance) -> Option<&'a Try> {
         match self {
-            Which::From(serial) => *serial <= last.serial,
-            Which::LostAt(second) => is_lost(last) && ended_at(last) == Some(*second),
+            Which::From(serial) => {
+                let last = instance.tries().last()?;
+                if *serial <= last.serial {
+                    Some(last)
+                } else {
+                    None
+                }
+            }
+            Which::LostAt(second) => instance
+                .tries()
+                .iter()
+                .find(|one| is_lost(one) && ended_at(one) == Some(*second)),
         }
     }
 }
 
 // The second in which a try has ended.
-fn ended_at(last: &Try) -> Option<u64> {
-    let end = last.ended?;
+fn ended_at(one: &Try) -> Option<u64> {
+    let end = one.ended?;
     Some(end.moment.secs())
 }
 
-fn is_lost(last: &Try) -> bool {
+fn is_lost(one: &Try) -> bool {
     matches!(
-        last.ended,
+        one.ended,
         Some(End {
             outcome: Outcome::Lost,
             ..
@@ -113,19 +147,16 @@ impl Tally {
         instance: &Instance,
         which: &Which,
     ) -> Result<(), AllocError> {
-        let Some(last) = instance.tries().last() else {
+        let Some(told) = which.try_of(instance) else {
             return Ok(());
         };
-        if !which.has(last) {
-            return Ok(());
-        }
         let state = instance.state(task);
         if state == State::UpForRetry {
             self.retries = self.retries.saturating_add(1);
             let moment = instance.retry_at(task).unwrap_or(u64::MAX);
             self.retry_at = self.retry_at.min(moment);
         }
-        if is_lost(last) && (state == State::UpForRetry || state == State::Failed) {
+        if is_lost(told) {
             self.lost = self.lost.saturating_add(1);
             self.add_name(run, task)
         } else if state == State::Failed {

@@ -1,7 +1,7 @@
 //! What a person is told beside the answers: sentences, and a line on a terminal that says how a drain goes on.
 use crate::totals::Totals;
 use fault_sentences::{
-    Asked, Note, ended_since, lost_at_restart, note_of, one_line, unreadable_note,
+    Asked, Note, ended_since, first_in_flight, lost_at_restart, note_of, one_line, unreadable_note,
 };
 use sched_core::{Event, Schedule};
 use script_commands::{CommandFault, SourceFault};
@@ -167,15 +167,22 @@ impl<R: Clock + Files + Drop, W: Write + Drop> SentenceConsole<R, W> {
         self.output.write_all(line.as_bytes())
     }
 
-    // Says what became of tries: at first of those that the restart has lost, and after each wait of those that ended since.
+    // Says what became of tries: at first of those that the restart has lost, and after each wait of those that ended since, among them those that the
+    // restart has handed out.
     fn put_tries(&mut self, schedule: &Schedule) -> io::Result<()> {
-        let said = match self.next_serial {
-            None => lost_at_restart(self.alloc, schedule)?,
-            Some(serial) if self.has_waited => ended_since(self.alloc, schedule, serial)?,
+        let (said, next) = match self.next_serial {
+            None => (
+                lost_at_restart(self.alloc, schedule)?,
+                first_in_flight(schedule),
+            ),
+            Some(serial) if self.has_waited => (
+                ended_since(self.alloc, schedule, serial)?,
+                schedule.next_serial(),
+            ),
             Some(_) => return Ok(()),
         };
         self.has_waited = false;
-        self.next_serial = Some(schedule.next_serial());
+        self.next_serial = Some(next);
         match said {
             Some(text) => self.put_sentence(None, text.as_str()),
             None => Ok(()),

@@ -1,0 +1,80 @@
+//! Words of Airflow that are none of a graph file.
+
+const BASH: &str = "here it is operator = \"command\", argv = [\"bash\", \"-c\", \"..\"]";
+
+const PYTHON: &str = "here it is operator = \"command\", argv = [\"python3\", \"task.py\"]";
+
+const WAITING: &str = "here it is upstream, in the task that waits";
+
+const COMMENT: &str = "dagsched has none: what follows a # is a comment";
+
+const LATE: &str = "dagsched has none: look at list runs";
+
+const ALARM: &str =
+    "dagsched has none: a task with trigger_rule = \"one_failed\" may tell somebody";
+
+// Pairs of a word and what stands for it here.
+static WORDS: [(&str, &str); 29] = [
+    ("schedule_interval", "here it is schedule"),
+    (
+        "default_args",
+        "dagsched has none: its keys stand below each [[task]]",
+    ),
+    ("bash_command", BASH),
+    ("BashOperator", BASH),
+    ("bash", BASH),
+    ("python_callable", PYTHON),
+    ("PythonOperator", PYTHON),
+    ("EmptyOperator", "here it is noop"),
+    ("upstream_task_ids", WAITING),
+    ("task_dependencies", WAITING),
+    (
+        "execution_timeout",
+        "dagsched has none: argv = [\"timeout\", \"3600\", ..] ends a program",
+    ),
+    ("dagrun_timeout", LATE),
+    ("sla", LATE),
+    ("email_on_failure", ALARM),
+    ("on_failure_callback", ALARM),
+    (
+        "max_retry_delay",
+        "dagsched has none: retry_delay is always the same",
+    ),
+    (
+        "wait_for_downstream",
+        "dagsched has none: depends_on_past in all tasks comes near to it",
+    ),
+    (
+        "max_active_tasks",
+        "dagsched has none: a pool of its own limits the graph's tasks",
+    ),
+    (
+        "is_paused_upon_creation",
+        "here it is the command pause DAG after the load",
+    ),
+    ("timezone", "dagsched has none: all times are UTC"),
+    (
+        "params",
+        "dagsched has none: what a program needs stands in its argv",
+    ),
+    ("tags", COMMENT),
+    ("doc_md", COMMENT),
+    ("owner", COMMENT),
+    ("@midnight", "here it is @daily"),
+    ("@annually", "here it is @yearly"),
+    ("dummy", "here it is always, and the operator noop"),
+    (
+        "none_failed_or_skipped",
+        "here it is none_failed_min_one_success",
+    ),
+    (
+        "all_done_setup_success",
+        "dagsched has none: no task is a setup or a teardown",
+    ),
+];
+
+// What stands here for a word of Airflow that is none of a graph file.
+pub fn airflow_text(word: &str) -> Option<&'static str> {
+    let pair = WORDS.iter().find(|pair| pair.0 == word)?;
+    Some(pair.1)
+}
