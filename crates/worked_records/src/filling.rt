@@ -31,7 +31,7 @@ pub struct Round {
 }
 
 /// A record without rows of its own yet, and its schedule.
-pub fn begin<S: Alter + Drop>(alloc: Global, conn: Connection<S>) -> io::Result<Timed<S>>
+fn begin<S: Alter + Drop>(alloc: Global, conn: Connection<S>) -> io::Result<Timed<S>>
     requires { conn.in_transaction ≡ false }
 {
     let Ok(store) = Store::create(alloc, conn) else {

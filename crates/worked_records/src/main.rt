@@ -10,14 +10,11 @@
 //! many tries; `meet gates` and `meet operators` have two wait for one another, and `held TRIES` has one wait until the other has done the rest.
 //!
 //! With the words `time RUNS` no question is read: a new record is filled with so many runs of 256 tasks and then loaded, and it is printed how long that took.
-//! With `costs RUNS` it is filled with so many runs of one task, which end, and it is printed how long each kind of event takes then: its plan, the room that is
-//! made for it, its write and its commit. With `costs RUNS queued` these runs stay queued.
 #![tactic(auto)]
 
 mod alike;
 mod asking;
 mod callers;
-mod costs;
 mod counts;
 mod drains;
 mod events;
@@ -45,7 +42,6 @@ mod times;
 mod totals;
 
 use crate::asking::write_line;
-use crate::costs::write_costs;
 use crate::times::write_times;
 use std::sync::Wait;
 use std::thread::Threads;
@@ -56,7 +52,6 @@ fn main(rt: HostRuntime) -> io::Result<()> {
     let word = words.nth(1);
     match word.as_ref().map_or("", |word| word.as_str()) {
         "time" => write_times(&rt, words.next()),
-        "costs" => write_costs(&rt, words.next(), words.next()),
         _ => write_page(&rt, &rt),
     }
 }

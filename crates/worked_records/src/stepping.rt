@@ -1,8 +1,7 @@
 //! One step, timed in its parts.
-ghost use Rattle.std.specs.Prelude.{◌≡◌, IfOk, OnOk};
-ghost use Rattle.sched_core.specs.Changes.{HasRoom};
+ghost use Rattle.std.specs.Prelude.{◌≡◌, IfOk};
 
-use crate::totals::{Parts, Work};
+use crate::totals::Work;
 use meta_store::Store;
 use record_rows::Rows;
 use sched_core::{Change, Event, Schedule};
@@ -30,16 +29,10 @@ impl<S: Alter> Timed<S> {
     ) -> io::Result<()> {
         let (change, planning) = plan(rt, alloc, &self.schedule, event)?;
         let rows = count(change.rows());
-        let reserving = reserve(rt, &mut self.schedule, &change)?;
+        self.schedule.reserve(&change)?;
         let writing = write(rt, &mut self.store, &change)?;
-        let committing = commit(rt, &mut self.schedule, change)?;
-        let parts = Parts {
-            planning,
-            reserving,
-            writing,
-            committing,
-        };
-        work.add(rows, parts);
+        let _answer = self.schedule.commit(change);
+        work.add(rows, planning, writing);
         Ok(())
     }
 }
@@ -71,26 +64,6 @@ fn write<S: Alter, R: Clock>(
         Ok(()) => start.elapsed(rt),
         Err(_) => Err(io::Error::other("the event is not written")),
     }
-}
-
-// Makes room for a change: how long that took.
-fn reserve<R: Clock>(rt: &R, schedule: &mut Schedule, change: &Change) -> io::Result<Duration>
-    ensures content { schedule.new.content ≡ schedule.old.content }
-    ensures room { OnOk result (HasRoom change.now schedule.new) }
-{
-    let start = Instant::now(rt)?;
-    schedule.reserve(change)?;
-    start.elapsed(rt)
-}
-
-// Does a change in memory: how long that took.
-fn commit<R: Clock>(rt: &R, schedule: &mut Schedule, change: Change) -> io::Result<Duration>
-    requires planned { change.before ≡ schedule.old.content }
-    requires room { HasRoom change schedule.old }
-{
-    let start = Instant::now(rt)?;
-    let _answer = schedule.commit(change);
-    start.elapsed(rt)
 }
 
 fn count(rows: &Rows) -> u64 {

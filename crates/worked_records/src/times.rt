@@ -48,10 +48,10 @@ fn put_count<R: Print>(rt: &R, name: &str, work: &Work) -> io::Result<()> {
 
 fn put_time<R: Print>(rt: &R, name: &str, work: &Work) -> io::Result<()> {
     put_count(rt, name, work)?;
-    let planning = micros_each(work.steps, work.parts.planning);
-    let writing = micros_each(work.steps, work.parts.writing);
+    let planning = micros_each(work.steps, work.planning);
+    let writing = micros_each(work.steps, work.writing);
     println!(rt; "  {planning} us planned and {writing} us written each")?;
-    let rows = a_second(work.rows, work.parts.writing);
-    let steps = a_second(work.steps, work.parts.writing);
+    let rows = a_second(work.rows, work.writing);
+    let steps = a_second(work.steps, work.writing);
     println!(rt; "  {rows} rows and {steps} steps a second written")
 }

@@ -1,21 +1,13 @@
 //! Steps, counted and timed.
 use std::time::Duration;
 
-/// How long the parts of a step took: to plan it, to make room for it in memory, to write it, and to do it in memory.
-#[derive(Clone, Copy)]
-pub struct Parts {
-    pub planning: Duration,
-    pub reserving: Duration,
-    pub writing: Duration,
-    pub committing: Duration,
-}
-
-/// Steps that were made: how many, how many rows they changed, and how long their parts took.
+/// Steps that were made: how many, how many rows they changed, and how long it took to plan and to write them.
 #[derive(Clone, Copy)]
 pub struct Work {
     pub steps: u64,
     pub rows: u64,
-    pub parts: Parts,
+    pub planning: Duration,
+    pub writing: Duration,
 }
 
 impl Work {
@@ -24,25 +16,17 @@ impl Work {
         Work {
             steps: 0,
             rows: 0,
-            parts: Parts {
-                planning: Duration::ZERO,
-                reserving: Duration::ZERO,
-                writing: Duration::ZERO,
-                committing: Duration::ZERO,
-            },
+            planning: Duration::ZERO,
+            writing: Duration::ZERO,
         }
     }
 
     /// Counts a step.
-    pub fn add(&mut self, rows: u64, parts: Parts) {
+    pub fn add(&mut self, rows: u64, planning: Duration, writing: Duration) {
         self.steps = self.steps.saturating_add(1);
         self.rows = self.rows.saturating_add(rows);
-        self.parts = Parts {
-            planning: self.parts.planning.saturating_add(parts.planning),
-            reserving: self.parts.reserving.saturating_add(parts.reserving),
-            writing: self.parts.writing.saturating_add(parts.writing),
-            committing: self.parts.committing.saturating_add(parts.committing),
-        };
+        self.planning = self.planning.saturating_add(planning);
+        self.writing = self.writing.saturating_add(writing);
     }
 }
 
