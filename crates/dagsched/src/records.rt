@@ -8,7 +8,7 @@ use answer_lines::{Shown, put};
 use command_runner::run_command;
 use command_words::Command;
 use director::Fault;
-use meta_store::{Store, StoreFault};
+use meta_store::Store;
 use script_reader::failure_status;
 use script_runner::SentenceConsole;
 use sqlite::{Alter, Connection, Error, ErrorCode, FileStore, Files, Options};
@@ -79,7 +79,8 @@ fn new_database(alloc: Global) -> io::Result<Connection<FileStore<Volatile>>>
     }
 }
 
-// Makes a record, or takes the one that is there, and does the command on it.
+// Makes a record in an empty database, or takes the one that is there, and does the command on it. The database of another program is no
+// record, and is left as it is.
 fn on_connection<S: Alter + Drop, T: Threads + Wait + Sync>(
     threads: &T,
     rt: &HostRuntime,
@@ -89,11 +90,11 @@ fn on_connection<S: Alter + Drop, T: Threads + Wait + Sync>(
 ) -> io::Result<(Connection<S>, u8)>
     requires { conn.in_transaction ≡ false }
 {
+    if !conn.schema().tables.as_slice().is_empty() {
+        return on_store(threads, rt, Store::adopt(conn), command, words);
+    }
     match Store::create(rt.alloc(), conn) {
         Ok(store) => on_store(threads, rt, store, command, words),
-        Err((conn, StoreFault::NotOurs)) => {
-            on_store(threads, rt, Store::adopt(conn), command, words)
-        }
         Err((conn, fault)) => {
             let status = put_failure(rt, &Fault::from(fault))?;
             Ok((conn, status))
