@@ -17,9 +17,8 @@ pub(crate) fn run_command<'a>(alloc: Global) -> Result<Command<'a>, AllocError>
     ensures app { IfOk result (λ c. app_of c ≡ spec.run) }
     ensures globals { IfOk result (λ c. (fields_of c).has_globals ≡ false) }
 {
-    let logs = logs_option(alloc);
     let command = unlogged_run_command(alloc)?;
-    let command = command.arg(logs)?;
+    let command = command.arg(logs_option(alloc))?;
     Ok(command)
 }
 
@@ -28,13 +27,12 @@ fn unlogged_run_command<'a>(alloc: Global) -> Result<Command<'a>, AllocError>
     ensures app { IfOk result (λ c. app_of c ≡ spec.unlogged_run) }
     ensures globals { IfOk result (λ c. (fields_of c).has_globals ≡ false) }
 {
-    let workers = workers_option(alloc);
-    let lanes = lanes_option(alloc);
-    let scratch = scratch_option(alloc);
     let command = Command::new(alloc, "run").about(
         "Runs a script: commands from standard input, a line each",
     );
-    let command = command.arg(workers)?.arg(lanes)?.arg(scratch)?;
+    let command = command.arg(workers_option(alloc))?;
+    let command = command.arg(lanes_option(alloc))?;
+    let command = command.arg(scratch_option(alloc))?;
     Ok(command)
 }
 
@@ -73,19 +71,20 @@ pub(crate) fn explain_command<'a>(alloc: Global) -> Result<Command<'a>, AllocErr
     ensures app { IfOk result (λ c. app_of c ≡ spec.explain) }
     ensures globals { IfOk result (λ c. (fields_of c).has_globals ≡ false) }
 {
+    let command = of_dag(
+        alloc,
+        "explain",
+        "Says why a task instance stands where it does, a reason a line",
+    )?;
     let logical = word(alloc, "logical", "LOGICAL", "The run's logical date");
+    let command = command.arg(logical)?;
     let task = word(
         alloc,
         "task",
         "TASK",
         "The task's id, as `task_id` in the graph's file",
     );
-    let command = of_dag(
-        alloc,
-        "explain",
-        "Says why a task instance stands where it does, a reason a line",
-    )?;
-    let command = command.arg(logical)?.arg(task)?;
+    let command = command.arg(task)?;
     Ok(command)
 }
 
@@ -94,10 +93,9 @@ pub(crate) fn resize_command<'a>(alloc: Global) -> Result<Command<'a>, AllocErro
     ensures app { IfOk result (λ c. app_of c ≡ spec.resize) }
     ensures globals { IfOk result (λ c. (fields_of c).has_globals ≡ false) }
 {
-    let pool = pool_word(alloc);
-    let size = size_word(alloc);
     let command = Command::new(alloc, "resize").about("Gives a pool its number of slots");
-    let command = command.arg(pool)?.arg(size)?;
+    let command = command.arg(pool_word(alloc))?;
+    let command = command.arg(size_word(alloc))?;
     Ok(command)
 }
 

@@ -43,10 +43,11 @@ fn with_looks<'a>(alloc: Global, names: &'a [&'a str]) -> Result<Command<'a>, Al
     ensures globals { IfOk result (λ c. (fields_of c).has_globals ≡ false) }
 {
     let run = run_command(alloc)?;
-    let list = list_command(alloc, names)?;
-    let explain = explain_command(alloc)?;
     let command = start(alloc)?;
-    let command = command.subcommand(run)?.subcommand(list)?;
+    let command = command.subcommand(run)?;
+    let list = list_command(alloc, names)?;
+    let command = command.subcommand(list)?;
+    let explain = explain_command(alloc)?;
     let command = command.subcommand(explain)?;
     Ok(command)
 }
@@ -110,9 +111,10 @@ fn with_script_words<'a>(alloc: Global, command: Command<'a>) -> Result<Command<
     ensures globals { IfOk result (λ c. (fields_of c).has_globals ≡ false) }
 {
     let load = load_command(alloc)?;
+    let command = command.subcommand(load)?;
     let tick = tick_command(alloc)?;
+    let command = command.subcommand(tick)?;
     let drain = drain_command(alloc)?;
-    let command = command.subcommand(load)?.subcommand(tick)?;
     let command = command.subcommand(drain)?;
     Ok(command)
 }

@@ -14,14 +14,16 @@ fn spanned<'a>(alloc: Global, name: &'a str, about: &'a str) -> Result<Command<'
     ensures app { IfOk result (λ c. app_of c ≡ spec.spanned name.entry.now) }
     ensures globals { IfOk result (λ c. (fields_of c).has_globals ≡ false) }
 {
+    let command = of_dag(alloc, name, about)?;
     let from = word(alloc, "from", "FROM", "The first moment of the span");
+    let command = command.arg(from)?;
     let to = word(
         alloc,
         "to",
         "TO",
         "The last moment of the span, which is part of it",
     );
-    let command = of_dag(alloc, name, about)?.arg(from)?.arg(to)?;
+    let command = command.arg(to)?;
     Ok(command)
 }
 
@@ -30,17 +32,17 @@ pub(crate) fn backfill_command<'a>(alloc: Global) -> Result<Command<'a>, AllocEr
     ensures app { IfOk result (λ c. app_of c ≡ spec.backfill) }
     ensures globals { IfOk result (λ c. (fields_of c).has_globals ≡ false) }
 {
+    let command = spanned(
+        alloc,
+        "backfill",
+        "Makes the runs of past intervals that a graph lacks",
+    )?;
     let reset = flag(
         alloc,
         "reset",
         "Also sets back all task instances of the runs that are there",
     );
-    let command = spanned(
-        alloc,
-        "backfill",
-        "Makes the runs of past intervals that a graph lacks",
-    )?
-    .arg(reset)?;
+    let command = command.arg(reset)?;
     Ok(command)
 }
 
@@ -49,23 +51,24 @@ fn clear_span<'a>(alloc: Global) -> Result<Command<'a>, AllocError>
     ensures app { IfOk result (λ c. app_of c ≡ spec.clear_span) }
     ensures globals { IfOk result (λ c. (fields_of c).has_globals ≡ false) }
 {
+    let command = spanned(
+        alloc,
+        "clear",
+        "Sets task instances back, with a fresh allowance of tries",
+    )?;
     let task = option(
         alloc,
         "task",
         "TASK",
         "Only this task; without it all tasks",
     );
+    let command = command.arg(task)?;
     let upstream = flag(
         alloc,
         "upstream",
         "With --task, also all that it depends on",
     );
-    let command = spanned(
-        alloc,
-        "clear",
-        "Sets task instances back, with a fresh allowance of tries",
-    )?;
-    let command = command.arg(task)?.arg(upstream)?;
+    let command = command.arg(upstream)?;
     Ok(command)
 }
 
@@ -74,16 +77,18 @@ pub(crate) fn clear_command<'a>(alloc: Global) -> Result<Command<'a>, AllocError
     ensures app { IfOk result (λ c. app_of c ≡ spec.clear) }
     ensures globals { IfOk result (λ c. (fields_of c).has_globals ≡ false) }
 {
+    let command = clear_span(alloc)?;
     let downstream = flag(
         alloc,
         "downstream",
         "With --task, also all that depends on it",
     );
+    let command = command.arg(downstream)?;
     let only_failed = flag(
         alloc,
         "only-failed",
         "Of these the failed and upstream_failed alone",
     );
-    let command = clear_span(alloc)?.arg(downstream)?.arg(only_failed)?;
+    let command = command.arg(only_failed)?;
     Ok(command)
 }

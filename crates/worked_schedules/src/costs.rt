@@ -128,27 +128,36 @@ fn past(alloc: Global, tasks: u64) -> Result<String, AllocError> {
 
 // The lanes, the graphs and the clock. The graph of the past is paused where its runs are to stay queued.
 fn prepare<R: Clock>(rt: &R, alloc: Global, schedule: &mut Schedule, size: Size) -> io::Result<()> {
-    let mut work = Work::none();
-    step(rt, alloc, schedule, &Event::Restart(LANES), &mut work)?;
-    step(
-        rt,
-        alloc,
-        schedule,
-        &load(alloc, past(alloc, size.tasks)?.as_str())?,
-        &mut work,
-    )?;
-    step(rt, alloc, schedule, &load(alloc, ONE)?, &mut work)?;
-    step(rt, alloc, schedule, &tick(NOW), &mut work)?;
+    prepare_step(rt, alloc, schedule, Event::Restart(LANES))?;
+    load_past(rt, alloc, schedule, size.tasks)?;
+    prepare_step(rt, alloc, schedule, load(alloc, ONE)?)?;
+    prepare_step(rt, alloc, schedule, tick(NOW))?;
     if size.are_queued {
-        step(
-            rt,
-            alloc,
-            schedule,
-            &Event::Pause(name(alloc, "past")?),
-            &mut work,
-        )?;
+        prepare_step(rt, alloc, schedule, Event::Pause(name(alloc, "past")?))?;
     }
     Ok(())
+}
+
+// The graph of the past.
+fn load_past<R: Clock>(
+    rt: &R,
+    alloc: Global,
+    schedule: &mut Schedule,
+    tasks: u64,
+) -> io::Result<()> {
+    let text = past(alloc, tasks)?;
+    let event = load(alloc, text.as_str())?;
+    prepare_step(rt, alloc, schedule, event)
+}
+
+// A step that is not counted.
+fn prepare_step<R: Clock>(
+    rt: &R,
+    alloc: Global,
+    schedule: &mut Schedule,
+    event: Event,
+) -> io::Result<()> {
+    step(rt, alloc, schedule, event, &mut Work::none())
 }
 
 // The runs of the past, some at once: where they are not to stay queued, their tries are reported before the next ones are made.
@@ -185,7 +194,7 @@ fn backfill<R: Clock>(
         to: minute(end.saturating_sub(1)),
         reset: false,
     };
-    step(rt, alloc, schedule, &event, &mut Work::none())
+    prepare_step(rt, alloc, schedule, event)
 }
 
 // The tries from one number to before another.
@@ -230,67 +239,57 @@ fn step_kind<R: Clock>(
     kind: Kind,
     work: &mut Work,
 ) -> io::Result<()> {
-    let mut other = Work::none();
     let now = schedule.now().secs();
     match kind {
         Kind::Report => {
-            step(rt, alloc, schedule, &tick(next_hour(now)), &mut other)?;
+            prepare_step(rt, alloc, schedule, tick(next_hour(now)))?;
             report_last(rt, alloc, schedule, work)
         }
-        Kind::TickWithRun => {
-            step(rt, alloc, schedule, &tick(next_hour(now)), work)?;
-            report_last(rt, alloc, schedule, &mut other)
-        }
-        Kind::TickWithout => step(rt, alloc, schedule, &tick(now.saturating_add(1)), work),
-        Kind::Trigger => step_trigger(rt, alloc, schedule, work),
-        Kind::Clear => {
-            step(rt, alloc, schedule, &clear(alloc, NOW)?, work)?;
-            report_last(rt, alloc, schedule, &mut other)
-        }
-        Kind::Unpause => {
-            step(
+        Kind::TickWithRun => step_run(rt, alloc, schedule, tick(next_hour(now)), work),
+        Kind::TickWithout => step(rt, alloc, schedule, tick(now.saturating_add(1)), work),
+        Kind::Trigger => {
+            prepare_step(rt, alloc, schedule, tick(now.saturating_add(1)))?;
+            step_run(
                 rt,
                 alloc,
                 schedule,
-                &Event::Pause(name(alloc, "one")?),
-                &mut other,
-            )?;
-            step(
-                rt,
-                alloc,
-                schedule,
-                &Event::Unpause(name(alloc, "one")?),
+                Event::Trigger(name(alloc, "one")?),
                 work,
             )
         }
-        Kind::Resize => step(rt, alloc, schedule, &resize(alloc)?, work),
+        Kind::Clear => step_run(rt, alloc, schedule, clear(alloc, NOW)?, work),
+        Kind::Unpause => step_unpause(rt, alloc, schedule, work),
+        Kind::Resize => step(rt, alloc, schedule, resize(alloc)?, work),
     }
 }
 
-// A run by hand, at a moment of its own.
-fn step_trigger<R: Clock>(
+// An event that hands out a try, which then begins and ends, uncounted.
+fn step_run<R: Clock>(
+    rt: &R,
+    alloc: Global,
+    schedule: &mut Schedule,
+    event: Event,
+    work: &mut Work,
+) -> io::Result<()> {
+    step(rt, alloc, schedule, event, work)?;
+    report_last(rt, alloc, schedule, &mut Work::none())
+}
+
+// A graph goes on that was paused before.
+fn step_unpause<R: Clock>(
     rt: &R,
     alloc: Global,
     schedule: &mut Schedule,
     work: &mut Work,
 ) -> io::Result<()> {
-    let mut other = Work::none();
-    let now = schedule.now().secs();
+    prepare_step(rt, alloc, schedule, Event::Pause(name(alloc, "one")?))?;
     step(
         rt,
         alloc,
         schedule,
-        &tick(now.saturating_add(1)),
-        &mut other,
-    )?;
-    step(
-        rt,
-        alloc,
-        schedule,
-        &Event::Trigger(name(alloc, "one")?),
+        Event::Unpause(name(alloc, "one")?),
         work,
-    )?;
-    report_last(rt, alloc, schedule, &mut other)
+    )
 }
 
 fn next_hour(seconds: u64) -> u64 {
@@ -316,15 +315,10 @@ fn report<R: Clock>(
     serial: u64,
     work: &mut Work,
 ) -> io::Result<()> {
-    step(
-        rt,
-        alloc,
-        schedule,
-        &Event::Report(serial, Stage::Started),
-        work,
-    )?;
+    let start = Event::Report(serial, Stage::Started);
+    step(rt, alloc, schedule, start, work)?;
     let end = Event::Report(serial, Stage::Ended(Outcome::Success));
-    step(rt, alloc, schedule, &end, work)
+    step(rt, alloc, schedule, end, work)
 }
 
 // How many nanoseconds the parts of an event took.

@@ -52,7 +52,7 @@ pub fn step<R: Clock>(
     rt: &R,
     alloc: Global,
     schedule: &mut Schedule,
-    event: &Event,
+    event: Event,
     work: &mut Work,
 ) -> io::Result<()> {
     let (change, planning) = plan(rt, alloc, schedule, event)?;
@@ -67,12 +67,12 @@ fn plan<R: Clock>(
     rt: &R,
     alloc: Global,
     schedule: &Schedule,
-    event: &Event,
+    event: Event,
 ) -> io::Result<(Change, Duration)>
     ensures { IfOk result (λ p. p.0.before ≡ schedule.now.content) }
 {
     let start = Instant::now(rt)?;
-    match schedule.plan(alloc, event) {
+    match schedule.plan(alloc, &event) {
         Ok(change) => Ok((change, start.elapsed(rt)?)),
         Err(_) => Err(io::Error::other("the event is refused")),
     }
