@@ -5,6 +5,7 @@ use Rattle.sqlite.specs.Held.{Held}
 use Rattle.sqlite.specs.State.{State, HasCleanDisk}
 use Rattle.sched_state.specs.Limits.{ceilings}
 use Rattle.sched_model.specs.Schedule.{Schedule}
+use Rattle.sched_events.specs.SettledAndSound.{IsSoundAndSaid}
 use Rattle.sched_events.specs.declared.answers.Answer.{Answer}
 use Rattle.sched_events.specs.declared.events.Event.{Event}
 use Rattle.director.specs.Directors.{DirectorValue, Follows, Keeps, Opens, RestartsIn}
@@ -19,13 +20,15 @@ use Rattle.command_runner.specs.Writes.{IsWritten}
 pub stepped : {S : Type 0} (look : Held S → State) (before : State) (d : DirectorValue S) (e : Event) (old new : Option (List ℕ)) (store : Held S) (status : ℕ)
     → (HasCleanDisk (look d.store) → Opens ceilings 0 before.now d.schedule.content d.opened)
     → (HasCleanDisk (look d.store) → RestartsIn ceilings 0 before.now (look d.store).now)
+    → IsSoundAndSaid d.schedule.content
     → IsStepDone look d e old new store status → IsStepped look before e old new store status
-stepped look before d e old new store status opened restarted done = record {
+stepped look before d e old new store status opened restarted sound done = record {
   first = d.schedule.content;
   given = d.opened;
   answer = done.answer;
   after = done.after;
   opened = λ clean. opened (done.followed.clean clean);
+  sound = sound;
   outcome = done.outcome;
   stored = λ clean is_open rows stored.
       let first = done.followed.clean clean in

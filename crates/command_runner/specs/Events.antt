@@ -6,6 +6,7 @@ use Rattle.record_rows.specs.Rows.{Rows}
 use Rattle.record_tables.specs.Holds.{Stores}
 use Rattle.sched_state.specs.Limits.{ceilings}
 use Rattle.sched_model.specs.Schedule.{Schedule}
+use Rattle.sched_events.specs.SettledAndSound.{IsSoundAndSaid}
 use Rattle.sched_events.specs.declared.answers.Answer.{Answer}
 use Rattle.sched_events.specs.declared.events.Event.{Event}
 use Rattle.director.specs.Directors.{DirectorValue, Follows, Keeps, Opens}
@@ -24,14 +25,15 @@ pub record IsStepDone {S : Type 0} (look : Held S → State) (d : DirectorValue 
   pub followed : Follows d.schedule.content (look d.store) after (look store)
   pub shown : IsWritten (shown_for e answer) (status_of answer) old new status
 
--- The record was opened without lanes, and the event was stepped in it, or not: where the record stored rows, and is still open, it stores the schedule
--- after the restart, and after the event where that was accepted.
+-- The record was opened without lanes, as a schedule that follows the rules of schedules, whatever the disk gave, and the event was stepped in it, or not:
+-- where the record stored rows, and is still open, it stores the schedule after the restart, and after the event where that was accepted.
 pub record IsStepped {S : Type 0} (look : Held S → State) (before : State) (e : Event) (old new : Option (List ℕ)) (store : Held S) (status : ℕ) : Type 0 where
   pub first : Schedule
   pub given : Answer
   pub answer : Result Answer Fault
   pub after : Schedule
   pub opened : HasCleanDisk (look store) → Opens ceilings 0 before.now first given
+  pub sound : IsSoundAndSaid first
   pub outcome : IsOutcome first e answer after
   pub stored : HasCleanDisk (look store) → IsTrue (look store).is_open → (rows : Rows) → Stores before.now rows → Keeps after (look store).now
   pub shown : IsWritten (shown_for e answer) (status_of answer) old new status

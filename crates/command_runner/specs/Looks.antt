@@ -3,6 +3,7 @@ use Rattle.std.specs.Prelude.{◌≡◌, ◌⊎◌, ℕ, List, Option, Ok, IsTru
 use Rattle.sqlite.specs.Held.{Held}
 use Rattle.sqlite.specs.State.{State, HasCleanDisk, Survives}
 use Rattle.sched_state.specs.Limits.{ceilings}
+use Rattle.sched_events.specs.SettledAndSound.{IsSoundAndSaid}
 use Rattle.sched_model.specs.Schedule.{Schedule}
 use Rattle.meta_store.specs.Loads.{IsLoadFault, ReadsAs}
 use Rattle.meta_store.specs.declared.faults.StoreFault.{StoreFault}
@@ -23,10 +24,11 @@ use Rattle.command_runner.specs.Writes.{IsWritten}
 abbrev pub IsUnread : StoreFault → Option (List ℕ) → Option (List ℕ) → ℕ → Type 0
 IsUnread fault old new status = (told : Fault) × IsOfStore fault told × IsWritten (failure_text told) (failure_status told) old new status
 
--- the schedule that a record holds was answered so, or it was told why it is not read; the record is as it was, after a crash too
+-- the schedule that a record holds, which follows the rules of schedules, whatever the disk gave, was answered so, or it was told why it is not read; the
+-- record is as it was, after a crash too
 pub record IsLookedAt {S : Type 0} (look : Held S → State) (before after : Held S) (answered : Schedule → Type 0) (unread : StoreFault → Type 0) : Type 0 where
   pub answer :
-      ((a : Schedule) × (HasCleanDisk (look after) → ReadsAs ceilings (look before).now a) × answered a)
+      ((a : Schedule) × IsSoundAndSaid a × (HasCleanDisk (look after) → ReadsAs ceilings (look before).now a) × answered a)
       ⊎ ((fault : StoreFault) × (HasCleanDisk (look after) → IsLoadFault ceilings (look before).now fault) × unread fault)
   pub kept : HasCleanDisk (look after) → IsTrue (look after).is_open → ((look after).now ≡ (look before).now) × ((look after).committed ≡ (look before).committed)
   pub crash : Survives (look before) (look after) (λ _. ⊥)

@@ -23,7 +23,11 @@ pub(crate) fn step_event<S: Alter + Drop, W: Write, P: Console>(
     ensures { IsEventDone (state S.Store) store event.now (W.contents output.old) (W.contents output.new) result.0 result.1 }
 {
     match Director::open(alloc, store, 0, Limits::full()) {
-        Ok(director) => step_in(alloc, director, event, output, console),
+        Ok(director) => {
+            // what is known of the schedule that was opened
+            let _ = director.schedule().runs();
+            step_in(alloc, director, event, output, console)
+        }
         Err((store, fault)) => {
             let put = put(output, Shown::Failure(&fault));
             console.put(None, Some(event), Shown::Failure(&fault));

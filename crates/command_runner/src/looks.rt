@@ -27,6 +27,8 @@ pub(crate) fn show_rows<S: Alter + Drop, W: Write, P: Console>(
     let mut store = store;
     match store.load(alloc, Limits::full()) {
         Ok(schedule) => {
+            // what is known of the schedule that was read
+            let _ = schedule.runs();
             let put = put_listing(output, &schedule, listing);
             (store, status_after(0, put))
         }
@@ -50,6 +52,8 @@ pub(crate) fn answer_question<S: Alter + Drop, W: Write, P: Console>(
     let mut store = store;
     match store.load(alloc, Limits::full()) {
         Ok(schedule) => {
+            // what is known of the schedule that was read
+            let _ = schedule.runs();
             let status = answer(alloc, &schedule, question, output, console);
             (store, status)
         }

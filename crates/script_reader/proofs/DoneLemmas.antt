@@ -1,5 +1,5 @@
 -- What was done of a script, after one command more.
-use Rattle.std.proofs.Common.{◌≡◌, ◌∙◌, inl, inr, ℕ, ◌+◌, max, Bool, true, false, true≢false, List, [], ◌∷◌, ◌++◌, map, flat_map, Option, Some, None, is_none, Result, Ok, Err, is_err, refl, sym, ap, subst, arith, append_assoc, append-nil}
+use Rattle.std.proofs.Common.{◌≡◌, ◌∙◌, inl, inr, ℕ, ◌+◌, max, Bool, true, false, true≢false, not, ◌&&◌, ◌⊎◌, List, [], ◌∷◌, ◌++◌, map, flat_map, Option, Some, None, is_none, Result, Ok, Err, is_err, refl, sym, ap, subst, arith, append_assoc, append-nil}
 use Rattle.std.proofs.lemmas.Grind.{flat_map-append}
 use Rattle.std.proofs.lemmas.List.{map-append, replicate_more}
 use Rattle.std.proofs.lemmas.List.Elements.{All-push}
@@ -11,6 +11,7 @@ use Rattle.sched_events.specs.declared.events.Event.{Event}
 use Rattle.script_commands.specs.Commands.{Request, IsNext, IsFirst, IsGiven, commands_in}
 use Rattle.word_app.specs.App.{Texts}
 use Rattle.script_commands.specs.declared.commands.ScriptCommand.TheVariants.{Step, LoadFile, TickNow, Drain, List as ListRows, Explain}
+use Rattle.script_commands.specs.declared.commands.SourceFault.{SourceFault}
 use Rattle.sessions.specs.Exchanges.{looks, Exchange}
 use Rattle.sessions.specs.Readings.{Reading}
 use Rattle.sessions.specs.Lines.{reading_of, ticked, Takes}
@@ -24,16 +25,16 @@ use Rattle.answer_lines.specs.declared.shown.Shown.TheVariants.{Done as ShowsDon
 use Rattle.script_reader.specs.Shown.{AnswersDrain}
 use Rattle.script_reader.specs.Statuses.{shown_for, status_of}
 use Rattle.std.specs.Result.{IsErrAnd}
-use Rattle.script_reader.specs.Commands.{Leaves, Does, is_end, line_of, texts_of}
-use Rattle.script_reader.specs.Done.{FileText, Done, IsAnswered, IsDone, IsPerhaps, MayBeDone, IsOpen, HasDone, asked_from, waiting}
+use Rattle.script_reader.specs.Commands.{Leaves, IsLost, Does, is_end, line_of}
+use Rattle.script_reader.specs.Done.{FileAnswer, Done, IsAnswered, IsDone, IsPerhaps, MayBeDone, IsOpen, IsUndone, HasDone, asked_from, waiting}
 use Rattle.script_reader.proofs.ShownLemmas.{appends_keep, appends_then}
 use Rattle.script_reader.proofs.StatusLemmas.{at_once, given_done, raised}
 
 -- one command more that is answered when it is read
-abbrev pub only_asked : Request → List Exchange → ℕ → List ℕ → Done
-only_asked r exchanges status shown = record { asked = r; texts = []; readings = []; exchanges = exchanges; status = status; shown = shown }
+abbrev pub only_asked : Request → List FileAnswer → List Exchange → ℕ → List ℕ → Done
+only_asked r texts exchanges status shown = record { asked = r; texts = texts; readings = []; exchanges = exchanges; status = status; shown = shown }
 
-abbrev pub texts_in : List Done → List FileText
+abbrev pub texts_in : List Done → List FileAnswer
 texts_in done = flat_map (λ (d : Done). d.texts) done
 
 abbrev pub asked_in : List Done → List Request
@@ -53,6 +54,37 @@ one_more f xs x = flat_map-append f xs (x ∷ []) ∙ ap (λ l. flat_map f xs ++
 
 asked_more : (done : List Done) (d : Done) (rest : List Request) → asked_in (done ++ d ∷ []) ++ rest ≡ asked_in done ++ (d.asked ∷ rest)
 asked_more done d rest = ap (λ l. l ++ rest) (map-append (λ (x : Done). x.asked) done (d ∷ [])) ∙ append_assoc (asked_in done) (d.asked ∷ []) rest
+
+-- ---- what was read and is not done
+-- where the script did not break off it waits for its answer
+pub kept_open : (broke_off : Bool) (waits : Option Line) (asked : List Request) (texts : List FileAnswer) → broke_off ≡ false → IsUndone broke_off waits asked texts → IsOpen waits asked texts
+kept_open broke_off waits asked texts sound (inl opens) = opens
+kept_open broke_off waits asked texts sound (inr (broke, none, lost)) = absurd (true≢false (sym broke ∙ sound))
+
+still_broken : (b e e' : Bool) → (e' ≡ true → e ≡ true) → (b && not e) ≡ true → (b && not e') ≡ true
+still_broken false e e' less broke = broke
+still_broken true true e' less broke = absurd (true≢false (sym broke))
+still_broken true false true less broke = absurd (true≢false (sym (less refl)))
+still_broken true false false less broke = refl
+
+undone_less : (b e e' : Bool) (waits : Option Line) (asked : List Request) (texts : List FileAnswer) → (e' ≡ true → e ≡ true) → IsUndone (b && not e) waits asked texts → IsUndone (b && not e') waits asked texts
+undone_less b e e' waits asked texts less (inl opens) = inl opens
+undone_less b e e' waits asked texts less (inr (broke, none, lost)) = inr (still_broken b e e' less broke, none, lost)
+
+-- what could not be answered is a load of a file that is not read, or the sources were not asked
+lost_file : (r : Request) (texts : List FileAnswer) → IsLost r texts → (texts ≡ []) ⊎ ((path : List ℕ) × (fault : SourceFault) × (r ≡ Ok (LoadFile path)) × (texts ≡ (path, Err fault) ∷ []))
+lost_file (Ok (LoadFile path)) texts (fault, asked) = inr (path, fault, refl, asked)
+lost_file (Ok (Step e)) texts none = inl none
+lost_file (Ok TickNow) texts none = inl none
+lost_file (Ok Drain) texts none = inl none
+lost_file (Ok (ListRows listing)) texts none = inl none
+lost_file (Ok (Explain question)) texts none = inl none
+lost_file (Err fault) texts none = inl none
+
+-- a load of a file is given for no other command
+file_given : (wanted given : Request) (path : List ℕ) → IsGiven wanted given → given ≡ Ok (LoadFile path) → wanted ≡ Ok (LoadFile path)
+file_given wanted given path (inl same) is = sym same ∙ is
+file_given wanted given path (inr (memory, lack)) is = absurd (true≢false (sym (ap is_err memory) ∙ ap is_err is))
 
 module _ (names : Texts) (drained : Bool) where
   -- ---- the command that comes next: what is given for it, and what is left
@@ -81,15 +113,18 @@ module _ (names : Texts) where
 
 module _ (names : Texts) (before : ℕ) (drained : Bool) where
   -- what is known where no line waits
-  module _ (first : Option (List ℕ)) (gives : List FileText → Type 0) (shows : List ℕ → Type 0) (told : List Exchange) (ticks : List Reading) (left : Option (List ℕ)) (status : ℕ) (ended : Bool) (h : HasDone names before drained first gives shows told ticks None left status false ended) where
+  module _ (first : Option (List ℕ)) (gives : List FileAnswer → Type 0) (shows : List ℕ → Type 0) (told : List Exchange) (ticks : List Reading) (left : Option (List ℕ)) (status : ℕ) (ended : Bool) (h : HasDone names before drained first gives shows told ticks None left status false ended) where
+    none_waits : IsOpen None h.open_asked h.open_texts
+    none_waits = kept_open (false && not ended) None h.open_asked h.open_texts refl h.opens
+
     pub none_open : gives (texts_in h.done)
-    none_open = subst gives (ap (λ l. texts_in h.done ++ l) h.opens.1 ∙ append-nil (texts_in h.done)) h.texts
+    none_open = subst gives (ap (λ l. texts_in h.done ++ l) none_waits.1 ∙ append-nil (texts_in h.done)) h.texts
 
     pub none_left : (known : List ℕ) → first ≡ Some known → (bytes : List ℕ) × (left ≡ Some bytes) × (asked_from names drained known ≡ asked_in h.done ++ commands_in names bytes)
     none_left known e =
         let r = h.read known e in
         let b = r.3 refl in
-        (b.0, b.1, r.1 ∙ ap (λ l. asked_in h.done ++ (l ++ r.0)) h.opens.0 ∙ ap (λ l. asked_in h.done ++ l) b.2)
+        (b.0, b.1, r.1 ∙ ap (λ l. asked_in h.done ++ (l ++ r.0)) none_waits.0 ∙ ap (λ l. asked_in h.done ++ l) b.2)
 
     -- the script is over
     pub over : (left' : Option (List ℕ)) → ((known : List ℕ) → left ≡ Some known → (commands_in names known ≡ []) × (left' ≡ Some [])) → HasDone names before drained first gives shows told ticks None left' status false true
@@ -99,7 +134,7 @@ module _ (names : Texts) (before : ℕ) (drained : Bool) where
       open_asked = [];
       open_texts = [];
       each = h.each;
-      opens = (refl, refl);
+      opens = inl (refl, refl);
       texts = subst gives (sym (append-nil (texts_in h.done))) none_open;
       exchanged = h.exchanged;
       read_of = h.read_of;
@@ -109,13 +144,13 @@ module _ (names : Texts) (before : ℕ) (drained : Bool) where
     }
 
     -- it could not be read or answered further, perhaps after a command that was not answered
-    pub broken : (gives' : List FileText → Type 0) (shows' : List ℕ → Type 0) (left' : Option (List ℕ)) (status' : ℕ) → (gives (texts_in h.done) → gives' (texts_in h.done)) → status' ≡ status → HasDone names before drained first gives' shows' told ticks None left' status' true false
+    pub broken : (gives' : List FileAnswer → Type 0) (shows' : List ℕ → Type 0) (left' : Option (List ℕ)) (status' : ℕ) → (gives (texts_in h.done) → gives' (texts_in h.done)) → status' ≡ status → HasDone names before drained first gives' shows' told ticks None left' status' true false
     broken gives' shows' left' status' to same = record {
       done = h.done;
       open_asked = [];
       open_texts = [];
       each = h.each;
-      opens = (refl, refl);
+      opens = inl (refl, refl);
       texts = subst gives' (sym (append-nil (texts_in h.done))) (to none_open);
       exchanged = h.exchanged;
       read_of = h.read_of;
@@ -129,18 +164,18 @@ module _ (names : Texts) (before : ℕ) (drained : Bool) where
       after = next names drained first left left' (asked_in h.done) given none_left is
 
       -- a command that is answered when it is read
-      pub answered_more : (gives' : List FileText → Type 0) (shows' : List ℕ → Type 0) (seen : List Exchange) (status' own : ℕ) (text : List ℕ) → (gives (texts_in h.done) → gives' (texts_in h.done)) → (shows (shown_in h.done) → shows' (shown_in h.done ++ text)) → status' ≡ max status own → MayBeDone given [] [] seen own text
+      pub answered_more : (gives' : List FileAnswer → Type 0) (shows' : List ℕ → Type 0) (texts : List FileAnswer) (seen : List Exchange) (status' own : ℕ) (text : List ℕ) → (gives (texts_in h.done) → gives' (texts_in h.done ++ texts)) → (shows (shown_in h.done) → shows' (shown_in h.done ++ text)) → status' ≡ max status own → MayBeDone given texts [] seen own text
           → HasDone names before drained first gives' shows' (told ++ seen) ticks None left' status' false false
-      answered_more gives' shows' seen status' own text to show more may =
+      answered_more gives' shows' texts seen status' own text to show more may =
           let n = after in
-          let d : Done = only_asked n.wanted seen own text in
+          let d : Done = only_asked n.wanted texts seen own text in
           record {
             done = h.done ++ d ∷ [];
             open_asked = [];
             open_texts = [];
-            each = All-push IsDone h.done d h.each (given_done n.wanted given seen own text n.same may);
-            opens = (refl, refl);
-            texts = subst gives' (sym (append-nil (texts_in (h.done ++ d ∷ [])) ∙ one_more (λ (x : Done). x.texts) h.done d ∙ append-nil (texts_in h.done))) (to none_open);
+            each = All-push IsDone h.done d h.each (given_done n.wanted given texts seen own text n.same may);
+            opens = inl (refl, refl);
+            texts = subst gives' (sym (append-nil (texts_in (h.done ++ d ∷ [])) ∙ one_more (λ (x : Done). x.texts) h.done d)) (to none_open);
             exchanged = ap (λ l. l ++ seen) h.exchanged ∙ sym (one_more (λ (x : Done). x.exchanges) h.done d);
             read_of = h.read_of ∙ sym (one_more (λ (x : Done). x.readings) h.done d ∙ append-nil (readings_in h.done));
             read = λ known e. let r = n.read known e in (commands_in names r.0, r.2 ∙ sym (asked_more h.done d (commands_in names r.0)), (λ no. absurd (true≢false (sym no))), λ _. (r.0, r.1, refl));
@@ -149,7 +184,7 @@ module _ (names : Texts) (before : ℕ) (drained : Bool) where
           }
 
       -- a command that leaves a line to the run
-      pub opened_more : (gives' : List FileText → Type 0) (shows' : List ℕ → Type 0) (line : Option Line) (texts : List FileText) → IsOpen line (after.wanted ∷ []) texts → (gives (texts_in h.done) → gives' (texts_in h.done ++ texts)) → (shows (shown_in h.done) → shows' (shown_in h.done))
+      pub opened_more : (gives' : List FileAnswer → Type 0) (shows' : List ℕ → Type 0) (line : Option Line) (texts : List FileAnswer) → IsOpen line (after.wanted ∷ []) texts → (gives (texts_in h.done) → gives' (texts_in h.done ++ texts)) → (shows (shown_in h.done) → shows' (shown_in h.done))
           → HasDone names before drained first gives' shows' told ticks line left' status false false
       opened_more gives' shows' line texts opens to show =
           let n = after in
@@ -158,7 +193,7 @@ module _ (names : Texts) (before : ℕ) (drained : Bool) where
             open_asked = n.wanted ∷ [];
             open_texts = texts;
             each = h.each;
-            opens = opens;
+            opens = inl opens;
             texts = to none_open;
             exchanged = h.exchanged;
             read_of = h.read_of;
@@ -167,47 +202,69 @@ module _ (names : Texts) (before : ℕ) (drained : Bool) where
             output = λ _. show (h.output refl);
           }
 
-  -- ---- what a command leaves to the run
-  leaves_given : (wanted given : Request) (line : Line) → IsGiven wanted given → Leaves given line → given ≡ wanted
-  leaves_given wanted given line (inl same) l = same
-  leaves_given wanted given line (inr (memory, lack)) l = absurd (subst (λ (r : Request). Leaves r line) memory l)
+      -- a load of a file that is not read, whose answer could not be written
+      pub unwritten_more : (gives' : List FileAnswer → Type 0) (shows' : List ℕ → Type 0) (status' : ℕ) (texts : List FileAnswer) (path : List ℕ) (fault : SourceFault) → given ≡ Ok (LoadFile path) → texts ≡ (path, Err fault) ∷ [] → (gives (texts_in h.done) → gives' (texts_in h.done ++ texts)) → status' ≡ status
+          → HasDone names before drained first gives' shows' told ticks None left' status' true false
+      unwritten_more gives' shows' status' texts path fault file asked to same =
+          let n = after in
+          record {
+            done = h.done;
+            open_asked = n.wanted ∷ [];
+            open_texts = texts;
+            each = h.each;
+            opens = inr (refl, refl, (path, fault, ap (λ (r : Request). r ∷ []) (file_given n.wanted given path n.same file), asked));
+            texts = to none_open;
+            exchanged = h.exchanged;
+            read_of = h.read_of;
+            read = λ known e. let r = n.read known e in (commands_in names r.0, r.2, (λ no. absurd (true≢false (sym no))), λ no. absurd (true≢false no));
+            status_is = same ∙ h.status_is;
+            output = λ no. absurd (true≢false no);
+          }
 
-  left_to_run : (r : Request) (line : Line) → Leaves r line → IsOpen (Some line) (r ∷ []) (texts_of r (Some line))
-  left_to_run (Ok (Step e)) line is = subst (λ (l : Line). IsOpen (Some l) (Ok (Step e) ∷ []) (texts_of (Ok (Step e)) (Some l))) (sym is) (inl (refl, refl))
-  left_to_run (Ok (LoadFile path)) line (text, is) = subst (λ (l : Line). IsOpen (Some l) (Ok (LoadFile path) ∷ []) (texts_of (Ok (LoadFile path)) (Some l))) (sym is) (inr (path, text, refl, refl, refl))
-  left_to_run (Ok TickNow) line is = subst (λ (l : Line). IsOpen (Some l) (Ok TickNow ∷ []) (texts_of (Ok TickNow) (Some l))) (sym is) (refl, refl)
-  left_to_run (Ok Drain) line is = subst (λ (l : Line). IsOpen (Some l) (Ok Drain ∷ []) (texts_of (Ok Drain) (Some l))) (sym is) (refl, refl)
-  left_to_run (Ok (ListRows listing)) line is = absurd is
-  left_to_run (Ok (Explain question)) line is = absurd is
-  left_to_run (Err fault) line is = absurd is
+  -- ---- what a command leaves to the run
+  leaves_given : (wanted given : Request) (texts : List FileAnswer) (line : Line) → IsGiven wanted given → Leaves given texts line → given ≡ wanted
+  leaves_given wanted given texts line (inl same) l = same
+  leaves_given wanted given texts line (inr (memory, lack)) l = absurd (subst (λ (r : Request). Leaves r texts line) memory l)
+
+  left_to_run : (r : Request) (texts : List FileAnswer) (line : Line) → Leaves r texts line → IsOpen (Some line) (r ∷ []) texts
+  left_to_run (Ok (Step e)) texts line (none, is) = subst (λ (l : Line). IsOpen (Some l) (Ok (Step e) ∷ []) texts) (sym is) (inl (refl, none))
+  left_to_run (Ok (LoadFile path)) texts line (text, asked, is) = subst (λ (l : Line). IsOpen (Some l) (Ok (LoadFile path) ∷ []) texts) (sym is) (inr (path, text, refl, asked, refl))
+  left_to_run (Ok TickNow) texts line (none, is) = subst (λ (l : Line). IsOpen (Some l) (Ok TickNow ∷ []) texts) (sym is) (refl, none)
+  left_to_run (Ok Drain) texts line (none, is) = subst (λ (l : Line). IsOpen (Some l) (Ok Drain ∷ []) texts) (sym is) (refl, none)
+  left_to_run (Ok (ListRows listing)) texts line is = absurd is
+  left_to_run (Ok (Explain question)) texts line is = absurd is
+  left_to_run (Err fault) texts line is = absurd is
 
   -- ---- one command more, whatever is done of it
-  module _ (first : Option (List ℕ)) (gives gives' : List FileText → Type 0) (shows shows' : List ℕ → Type 0) (told : List Exchange) (ticks : List Reading) (left left' : Option (List ℕ)) (status status' : ℕ) (ended : Bool) (h : HasDone names before drained first gives shows told ticks None left status false ended) (given : Request) (is : (known : List ℕ) → left ≡ Some known → IsNext names known (Some given) left') where
+  module _ (first : Option (List ℕ)) (gives gives' : List FileAnswer → Type 0) (shows shows' : List ℕ → Type 0) (told : List Exchange) (ticks : List Reading) (left left' : Option (List ℕ)) (status status' : ℕ) (ended : Bool) (h : HasDone names before drained first gives shows told ticks None left status false ended) (given : Request) (is : (known : List ℕ) → left ≡ Some known → IsNext names known (Some given) left') where
     -- it leaves a line to the run
-    pub line_more : (line : Line) → Leaves given line → status' ≡ status → ((xs : List FileText) → gives xs → gives' (xs ++ texts_of given (Some line))) → ((xs : List ℕ) → shows xs → shows' xs)
+    pub line_more : (texts : List FileAnswer) (line : Line) → Leaves given texts line → status' ≡ status → ((xs : List FileAnswer) → gives xs → gives' (xs ++ texts)) → ((xs : List ℕ) → shows xs → shows' xs)
         → HasDone names before drained first gives' shows' told ticks (Some line) left' status' false false
-    line_more line leaves same to show =
+    line_more texts line leaves same to show =
         let n = after first gives shows told ticks left status ended h left' given is in
-        let wanted : given ≡ n.wanted = leaves_given n.wanted given line n.same leaves in
+        let wanted : given ≡ n.wanted = leaves_given n.wanted given texts line n.same leaves in
         subst (λ (m : ℕ). HasDone names before drained first gives' shows' told ticks (Some line) left' m false false) (sym same)
-        (opened_more first gives shows told ticks left status ended h left' given is gives' shows' (Some line) (texts_of given (Some line))
-        (subst (λ (r : Request). IsOpen (Some line) (r ∷ []) (texts_of given (Some line))) wanted (left_to_run given line leaves)) (to (texts_in h.done)) (show (shown_in h.done)))
+        (opened_more first gives shows told ticks left status ended h left' given is gives' shows' (Some line) texts
+        (subst (λ (r : Request). IsOpen (Some line) (r ∷ []) texts) wanted (left_to_run given texts line leaves)) (to (texts_in h.done)) (show (shown_in h.done)))
 
     -- it is answered
-    pub none_more : (a : Schedule) (own : ℕ) (text : List ℕ) → ((xs : List FileText) → gives xs → gives' (xs ++ [])) → ((xs : List ℕ) → shows xs → shows' (xs ++ text)) → status' ≡ max status own → IsAnswered a given own text → HasDone names before drained first gives' shows' (told ++ looks 1 a) ticks None left' status' false false
-    none_more a own text to show more at =
-        let xs = texts_in h.done in
-        answered_more first gives shows told ticks left status ended h left' given is gives' shows' (looks 1 a) status' own text (λ g. subst gives' (append-nil xs) (to xs g)) (show (shown_in h.done)) more (at_once a given own text at)
+    pub none_more : (a : Schedule) (texts : List FileAnswer) (own : ℕ) (text : List ℕ) → ((xs : List FileAnswer) → gives xs → gives' (xs ++ texts)) → ((xs : List ℕ) → shows xs → shows' (xs ++ text)) → status' ≡ max status own → IsAnswered a given texts own text → HasDone names before drained first gives' shows' (told ++ looks 1 a) ticks None left' status' false false
+    none_more a texts own text to show more at =
+        answered_more first gives shows told ticks left status ended h left' given is gives' shows' texts (looks 1 a) status' own text (to (texts_in h.done)) (show (shown_in h.done)) more (at_once a given texts own text at)
 
     -- it cannot be answered
-    pub fault_more : ((xs : List FileText) → gives xs → gives' (xs ++ [])) → status' ≡ status → HasDone names before drained first gives' shows' told ticks None left' status' true false
-    fault_more to same =
+    lost_more : (texts : List FileAnswer) → (texts ≡ []) ⊎ ((path : List ℕ) × (fault : SourceFault) × (given ≡ Ok (LoadFile path)) × (texts ≡ (path, Err fault) ∷ [])) → ((xs : List FileAnswer) → gives xs → gives' (xs ++ texts)) → status' ≡ status → HasDone names before drained first gives' shows' told ticks None left' status' true false
+    lost_more texts (inl none) to same =
         let xs = texts_in h.done in
-        broken first gives shows told ticks left status ended h gives' shows' left' status' (λ g. subst gives' (append-nil xs) (to xs g)) same
+        broken first gives shows told ticks left status ended h gives' shows' left' status' (λ g. subst gives' (ap (λ l. xs ++ l) none ∙ append-nil xs) (to xs g)) same
+    lost_more texts (inr (path, fault, file, asked)) to same = unwritten_more first gives shows told ticks left status ended h left' given is gives' shows' status' texts path fault file asked (to (texts_in h.done)) same
+
+    pub fault_more : (texts : List FileAnswer) → IsLost given texts → ((xs : List FileAnswer) → gives xs → gives' (xs ++ texts)) → status' ≡ status → HasDone names before drained first gives' shows' told ticks None left' status' true false
+    fault_more texts lost to same = lost_more texts (lost_file given texts lost) to same
 
   -- ---- the line that waits is answered
   -- the command that waited, and what may be done of it so
-  pub record IsClosed (asked : List Request) (texts : List FileText) (moments : List Reading) (told : List Exchange) (status : ℕ) (shown : List ℕ) : Type 0 where
+  pub record IsClosed (asked : List Request) (texts : List FileAnswer) (moments : List Reading) (told : List Exchange) (status : ℕ) (shown : List ℕ) : Type 0 where
     pub one : Request
     pub is : asked ≡ one ∷ []
     pub done : MayBeDone one texts moments told status shown
@@ -215,7 +272,7 @@ module _ (names : Texts) (before : ℕ) (drained : Bool) where
   perhaps : (e : Event) (q : Result Answer Fault) → IsPerhaps e (inr (e, q) ∷ []) (status_of q) (shown_for e q)
   perhaps e q = (q, refl, refl, refl)
 
-  pub closed : (line : Line) (asked : List Request) (texts : List FileText) (e : Event) (q : Result Answer Fault) → IsOpen (Some line) asked texts → Takes line e → IsClosed asked texts (ticked line e) (inr (e, q) ∷ []) (status_of q) (shown_for e q)
+  pub closed : (line : Line) (asked : List Request) (texts : List FileAnswer) (e : Event) (q : Result Answer Fault) → IsOpen (Some line) asked texts → Takes line e → IsClosed asked texts (ticked line e) (inr (e, q) ∷ []) (status_of q) (shown_for e q)
   closed (Says.Event x) asked texts e q (inl (one, none)) same = record {
     one = Ok (Step x);
     is = one;
@@ -233,13 +290,16 @@ module _ (names : Texts) (before : ℕ) (drained : Bool) where
   }
   closed Says.Drain asked texts e q waits takes = absurd takes
 
-  pub closed_untold : (asked : List Request) (texts : List FileText) (fault : ClockFault) → IsOpen (Some Says.TickNow) asked texts → IsClosed asked texts (Err fault ∷ []) [] 4 (clock_text fault)
+  pub closed_untold : (asked : List Request) (texts : List FileAnswer) (fault : ClockFault) → IsOpen (Some Says.TickNow) asked texts → IsClosed asked texts (Err fault ∷ []) [] 4 (clock_text fault)
   closed_untold asked texts fault (one, none) = record { one = Ok TickNow; is = one; done = (none, inl (fault, refl, refl, refl, refl)) }
 
-  pub closed_drain : (asked : List Request) (texts : List FileText) (a : Schedule) → in_flight a ≡ 0 → IsOpen (Some Says.Drain) asked texts → IsClosed asked texts [] (looks 1 a) 0 (shown_text ShowsDone)
+  pub closed_drain : (asked : List Request) (texts : List FileAnswer) (a : Schedule) → in_flight a ≡ 0 → IsOpen (Some Says.Drain) asked texts → IsClosed asked texts [] (looks 1 a) 0 (shown_text ShowsDone)
   closed_drain asked texts a idle (one, none) = record { one = Ok Drain; is = one; done = (none, refl, ((a, refl, idle), refl, refl)) }
 
-  module _ (first : Option (List ℕ)) (gives : List FileText → Type 0) (shows shows' : List ℕ → Type 0) (told : List Exchange) (ticks : List Reading) (line : Line) (left : Option (List ℕ)) (status : ℕ) (ended : Bool) (h : HasDone names before drained first gives shows told ticks (Some line) left status false ended) where
+  module _ (first : Option (List ℕ)) (gives : List FileAnswer → Type 0) (shows shows' : List ℕ → Type 0) (told : List Exchange) (ticks : List Reading) (line : Line) (left : Option (List ℕ)) (status : ℕ) (ended : Bool) (h : HasDone names before drained first gives shows told ticks (Some line) left status false ended) where
+    pub waits_open : IsOpen (Some line) h.open_asked h.open_texts
+    waits_open = kept_open (false && not ended) (Some line) h.open_asked h.open_texts refl h.opens
+
     closed_more : (added : List Exchange) (moments : List Reading) (own status' : ℕ) (text : List ℕ) (broken : Bool) → IsClosed h.open_asked h.open_texts moments added own text
         → status' ≡ max status own → (broken ≡ false → (xs : List ℕ) → shows xs → shows' (xs ++ text))
         → HasDone names before drained first gives shows' (told ++ added) (ticks ++ moments) None left status' broken ended
@@ -250,7 +310,7 @@ module _ (names : Texts) (before : ℕ) (drained : Bool) where
           open_asked = [];
           open_texts = [];
           each = All-push IsDone h.done d h.each c.done;
-          opens = (refl, refl);
+          opens = inl (refl, refl);
           texts = subst gives (sym (append-nil (texts_in (h.done ++ d ∷ [])) ∙ one_more (λ (x : Done). x.texts) h.done d)) h.texts;
           exchanged = ap (λ l. l ++ added) h.exchanged ∙ sym (one_more (λ (x : Done). x.exchanges) h.done d);
           read_of = ap (λ l. l ++ moments) h.read_of ∙ sym (one_more (λ (x : Done). x.readings) h.done d);
@@ -263,25 +323,25 @@ module _ (names : Texts) (before : ℕ) (drained : Bool) where
 
     pub told_more : (e : Event) (q : Result Answer Fault) (status' : ℕ) (broken : Bool) → Takes line e → status' ≡ max status (status_of q) → (broken ≡ false → (xs : List ℕ) → shows xs → shows' (xs ++ shown_for e q))
         → HasDone names before drained first gives shows' (told ++ inr (e, q) ∷ []) (ticks ++ ticked line e) None left status' broken ended
-    told_more e q status' broken takes is show = closed_more (inr (e, q) ∷ []) (ticked line e) (status_of q) status' (shown_for e q) broken (closed line h.open_asked h.open_texts e q h.opens takes) is show
+    told_more e q status' broken takes is show = closed_more (inr (e, q) ∷ []) (ticked line e) (status_of q) status' (shown_for e q) broken (closed line h.open_asked h.open_texts e q waits_open takes) is show
 
   -- the clock gave no moment
-  pub untold_more : (first : Option (List ℕ)) (gives : List FileText → Type 0) (shows shows' : List ℕ → Type 0) (told : List Exchange) (ticks : List Reading) (left : Option (List ℕ)) (status status' : ℕ) (fault : ClockFault) (broken ended : Bool)
+  pub untold_more : (first : Option (List ℕ)) (gives : List FileAnswer → Type 0) (shows shows' : List ℕ → Type 0) (told : List Exchange) (ticks : List Reading) (left : Option (List ℕ)) (status status' : ℕ) (fault : ClockFault) (broken ended : Bool)
       → HasDone names before drained first gives shows told ticks (Some Says.TickNow) left status false ended → status' ≡ max status 4 → (broken ≡ false → (xs : List ℕ) → shows xs → shows' (xs ++ clock_text fault))
       → HasDone names before drained first gives shows' told (ticks ++ Err fault ∷ []) None left status' broken ended
   untold_more first gives shows shows' told ticks left status status' fault broken ended h more show =
       subst (λ (t : List Exchange). HasDone names before drained first gives shows' t (ticks ++ Err fault ∷ []) None left status' broken ended) (append-nil told)
-      (closed_more first gives shows shows' told ticks Says.TickNow left status ended h [] (Err fault ∷ []) 4 status' (clock_text fault) broken (closed_untold h.open_asked h.open_texts fault h.opens) more show)
+      (closed_more first gives shows shows' told ticks Says.TickNow left status ended h [] (Err fault ∷ []) 4 status' (clock_text fault) broken (closed_untold h.open_asked h.open_texts fault (waits_open first gives shows shows' told ticks Says.TickNow left status ended h)) more show)
 
   -- it is not said to have ended where it was not said before, and what was shown was written
-  pub ended_less : (first : Option (List ℕ)) (gives : List FileText → Type 0) (shows shows' : List ℕ → Type 0) (told : List Exchange) (ticks : List Reading) (waits : Option Line) (left : Option (List ℕ)) (status : ℕ) (is_broken ended ended' : Bool) → (ended' ≡ true → ended ≡ true) → (is_broken ≡ false → (xs : List ℕ) → shows xs → shows' xs)
+  pub ended_less : (first : Option (List ℕ)) (gives : List FileAnswer → Type 0) (shows shows' : List ℕ → Type 0) (told : List Exchange) (ticks : List Reading) (waits : Option Line) (left : Option (List ℕ)) (status : ℕ) (is_broken ended ended' : Bool) → (ended' ≡ true → ended ≡ true) → (is_broken ≡ false → (xs : List ℕ) → shows xs → shows' xs)
       → HasDone names before drained first gives shows told ticks waits left status is_broken ended → HasDone names before drained first gives shows' told ticks waits left status is_broken ended'
   ended_less first gives shows shows' told ticks waits left status is_broken ended ended' less show h = record {
     done = h.done;
     open_asked = h.open_asked;
     open_texts = h.open_texts;
     each = h.each;
-    opens = h.opens;
+    opens = undone_less is_broken ended ended' waits h.open_asked h.open_texts less h.opens;
     texts = h.texts;
     exchanged = h.exchanged;
     read_of = h.read_of;
@@ -291,12 +351,12 @@ module _ (names : Texts) (before : ℕ) (drained : Bool) where
   }
 
   -- the output was flushed
-  pub flushed : (first from was now : Option (List ℕ)) (gives : List FileText → Type 0) (told : List Exchange) (ticks : List Reading) (left : Option (List ℕ)) (status : ℕ) (ended : Bool) → Keeps was now
+  pub flushed : (first from was now : Option (List ℕ)) (gives : List FileAnswer → Type 0) (told : List Exchange) (ticks : List Reading) (left : Option (List ℕ)) (status : ℕ) (ended : Bool) → Keeps was now
       → HasDone names before drained first gives (Appends from was) told ticks None left status false ended → HasDone names before drained first gives (Appends from now) told ticks None left status false ended
   flushed first from was now gives told ticks left status ended keeps h = ended_less first gives (Appends from was) (Appends from now) told ticks None left status false ended ended (λ so. so) (λ fine xs w. appends_keep from was now xs w keeps) h
 
   -- a drain that waits, if one does, is answered of a schedule in which no try is in flight
-  pub drain_answered : (first from was now : Option (List ℕ)) (gives : List FileText → Type 0) (told : List Exchange) (ticks : List Reading) (left : Option (List ℕ)) (status : ℕ) (drains ended : Bool) (a : Schedule) → (drains ≡ true → in_flight a ≡ 0) → AnswersDrain drains was now
+  pub drain_answered : (first from was now : Option (List ℕ)) (gives : List FileAnswer → Type 0) (told : List Exchange) (ticks : List Reading) (left : Option (List ℕ)) (status : ℕ) (drains ended : Bool) (a : Schedule) → (drains ≡ true → in_flight a ≡ 0) → AnswersDrain drains was now
       → HasDone names before drained first gives (Appends from was) told ticks (waiting None drains) left status false ended
       → (times : ℕ) × HasDone names before drained first gives (Appends from now) (told ++ looks times a) ticks None left status false false
   drain_answered first from was now gives told ticks left status false ended a idle same h = (
@@ -308,12 +368,12 @@ module _ (names : Texts) (before : ℕ) (drained : Bool) where
     1,
     subst (λ (r : List Reading). HasDone names before drained first gives (Appends from now) (told ++ looks 1 a) r None left status false false) (append-nil ticks)
         (ended_less first gives (Appends from now) (Appends from now) (told ++ looks 1 a) (ticks ++ []) None left status false ended false (λ no. absurd (true≢false (sym no))) (λ fine xs w. w)
-        (closed_more first gives (Appends from was) (Appends from now) told ticks Says.Drain left status ended h (looks 1 a) [] 0 status (shown_text ShowsDone) false (closed_drain h.open_asked h.open_texts a (idle refl) h.opens) (omega arith)
+        (closed_more first gives (Appends from was) (Appends from now) told ticks Says.Drain left status ended h (looks 1 a) [] 0 status (shown_text ShowsDone) false (closed_drain h.open_asked h.open_texts a (idle refl) (waits_open first gives (Appends from was) (Appends from now) told ticks Says.Drain left status ended h)) (omega arith)
         (λ fine xs w. appends_then from was now xs (shown_text ShowsDone) w more))),
   )
 
   -- the answer of a drain that waits, if one does, could not be written
-  drain_unwritten : (first : Option (List ℕ)) (gives : List FileText → Type 0) (shows shows' : List ℕ → Type 0) (told : List Exchange) (ticks : List Reading) (left left' : Option (List ℕ)) (status : ℕ) (drains ended : Bool)
+  drain_unwritten : (first : Option (List ℕ)) (gives : List FileAnswer → Type 0) (shows shows' : List ℕ → Type 0) (told : List Exchange) (ticks : List Reading) (left left' : Option (List ℕ)) (status : ℕ) (drains ended : Bool)
       → HasDone names before drained first gives shows told ticks (waiting None drains) left status false ended
       → HasDone names before drained first gives shows' told ticks None left' status true false
   drain_unwritten first gives shows shows' told ticks left left' status false ended h = broken first gives shows told ticks left status ended h gives shows' left' status (λ g. g) refl
@@ -322,8 +382,8 @@ module _ (names : Texts) (before : ℕ) (drained : Bool) where
     open_asked = [];
     open_texts = [];
     each = h.each;
-    opens = (refl, refl);
-    texts = subst gives (ap (λ l. texts_in h.done ++ l) h.opens.1) h.texts;
+    opens = inl (refl, refl);
+    texts = subst gives (ap (λ l. texts_in h.done ++ l) (waits_open first gives shows shows' told ticks Says.Drain left status ended h).1) h.texts;
     exchanged = h.exchanged;
     read_of = h.read_of;
     read = λ known e. let r = h.read known e in (h.open_asked ++ r.0, r.1, (λ no. absurd (true≢false (sym no))), λ no. absurd (true≢false no));
@@ -332,56 +392,44 @@ module _ (names : Texts) (before : ℕ) (drained : Bool) where
   }
 
   -- ---- the same of what was read
-  at_err : {E : Type 0} (Q : E → Type 0) (r : Result (Option Line) E) → IsErrAnd r Q → (first : Option (List ℕ)) (gives : List FileText → Type 0) (shows : List ℕ → Type 0) (told : List Exchange) (ticks : List Reading) (left : Option (List ℕ)) (status : ℕ)
+  at_err : {E : Type 0} (Q : E → Type 0) (r : Result (Option Line) E) → IsErrAnd r Q → (first : Option (List ℕ)) (gives : List FileAnswer → Type 0) (shows : List ℕ → Type 0) (told : List Exchange) (ticks : List Reading) (left : Option (List ℕ)) (status : ℕ)
       → HasDone names before drained first gives shows told ticks None left status true false → HasDone names before drained first gives shows told ticks (line_of r) left status (is_err r) (is_end r)
   at_err Q (Ok x) is first gives shows told ticks left status h = absurd is
   at_err Q (Err e) is first gives shows told ticks left status h = h
 
   -- the script could not be read or answered further
-  pub broken_off : {E : Type 0} (Q : E → Type 0) (r : Result (Option Line) E) → IsErrAnd r Q → (first : Option (List ℕ)) (gives : List FileText → Type 0) (shows shows' : List ℕ → Type 0) (told : List Exchange) (ticks : List Reading) (left left' : Option (List ℕ)) (status : ℕ) (ended : Bool)
+  pub broken_off : {E : Type 0} (Q : E → Type 0) (r : Result (Option Line) E) → IsErrAnd r Q → (first : Option (List ℕ)) (gives : List FileAnswer → Type 0) (shows shows' : List ℕ → Type 0) (told : List Exchange) (ticks : List Reading) (left left' : Option (List ℕ)) (status : ℕ) (ended : Bool)
       → HasDone names before drained first gives shows told ticks None left status false ended → HasDone names before drained first gives shows' told ticks (line_of r) left' status (is_err r) (is_end r)
   broken_off Q r is first gives shows shows' told ticks left left' status ended h = at_err Q r is first gives shows' told ticks left' status (broken first gives shows told ticks left status ended h gives shows' left' status (λ g. g) refl)
 
-  pub drain_broken : {E : Type 0} (Q : E → Type 0) (r : Result (Option Line) E) → IsErrAnd r Q → (first : Option (List ℕ)) (gives : List FileText → Type 0) (shows shows' : List ℕ → Type 0) (told : List Exchange) (ticks : List Reading) (left left' : Option (List ℕ)) (status : ℕ) (drains ended : Bool) (a : Schedule)
+  pub drain_broken : {E : Type 0} (Q : E → Type 0) (r : Result (Option Line) E) → IsErrAnd r Q → (first : Option (List ℕ)) (gives : List FileAnswer → Type 0) (shows shows' : List ℕ → Type 0) (told : List Exchange) (ticks : List Reading) (left left' : Option (List ℕ)) (status : ℕ) (drains ended : Bool) (a : Schedule)
       → HasDone names before drained first gives shows told ticks (waiting None drains) left status false ended → HasDone names before drained first gives shows' (told ++ looks 0 a) ticks (line_of r) left' status (is_err r) (is_end r)
   drain_broken Q r is first gives shows shows' told ticks left left' status drains ended a h =
       subst (λ (t : List Exchange). HasDone names before drained first gives shows' t ticks (line_of r) left' status (is_err r) (is_end r)) (sym (append-nil told))
       (at_err Q r is first gives shows' told ticks left' status (drain_unwritten first gives shows shows' told ticks left left' status drains ended h))
 
-  no_texts : (r : Request) → texts_of r None ≡ []
-  no_texts (Ok (Step e)) = refl
-  no_texts (Ok (LoadFile path)) = refl
-  no_texts (Ok TickNow) = refl
-  no_texts (Ok Drain) = refl
-  no_texts (Ok (ListRows listing)) = refl
-  no_texts (Ok (Explain question)) = refl
-  no_texts (Err fault) = refl
-
-  module _ {E : Type 0} (from was now : Option (List ℕ)) (first : Option (List ℕ)) (gives gives' : List FileText → Type 0) (told : List Exchange) (ticks : List Reading) (left left' : Option (List ℕ)) (status status' : ℕ) (ended : Bool)
+  module _ {E : Type 0} (from was now : Option (List ℕ)) (first : Option (List ℕ)) (gives gives' : List FileAnswer → Type 0) (told : List Exchange) (ticks : List Reading) (left left' : Option (List ℕ)) (status status' : ℕ) (ended : Bool)
       (h : HasDone names before drained first gives (Appends from was) told ticks None left status false ended)
-      (given : Request) (is : (known : List ℕ) → left ≡ Some known → IsNext names known (Some given) left') (a : Schedule) (d : Result (Option Line) E) (to : (xs : List FileText) → gives xs → gives' (xs ++ texts_of given (line_of d))) (does : Does a given d status status' was now) where
+      (given : Request) (is : (known : List ℕ) → left ≡ Some known → IsNext names known (Some given) left') (a : Schedule) (d : Result (Option Line) E) (texts : List FileAnswer) (to : (xs : List FileAnswer) → gives xs → gives' (xs ++ texts)) (does : Does a given texts d status status' was now) where
     -- a command could not be answered
     pub unanswered : {A : Type 0} (Q : A → Type 0) (r : Result (Option Line) A) → IsErrAnd r Q → (e : E) → d ≡ Err e → HasDone names before drained first gives' (Appends from now) told ticks (line_of r) left' status' (is_err r) (is_end r)
     unanswered Q r err e by =
+        let l : IsLost given texts × (status' ≡ status) = subst (λ (x : Result (Option Line) E). Does a given texts x status status' was now) by does in
         at_err Q r err first gives' (Appends from now) told ticks left' status'
-        (fault_more first gives gives' (Appends from was) (Appends from now) told ticks left left' status status' ended h given is
-        (λ xs g. subst (λ l. gives' (xs ++ l)) (no_texts given) (subst (λ (x : Result (Option Line) E). gives' (xs ++ texts_of given (line_of x))) by (to xs g)))
-        (subst (λ (x : Result (Option Line) E). Does a given x status status' was now) by does))
+        (fault_more first gives gives' (Appends from was) (Appends from now) told ticks left left' status status' ended h given is texts l.0 to l.1)
 
     -- it left a line to the run
     pub left_line : (line : Line) → d ≡ Ok (Some line) → HasDone names before drained first gives' (Appends from now) told ticks (Some line) left' status' false false
     left_line line by =
-        let l : Leaves given line × (status' ≡ status) × (now ≡ was) = subst (λ (x : Result (Option Line) E). Does a given x status status' was now) by does in
-        line_more first gives gives' (Appends from was) (Appends from now) told ticks left left' status status' ended h given is line l.0 l.1
-        (λ xs g. subst (λ (x : Result (Option Line) E). gives' (xs ++ texts_of given (line_of x))) by (to xs g))
+        let l : Leaves given texts line × (status' ≡ status) × (now ≡ was) = subst (λ (x : Result (Option Line) E). Does a given texts x status status' was now) by does in
+        line_more first gives gives' (Appends from was) (Appends from now) told ticks left left' status status' ended h given is texts line l.0 l.1 to
         (λ xs w. subst (λ n. Appends from n xs) (sym l.2) w)
 
     -- it was answered
     pub left_none : d ≡ Ok None → HasDone names before drained first gives' (Appends from now) (told ++ looks 1 a) ticks None left' status' false false
     left_none by =
-        let l : (own : ℕ) × (shown : List ℕ) × (status' ≡ max status own) × Appends was now shown × IsAnswered a given own shown = subst (λ (x : Result (Option Line) E). Does a given x status status' was now) by does in
-        none_more first gives gives' (Appends from was) (Appends from now) told ticks left left' status status' ended h given is a l.0 l.1
-        (λ xs g. subst (λ l. gives' (xs ++ l)) (no_texts given) (subst (λ (x : Result (Option Line) E). gives' (xs ++ texts_of given (line_of x))) by (to xs g)))
+        let l : (own : ℕ) × (shown : List ℕ) × (status' ≡ max status own) × Appends was now shown × IsAnswered a given texts own shown = subst (λ (x : Result (Option Line) E). Does a given texts x status status' was now) by does in
+        none_more first gives gives' (Appends from was) (Appends from now) told ticks left left' status status' ended h given is a texts l.0 l.1 to
         (λ xs w. appends_then from was now xs l.1 w l.3) l.2 l.4
 
 -- words that are read in the same way ask for the same

@@ -15,7 +15,7 @@ use Rattle.sessions.specs.declared.line_reading.Line.TheVariants as Says
 use Rattle.sessions.specs.declared.line_reading.LineFault.{LineFault}
 use Rattle.answer_lines.specs.RunFaults.{clock_text}
 use Rattle.script_reader.specs.Commands.{is_end, line_of}
-use Rattle.script_reader.specs.Done.{FileText, HasDone, waiting}
+use Rattle.script_reader.specs.Done.{FileAnswer, HasDone, waiting}
 use Rattle.script_reader.specs.Readers.{IsQuiet, Tells}
 use Rattle.script_reader.specs.Statuses.{shown_for, status_of}
 use Rattle.script_reader.specs.declared.reader.ScriptReader.{ScriptReader}
@@ -27,7 +27,7 @@ first_of true c e = refl
 first_of false c e = e
 
 -- ---- the same of readers
-module _ {R W F P : Type 0} (remaining : R → Option (List ℕ)) (contents : W → Option (List ℕ)) (gives : F → List FileText → F → Type 0) (s old new : ScriptReader R W F P) where
+module _ {R W F P : Type 0} (remaining : R → Option (List ℕ)) (contents : W → Option (List ℕ)) (gives : F → List FileAnswer → F → Type 0) (s old new : ScriptReader R W F P) where
   -- the parts of a reader that stay when a line is answered
   pub record Stays : Type 0 where
     pub words : new.words.names ≡ old.words.names
@@ -39,7 +39,7 @@ module _ {R W F P : Type 0} (remaining : R → Option (List ℕ)) (contents : W 
   abbrev written : W → List ℕ → Type 0
   written output = Appends (contents s.output) (contents output)
 
-  abbrev given : F → List FileText → Type 0
+  abbrev given : F → List FileAnswer → Type 0
   given sources texts = gives s.sources texts sources
 
   -- what was done is said of the reader once it is answered
@@ -96,7 +96,7 @@ waiting_read (Ok (Some Says.Drain)) drains d = ap (waiting None) d
 waiting_read (Ok None) drains d = ap (waiting None) d
 waiting_read (Err e) drains d = ap (waiting None) d
 
-module _ {R W F P : Type 0} (remaining : R → Option (List ℕ)) (contents : W → Option (List ℕ)) (gives : F → List FileText → F → Type 0) (s old : ScriptReader R W F P) where
+module _ {R W F P : Type 0} (remaining : R → Option (List ℕ)) (contents : W → Option (List ℕ)) (gives : F → List FileAnswer → F → Type 0) (s old : ScriptReader R W F P) where
   -- what a read does, where words are read in the same way, and this schedule is looked at
   abbrev pub Reads : {E : Type 0} → R → W → F → ℕ → Schedule → List Exchange → List Reading → Result (Option Line) E → Type 0
   Reads input output sources status seen told ticks next =
@@ -111,7 +111,7 @@ module _ {R W F P : Type 0} (remaining : R → Option (List ℕ)) (contents : W 
       → (times : ℕ) × HasDone s.words.names s.status s.has_drained (remaining s.input) (λ given. gives s.sources given sources) (Appends (contents s.output) (contents output)) (told ++ looks times seen) ticks (waiting (opened_by next) drains) (remaining input) status (is_some failed) (over && not s.is_over)
       × IsQuiet (opened_by next) (over && not s.is_over) drains
   read_tells input output sources status failed over drains seen told ticks next read none broken ended flag h =
-      let files : List FileText → Type 0 = λ given. gives s.sources given sources in
+      let files : List FileAnswer → Type 0 = λ given. gives s.sources given sources in
       let shows : List ℕ → Type 0 = Appends (contents s.output) (contents output) in
       let was : HasDone s.words.names s.status s.has_drained (remaining s.input) (λ given. gives s.sources given old.sources) (Appends (contents s.output) (contents old.output)) told ticks (waiting None old.has_drained) (remaining old.input) old.status false (old.is_over && not s.is_over) =
       subst (λ (o : Option LineFault). HasDone s.words.names s.status s.has_drained (remaining s.input) (λ given. gives s.sources given old.sources) (Appends (contents s.output) (contents old.output)) told ticks (waiting None old.has_drained) (remaining old.input) old.status (is_some o) (old.is_over && not s.is_over)) none h.1 in

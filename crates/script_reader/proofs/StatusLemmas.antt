@@ -1,5 +1,5 @@
 -- The statuses of what was done.
-use Rattle.std.proofs.Common.{◌≡◌, ◌==◌, ◌<◌, inl, inr, ℕ, max, All, true, List, [], ◌∷◌, ◌++◌, length, Ok, Err, refl, sym, ap, subst, arith}
+use Rattle.std.proofs.Common.{◌≡◌, ◌≢◌, ◌==◌, ◌<◌, inl, inr, ℕ, max, All, true, List, [], ◌∷◌, ◌++◌, length, Result, Ok, Err, OnOk, refl, sym, ap, subst, arith}
 use Rattle.std.proofs.lemmas.List.Elements.{All-cons, All-head, All-nil, All-tail}
 use Rattle.sched_model.specs.Schedule.{Schedule}
 use Rattle.sched_events.specs.declared.events.Event.{Event}
@@ -18,8 +18,11 @@ use Rattle.script_commands.specs.declared.commands.ScriptCommand.TheVariants.{St
 use Rattle.sessions.specs.Exchanges.{looks, told_in, Exchange}
 use Rattle.sessions.specs.Readings.{Reading}
 use Rattle.answer_lines.specs.CommandFaults.{source_text}
+use Rattle.sessions.specs.declared.faults.ConductFault.{ConductFault}
+use Rattle.sessions.specs.declared.faults.ConductFault.TheVariants as ends
+use Rattle.script_reader.specs.Ends.{status_at}
 use Rattle.script_reader.specs.Statuses.{command_status, failure_status, refusal_status, usage_status}
-use Rattle.script_reader.specs.Done.{FileText, Done, IsAnswered, IsDone, IsPerhaps, MayBeDone, greatest_status, is_whole}
+use Rattle.script_reader.specs.Done.{FileAnswer, Done, IsAnswered, IsDone, IsPerhaps, MayBeDone, greatest_status, is_whole}
 
 -- ---- statuses
 refuses : (r : Refusal) → 0 < refusal_status r
@@ -39,12 +42,22 @@ is_no_command : (f : CommandFault) → 0 < command_status f
 is_no_command (Usage f) = is_used f
 is_no_command (Source f) = omega arith
 
+-- the line of a fault was written, where the status is not that of a lost output
+pub told_unless_lost : {E T : Type 0} (status : ℕ) (f : ConductFault) (written : Result T E) (now : ℕ) (P : Type 0) → now ≡ status_at status f written → OnOk written P → now ≢ 4 → P
+told_unless_lost status f (Ok v) now P is told other = told
+told_unless_lost status (ends.StoreThrice error) (Err e) now P is told other = absurd (other is)
+told_unless_lost status ends.NoWorker (Err e) now P is told other = absurd (other is)
+told_unless_lost status ends.SpawnRefused (Err e) now P is told other = absurd (other is)
+told_unless_lost status ends.ReadFault (Err e) now P is told other = absurd (other is)
+told_unless_lost status ends.Memory (Err e) now P is told other = absurd (other is)
+told_unless_lost status ends.Unequal (Err e) now P is told other = absurd (other is)
+
 -- ---- what was done with the status 0 is whole
 accepted : (e : Event) (exchanges : List Exchange) (status : ℕ) (shown : List ℕ) → IsPerhaps e exchanges status shown → status ≡ 0 → (length (told_in exchanges) == 1) ≡ true
 accepted e exchanges status shown (Ok answer, is, zero, text) z = ap (λ (xs : List Exchange). length (told_in xs) == 1) is
 accepted e exchanges status shown (Err fault, is, own, text) z = let some : 0 < failure_status fault = fails fault in absurd (omega arith)
 
-done_whole : (r : Request) (texts : List FileText) (readings : List Reading) (exchanges : List Exchange) (status : ℕ) (shown : List ℕ) → MayBeDone r texts readings exchanges status shown → status ≡ 0 → is_whole r exchanges ≡ true
+done_whole : (r : Request) (texts : List FileAnswer) (readings : List Reading) (exchanges : List Exchange) (status : ℕ) (shown : List ℕ) → MayBeDone r texts readings exchanges status shown → status ≡ 0 → is_whole r exchanges ≡ true
 done_whole (Ok (Step e)) texts readings exchanges status shown (none, untold, inl may) z = accepted e exchanges status shown may z
 done_whole (Ok (Step e)) texts readings exchanges status shown (none, untold, inr (text, loads, seen, four, said)) z = absurd (omega arith)
 done_whole (Ok (LoadFile path)) texts readings exchanges status shown (untold, inl (fault, none, nothing, four, text)) z = absurd (omega arith)
@@ -54,7 +67,7 @@ done_whole (Ok TickNow) texts readings exchanges status shown (none, inr (moment
 done_whole (Ok Drain) texts readings exchanges status shown may z = refl
 done_whole (Ok (ListRows listing)) texts readings exchanges status shown may z = refl
 done_whole (Ok (Explain question)) texts readings exchanges status shown may z = refl
-done_whole (Err fault) texts readings exchanges status shown (none, untold, (a, seen, at)) z = let some : 0 < command_status fault = is_no_command fault in let own : status ≡ command_status fault = at.0 in absurd (omega (arith, some, own, z))
+done_whole (Err fault) texts readings exchanges status shown (untold, (a, seen, at)) z = let some : 0 < command_status fault = is_no_command fault in let own : status ≡ command_status fault = at.1 in absurd (omega (arith, some, own, z))
 
 pub all_whole : (ds : List Done) → All IsDone ds → greatest_status ds ≡ 0 → All (λ d. is_whole d.asked d.exchanges ≡ true) ds
 unfolding greatest_status
@@ -65,25 +78,25 @@ all_whole (d ∷ ds) each z =
     (all_whole ds (All-tail IsDone d ds each) (omega (arith, is, z)))
 
 -- ---- a command that is answered when it is read is done so
-pub at_once : (a : Schedule) (r : Request) (status : ℕ) (shown : List ℕ) → IsAnswered a r status shown → MayBeDone r [] [] (looks 1 a) status shown
-at_once a (Ok (Step e)) status shown is = absurd is
-at_once a (Ok (LoadFile path)) status shown (fault, four, text) = (refl, inl (fault, refl, (a, refl), four, text))
-at_once a (Ok TickNow) status shown is = absurd is
-at_once a (Ok Drain) status shown is = absurd is
-at_once a (Ok (ListRows listing)) status shown is = (refl, refl, (a, refl, is))
-at_once a (Ok (Explain question)) status shown is = (refl, refl, (a, refl, is))
-at_once a (Err fault) status shown is = (refl, refl, (a, refl, is))
+pub at_once : (a : Schedule) (r : Request) (texts : List FileAnswer) (status : ℕ) (shown : List ℕ) → IsAnswered a r texts status shown → MayBeDone r texts [] (looks 1 a) status shown
+at_once a (Ok (Step e)) texts status shown is = absurd is
+at_once a (Ok (LoadFile path)) texts status shown (fault, asked, four, text) = (refl, inl (fault, asked, (a, refl), four, text))
+at_once a (Ok TickNow) texts status shown is = absurd is
+at_once a (Ok Drain) texts status shown is = absurd is
+at_once a (Ok (ListRows listing)) texts status shown is = (refl, (a, refl, is))
+at_once a (Ok (Explain question)) texts status shown is = (refl, (a, refl, is))
+at_once a (Err fault) texts status shown is = (refl, (a, refl, is))
 
 -- a text that could not be had, for want of memory
-unhad : (exchanges : List Exchange) (status : ℕ) (shown : List ℕ) → MayBeDone (Err (Source source.Memory)) [] [] exchanges status shown → ((a : Schedule) × (exchanges ≡ looks 1 a)) × (status ≡ 4) × (shown ≡ source_text source.Memory)
-unhad exchanges status shown (none, unmoved, (a, seen, at)) = ((a, seen), at.0, at.1)
+unhad : (texts : List FileAnswer) (exchanges : List Exchange) (status : ℕ) (shown : List ℕ) → MayBeDone (Err (Source source.Memory)) texts [] exchanges status shown → (texts ≡ []) × ((a : Schedule) × (exchanges ≡ looks 1 a)) × (status ≡ 4) × (shown ≡ source_text source.Memory)
+unhad texts exchanges status shown (unmoved, (a, seen, at)) = (at.0, (a, seen), at.1, at.2)
 
 -- what is done as it was given is done as it is wanted
-pub given_done : (wanted given : Request) (exchanges : List Exchange) (status : ℕ) (shown : List ℕ) → IsGiven wanted given → MayBeDone given [] [] exchanges status shown → MayBeDone wanted [] [] exchanges status shown
-given_done wanted given exchanges status shown (inl same) may = subst (λ (r : Request). MayBeDone r [] [] exchanges status shown) same may
-given_done wanted given exchanges status shown (inr (memory, (text, loads))) may =
-    let lack = unhad exchanges status shown (subst (λ (r : Request). MayBeDone r [] [] exchanges status shown) memory may) in
-    subst (λ (r : Request). MayBeDone r [] [] exchanges status shown) (sym loads) (refl, refl, inr (text, refl, lack.0, lack.1, lack.2))
+pub given_done : (wanted given : Request) (texts : List FileAnswer) (exchanges : List Exchange) (status : ℕ) (shown : List ℕ) → IsGiven wanted given → MayBeDone given texts [] exchanges status shown → MayBeDone wanted texts [] exchanges status shown
+given_done wanted given texts exchanges status shown (inl same) may = subst (λ (r : Request). MayBeDone r texts [] exchanges status shown) same may
+given_done wanted given texts exchanges status shown (inr (memory, (text, loads))) may =
+    let lack = unhad texts exchanges status shown (subst (λ (r : Request). MayBeDone r texts [] exchanges status shown) memory may) in
+    subst (λ (r : Request). MayBeDone r texts [] exchanges status shown) (sym loads) (lack.0, refl, inr (text, refl, lack.1, lack.2, lack.3))
 
 -- ---- the greatest status of one command more
 grown : (ds : List Done) (d : Done) → greatest_status (ds ++ d ∷ []) ≡ max (greatest_status ds) d.status

@@ -1,38 +1,43 @@
 -- What is done of one command when it is read.
-use Rattle.std.specs.Prelude.{◌≡◌, ℕ, max, Bool, true, false, List, [], ◌∷◌, Option, Some, None, Result, Ok, Err}
+use Rattle.std.specs.Prelude.{◌≡◌, ℕ, max, Bool, true, false, List, [], ◌∷◌, ◌++◌, Option, Some, None, Result, Ok, Err}
 use Rattle.std.specs.Io.KnownBytes.{Appends}
 use Rattle.sched_model.specs.Schedule.{Schedule}
 use Rattle.sched_events.specs.declared.events.Event.TheVariants.{Load}
 use Rattle.script_commands.specs.Commands.{Request}
 use Rattle.script_commands.specs.declared.commands.ScriptCommand.TheVariants.{Step, LoadFile, TickNow, Drain}
-use Rattle.script_reader.specs.Done.{FileText, IsAnswered}
+use Rattle.script_commands.specs.declared.commands.SourceFault.{SourceFault}
+use Rattle.script_reader.specs.Done.{FileAnswer, IsAnswered}
 use Rattle.sessions.specs.declared.line_reading.Line.{Line}
 use Rattle.sessions.specs.declared.line_reading.Line.TheVariants as Says
 
--- the line that a command leaves to the run
-abbrev pub Leaves : Request → Line → Type 0
-Leaves (Ok (Step e)) line = line ≡ Says.Event e
-Leaves (Ok (LoadFile path)) line = (text : List ℕ) × (line ≡ Says.Event (Load text))
-Leaves (Ok TickNow) line = line ≡ Says.TickNow
-Leaves (Ok Drain) line = line ≡ Says.Drain
-Leaves _ line = ⊥
+-- from one state of sources to another they answered so, beyond what they had answered before
+abbrev pub AnswersMore : {F : Type 0} → (F → List FileAnswer → F → Type 0) → List FileAnswer → F → F → Type 0
+AnswersMore {F} gives texts old new = (s : F) (given : List FileAnswer) → gives s given old → gives s (given ++ texts) new
 
--- the file that was read for it
-abbrev pub texts_of : Request → Option Line → List FileText
-texts_of (Ok (LoadFile path)) (Some (Says.Event (Load text))) = (path, text) ∷ []
-texts_of _ _ = []
+-- the line that a command leaves to the run, and what the sources answered for it: for a file its text, which the line loads
+abbrev pub Leaves : Request → List FileAnswer → Line → Type 0
+Leaves (Ok (Step e)) texts line = (texts ≡ []) × (line ≡ Says.Event e)
+Leaves (Ok (LoadFile path)) texts line = (text : List ℕ) × (texts ≡ (path, Ok text) ∷ []) × (line ≡ Says.Event (Load text))
+Leaves (Ok TickNow) texts line = (texts ≡ []) × (line ≡ Says.TickNow)
+Leaves (Ok Drain) texts line = (texts ≡ []) × (line ≡ Says.Drain)
+Leaves _ texts line = ⊥
+
+-- what the sources answered for a command that could not be answered: for a file why it is not read
+abbrev pub IsLost : Request → List FileAnswer → Type 0
+IsLost (Ok (LoadFile path)) texts = (fault : SourceFault) × (texts ≡ (path, Err fault) ∷ [])
+IsLost _ texts = texts ≡ []
 
 -- the line that was read, if one was
 abbrev pub line_of : {E : Type 0} → Result (Option Line) E → Option Line
 line_of (Ok line) = line
 line_of (Err error) = None
 
--- a command was read, with this schedule: it leaves a line to the run; or it was answered, its answer is written, and its status counts; or it could not be
--- answered
-abbrev pub Does : {E : Type 0} → Schedule → Request → Result (Option Line) E → ℕ → ℕ → Option (List ℕ) → Option (List ℕ) → Type 0
-Does a asked (Ok (Some line)) old new was now = Leaves asked line × (new ≡ old) × (now ≡ was)
-Does a asked (Ok None) old new was now = (status : ℕ) × (shown : List ℕ) × (new ≡ max old status) × Appends was now shown × IsAnswered a asked status shown
-Does a asked (Err error) old new was now = new ≡ old
+-- a command was read, with this schedule, and the sources answered so for it: it leaves a line to the run; or it was answered, its answer is written, and
+-- its status counts; or it could not be answered
+abbrev pub Does : {E : Type 0} → Schedule → Request → List FileAnswer → Result (Option Line) E → ℕ → ℕ → Option (List ℕ) → Option (List ℕ) → Type 0
+Does a asked texts (Ok (Some line)) old new was now = Leaves asked texts line × (new ≡ old) × (now ≡ was)
+Does a asked texts (Ok None) old new was now = (status : ℕ) × (shown : List ℕ) × (new ≡ max old status) × Appends was now shown × IsAnswered a asked texts status shown
+Does a asked texts (Err error) old new was now = IsLost asked texts × (new ≡ old)
 
 -- nothing was read, since the script is over
 abbrev pub is_end : {E : Type 0} → Result (Option Line) E → Bool

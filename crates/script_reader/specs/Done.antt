@@ -1,5 +1,5 @@
 -- What was done of the commands of a script, and what is left of it.
-use Rattle.std.proofs.Common.{inr, true≢false, refl, sym, arith}
+use Rattle.std.proofs.Common.{inl, inr, true≢false, refl, sym, arith}
 use Rattle.std.specs.Prelude.{◌≡◌, ◌⊎◌, ◌==◌, ◌&&◌, not, ℕ, max, Bool, true, false, List, [], ◌∷◌, ◌++◌, length, map, All, Option, Some, None, Result, Ok, Err}
 use Rattle.std.specs.List.{flat_map}
 use Rattle.sched_model.specs.Schedule.{Schedule}
@@ -29,15 +29,15 @@ use Rattle.answer_lines.specs.Shown.{shown_text}
 use Rattle.answer_lines.specs.declared.shown.Shown.TheVariants.{Done as ShowsDone}
 use Rattle.script_reader.specs.Statuses.{command_status, explain_status, shown_for, status_of}
 
--- a path, and the text of the file that was read there
-abbrev pub FileText : Type 0
-FileText = List ℕ × List ℕ
+-- a path, and what the sources answered for it: the text of the file there, or why it is not read
+abbrev pub FileAnswer : Type 0
+FileAnswer = List ℕ × Result (List ℕ) SourceFault
 
--- What was done of a command: the file that was read for it, what the clock gave for it, what passed between it and the run, which is the
--- schedule that it looked at, or the event that it names, with what came of it; the status of its answer, and the bytes that show it.
+-- What was done of a command: what the sources answered for it, if it asked them, what the clock gave for it, what passed between it and the run, which
+-- is the schedule that it looked at, or the event that it names, with what came of it; the status of its answer, and the bytes that show it.
 pub record Done : Type 0 where
   pub asked : Request
-  pub texts : List FileText
+  pub texts : List FileAnswer
   pub readings : List Reading
   pub exchanges : List Exchange
   pub status : ℕ
@@ -53,11 +53,12 @@ abbrev pub IsUnhad : Event → List Exchange → ℕ → List ℕ → Type 0
 IsUnhad e exchanges status shown =
     (text : List ℕ) × (e ≡ Load text) × ((a : Schedule) × (exchanges ≡ looks 1 a)) × (status ≡ 4) × (shown ≡ source_text NoMemory)
 
--- a file was read, and its load was accepted or not; or it was not read, and the command was answered when it was read
-abbrev pub IsLoadPerhaps : List ℕ → List FileText → List Exchange → ℕ → List ℕ → Type 0
+-- the sources were asked once, for this path: they gave a text, and its load was accepted or not; or they gave a fault, and the command was answered with
+-- it when it was read
+abbrev pub IsLoadPerhaps : List ℕ → List FileAnswer → List Exchange → ℕ → List ℕ → Type 0
 IsLoadPerhaps path texts exchanges status shown =
-    ((fault : SourceFault) × (texts ≡ []) × ((a : Schedule) × (exchanges ≡ looks 1 a)) × (status ≡ 4) × (shown ≡ source_text fault))
-    ⊎ ((text : List ℕ) × (texts ≡ (path, text) ∷ []) × IsPerhaps (Load text) exchanges status shown)
+    ((fault : SourceFault) × (texts ≡ (path, Err fault) ∷ []) × ((a : Schedule) × (exchanges ≡ looks 1 a)) × (status ≡ 4) × (shown ≡ source_text fault))
+    ⊎ ((text : List ℕ) × (texts ≡ (path, Ok text) ∷ []) × IsPerhaps (Load text) exchanges status shown)
 
 -- the clock gave a moment, and the tick at it was accepted or not; or it gave none
 abbrev pub IsTickPerhaps : List Reading → List Exchange → ℕ → List ℕ → Type 0
@@ -70,27 +71,29 @@ abbrev pub IsDrained : List Exchange → ℕ → List ℕ → Type 0
 IsDrained exchanges status shown =
     ((a : Schedule) × (exchanges ≡ looks 1 a) × (in_flight a ≡ 0)) × (status ≡ 0) × (shown ≡ shown_text ShowsDone)
 
--- The status and the text of a command that is answered when it is read, of this schedule: 0 and the rows for a list; 0 and the reasons for a question
--- that has an answer, and those of its fault for one that has none; those of the fault of what is no command, and of a file that is not read.
-abbrev pub IsAnswered : Schedule → Request → ℕ → List ℕ → Type 0
-IsAnswered a (Ok (ListRows listing)) status shown = (status ≡ 0) × (shown ≡ listing_text a listing)
-IsAnswered a (Ok (Explain q)) status shown =
-    ((reasons : List Reason) × (explained a q.graph q.logical q.task ≡ Ok reasons) × (status ≡ 0) × (shown ≡ reasons_text reasons))
-    ⊎ ((fault : ExplainFault) × IsUnexplained a q.graph q.logical q.task fault × (status ≡ explain_status fault) × (shown ≡ explain_fault_text fault))
-IsAnswered a (Ok (LoadFile path)) status shown = (fault : SourceFault) × (status ≡ 4) × (shown ≡ source_text fault)
-IsAnswered a (Ok (Step e)) status shown = ⊥
-IsAnswered a (Ok TickNow) status shown = ⊥
-IsAnswered a (Ok Drain) status shown = ⊥
-IsAnswered a (Err fault) status shown = (status ≡ command_status fault) × (shown ≡ command_fault_text fault)
+-- The status and the text of a command that is answered when it is read, of this schedule and of what the sources answered for it: 0 and the rows for a
+-- list; 0 and the reasons for a question that has an answer, and those of its fault for one that has none; those of the fault of what is no command. Of a
+-- file that is not read they are those of the fault that the sources gave for its path, when they were asked once; no other command asks them.
+abbrev pub IsAnswered : Schedule → Request → List FileAnswer → ℕ → List ℕ → Type 0
+IsAnswered a (Ok (ListRows listing)) texts status shown = (texts ≡ []) × (status ≡ 0) × (shown ≡ listing_text a listing)
+IsAnswered a (Ok (Explain q)) texts status shown =
+    (texts ≡ [])
+    × (((reasons : List Reason) × (explained a q.graph q.logical q.task ≡ Ok reasons) × (status ≡ 0) × (shown ≡ reasons_text reasons))
+    ⊎ ((fault : ExplainFault) × IsUnexplained a q.graph q.logical q.task fault × (status ≡ explain_status fault) × (shown ≡ explain_fault_text fault)))
+IsAnswered a (Ok (LoadFile path)) texts status shown = (fault : SourceFault) × (texts ≡ (path, Err fault) ∷ []) × (status ≡ 4) × (shown ≡ source_text fault)
+IsAnswered a (Ok (Step e)) texts status shown = ⊥
+IsAnswered a (Ok TickNow) texts status shown = ⊥
+IsAnswered a (Ok Drain) texts status shown = ⊥
+IsAnswered a (Err fault) texts status shown = (texts ≡ []) × (status ≡ command_status fault) × (shown ≡ command_fault_text fault)
 
 -- What may be done of a command, and the status and the text of that. A command that is answered when it is read is answered of the schedule that it
 -- looked at, and so is a drain.
-abbrev pub MayBeDone : Request → List FileText → List Reading → List Exchange → ℕ → List ℕ → Type 0
+abbrev pub MayBeDone : Request → List FileAnswer → List Reading → List Exchange → ℕ → List ℕ → Type 0
 MayBeDone (Ok (Step e)) texts readings exchanges status shown = (texts ≡ []) × (readings ≡ []) × (IsPerhaps e exchanges status shown ⊎ IsUnhad e exchanges status shown)
 MayBeDone (Ok (LoadFile path)) texts readings exchanges status shown = (readings ≡ []) × IsLoadPerhaps path texts exchanges status shown
 MayBeDone (Ok TickNow) texts readings exchanges status shown = (texts ≡ []) × IsTickPerhaps readings exchanges status shown
 MayBeDone (Ok Drain) texts readings exchanges status shown = (texts ≡ []) × (readings ≡ []) × IsDrained exchanges status shown
-MayBeDone asked texts readings exchanges status shown = (texts ≡ []) × (readings ≡ []) × ((a : Schedule) × (exchanges ≡ looks 1 a) × IsAnswered a asked status shown)
+MayBeDone asked texts readings exchanges status shown = (readings ≡ []) × ((a : Schedule) × (exchanges ≡ looks 1 a) × IsAnswered a asked texts status shown)
 
 abbrev pub IsDone : Done → Type 0
 IsDone d = MayBeDone d.asked d.texts d.readings d.exchanges d.status d.shown
@@ -108,14 +111,23 @@ is_whole (Ok TickNow) exchanges = length (told_in exchanges) == 1
 is_whole (Ok _) exchanges = true
 is_whole (Err fault) exchanges = false
 
--- the command that waits for its answer with this line, and the file that was read for it
-abbrev pub IsOpen : Option Line → List Request → List FileText → Type 0
+-- the command that waits for its answer with this line, and what the sources answered for it
+abbrev pub IsOpen : Option Line → List Request → List FileAnswer → Type 0
 IsOpen None asked texts = (asked ≡ []) × (texts ≡ [])
 IsOpen (Some (Says.Event e)) asked texts =
     ((asked ≡ Ok (Step e) ∷ []) × (texts ≡ []))
-    ⊎ ((path text : List ℕ) × (asked ≡ Ok (LoadFile path) ∷ []) × (texts ≡ (path, text) ∷ []) × (e ≡ Load text))
+    ⊎ ((path text : List ℕ) × (asked ≡ Ok (LoadFile path) ∷ []) × (texts ≡ (path, Ok text) ∷ []) × (e ≡ Load text))
 IsOpen (Some Says.TickNow) asked texts = (asked ≡ Ok TickNow ∷ []) × (texts ≡ [])
 IsOpen (Some Says.Drain) asked texts = (asked ≡ Ok Drain ∷ []) × (texts ≡ [])
+
+-- the load of a file that is not read, whose answer was not written, and the fault that the sources gave for its path
+abbrev pub IsUnwritten : List Request → List FileAnswer → Type 0
+IsUnwritten asked texts = (path : List ℕ) × (fault : SourceFault) × (asked ≡ Ok (LoadFile path) ∷ []) × (texts ≡ (path, Err fault) ∷ [])
+
+-- the command that was read and is not done, if there is one, and what the sources answered for it: it waits for its answer with this line; or, where the
+-- script broke off, no line waits, and it is a load whose answer was not written
+abbrev pub IsUndone : Bool → Option Line → List Request → List FileAnswer → Type 0
+IsUndone broke_off waits asked texts = IsOpen waits asked texts ⊎ ((broke_off ≡ true) × (waits ≡ None) × IsUnwritten asked texts)
 
 -- the line whose command waits for its answer: the one that the run was given and has not answered, or else a drain that was read last
 abbrev pub waiting : Option Line → Bool → Option Line
@@ -129,15 +141,16 @@ asked_from names true known = Ok Drain ∷ commands_in names known
 asked_from names false known = commands_in names known
 
 -- What was done of a script, of whose bytes these were there at first, and where a drain waited for its answer at first or not: commands one after
--- another, that drain before those of the bytes, with the texts that the sources gave, with these exchanges, and with these readings of the clock; what was
+-- another, that drain before those of the bytes, with what the sources answered, with these exchanges, and with these readings of the clock; what was
 -- shown of them; this line waits for its answer; and these bytes are left. What is left and what was shown is not said where the script could not be read
--- or answered further. Where the script has ended, no command is left. The status is the greatest of what was done and of the one before.
-pub record HasDone (names : Texts) (before : ℕ) (drained : Bool) (first : Option (List ℕ)) (gives : List FileText → Type 0) (shows : List ℕ → Type 0) (exchanges : List Exchange) (readings : List Reading) (waits : Option Line) (left : Option (List ℕ)) (status : ℕ) (is_broken has_ended : Bool) : Type 0 where
+-- or answered further; there one load more may have been read, whose answer was not written. Where the script has ended, no command is left. The status is
+-- the greatest of what was done and of the one before.
+pub record HasDone (names : Texts) (before : ℕ) (drained : Bool) (first : Option (List ℕ)) (gives : List FileAnswer → Type 0) (shows : List ℕ → Type 0) (exchanges : List Exchange) (readings : List Reading) (waits : Option Line) (left : Option (List ℕ)) (status : ℕ) (is_broken has_ended : Bool) : Type 0 where
   pub done : List Done
   pub open_asked : List Request
-  pub open_texts : List FileText
+  pub open_texts : List FileAnswer
   pub each : All IsDone done
-  pub opens : IsOpen waits open_asked open_texts
+  pub opens : IsUndone (is_broken && not has_ended) waits open_asked open_texts
   pub texts : gives (flat_map (λ d. d.texts) done ++ open_texts)
   pub exchanged : exchanges ≡ flat_map (λ d. d.exchanges) done
   pub read_of : readings ≡ flat_map (λ d. d.readings) done
@@ -165,7 +178,7 @@ first_asked : (names : Texts) (drained : Bool) (known : List ℕ) → asked_from
 first_asked names true known = refl
 first_asked names false known = refl
 
-pub begun : (names : Texts) (drained : Bool) (first : Option (List ℕ)) (gives : List FileText → Type 0) (shows : List ℕ → Type 0) (status : ℕ) (broken was_over : Bool) → gives [] → shows []
+pub begun : (names : Texts) (drained : Bool) (first : Option (List ℕ)) (gives : List FileAnswer → Type 0) (shows : List ℕ → Type 0) (status : ℕ) (broken was_over : Bool) → gives [] → shows []
     → HasDone names status drained first gives shows [] [] (waiting None drained) first status broken (was_over && not was_over)
 unfolding greatest_status
 begun names drained first gives shows status broken was_over none unshown = record {
@@ -173,7 +186,7 @@ begun names drained first gives shows status broken was_over none unshown = reco
   open_asked = first_open drained;
   open_texts = [];
   each = λ k d below. absurd (omega arith);
-  opens = first_opens drained;
+  opens = inl (first_opens drained);
   texts = none;
   exchanged = refl;
   read_of = refl;

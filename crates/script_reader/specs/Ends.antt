@@ -2,6 +2,7 @@
 use Rattle.std.specs.Prelude.{◌≡◌, ◌⊎◌, ℕ, max, Result, Ok, Err}
 use Rattle.sessions.specs.declared.faults.ConductFault.{ConductFault}
 use Rattle.sessions.specs.declared.faults.ConductFault.TheVariants.{StoreThrice}
+pub use Rattle.answer_lines.specs.RunFaults.{end_text}
 
 -- the status of a run that ended with a fault: 3 where it is of the record, 4 for any other and where its line was not written
 abbrev pub status_at : {E T : Type 0} → ℕ → ConductFault → Result T E → ℕ

@@ -5,7 +5,7 @@ use Rattle.std.specs.Io.KnownBytes.{Appends}
 use Rattle.sessions.specs.Exchanges.{Exchange}
 use Rattle.sessions.specs.Readings.{Reading}
 use Rattle.sessions.specs.declared.line_reading.Line.{Line}
-use Rattle.script_reader.specs.Done.{FileText, HasDone, begun, not_both, waiting}
+use Rattle.script_reader.specs.Done.{FileAnswer, HasDone, begun, not_both, waiting}
 use Rattle.script_reader.specs.Shown.{nothing_written}
 use Rattle.script_reader.specs.declared.reader.ScriptReader.{ScriptReader}
 
@@ -14,7 +14,7 @@ pub record IsQuiet (waits : Option Line) (has_ended drains : Bool) : Type 0 wher
   pub waiting : is_some waits ≡ true → drains ≡ false
   pub over : has_ended ≡ true → drains ≡ false
 
-module _ {R W F P : Type 0} (remaining : R → Option (List ℕ)) (contents : W → Option (List ℕ)) (gives : F → List FileText → F → Type 0) where
+module _ {R W F P : Type 0} (remaining : R → Option (List ℕ)) (contents : W → Option (List ℕ)) (gives : F → List FileAnswer → F → Type 0) where
   -- from one state to another words are read in the same way, and the commands of the script were done, with these exchanges and readings of the clock, with what the sources gave;
   -- what is shown of them was written; and a drain that waits in the one state is among them, and one that waits in the other is not done
   abbrev pub Tells : ScriptReader R W F P → List Exchange → List Reading → Option Line → ScriptReader R W F P → Type 0

@@ -1,5 +1,5 @@
 //! A script that is read command by command, and answered line by line.
-ghost use Rattle.std.specs.Prelude.{◌≡◌, ◌++◌, ℕ, max, List, Bool, true, false, None, Some, Option, Ok, Err, is_err, IfOk, IfSome, MatchResult, OnOk};
+ghost use Rattle.std.specs.Prelude.{◌≡◌, ◌++◌, ℕ, max, List, [], Bool, true, false, None, Some, Option, Ok, Err, is_err, IfOk, IfSome, MatchResult, OnOk};
 ghost use Rattle.std.specs.Io.KnownBytes.{Appends};
 ghost use Rattle.sched_model.specs.Schedule.{Schedule as ScheduleModel};
 ghost use Rattle.sched_model.specs.States.{in_flight};
@@ -11,8 +11,8 @@ ghost use Rattle.word_app.specs.App.{Texts};
 ghost use Rattle.sessions.specs.Exchanges.{looks, Exchange};
 ghost use Rattle.sessions.specs.Readings.{Reading};
 ghost use Rattle.sessions.specs.Lines.{may_be_read, reads_drain};
-ghost use Rattle.script_reader.specs.Commands.{Does, is_end, line_of, texts_of};
-ghost use Rattle.script_reader.specs.Done.{FileText, HasDone, waiting};
+ghost use Rattle.script_reader.specs.Commands.{AnswersMore, Does, is_end, line_of};
+ghost use Rattle.script_reader.specs.Done.{FileAnswer, HasDone, waiting};
 ghost use Rattle.script_reader.specs.Shown.{AnswersDrain};
 ghost use Rattle.script_reader.specs.Statuses as spec;
 
@@ -143,10 +143,9 @@ impl<R: Read + Drop, W: Write + Drop, F: Sources, P: Console> ScriptReader<R, W,
     ) -> io::Result<Option<Line>>
         requires asked { is_asked request ≡ true }
         requires drains { self.old.has_drained ≡ false }
-        ensures does { Does schedule.now.content request result self.old.status self.new.status
+        ensures does { (texts : List FileAnswer) × AnswersMore F.gives texts self.old.sources self.new.sources
+            × Does schedule.now.content request texts result self.old.status self.new.status
             (W.contents self.old.output) (W.contents self.new.output) }
-        ensures texts { (s : F) (given : List FileText) → F.gives s given self.old.sources
-            → F.gives s (given ++ texts_of request (line_of result)) self.new.sources }
         ensures input { self.new.input ≡ self.old.input }
         ensures words { self.new.words ≡ self.old.words }
         ensures failed { self.new.failed ≡ self.old.failed }
@@ -172,10 +171,9 @@ impl<R: Read + Drop, W: Write + Drop, F: Sources, P: Console> ScriptReader<R, W,
 
     // The event that loads the file at this path.
     fn load(&mut self, path: &FilePath) -> io::Result<Option<Line>>
-        ensures does { (a : ScheduleModel) → Does a (Ok (LoadFile path.now)) result self.old.status self.new.status
-            (W.contents self.old.output) (W.contents self.new.output) }
-        ensures texts { (s : F) (given : List FileText) → F.gives s given self.old.sources
-            → F.gives s (given ++ texts_of (Ok (LoadFile path.now)) (line_of result)) self.new.sources }
+        ensures does { (texts : List FileAnswer) × AnswersMore F.gives texts self.old.sources self.new.sources
+            × ((a : ScheduleModel) → Does a (Ok (LoadFile path.now)) texts result self.old.status self.new.status
+            (W.contents self.old.output) (W.contents self.new.output)) }
         ensures input { self.new.input ≡ self.old.input }
         ensures words { self.new.words ≡ self.old.words }
         ensures failed { self.new.failed ≡ self.old.failed }
@@ -192,7 +190,7 @@ impl<R: Read + Drop, W: Write + Drop, F: Sources, P: Console> ScriptReader<R, W,
     // Answers why a task instance stands where it does.
     fn explain(&mut self, schedule: &Schedule, question: &Question) -> io::Result<Option<Line>>
         ensures none { IfOk result (λ next. next ≡ None) }
-        ensures does { Does schedule.now.content (Ok (Explain question.now)) result self.old.status self.new.status
+        ensures does { Does schedule.now.content (Ok (Explain question.now)) [] result self.old.status self.new.status
             (W.contents self.old.output) (W.contents self.new.output) }
         ensures input { self.new.input ≡ self.old.input }
         ensures words { self.new.words ≡ self.old.words }

@@ -1,12 +1,14 @@
 //! Where the texts of `load PATH` come from.
-ghost use Rattle.std.specs.Prelude.{ℕ, List, ◌++◌, ◌∷◌, [], MatchResult, string_bytes};
+ghost use Rattle.std.specs.Prelude.{List, ◌∷◌, [], Ok, Err, MatchResult, string_bytes};
+ghost use Rattle.script_reader.specs.Commands.{AnswersMore};
+ghost use Rattle.script_reader.specs.Done.{FileAnswer};
 
 use script_commands::SourceFault;
 
-/// Files by their paths. What they gave is a relation between two of their states, so who implements it need not keep it.
+/// Files by their paths. What they answered is a relation between two of their states, so who implements it need not keep it.
 pub trait Sources: Drop {
-    /// From one state to another they gave these texts, each beside its path, in order.
-    ghost gives: { Self → List (List ℕ × List ℕ) → Self → Type 0 };
+    /// From one state to another they gave these answers, each beside its path, in order: texts, or why a file is not read.
+    ghost gives: { Self → List FileAnswer → Self → Type 0 };
 
     /// Where nothing is done, they gave none.
     ghost begins: { (s : Self) → gives s [] s };
@@ -14,8 +16,6 @@ pub trait Sources: Drop {
     /// The text of the file at this path, of at most 1,048,576 bytes.
     fn text(&mut self, path: &str) -> Result<String, SourceFault>
         ensures { MatchResult result
-            (λ text. (s : Self) (given : List (List ℕ × List ℕ))
-            → gives s given self.old → gives s (given ++ (path.now, string_bytes text) ∷ []) self.new)
-            (λ _. (s : Self) (given : List (List ℕ × List ℕ))
-            → gives s given self.old → gives s given self.new) };
+            (λ text. AnswersMore gives ((path.now, Ok (string_bytes text)) ∷ []) self.old self.new)
+            (λ fault. AnswersMore gives ((path.now, Err fault) ∷ []) self.old self.new) };
 }

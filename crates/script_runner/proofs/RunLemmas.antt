@@ -1,5 +1,5 @@
 -- What the run of a script promises, from what the conductor promises.
-use Rattle.std.proofs.Common.{◌≡◌, ◌∙◌, ℕ, Bool, true, false, true≢false, not, ◌&&◌, List, [], flat_map, Option, None, is_some, Result, Ok, Err, is_ok, MatchResult, IfErr, IfOk, OnOk, refl, sym, ap, subst, inl, inr, arith}
+use Rattle.std.proofs.Common.{◌≡◌, ◌≢◌, ◌∙◌, ◌++◌, ℕ, Bool, true, false, true≢false, not, ◌&&◌, List, [], flat_map, Option, None, is_some, Result, Ok, Err, is_ok, MatchResult, IfErr, IfOk, OnOk, refl, sym, ap, subst, inl, inr, arith}
 use Rattle.std.specs.Io.KnownBytes.{Appends}
 use Rattle.sqlite.specs.Held.{Held}
 use Rattle.sqlite.specs.State.{State, HasCleanDisk}
@@ -12,6 +12,7 @@ use Rattle.sched_events.specs.SettledAndSound.{IsSoundAndSaid}
 use Rattle.sched_events.specs.Steps.{steps}
 use Rattle.sched_events.specs.declared.events.Event.{Event}
 use Rattle.word_app.specs.App.{Texts}
+use Rattle.script_commands.specs.Commands.{Request}
 use Rattle.command_words.specs.Lines.{IsListed}
 use Rattle.director.specs.Directors.{DirectorValue, Keeps, Opens, RestartsIn}
 use Rattle.sessions.specs.Exchanges.{Exchange, told_in, TookPlace}
@@ -21,17 +22,19 @@ use Rattle.sessions.specs.declared.faults.ConductFault.{ConductFault}
 use Rattle.sessions.specs.declared.faults.ConductFault.TheVariants as fault
 use Rattle.sessions.specs.declared.line_reading.Line.{Line}
 use Rattle.sessions.specs.declared.line_reading.LineFault.{LineFault}
-use Rattle.conduct.specs.Faults.{came_to_its_end, is_unstarted}
+use Rattle.conduct.specs.Faults.{EndsRun, came_to_its_end, is_unstarted}
 use Rattle.conduct.specs.Run.{IsConducted}
 use Rattle.conduct.specs.declared.conducting.Conducted.{Conducted}
-use Rattle.script_reader.specs.Done.{FileText, Done, HasDone, IsOpen, asked_from, greatest_status, waiting}
-use Rattle.script_reader.specs.Ends.{IsEndStatus}
+use Rattle.script_reader.specs.Done.{FileAnswer, Done, HasDone, IsOpen, IsUndone, asked_from, greatest_status, waiting}
+use Rattle.script_reader.specs.Ends.{IsEndStatus, end_text}
+use Rattle.script_reader.proofs.DoneLemmas.{kept_open}
+use Rattle.script_reader.proofs.ShownLemmas.{appends_then}
 use Rattle.script_reader.proofs.StatusLemmas.{all_whole}
 use Rattle.sessions.specs.Told.{AreTold}
 use Rattle.crews.specs.declared.settling.Settled.{Settled}
 use Rattle.script_reader.specs.Readers.{Tells}
 use Rattle.script_reader.specs.declared.reader.ScriptReader.{ScriptReader}
-use Rattle.script_runner.specs.Named.{AreNamed}
+use Rattle.script_runner.specs.Named.{AreNamed, may_break_off}
 use Rattle.script_runner.specs.Runs.{IsRun}
 
 -- ---- the status
@@ -45,13 +48,63 @@ ends_well answers status (Err fault.ReadFault) is z = absurd (omega arith)
 ends_well answers status (Err fault.Memory) is z = absurd (omega arith)
 ends_well answers status (Err fault.Unequal) is z = absurd (omega arith)
 
+-- ---- the command that was read and is not done
+is_broken : (broken ended : Bool) → (broken && not ended) ≡ true → broken ≡ true
+is_broken true ended broke = refl
+is_broken false ended broke = broke
+
+not_at_end : (broken ended : Bool) → ended ≡ true → (broken && not ended) ≡ false
+not_at_end false ended over = refl
+not_at_end true true over = refl
+not_at_end true false over = absurd (true≢false (sym over))
+
+undone : (off broken ended : Bool) (waits : Option Line) (asked : List Request) (texts : List FileAnswer) → (broken ≡ true → off ≡ true) → IsUndone (broken && not ended) waits asked texts → IsUndone off waits asked texts
+undone off broken ended waits asked texts to (inl opens) = inl opens
+undone off broken ended waits asked texts to (inr (broke, none, lost)) = inr (to (is_broken broken ended broke), none, lost)
+
+-- the script breaks off where the run ends by that
+sound : (failed : Option LineFault) (P : Type 0) → failed ≡ None → is_some failed ≡ true → P
+sound failed P none broke = absurd (true≢false (sym broke ∙ ap is_some none))
+
+breaks_off : {T : Type 0} (failed : Option LineFault) (outcome : Result T ConductFault) → MatchResult outcome (λ _. failed ≡ None) (λ f. EndsRun f failed) → is_some failed ≡ true → may_break_off outcome ≡ true
+breaks_off failed (Ok v) none broke = sound failed _ none broke
+breaks_off failed (Err fault.NoWorker) none broke = sound failed _ none broke
+breaks_off failed (Err fault.SpawnRefused) none broke = sound failed _ none broke
+breaks_off failed (Err (fault.StoreThrice e)) of_store broke = sound failed _ of_store.1 broke
+breaks_off failed (Err fault.ReadFault) lost broke = refl
+breaks_off failed (Err fault.Memory) lost broke = refl
+breaks_off failed (Err fault.Unequal) none broke = sound failed _ none broke
+
+-- ---- the line of a fault
+whole_script : (T : Type 0) (answers status : ℕ) (f : ConductFault) (failed : Option LineFault) → IsEndStatus {T = T} answers (Err f) status → EndsRun f failed → status ≢ 4 → is_some failed ≡ false
+whole_script T answers status (fault.StoreThrice e) failed is of_store other = ap is_some of_store.1
+whole_script T answers status fault.NoWorker failed is ends other = absurd (other is)
+whole_script T answers status fault.SpawnRefused failed is ends other = absurd (other is)
+whole_script T answers status fault.ReadFault failed is ends other = absurd (other is)
+whole_script T answers status fault.Memory failed is ends other = absurd (other is)
+whole_script T answers status fault.Unequal failed is ends other = absurd (other is)
+
+closing : {T : Type 0} (first last after : Option (List ℕ)) (failed : Option LineFault) (answers status : ℕ) (outcome : Result T ConductFault)
+    → MatchResult outcome (λ _. failed ≡ None) (λ f. EndsRun f failed) → IsEndStatus answers outcome status
+    → IfErr outcome (λ f. status ≢ 4 → Appends last after (end_text f))
+    → IfErr outcome (λ f. status ≢ 4 → (is_some failed ≡ false) × ((xs : List ℕ) → Appends first last xs → Appends first after (xs ++ end_text f)))
+closing {T} first last after failed answers status (Ok v) ends is told = tt
+closing {T} first last after failed answers status (Err f) ends is told = λ other. (whole_script T answers status f failed is ends other, λ xs w. appends_then first last after xs (end_text f) w (told other))
+
+ended : {T : Type 0} (broken : Bool) (status : ℕ) (shows output : List ℕ → Type 0) (text : List ℕ) (outcome : Result T ConductFault)
+    → IfErr outcome (λ f. status ≢ 4 → (broken ≡ false) × ((xs : List ℕ) → shows xs → output (xs ++ end_text f)))
+    → (broken ≡ false → shows text) → IfErr outcome (λ f. status ≢ 4 → output (text ++ end_text f))
+ended broken status shows output text (Ok v) closes written = tt
+ended broken status shows output text (Err f) closes written = λ other. let fine = closes other in fine.1 text (written fine.0)
+
 -- ---- the events of the minutes beside the script's lines
-pub named : {T : Type 0} (words : Texts) (before : ℕ) (drained : Bool) (first : Option (List ℕ)) (gives : List FileText → Type 0) (clock : List Reading → Type 0) (shows output : List ℕ → Type 0) (told : List Exchange) (start : Schedule) (minutes : List Event) (moments : List Reading) (waits : Option Line) (left : Option (List ℕ)) (answers status : ℕ) (broken over was_over : Bool) (outcome : Result T ConductFault)
-    → IsListed words → before ≡ 0 → drained ≡ false → HasDone words before drained first gives shows told moments waits left answers broken (over && not was_over) → (is_ok outcome ≡ true → (broken ≡ false) × ((xs : List ℕ) → shows xs → output xs)) → TookPlace told minutes start → clock moments → was_over ≡ false
+pub named : {T : Type 0} (words : Texts) (before : ℕ) (drained : Bool) (first : Option (List ℕ)) (gives : List FileAnswer → Type 0) (clock : List Reading → Type 0) (shows output : List ℕ → Type 0) (told : List Exchange) (start : Schedule) (minutes : List Event) (moments : List Reading) (waits : Option Line) (left : Option (List ℕ)) (answers status : ℕ) (broken over was_over : Bool) (outcome : Result T ConductFault)
+    → IsListed words → before ≡ 0 → drained ≡ false → HasDone words before drained first gives shows told moments waits left answers broken (over && not was_over) → (is_ok outcome ≡ true → (broken ≡ false) × ((xs : List ℕ) → shows xs → output xs)) → (broken ≡ true → may_break_off outcome ≡ true) → IfErr outcome (λ f. status ≢ 4 → (broken ≡ false) × ((xs : List ℕ) → shows xs → output (xs ++ end_text f))) → TookPlace told minutes start → clock moments → was_over ≡ false
     → (came_to_its_end outcome ≡ true → (over ≡ true) × (waits ≡ None)) → IsEndStatus answers outcome status
     → AreNamed first gives clock output start minutes outcome status
-named words before drained first gives clock shows output told start minutes moments waits left answers status broken over was_over outcome listed zero undrained h writes took given fresh whole is =
+named words before drained first gives clock shows output told start minutes moments waits left answers status broken over was_over outcome listed zero undrained h writes breaks closes took given fresh whole is =
     let greatest : answers ≡ greatest_status h.done = omega (arith, h.status_is, zero) in
+    let ends : came_to_its_end outcome ≡ true → (over && not was_over) ≡ true = λ came. ap (λ b. b && not was_over) (whole came).0 ∙ ap not fresh in
     record {
       words = words;
       listed = listed;
@@ -60,20 +113,22 @@ named words before drained first gives clock shows output told start minutes mom
       waits = waits;
       open_asked = h.open_asked;
       open_texts = h.open_texts;
-      opens = h.opens;
+      opens = undone (may_break_off outcome) broken (over && not was_over) waits h.open_asked h.open_texts breaks h.opens;
+      none_waits = λ came. (whole came).1;
       texts = h.texts;
       readings = subst clock h.read_of given;
       took_place = subst (λ (xs : List Exchange). TookPlace xs minutes start) h.exchanged took;
       answers_are = told_are_answered told minutes start took ∙ ap told_in h.exchanged ∙ told_of_each (λ (d : Done). d.exchanges) h.done;
       shown = λ well. let fine = writes well in fine.1 (flat_map (λ (d : Done). d.shown) h.done) (h.output fine.0);
+      ended_with = ended broken status shows output (flat_map (λ (d : Done). d.shown) h.done) outcome closes h.output;
       read = λ known e.
           let r = h.read known e in (
             r.0,
             ap (λ b. asked_from words b known) (sym undrained) ∙ r.1,
             λ came.
                 let end = whole came in
-                let none : IsOpen None h.open_asked h.open_texts = subst (λ (w : Option Line). IsOpen w h.open_asked h.open_texts) end.1 h.opens in
-                (none.0, r.2 (ap (λ b. b && not was_over) end.0 ∙ ap not fresh)),
+                let none : IsOpen None h.open_asked h.open_texts = subst (λ (w : Option Line). IsOpen w h.open_asked h.open_texts) end.1 (kept_open (broken && not (over && not was_over)) waits h.open_asked h.open_texts (not_at_end broken (over && not was_over) (ends came)) h.opens) in
+                (none.0, r.2 (ends came)),
           );
       ended = subst (λ n. IsEndStatus n outcome status) greatest is;
       whole = λ z. all_whole h.done h.each (sym greatest ∙ (ends_well answers status outcome is z).1);
@@ -89,7 +144,7 @@ still none untouched still' (Ok v) to was = tt
 still none untouched still' (Err f) to was = λ is. let both = was is in (both.0, to both.1)
 
 module _ {S G O : Type 0} (look : Held S → State) (runs : O → List (ℕ × Outcome)) (taken : O → Option ℕ) where
-  pub is_run : (bytes : Option (List ℕ)) (gives : List FileText → Type 0) (clock : List Reading → Type 0) (output : List ℕ → Type 0) (lanes : ℕ) (kits : List (Kit O)) (before : State) (d : DirectorValue S) (conducted : Conducted S G O) (status : ℕ)
+  pub is_run : (bytes : Option (List ℕ)) (gives : List FileAnswer → Type 0) (clock : List Reading → Type 0) (output : List ℕ → Type 0) (lanes : ℕ) (kits : List (Kit O)) (before : State) (d : DirectorValue S) (conducted : Conducted S G O) (status : ℕ)
       (are_told : Schedule → List Event → Option Line → Type 0) (untouched quiet : Type 0) (failed : Option LineFault) (over : Bool)
       → IsConducted look runs taken lanes kits d conducted are_told untouched failed over → (untouched → quiet)
       → IsSoundAndSaid d.schedule.content
@@ -146,7 +201,7 @@ pub record IsFresh {R W F P : Type 0} (first : ScriptReader R W F P) : Type 0 wh
   pub drains : first.has_drained ≡ false
   pub listed : IsListed first.words.names
 
-module _ {S G O R W F P C : Type 0} (look : Held S → State) (runs : O → List (ℕ × Outcome)) (taken : O → Option ℕ) (remaining : R → Option (List ℕ)) (contents : W → Option (List ℕ)) (gives : F → List FileText → F → Type 0) (ticks : C → List Reading → C → Type 0) where
+module _ {S G O R W F P C : Type 0} (look : Held S → State) (runs : O → List (ℕ × Outcome)) (taken : O → Option ℕ) (remaining : R → Option (List ℕ)) (contents : W → Option (List ℕ)) (gives : F → List FileAnswer → F → Type 0) (ticks : C → List Reading → C → Type 0) where
   -- what comes back of what was conducted, with the last state of the reader
   pub record ComesBack (conducted : Conducted S G O) (last : ScriptReader R W F P) (store : Held S) (minutes : List Event) (outcome : Result (Settled G O) ConductFault) (status : ℕ) (sources : F) (output : W) : Type 0 where
     pub store_is : store ≡ conducted.director.store
@@ -155,6 +210,7 @@ module _ {S G O R W F P C : Type 0} (look : Held S → State) (runs : O → List
     pub status_is : IsEndStatus last.status conducted.outcome status
     pub sources_are : sources ≡ last.sources
     pub output_is : OnOk conducted.outcome (output ≡ last.output)
+    pub ended_is : IfErr conducted.outcome (λ f. status ≢ 4 → Appends (contents last.output) (contents output) (end_text f))
 
   -- at the end of the run no drain waits
   undrained : (lanes : ℕ) (kits : List (Kit O)) (d : DirectorValue S) (conducted : Conducted S G O) (first last : ScriptReader R W F P) (clock later : C)
@@ -188,13 +244,13 @@ module _ {S G O R W F P C : Type 0} (look : Held S → State) (runs : O → List
       let es = conducted.minutes.items in
       let t = c.told in
       let bytes = remaining first.input in
-      let files : List FileText → Type 0 = λ given. gives first.sources given last.sources in
+      let files : List FileAnswer → Type 0 = λ given. gives first.sources given last.sources in
       let times : List Reading → Type 0 = λ moments. ticks clock moments later in
       let text : List ℕ → Type 0 = λ shown. Appends (contents first.output) (contents output) shown in
       let quiet : Type 0 = (last.sources ≡ first.sources) × (later ≡ clock) in
       let named_here : AreNamed bytes files times text d.schedule.content es conducted.outcome status =
       named first.words.names first.status first.has_drained bytes files times (Appends (contents first.output) (contents last.output)) text t.exchanges d.schedule.content es t.readings (waiting c.waits last.has_drained) (remaining last.input) last.status status (is_some last.failed) last.is_over first.is_over conducted.outcome
-      fresh.listed fresh.status fresh.drains t.told.1 (writes lanes kits d conducted first last clock later output c back.output_is) t.took_place t.given fresh.over (undrained lanes kits d conducted first last clock later c fresh) back.status_is
+      fresh.listed fresh.status fresh.drains t.told.1 (writes lanes kits d conducted first last clock later output c back.output_is) (breaks_off last.failed conducted.outcome c.fault) (closing (contents first.output) (contents last.output) (contents output) last.failed last.status status conducted.outcome c.fault back.status_is back.ended_is) t.took_place t.given fresh.over (undrained lanes kits d conducted first last clock later c fresh) back.status_is
       in
       let here = is_run look runs taken bytes files times text lanes kits before d conducted status _ ((last ≡ first) × (later ≡ clock)) quiet last.failed last.is_over c (λ same. (ap (λ (r : ScriptReader R W F P). r.sources) same.0, same.1)) sound opened restarted named_here in
       subst (λ (f : F). IsRun look runs taken bytes (λ given. gives first.sources given f) times text ((f ≡ first.sources) × (later ≡ clock)) lanes kits before store minutes outcome status) (sym back.sources_are)

@@ -1,5 +1,5 @@
 -- What a run says beside the lines of its script.
-use Rattle.std.specs.Prelude.{◌≡◌, ℕ, true, List, [], ◌++◌, map, flat_map, All, Option, Some, Result, is_ok}
+use Rattle.std.specs.Prelude.{◌≡◌, ◌≢◌, ℕ, Bool, true, false, List, [], ◌++◌, map, flat_map, All, Option, Some, None, Result, Err, is_ok, IfErr}
 use Rattle.word_app.specs.App.{Texts}
 use Rattle.command_words.specs.Lines.{IsListed}
 use Rattle.sched_events.specs.declared.events.Event.{Event}
@@ -9,28 +9,38 @@ use Rattle.minutes.specs.Minutes.{answered}
 use Rattle.sessions.specs.Exchanges.{told_in, TookPlace}
 use Rattle.sessions.specs.Readings.{Reading}
 use Rattle.sessions.specs.declared.faults.ConductFault.{ConductFault}
+use Rattle.sessions.specs.declared.faults.ConductFault.TheVariants.{ReadFault, Memory}
 use Rattle.sessions.specs.declared.line_reading.Line.{Line}
 use Rattle.conduct.specs.Faults.{came_to_its_end}
-use Rattle.script_reader.specs.Done.{FileText, Done, IsDone, IsOpen, greatest_status, is_whole}
-use Rattle.script_reader.specs.Ends.{IsEndStatus}
+use Rattle.script_reader.specs.Done.{FileAnswer, Done, IsDone, IsUndone, greatest_status, is_whole}
+use Rattle.script_reader.specs.Ends.{IsEndStatus, end_text}
+
+-- the run may have ended since the script could not be read or answered further
+abbrev pub may_break_off : {T : Type 0} → Result T ConductFault → Bool
+may_break_off (Err ReadFault) = true
+may_break_off (Err Memory) = true
+may_break_off _ = false
 
 -- The events that are answered in these minutes, from this schedule on, are, in order, those that the commands of a script name, of these bytes, where they
 -- are known, by the words that `list` takes. A command that is answered when it is read is answered of the schedule of the minutes up to it, and an event
--- that was not accepted has its cause there; a drain is answered of the schedule of minutes up to it in which no try is in flight. A text of
--- `load PATH` is the next that the sources gave, for its path, and a moment of `tick now` the next that the clock gave. Where the run came to its end, all
--- commands are done; where it did not, one that was read may still wait for its answer. Where it ended well, the output has grown by what shows each command,
--- in their order. The status is the greatest of what was done, where the run ended well, and that of its fault otherwise; where it is 0, the event of each
--- command is there.
-pub record AreNamed {T : Type 0} (bytes : Option (List ℕ)) (sources : List FileText → Type 0) (clock : List Reading → Type 0) (output : List ℕ → Type 0) (first : Schedule) (minutes : List Event) (outcome : Result T ConductFault) (status : ℕ) : Type 0 where
+-- that was not accepted has its cause there; a drain is answered of the schedule of minutes up to it in which no try is in flight. For each `load PATH` the
+-- sources were asked once, for its path, and for nothing else: the text that is loaded, or the fault that is shown, is the next that they gave. A moment of
+-- `tick now` is the next that the clock gave. Where the run came to its end, all commands are done; where it did not, one that was read may still wait for
+-- its answer, or, where the script could not be read or answered further, be a `load PATH` for which the sources gave a fault that could not be shown. Where
+-- it ended well, the output has grown by what shows each command, in their order; where it did not, and the status is not 4, then by the line of its fault
+-- too. The status is the greatest of what was done, where the run ended well, and that of its fault otherwise; where it is 0, the event of each command is
+-- there.
+pub record AreNamed {T : Type 0} (bytes : Option (List ℕ)) (sources : List FileAnswer → Type 0) (clock : List Reading → Type 0) (output : List ℕ → Type 0) (first : Schedule) (minutes : List Event) (outcome : Result T ConductFault) (status : ℕ) : Type 0 where
   pub words : Texts
   pub listed : IsListed words
   pub done : List Done
   pub each : All IsDone done
-  -- the command that waits for its answer, if one does, and the file that was read for it
+  -- the command that was read and is not done, if there is one, and what the sources answered for it
   pub waits : Option Line
   pub open_asked : List Request
-  pub open_texts : List FileText
-  pub opens : IsOpen waits open_asked open_texts
+  pub open_texts : List FileAnswer
+  pub opens : IsUndone (may_break_off outcome) waits open_asked open_texts
+  pub none_waits : came_to_its_end outcome ≡ true → waits ≡ None
   pub texts : sources (flat_map (λ d. d.texts) done ++ open_texts)
   pub readings : clock (flat_map (λ d. d.readings) done)
   -- what passed between the commands and the run, one after another, took place while the minutes were made; so the events that were told as accepted are
@@ -38,6 +48,7 @@ pub record AreNamed {T : Type 0} (bytes : Option (List ℕ)) (sources : List Fil
   pub took_place : TookPlace (flat_map (λ d. d.exchanges) done) minutes first
   pub answers_are : answered minutes first ≡ flat_map (λ d. told_in d.exchanges) done
   pub shown : is_ok outcome ≡ true → output (flat_map (λ d. d.shown) done)
+  pub ended_with : IfErr outcome (λ f. status ≢ 4 → output (flat_map (λ d. d.shown) done ++ end_text f))
   pub read : (known : List ℕ) → bytes ≡ Some known
       → (rest : List Request) × (commands_in words known ≡ map (λ d. d.asked) done ++ (open_asked ++ rest))
       × (came_to_its_end outcome ≡ true → (open_asked ≡ []) × (rest ≡ []))

@@ -1,5 +1,5 @@
 -- What an operator of whichever kind shows: what the one inside does.
-use Rattle.std.specs.Prelude.{ℕ, Bool, List, Option}
+use Rattle.std.specs.Prelude.{◌≡◌, ℕ, Bool, List, [], Option, None}
 use Rattle.graph_file.specs.declared.operators.Operator.{Operator as Kind}
 use Rattle.graph_file.specs.declared.operators.Operator.TheVariants as kinds
 use Rattle.instance_machine.specs.declared.tries.Outcome.{Outcome}
@@ -26,3 +26,7 @@ module _ {P : Type 0} where
   performed_by performed (Noop o) = o.progress.performed
   performed_by performed (Exit o) = o.progress.performed
   performed_by performed (Command o) = performed o
+
+-- the operator has performed no try and taken none up
+abbrev pub IsFresh : {O : Type 0} → (O → List (ℕ × Outcome)) → (O → Option ℕ) → O → Type 0
+IsFresh runs taken o = (runs o ≡ []) × (taken o ≡ None)

@@ -10,7 +10,7 @@ use Rattle.crews.specs.declared.settling.Settled.{Settled}
 use Rattle.sched_events.specs.declared.events.Event.{Event}
 use Rattle.sessions.specs.Readings.{Reading}
 use Rattle.sessions.specs.declared.faults.ConductFault.{ConductFault}
-use Rattle.script_reader.specs.Done.{FileText}
+use Rattle.script_reader.specs.Done.{FileAnswer}
 use Rattle.script_runner.specs.Runs.{IsRun}
 
 module _ {O : Type 0} (kind_of : O → Kind) where
@@ -30,7 +30,7 @@ module _ {O : Type 0} (kind_of : O → Kind) where
   AreKitsOf (operators ∷ rest) [] = ⊥
 
 -- what `run_on` promises of a script that workers with these operators ran
-pub record IsTeamRun {S G O : Type 0} (look : Held S → State) (kind_of : O → Kind) (runs : O → List (ℕ × Outcome)) (taken : O → Option ℕ) (bytes : Option (List ℕ)) (sources : List FileText → Type 0) (clock : List Reading → Type 0) (output : List ℕ → Type 0) (untouched : Type 0) (lanes : ℕ) (operators : List (List O)) (before : State) (store : Held S) (minutes : List Event) (outcome : Result (Settled G O) ConductFault) (status : ℕ) : Type 0 where
+pub record IsTeamRun {S G O : Type 0} (look : Held S → State) (kind_of : O → Kind) (runs : O → List (ℕ × Outcome)) (taken : O → Option ℕ) (bytes : Option (List ℕ)) (sources : List FileAnswer → Type 0) (clock : List Reading → Type 0) (output : List ℕ → Type 0) (untouched : Type 0) (lanes : ℕ) (operators : List (List O)) (before : State) (store : Held S) (minutes : List Event) (outcome : Result (Settled G O) ConductFault) (status : ℕ) : Type 0 where
   pub kits : List (Kit O)
   pub made : AreKitsOf kind_of operators kits
   pub run : IsRun look runs taken bytes sources clock output untouched lanes kits before store minutes outcome status

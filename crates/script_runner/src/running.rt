@@ -1,12 +1,12 @@
 //! A script that is run on a record, by workers.
-ghost use Rattle.std.specs.Prelude.{◌≡◌, ◌≤◌, All, IfOk, IfErr, IsTrue, OnErr, OnOk, length, map};
+ghost use Rattle.std.specs.Prelude.{◌≡◌, ◌≢◌, ◌≤◌, All, IfOk, IfErr, IsTrue, OnErr, OnOk, length, map};
 ghost use Rattle.std.specs.Io.KnownBytes.{Appends};
 ghost use Rattle.sqlite.specs.Held.{state};
 ghost use Rattle.sqlite.specs.State.{HasCleanDisk};
 ghost use Rattle.operators.specs.Kits.{IsKit};
 ghost use Rattle.sched_state.specs.Limits.{ceilings};
 ghost use Rattle.director.specs.Faults.{IsOpenFault};
-ghost use Rattle.script_reader.specs.Ends.{IsEndStatus};
+ghost use Rattle.script_reader.specs.Ends.{IsEndStatus, end_text};
 ghost use Rattle.script_runner.specs.Runs.{IsRun};
 
 use conduct::{Conducted, conduct};
@@ -125,6 +125,7 @@ fn close<
     ensures outcome { result.outcome ≡ conducted.outcome }
     ensures sources { result.sources ≡ reader.sources }
     ensures output { OnOk conducted.outcome (result.output ≡ reader.output) }
+    ensures ended { IfErr conducted.outcome (λ f. result.status ≢ 4 → Appends (W.contents reader.output) (W.contents result.output) (end_text f)) }
 {
     let Conducted {
         director,

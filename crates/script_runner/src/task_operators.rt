@@ -1,7 +1,7 @@
 //! An operator of whichever kind, so that a worker may have one of each.
 ghost use Rattle.std.specs.Prelude.{◌≡◌, All, IfOk, length};
 ghost use Rattle.graph_file.specs.declared.operators.Operator.TheVariants as kinds;
-ghost use Rattle.script_runner.specs.TaskOperators.{kind_of};
+ghost use Rattle.script_runner.specs.TaskOperators.{IsFresh, kind_of, runs_of, taken_by};
 ghost use Rattle.script_runner.specs.Teams.{IsWhole};
 
 use graph_file::Operator as Kind;
@@ -88,6 +88,9 @@ pub fn operators_for<R: Files<File = File> + Processes + Copy + Drop>(
 ) -> Result<Vec<(Vec<TaskOperator<Program<R>>>, OpenGate)>, AllocError>
     ensures workers { IfOk result (λ team. length team.items ≡ workers) }
     ensures whole { IfOk result (λ team. All (λ w. IsWhole (kind_of (λ _. kinds.Command)) w.0.items) team.items) }
+    ensures fresh { IfOk result (λ team. All (λ w. All (IsFresh
+        (runs_of ⟦<Program<R> as Operator>⟧.runs_of) (taken_by ⟦<Program<R> as Operator>⟧.taken))
+        w.0.items) team.items) }
 {
     let mut team = Vec::new(alloc);
     for _worker in 0..workers {
@@ -103,7 +106,10 @@ fn three_operators<R: Files<File = File> + Processes + Copy + Drop>(
     scratch: &str,
     logs: Option<&str>,
 ) -> Result<Vec<TaskOperator<Program<R>>>, AllocError>
-    ensures { IfOk result (λ operators. IsWhole (kind_of (λ _. kinds.Command)) operators.items) }
+    ensures whole { IfOk result (λ operators. IsWhole (kind_of (λ _. kinds.Command)) operators.items) }
+    ensures fresh { IfOk result (λ operators. All (IsFresh
+        (runs_of ⟦<Program<R> as Operator>⟧.runs_of) (taken_by ⟦<Program<R> as Operator>⟧.taken))
+        operators.items) }
 {
     let base = String::from_str(alloc, scratch)?;
     let logs = logs.map(|base| String::from_str(alloc, base)).transpose()?;

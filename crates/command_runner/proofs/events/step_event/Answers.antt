@@ -7,7 +7,8 @@ pub returns-in-Ok : goal.returns-in-Ok
 returns-in-Ok g c =
     inl
     (stepped (state g.S.Store) (state g.S.Store c.args.store) c.in-Ok.director c.args.event.now _ _ c.step_in.result.0 c.step_in.result.1
-    (let o = rw c.full.ensures at c.in-Ok.ensures.opened in o) (let s = rw c.full.ensures at c.in-Ok.ensures.stored in s) c.step_in.ensures)
+    (let o = rw c.full.ensures at c.in-Ok.ensures.opened in o) (let s = rw c.full.ensures at c.in-Ok.ensures.stored in s)
+    (let k = rw c.schedule.ensures at c.runs.ensures.kept in k) c.step_in.ensures)
 
 pub returns-in-Err : goal.returns-in-Err
 returns-in-Err g c =

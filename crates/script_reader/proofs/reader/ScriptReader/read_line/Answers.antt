@@ -52,7 +52,7 @@ returns-in_err-do_command-in-Some-clause-told g c = λ drained names before firs
       was.0,
       unanswered names before drained {E = Error} from _ _ first (λ given. g.F.Sources.gives s given c.loop-command.self.sources) (λ given. g.F.Sources.gives s given c.do_command.new.self.sources) (told ++ looks was.0 c.args.schedule.now.content) ticks _ _ _ _ false
           (flushed names before drained first from (g.W.Write.contents c.loop-command.self.output) (g.W.Write.contents c.flush.new.self) (λ given. g.F.Sources.gives s given c.loop-command.self.sources) (told ++ looks was.0 c.args.schedule.now.content) ticks (g.R.Read.remaining c.loop-command.self.input) c.loop-command.self.status false c.in_ok-flush.ensures.bytes was.1)
-          c.in-Some.request (next_at names g.R.Read.remaining _ c.in-Some.request c.next_command.new.input c.do_command.new.self.input c.in_err-do_command-in-Some.ensures.input (λ known k. next_named names c.loop-command.self.words.names (e ∙ sym (ap (λ w. w.names) c.loop-command.invariant.words)) known (Some c.in-Some.request) (g.R.Read.remaining c.next_command.new.input) (let next = rw c.in-Some.is at (c.in_ok-next_command.ensures.next known k) in next))) c.args.schedule.now.content (Err c.in_err-do_command-in-Some.field-0.0) (c.in_err-do_command-in-Some.ensures.texts s) c.in_err-do_command-in-Some.ensures.does
+          c.in-Some.request (next_at names g.R.Read.remaining _ c.in-Some.request c.next_command.new.input c.do_command.new.self.input c.in_err-do_command-in-Some.ensures.input (λ known k. next_named names c.loop-command.self.words.names (e ∙ sym (ap (λ w. w.names) c.loop-command.invariant.words)) known (Some c.in-Some.request) (g.R.Read.remaining c.next_command.new.input) (let next = rw c.in-Some.is at (c.in_ok-next_command.ensures.next known k) in next))) c.args.schedule.now.content (Err c.in_err-do_command-in-Some.field-0.0) c.in_err-do_command-in-Some.ensures.does.0 (c.in_err-do_command-in-Some.ensures.does.1 s) c.in_err-do_command-in-Some.ensures.does.2
           _ _ c.from_residual-in_err-do_command-in-Some.ensures.1 _ refl,
     )
 
@@ -62,7 +62,7 @@ returns-in-Some-2-clause-told g c = λ drained names before first from s told ti
       was.0,
       left_line names before drained {E = Error} from _ _ first (λ given. g.F.Sources.gives s given c.loop-command.self.sources) (λ given. g.F.Sources.gives s given c.do_command.new.self.sources) (told ++ looks was.0 c.args.schedule.now.content) ticks _ _ _ _ false
           (flushed names before drained first from (g.W.Write.contents c.loop-command.self.output) (g.W.Write.contents c.flush.new.self) (λ given. g.F.Sources.gives s given c.loop-command.self.sources) (told ++ looks was.0 c.args.schedule.now.content) ticks (g.R.Read.remaining c.loop-command.self.input) c.loop-command.self.status false c.in_ok-flush.ensures.bytes was.1)
-          c.in-Some.request (next_at names g.R.Read.remaining _ c.in-Some.request c.next_command.new.input c.do_command.new.self.input c.in_ok-do_command-in-Some.ensures.input (λ known k. next_named names c.loop-command.self.words.names (e ∙ sym (ap (λ w. w.names) c.loop-command.invariant.words)) known (Some c.in-Some.request) (g.R.Read.remaining c.next_command.new.input) (let next = rw c.in-Some.is at (c.in_ok-next_command.ensures.next known k) in next))) c.args.schedule.now.content (Ok c.in_ok-do_command-in-Some.field-0) (c.in_ok-do_command-in-Some.ensures.texts s) c.in_ok-do_command-in-Some.ensures.does
+          c.in-Some.request (next_at names g.R.Read.remaining _ c.in-Some.request c.next_command.new.input c.do_command.new.self.input c.in_ok-do_command-in-Some.ensures.input (λ known k. next_named names c.loop-command.self.words.names (e ∙ sym (ap (λ w. w.names) c.loop-command.invariant.words)) known (Some c.in-Some.request) (g.R.Read.remaining c.next_command.new.input) (let next = rw c.in-Some.is at (c.in_ok-next_command.ensures.next known k) in next))) c.args.schedule.now.content (Ok c.in_ok-do_command-in-Some.field-0) c.in_ok-do_command-in-Some.ensures.does.0 (c.in_ok-do_command-in-Some.ensures.does.1 s) c.in_ok-do_command-in-Some.ensures.does.2
           _ (as_ok Error _ _ c.in-Some-2.is),
     )
 
@@ -75,7 +75,7 @@ loop-command-preserved g c = record {
       let was = c.loop-command.invariant.told drained names before first from s told ticks ended e h in
       let now = left_none names before drained {E = Error} from _ _ first (λ given. g.F.Sources.gives s given c.loop-command.self.sources) (λ given. g.F.Sources.gives s given c.do_command.new.self.sources) (told ++ looks was.0 c.args.schedule.now.content) ticks _ _ _ _ false
       (flushed names before drained first from (g.W.Write.contents c.loop-command.self.output) (g.W.Write.contents c.flush.new.self) (λ given. g.F.Sources.gives s given c.loop-command.self.sources) (told ++ looks was.0 c.args.schedule.now.content) ticks (g.R.Read.remaining c.loop-command.self.input) c.loop-command.self.status false c.in_ok-flush.ensures.bytes was.1)
-      c.in-Some.request (next_at names g.R.Read.remaining _ c.in-Some.request c.next_command.new.input c.do_command.new.self.input c.in_ok-do_command-in-Some.ensures.input (λ known k. next_named names c.loop-command.self.words.names (e ∙ sym (ap (λ w. w.names) c.loop-command.invariant.words)) known (Some c.in-Some.request) (g.R.Read.remaining c.next_command.new.input) (let next = rw c.in-Some.is at (c.in_ok-next_command.ensures.next known k) in next))) c.args.schedule.now.content (Ok c.in_ok-do_command-in-Some.field-0) (c.in_ok-do_command-in-Some.ensures.texts s) c.in_ok-do_command-in-Some.ensures.does (as_ok Error _ _ c.in-None-2.is) in
+      c.in-Some.request (next_at names g.R.Read.remaining _ c.in-Some.request c.next_command.new.input c.do_command.new.self.input c.in_ok-do_command-in-Some.ensures.input (λ known k. next_named names c.loop-command.self.words.names (e ∙ sym (ap (λ w. w.names) c.loop-command.invariant.words)) known (Some c.in-Some.request) (g.R.Read.remaining c.next_command.new.input) (let next = rw c.in-Some.is at (c.in_ok-next_command.ensures.next known k) in next))) c.args.schedule.now.content (Ok c.in_ok-do_command-in-Some.field-0) c.in_ok-do_command-in-Some.ensures.does.0 (c.in_ok-do_command-in-Some.ensures.does.1 s) c.in_ok-do_command-in-Some.ensures.does.2 (as_ok Error _ _ c.in-None-2.is) in
       (was.0 + 1, subst (λ (t : List Exchange). HasDone names before drained first (λ given. g.F.Sources.gives s given c.do_command.new.self.sources) (Appends from (g.W.Write.contents c.do_command.new.self.output)) t ticks None (g.R.Read.remaining c.do_command.new.self.input) c.do_command.new.self.status false false) (one_look_more told was.0 c.args.schedule.now.content) now);
 }
 
