@@ -1,6 +1,7 @@
 pub mod Answers
 pub mod CommandFaults
 pub mod DagFaults
+pub mod Dags
 pub mod GraphFaults
 pub mod Jobs
 pub mod Listings

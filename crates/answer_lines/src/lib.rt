@@ -21,6 +21,7 @@
 mod answers;
 mod command_faults;
 mod dag_faults;
+mod dags;
 mod graph_faults;
 mod jobs;
 mod listing;

@@ -2,6 +2,7 @@
 ghost use Rattle.std.specs.Prelude.{OnOk};
 ghost use Rattle.std.specs.Io.KnownBytes.{Appends};
 ghost use Rattle.std.specs.List.{flat_map};
+ghost use Rattle.answer_lines.specs.Dags.{dag_line, dags_text};
 ghost use Rattle.answer_lines.specs.Listings.{listing_text};
 ghost use Rattle.answer_lines.specs.Pools.{pool_line, pools_text};
 ghost use Rattle.answer_lines.specs.Runs.{run_line, runs_text};
@@ -9,14 +10,16 @@ ghost use Rattle.answer_lines.specs.Tasks.{task_line, tasks_text};
 ghost use Rattle.sched_core.specs.Views.{all_rows, pool_rows};
 
 use crate::answers::put_ok;
+use crate::dags::put_dag;
 use crate::pools::put_pool;
 use crate::runs::put_run;
 use crate::tasks::put_task;
 use command_words::Listing;
 use sched_core::Schedule;
+use sched_state::LoadedGraph;
 use std::io::{self, Write};
 
-/// Writes a row for each run, task instance or pool, and `ok`.
+/// Writes a row for each graph, run, task instance or pool, and `ok`.
 pub fn put_listing<W: Write>(
     output: &mut W,
     schedule: &Schedule,
@@ -26,10 +29,35 @@ pub fn put_listing<W: Write>(
         (listing_text schedule.now.content listing)) }
 {
     match listing {
+        Listing::Dags => put_dags(output, schedule),
         Listing::Runs => put_runs(output, schedule),
         Listing::Tasks => put_tasks(output, schedule),
         Listing::Pools => put_pools(output, schedule),
     }
+}
+
+// Writes a row for each graph, and `ok`.
+fn put_dags<W: Write>(output: &mut W, schedule: &Schedule) -> io::Result<()>
+    ensures { OnOk result (Appends (W.contents output.old) (W.contents output.new)
+        (dags_text schedule.now.content)) }
+{
+    put_dag_rows(output, schedule, schedule.graphs())?;
+    put_ok(output)
+}
+
+// Writes a row for each of these graphs.
+fn put_dag_rows<W: Write>(
+    output: &mut W,
+    schedule: &Schedule,
+    graphs: &[LoadedGraph],
+) -> io::Result<()>
+    ensures { OnOk result (Appends (W.contents output.old) (W.contents output.new)
+        (flat_map (dag_line schedule.now.content) graphs.now)) }
+{
+    for graph in graphs {
+        put_dag(output, schedule, graph)?;
+    }
+    Ok(())
 }
 
 // Writes a row for each run, and `ok`.

@@ -18,7 +18,9 @@ use Rattle.command_words.specs.Values.{after, text_at, flag_at, number_at, name_
 
 -- `list ROWS`
 abbrev pub listing_of : Text → Listing
-listing_of text = if bytes_eq text (codes "runs") then listing.Runs else (if bytes_eq text (codes "tasks") then listing.Tasks else listing.Pools)
+listing_of text =
+    if bytes_eq text (codes "dags") then listing.Dags
+    else (if bytes_eq text (codes "runs") then listing.Runs else (if bytes_eq text (codes "tasks") then listing.Tasks else listing.Pools))
 
 -- `load PATH`; `inline` is no path
 abbrev pub source_of : Text → GraphSource

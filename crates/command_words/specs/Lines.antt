@@ -15,7 +15,7 @@ use Rattle.command_words.specs.Commands.{command_in, kind_named}
 
 -- the words that `list` takes, wherever they lie in memory
 abbrev pub IsListed : Texts → Type 0
-IsListed names = map (λ name. name.now) names.now ≡ codes "runs" ∷ codes "tasks" ∷ codes "pools" ∷ []
+IsListed names = map (λ name. name.now) names.now ≡ codes "dags" ∷ codes "runs" ∷ codes "tasks" ∷ codes "pools" ∷ []
 
 abbrev pub command_of_kind : Option CommandKind → List Row → Result Command UsageFault
 command_of_kind None rows = Err Words

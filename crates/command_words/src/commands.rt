@@ -32,6 +32,8 @@ pub enum UsageFault {
 /// What `list` prints.
 #[derive(Clone, Copy, Debug, PartialEq, Eq)]
 pub enum Listing {
+    /// The graphs, by id.
+    Dags,
     /// The runs, by graph id and logical date.
     Runs,
     /// The task instances, by graph id, logical date and task id.

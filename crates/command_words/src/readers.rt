@@ -14,7 +14,7 @@ use clap::error::ErrorKind;
 use clap::{ArgMatches, Error};
 use std::alloc::{AllocError, Global};
 
-static LISTED: [&str; 3] = ["runs", "tasks", "pools"];
+static LISTED: [&str; 4] = ["dags", "runs", "tasks", "pools"];
 
 /// Reads the words of commands. Contracts speak of `names`, the words that `list` takes, wherever they lie in memory.
 #[derive(Clone, Copy, Debug)]

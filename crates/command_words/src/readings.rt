@@ -22,6 +22,7 @@ fn listing_of(text: &str) -> Listing
     ensures { result ≡ spec.listing_of text.now }
 {
     match text {
+        "dags" => Listing::Dags,
         "runs" => Listing::Runs,
         "tasks" => Listing::Tasks,
         _ => Listing::Pools,

@@ -1,18 +1,25 @@
 -- What a run promises, from what its session and its threads leave.
-use Rattle.std.proofs.Common.{◌≡◌, ℕ, ◌<◌, ◌≤◌, ◌==◌, Bool, true, false, true≢false, List, [], ◌∷◌, length, map, take, Option, None, Result, Ok, Err, MatchResult, OnOk, IfOk, IfErr, IsOk, refl, sym, ap, ◌∙◌, subst, arith, ne_eqb}
+use Rattle.std.proofs.Common.{◌≡◌, ◌++◌, ℕ, ◌<◌, ◌≤◌, ◌==◌, Bool, true, false, true≢false, not, List, [], ◌∷◌, length, map, take, replicate, Option, None, Result, Ok, Err, MatchResult, OnOk, IfOk, IfErr, IsOk, refl, sym, ap, ◌∙◌, subst, arith, ne_eqb}
+use Rattle.std.specs.Prelude.{sum_by}
 use Rattle.std.proofs.lemmas.List.{length-map}
 use Rattle.std.proofs.Math.Seq.{take-length}
 use Rattle.sqlite.specs.Held.{Held}
 use Rattle.sqlite.specs.State.{State}
 use Rattle.instance_machine.specs.declared.tries.Outcome.{Outcome}
+use Rattle.sched_state.specs.declared.jobs.Job.{Job}
 use Rattle.operators.specs.declared.kits.Kit.{Kit}
+use Rattle.ruled_dispatch.specs.Lanes.{sent_of, heard_of}
+use Rattle.ruled_dispatch.specs.declared.items.JobOrStop.{JobOrStop}
+use Rattle.ruled_dispatch.specs.declared.items.JobOrStop.TheVariants as items
+use Rattle.ruled_dispatch.specs.declared.items.Report.{Report}
+use Rattle.ruled_dispatch.specs.declared.items.WorkerReport.{WorkerReport}
 use Rattle.ruled_dispatch.specs.declared.lanes.Lanes.{Lanes}
 use Rattle.sched_events.specs.Steps.{steps, handed_along, AreAccepted}
 use Rattle.sched_events.specs.declared.events.Event.{Event}
 use Rattle.sched_model.specs.Schedule.{Schedule}
 use Rattle.sched_model.specs.States.{in_flight}
 use Rattle.director.specs.Directors.{DirectorValue, Follows}
-use Rattle.minutes.specs.Minutes.{BeginWithRestart}
+use Rattle.minutes.specs.Minutes.{BeginWithRestart, reports_in}
 use Rattle.sessions.specs.Runs.{IsRun}
 use Rattle.sessions.specs.declared.faults.ConductFault.{ConductFault}
 use Rattle.sessions.specs.declared.faults.ConductFault.TheVariants as fault
@@ -20,12 +27,14 @@ use Rattle.sessions.specs.declared.line_reading.Line.{Line}
 use Rattle.sessions.specs.declared.line_reading.LineFault.{LineFault}
 use Rattle.sessions.specs.declared.state.Session.{Session}
 use Rattle.work.specs.declared.crews.WorkerEnd.{WorkerEnd}
-use Rattle.crews.specs.Settled.{AreAccounts}
+use Rattle.work.specs.Logs.{reports_of}
+use Rattle.crews.specs.Settled.{AreAccounts, AreAmongSent, AreAmongTold}
 use Rattle.conduct.specs.declared.conducting.Conducted.{Conducted}
-use Rattle.conduct.specs.Ends.{EachStandsInALog, EachToldItsOwn}
-use Rattle.conduct.specs.Faults.{EndsInside, EndsRun, came_to_its_end, is_no_worker, is_unstarted}
+use Rattle.conduct.specs.Ends.{logged, EachStandsInALog, EachToldItsOwn, HaveWorkedFor}
+use Rattle.conduct.specs.Faults.{EndsInside, EndsRun, all_started, came_to_its_end, is_no_worker, is_unstarted}
 use Rattle.conduct.specs.Served.{IsServed}
 use Rattle.conduct.specs.Run.{IsConducted}
+use Rattle.conduct.proofs.Logs.{jobs_among}
 
 -- ---- why it ended
 ends_run : (f : ConductFault) (o : Option LineFault) → EndsInside f o → EndsRun f o
@@ -91,10 +100,6 @@ pub if_ok : {A F : Type 0} {P Q : A → Type 0} (r : Result A F) → IfOk r P �
 if_ok (Ok v) p f = f v p
 if_ok (Err e) p f = tt
 
-pub onto_ok : {A F P Q : Type 0} (r : Result A F) → OnOk r P → (P → Q) → OnOk r Q
-onto_ok (Ok v) p f = f p
-onto_ok (Err e) p f = tt
-
 pub take_all : {A : Type 0} (n : ℕ) (xs : List A) → n ≡ length xs → take n xs ≡ xs
 take_all n xs same = ap (λ k. take k xs) same ∙ take-length xs
 
@@ -102,9 +107,56 @@ empty_list : {A : Type 0} (xs : List A) → length xs ≤ 0 → xs ≡ []
 empty_list [] le = refl
 empty_list (x ∷ xs) le = absurd (omega arith)
 
+-- ---- whether each worker was started
+pub on_ok : {A P : Type 0} (q : Result A ConductFault) → (all_started q ≡ true → P) → OnOk q P
+on_ok (Ok v) h = h refl
+on_ok (Err f) h = tt
+
+by_cases : {P : Type 0} (b : Bool) → (b ≡ true → P) → (b ≡ false → P) → P
+by_cases true t f = t refl
+by_cases false t f = f refl
+
+-- a fault that came although each was started
+pub started_err : (f : ConductFault) → not (is_unstarted f) ≡ true → is_unstarted f ≡ false
+started_err f started = by_cases (is_unstarted f) (λ is. absurd (true≢false (sym started ∙ ap not is))) (λ is. is)
+
+started_or : {A P Q : Type 0} (q : Result A ConductFault) → IfErr q (λ f. is_unstarted f ≡ true → P) → (all_started q ≡ true → Q) → (P → Q) → Q
+started_or (Ok v) refused started none = started refl
+started_or (Err f) refused started none = by_cases (is_unstarted f) (λ is. none (refused is)) (λ is. started (ap not is))
+
+module _ {G O : Type 0} (runs : O → List (Job × Outcome)) (taken : O → Option Job) (kits : List (Kit O)) where
+  -- no worker reported
+  none_worked : (minutes : List Event) (a : Schedule) → minutes ≡ [] → HaveWorkedFor G runs taken kits minutes a
+  none_worked minutes a none = record {
+    ends = [];
+    few = omega arith;
+    accounts = λ k kit e below. absurd (omega arith);
+    handed = λ weight. omega arith;
+    told = λ weight. subst (λ (l : List Event). sum_by weight (reports_in l) ≤ sum_by (λ (e : WorkerEnd G O). sum_by weight (reports_of e.log.items)) []) (sym none) (omega arith);
+  }
+
+  -- each log is back
+  all_worked : (ends : List (WorkerEnd G O)) (minutes now : List Event) (a : Schedule) (sent : List JobOrStop) (heard : List WorkerReport) (stops : ℕ)
+      → minutes ≡ now → length ends ≡ length kits → AreAccounts runs taken kits ends
+      → sent ≡ map (λ j. items.Job j) (handed_along now a) ++ replicate stops items.Stop → AreAmongSent sent ends
+      → ((weight : Report → ℕ) → sum_by weight (reports_in now) ≤ sum_by weight (map (λ t. t.report) heard)) → AreAmongTold heard ends
+      → HaveWorkedFor G runs taken kits minutes a
+  all_worked ends minutes now a sent heard stops same all accounts is among each told = record {
+    ends = ends;
+    few = omega arith;
+    accounts = accounts;
+    handed = subst (λ (l : List Event). (weight : Job → ℕ) → sum_by (λ (e : WorkerEnd G O). sum_by weight (logged e.log.items)) ends ≤ sum_by weight (handed_along l a)) (sym same)
+        (jobs_among ends sent (handed_along now a) stops is among);
+    told = λ weight.
+        let one : sum_by weight (reports_in minutes) ≡ sum_by weight (reports_in now) = ap (λ (l : List Event). sum_by weight (reports_in l)) same in
+        let two : sum_by weight (reports_in now) ≤ sum_by weight (map (λ (t : WorkerReport). t.report) heard) = each weight in
+        let three : sum_by weight (map (λ (t : WorkerReport). t.report) heard) ≤ sum_by (λ (e : WorkerEnd G O). sum_by weight (reports_of e.log.items)) ends = told weight in
+        omega arith;
+  }
+
 module _ {S G O : Type 0} where
   -- nothing was stepped, and no thread was started
-  pub unstarted_run : (look : Held S → State) (runs : O → List (ℕ × Outcome)) (taken : O → Option ℕ) (lane_count : ℕ) (kits : List (Kit O)) (old : DirectorValue S) (run : Conducted S G O) (are_told : Schedule → List Event → Option Line → Type 0) (untouched : Type 0) (failed : Option LineFault) (is_over : Bool) (f : ConductFault)
+  pub unstarted_run : (look : Held S → State) (runs : O → List (Job × Outcome)) (taken : O → Option Job) (lane_count : ℕ) (kits : List (Kit O)) (old : DirectorValue S) (run : Conducted S G O) (are_told : Schedule → List Event → Option Line → Type 0) (untouched : Type 0) (failed : Option LineFault) (is_over : Bool) (f : ConductFault)
       → run.director ≡ old → run.minutes.items ≡ [] → run.outcome ≡ Err f → are_told old.schedule.content [] None → untouched
       → came_to_its_end run.outcome ≡ false → EndsRun f failed → is_no_worker f ≡ (length kits == 0)
       → IsConducted look runs taken lane_count kits old run are_told untouched failed is_over
@@ -122,6 +174,7 @@ module _ {S G O : Type 0} where
         fault = subst (λ r. MatchResult r (λ _. failed ≡ None) (λ g. EndsRun g failed)) (sym o) ends;
         workers = subst (λ r. MatchResult r (λ _. 0 < length kits) (λ g. is_no_worker g ≡ (length kits == 0))) (sym o) none;
         unstarted = subst (λ r. IfErr r (λ g. is_unstarted g ≡ true → (run.minutes.items ≡ []) × untouched)) (sym o) (λ _. (e, same));
+        worked = none_worked runs taken kits run.minutes.items a e;
         ends = subst (λ r. IfOk r (λ s. length s.ends.items ≡ length kits)) (sym o) tt;
         once = subst (λ r. IfOk r (λ s. EachStandsInALog (handed_along run.minutes.items a) s.ends.items)) (sym o) tt;
         own = subst (λ r. IfOk r (λ s. EachToldItsOwn run.minutes.items s.ends.items)) (sym o) tt;
@@ -130,21 +183,23 @@ module _ {S G O : Type 0} where
       }
 
   -- a session was served while the workers ran, and what the workers did was settled
-  pub conducted : {W R : Type 0} (look : Held S → State) (runs : O → List (ℕ × Outcome)) (taken : O → Option ℕ) (lanes : Lanes) (lane_count stops : ℕ) (kits : List (Kit O)) (old : DirectorValue S) (fresh now : Session S) (outcome : Result W ConductFault)
+  pub conducted : {W R : Type 0} (look : Held S → State) (runs : O → List (Job × Outcome)) (taken : O → Option Job) (lanes : Lanes) (lane_count stops : ℕ) (kits : List (Kit O)) (old : DirectorValue S) (fresh now : Session S) (outcome : Result W ConductFault)
       (results : List R) (end_of : R → WorkerEnd G O) (run : Conducted S G O) (are_told : Schedule → List Event → Option Line → Type 0) (untouched : Type 0) (failed : Option LineFault) (is_over : Bool)
       → 0 < length kits
       → fresh.director ≡ old → IsRun old.schedule.content lane_count fresh
       → IsServed look lanes lane_count stops fresh now outcome are_told untouched failed is_over
       → run.director ≡ now.director → run.minutes.items ≡ now.minutes.items
       → OnOk run.outcome (IsOk outcome) → PassesOn run.outcome outcome
-      → OnOk outcome (length results ≡ length kits)
+      → (all_started outcome ≡ true → length results ≡ length kits)
       → IfOk run.outcome (λ s. s.ends.items ≡ map end_of results)
       → IfOk run.outcome (λ s. EachStandsInALog (handed_along now.minutes.items old.schedule.content) s.ends.items)
       → IfOk run.outcome (λ s. EachToldItsOwn now.minutes.items s.ends.items)
-      → OnOk outcome (AreAccounts runs taken kits (map end_of results))
+      → (all_started outcome ≡ true → AreAccounts runs taken kits (map end_of results))
       → IfOk run.outcome (λ s. (s.desk.slots ≡ 0) × (length s.desk.holds.items ≤ s.desk.slots))
+      → (all_started outcome ≡ true → AreAmongSent (sent_of now.pass) (map end_of results))
+      → (all_started outcome ≡ true → AreAmongTold (heard_of now.pass) (map end_of results))
       → IsConducted look runs taken lane_count kits old run are_told untouched failed is_over
-  conducted {W} {R} look runs taken lanes lane_count stops kits old fresh now outcome results end_of run are_told untouched failed is_over some of_old is_run served dir min ok pass all ends once own accounts desk =
+  conducted {W} {R} look runs taken lanes lane_count stops kits old fresh now outcome results end_of run are_told untouched failed is_over some of_old is_run served dir min ok pass all ends once own accounts desk sent told =
       let a = old.schedule.content in
       let stop = served.run a is_run in
       let what = served.told a is_run in
@@ -167,9 +222,15 @@ module _ {S G O : Type 0} where
         fault = why_by run.outcome outcome failed ok pass served.fault;
         workers = workers_by run.outcome outcome failed (length kits) some pass served.fault;
         unstarted = unstarted_by _ _ run.outcome outcome pass served.unstarted (λ p. (min ∙ p.0, p.1));
-        ends = both_ok run.outcome outcome ok all ends (λ s same is. ap length is ∙ length-map results end_of ∙ same);
+        worked =
+            started_or outcome served.unstarted
+            (λ is.
+            all_worked runs taken kits (map end_of results) run.minutes.items now.minutes.items a (sent_of now.pass) (heard_of now.pass) stops
+            min (length-map results end_of ∙ all is) (accounts is) stop.sent (sent is) stop.each_heard (told is))
+            (λ none. none_worked runs taken kits run.minutes.items a (min ∙ none.0));
+        ends = both_ok run.outcome outcome ok (on_ok outcome all) ends (λ s same is. ap length is ∙ length-map results end_of ∙ same);
         once = if_ok run.outcome once (λ s each. subst (λ (l : List Event). EachStandsInALog (handed_along l a) s.ends.items) (sym min) each);
         own = if_ok run.outcome own (λ s each. subst (λ (l : List Event). EachToldItsOwn l s.ends.items) (sym min) each);
-        accounts = both_ok run.outcome outcome ok accounts ends (λ s are is. subst (λ (l : List (WorkerEnd G O)). AreAccounts runs taken kits l) (sym is) are);
+        accounts = both_ok run.outcome outcome ok (on_ok outcome accounts) ends (λ s are is. subst (λ (l : List (WorkerEnd G O)). AreAccounts runs taken kits l) (sym is) are);
         desk = if_ok run.outcome desk (λ s d. (d.0, empty_list s.desk.holds.items (subst (λ n. length s.desk.holds.items ≤ n) d.0 d.1)));
       }

@@ -1,5 +1,5 @@
 -- The jobs in the logs, where stops are left out, and the reports of each log.
-use Rattle.std.proofs.Common.{◌≡◌, ℕ, zero, suc, ◌<◌, ◌==◌, List, [], ◌∷◌, ◌++◌, length, get_or, map, replicate, refl, sym, ap, ◌∙◌, arith, eq-eqb, ◌&&◌, true, Result, Ok, Err, IfOk, OnOk}
+use Rattle.std.proofs.Common.{◌≡◌, ℕ, zero, suc, ◌<◌, ◌≤◌, ◌==◌, List, [], ◌∷◌, ◌++◌, length, get_or, map, replicate, refl, sym, ap, ◌∙◌, arith, eq-eqb, ◌&&◌, true, Result, Ok, Err, IfOk, OnOk}
 use Rattle.std.specs.Prelude.{sum_by}
 use Rattle.std.specs.List.{list_all}
 use Rattle.std.proofs.lemmas.List.{length-map}
@@ -17,7 +17,7 @@ use Rattle.ruled_dispatch.specs.ReportsRule.{told_by}
 use Rattle.work.specs.declared.crews.WorkerEnd.{WorkerEnd}
 use Rattle.work.specs.declared.logs.Logged.{Logged}
 use Rattle.work.specs.Logs.{jobs_of, reports_of, both_reports}
-use Rattle.crews.specs.Settled.{StandInLogs, AreHeard}
+use Rattle.crews.specs.Settled.{StandInLogs, AreAmongSent, AreHeard}
 use Rattle.minutes.specs.Minutes.{of_worker, reports_in}
 use Rattle.minutes.specs.Logs.{AreLogs, are_of}
 use Rattle.minutes.proofs.LogLemmas.{log_is_own}
@@ -70,6 +70,17 @@ module _ {G O : Type 0} where
       let of_jobs = weigh_jobs weight jobs in
       let of_stops = weigh_stops weight stops in
       let of_others = weigh_stops weight (length ends) in
+      let of_logs = weigh_logs weight ends in
+      omega arith
+
+  -- what does not stand in the logs more often than it was sent, beside the stops, are the jobs
+  pub jobs_among : (ends : List (WorkerEnd G O)) (sent : List JobOrStop) (jobs : List Job) (stops : ℕ) → sent ≡ map (λ j. items.Job j) jobs ++ replicate stops items.Stop
+      → AreAmongSent sent ends → (weight : Job → ℕ) → sum_by (λ e. sum_by weight (logged e.log.items)) ends ≤ sum_by weight jobs
+  jobs_among ends sent jobs stops is among weight =
+      let all = among (item_weight weight) in
+      let split = ap (sum_by (item_weight weight)) is ∙ sum_by-append (item_weight weight) (map (λ (j : Job). items.Job j) jobs) (replicate stops items.Stop) in
+      let of_jobs = weigh_jobs weight jobs in
+      let of_stops = weigh_stops weight stops in
       let of_logs = weigh_logs weight ends in
       omega arith
 

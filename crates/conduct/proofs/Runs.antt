@@ -1,5 +1,6 @@
 -- A session that was served, and one that was not, with the stops sent after it.
-use Rattle.std.proofs.Common.{◌≡◌, ℕ, ◌<◌, Bool, true, false, true≢false, List, ◌++◌, length, map, replicate, Option, None, Result, Ok, Err, MatchBool, MatchResult, OnOk, IfErr, refl, sym, ap, ◌∙◌, subst}
+use Rattle.std.proofs.Common.{◌≡◌, ℕ, ◌<◌, ◌≤◌, Bool, true, false, true≢false, List, ◌++◌, length, map, replicate, Option, None, Result, Ok, Err, MatchBool, MatchResult, OnOk, IfErr, refl, sym, ap, ◌∙◌, subst}
+use Rattle.std.specs.Prelude.{sum_by}
 use Rattle.sqlite.specs.Held.{Held}
 use Rattle.sqlite.specs.State.{State}
 use Rattle.ruled_dispatch.specs.Lanes.{sent_of, heard_of, IsDirectorOf, HasWorkers}
@@ -10,6 +11,7 @@ use Rattle.ruled_dispatch.specs.declared.passes.DirectorPass.{DirectorPass}
 use Rattle.sched_events.specs.declared.events.Event.{Event}
 use Rattle.sched_model.specs.Schedule.{Schedule}
 use Rattle.sched_model.specs.States.{in_flight}
+use Rattle.minutes.specs.Minutes.{reports_in}
 use Rattle.sessions.specs.Faults.{EndsBy}
 use Rattle.sessions.specs.Runs.{GoesOn, IsRun}
 use Rattle.sessions.specs.Told.{AreToldBy}
@@ -20,12 +22,13 @@ use Rattle.sessions.specs.declared.line_reading.LineFault.{LineFault}
 use Rattle.sessions.specs.declared.state.Session.{Session}
 use Rattle.graph_file.specs.declared.operators.Operator.{Operator as Kind}
 use Rattle.instance_machine.specs.declared.tries.Outcome.{Outcome}
+use Rattle.sched_state.specs.declared.jobs.Job.{Job}
 use Rattle.slot_desk.specs.declared.holds.Hold.{Hold}
 use Rattle.operators.specs.declared.kits.Kit.{Kit}
 use Rattle.ruled_dispatch.specs.declared.passes.WorkerPass.{WorkerPass}
 use Rattle.work.specs.declared.crews.WorkerEnd.{WorkerEnd}
 use Rattle.crews.specs.Threads.{HaveWorked}
-use Rattle.conduct.specs.Faults.{EndsInside, is_unstarted}
+use Rattle.conduct.specs.Faults.{EndsInside, all_started, is_unstarted}
 use Rattle.conduct.specs.Served.{IsStopped, IsServed}
 
 inside : (f : ConductFault) (o : Option LineFault) → EndsBy f o → EndsInside f o
@@ -64,6 +67,7 @@ module _ {S : Type 0} where
     accepted = run.accepted;
     sent = sent ∙ ap (λ l. l ++ replicate stops item.Stop) run.sent;
     heard = λ none. ap (map (λ (t : WorkerReport). t.report)) heard ∙ run.heard none;
+    each_heard = λ weight. subst (λ (l : List WorkerReport). sum_by weight (reports_in s.minutes.items) ≤ sum_by weight (map (λ (t : WorkerReport). t.report) l)) (sym heard) (run.each_heard weight);
     begun = run.begun;
   }
 
@@ -96,15 +100,14 @@ module _ {S : Type 0} where
   same_stops {W} {look} {lanes} {lane_count} {old} {now} {outcome} {are_told} {untouched} {failed} {is_over} n m same = subst (λ k. IsServed look lanes lane_count k old now outcome are_told untouched failed is_over) same
 
 -- workers that worked from what their handles say worked from what they were given
-pub worked_from : {G O : Type 0} (kind_of : O → Kind) (runs : O → List (ℕ × Outcome)) (taken : O → Option ℕ) (ps ps' : List WorkerPass) (ss ss' : List (List Hold)) (ks ks' : List (Kit O)) (results : List (WorkerEnd G O × WorkerPass × List Hold))
+pub worked_from : {G O : Type 0} (kind_of : O → Kind) (runs : O → List (Job × Outcome)) (taken : O → Option Job) (ps ps' : List WorkerPass) (ss ss' : List (List Hold)) (ks ks' : List (Kit O)) (results : List (WorkerEnd G O × WorkerPass × List Hold))
     → ps ≡ ps' → ss ≡ ss' → ks ≡ ks' → HaveWorked kind_of runs taken ps ss ks results → HaveWorked kind_of runs taken ps' ss' ks' results
 worked_from {G = G} {O = O} kind_of runs taken ps ps' ss ss' ks ks' results a b d h =
     subst (λ (p : List WorkerPass). HaveWorked kind_of runs taken p ss' ks' results) a
     (subst (λ (s : List (List Hold)). HaveWorked kind_of runs taken ps s ks' results) b
     (subst (λ (k : List (Kit O)). HaveWorked kind_of runs taken ps ss k results) d h))
 
--- all were started
-pub all_started : {W E : Type 0} (r : Result W E) (b : Bool) (n m k : ℕ) → OnOk r (b ≡ true) → MatchBool b (n ≡ m) (n < m) → k ≡ n → OnOk r (k ≡ m)
-all_started (Ok w) true n m k is all same = same ∙ all
-all_started (Ok w) false n m k is all same = absurd (true≢false (sym is))
-all_started (Err e) b n m k is all same = tt
+-- each was started
+pub each_started : {W : Type 0} (r : Result W ConductFault) (b : Bool) (n m k : ℕ) → (all_started r ≡ true → b ≡ true) → MatchBool b (n ≡ m) (n < m) → k ≡ n → all_started r ≡ true → k ≡ m
+each_started r true n m k is all same started = same ∙ all
+each_started r false n m k is all same started = absurd (true≢false (sym (is started)))

@@ -1,9 +1,15 @@
 -- What the ends of the crews say of the jobs that were handed out.
-use Rattle.std.specs.Prelude.{◌≡◌, ℕ, ◌<◌, List, length, map, sum_by, slice_index_or}
+use Rattle.std.specs.Prelude.{◌≡◌, ℕ, ◌<◌, ◌≤◌, List, length, map, sum_by, slice_index_or, Option}
+use Rattle.instance_machine.specs.declared.tries.Outcome.{Outcome}
+use Rattle.ruled_dispatch.specs.declared.items.Report.{Report}
 use Rattle.sched_state.specs.declared.jobs.Job.{Job}
 use Rattle.sched_events.specs.Promises.{serials_in}
+use Rattle.sched_events.specs.Steps.{handed_along}
 use Rattle.sched_events.specs.declared.events.Event.{Event}
-use Rattle.minutes.specs.Minutes.{of_worker}
+use Rattle.sched_model.specs.Schedule.{Schedule}
+use Rattle.operators.specs.declared.kits.Kit.{Kit}
+use Rattle.crews.specs.Settled.{AreAccounts}
+use Rattle.minutes.specs.Minutes.{of_worker, reports_in}
 use Rattle.work.specs.declared.crews.WorkerEnd.{WorkerEnd}
 use Rattle.work.specs.declared.logs.Logged.{Logged}
 use Rattle.work.specs.Logs.{reports_of}
@@ -27,3 +33,12 @@ module _ {G O : Type 0} where
   EachToldItsOwn minutes ends =
       (k : ℕ) (e : WorkerEnd G O) → k < length ends
       → of_worker (serials_of (slice_index_or ends k e).log.items) minutes ≡ reports_of (slice_index_or ends k e).log.items
+
+-- Workers with these kits, or with the first of them, have worked for these minutes, from this schedule on: the log of each is an account of its kit; no job
+-- stands in the logs more often than the minutes hand it out; and the minutes report nothing more often than the logs tell it.
+pub record HaveWorkedFor {O : Type 0} (G : Type 0) (runs : O → List (Job × Outcome)) (taken : O → Option Job) (kits : List (Kit O)) (minutes : List Event) (a : Schedule) : Type 0 where
+  pub ends : List (WorkerEnd G O)
+  pub few : length ends ≤ length kits
+  pub accounts : AreAccounts runs taken kits ends
+  pub handed : (weight : Job → ℕ) → sum_by (λ e. sum_by weight (logged e.log.items)) ends ≤ sum_by weight (handed_along minutes a)
+  pub told : (weight : Report → ℕ) → sum_by weight (reports_in minutes) ≤ sum_by (λ e. sum_by weight (reports_of e.log.items)) ends

@@ -1,5 +1,5 @@
 -- Why a run ends before its lines are over, or not well, and what the lines failed in then.
-use Rattle.std.specs.Prelude.{◌≡◌, Bool, true, false, Option, None, Result, Ok, Err}
+use Rattle.std.specs.Prelude.{◌≡◌, Bool, true, false, not, Option, None, Result, Ok, Err}
 use Rattle.sessions.specs.Faults.{EndsBy}
 use Rattle.sessions.specs.declared.faults.ConductFault.{ConductFault}
 use Rattle.sessions.specs.declared.faults.ConductFault.TheVariants as fault
@@ -21,6 +21,11 @@ abbrev pub is_unstarted : ConductFault → Bool
 is_unstarted fault.NoWorker = true
 is_unstarted fault.SpawnRefused = true
 is_unstarted _ = false
+
+-- no thread was refused, where one was needed
+abbrev pub all_started : {A : Type 0} → Result A ConductFault → Bool
+all_started (Ok ends) = true
+all_started (Err f) = not (is_unstarted f)
 
 abbrev pub is_no_worker : ConductFault → Bool
 is_no_worker fault.NoWorker = true

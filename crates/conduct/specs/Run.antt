@@ -3,6 +3,7 @@ use Rattle.std.specs.Prelude.{◌≡◌, ◌==◌, ℕ, ◌<◌, Bool, true, Lis
 use Rattle.sqlite.specs.Held.{Held}
 use Rattle.sqlite.specs.State.{State}
 use Rattle.instance_machine.specs.declared.tries.Outcome.{Outcome}
+use Rattle.sched_state.specs.declared.jobs.Job.{Job}
 use Rattle.operators.specs.declared.kits.Kit.{Kit}
 use Rattle.crews.specs.Settled.{AreAccounts}
 use Rattle.sched_events.specs.Steps.{steps, handed_along, AreAccepted}
@@ -14,13 +15,13 @@ use Rattle.minutes.specs.Minutes.{BeginWithRestart}
 use Rattle.sessions.specs.declared.line_reading.Line.{Line}
 use Rattle.sessions.specs.declared.line_reading.LineFault.{LineFault}
 use Rattle.conduct.specs.declared.conducting.Conducted.{Conducted}
-use Rattle.conduct.specs.Ends.{EachStandsInALog, EachToldItsOwn}
+use Rattle.conduct.specs.Ends.{EachStandsInALog, EachToldItsOwn, HaveWorkedFor}
 use Rattle.conduct.specs.Faults.{EndsRun, came_to_its_end, is_no_worker, is_unstarted}
 
 -- What came of a run: from a director, with so many lanes, and with these kits, one of each crew. Of the lines and the clock: how they came from their
 -- first states to their last ones while minutes were made from a schedule on (are_told), or that they are as they were (untouched); what the lines failed
 -- in, and whether they are over.
-pub record IsConducted {S G O : Type 0} (look : Held S → State) (runs : O → List (ℕ × Outcome)) (taken : O → Option ℕ) (lane_count : ℕ) (kits : List (Kit O)) (old : DirectorValue S) (run : Conducted S G O) (are_told : Schedule → List Event → Option Line → Type 0) (untouched : Type 0) (failed : Option LineFault) (is_over : Bool) : Type 0 where
+pub record IsConducted {S G O : Type 0} (look : Held S → State) (runs : O → List (Job × Outcome)) (taken : O → Option Job) (lane_count : ℕ) (kits : List (Kit O)) (old : DirectorValue S) (run : Conducted S G O) (are_told : Schedule → List Event → Option Line → Type 0) (untouched : Type 0) (failed : Option LineFault) (is_over : Bool) : Type 0 where
   -- with a fault too: the schedule is that of the minutes, each of which was accepted, and the record follows it
   pub stepped : run.director.schedule.content ≡ steps run.minutes.items old.schedule.content
   pub accepted : AreAccepted run.minutes.items old.schedule.content
@@ -29,7 +30,8 @@ pub record IsConducted {S G O : Type 0} (look : Held S → State) (runs : O → 
   -- the minutes begin with the restart, and have no other
   pub begun : BeginWithRestart lane_count run.minutes.items
   -- with a fault too: the lines were told the events that they name, each with its answer, in order, and of each other event its cause in the schedule of
-  -- the minutes so far, at which they also looked; their ticks are at the clock's moments; and this line waits for its answer
+  -- the minutes so far, at which they also looked; their ticks are at the clock's moments; and this line waits for its answer. All of it was behind the
+  -- restart, and reports were heard only where the lines wait for that, and in the end
   pub waits : Option Line
   pub told : are_told old.schedule.content run.minutes.items waits
   -- where the lines were followed to their end, they are over, none waits for its answer, and no try is in flight
@@ -39,6 +41,8 @@ pub record IsConducted {S G O : Type 0} (look : Held S → State) (runs : O → 
   pub fault : MatchResult run.outcome (λ _. failed ≡ None) (λ f. EndsRun f failed)
   pub workers : MatchResult run.outcome (λ _. 0 < length kits) (λ f. is_no_worker f ≡ (length kits == 0))
   pub unstarted : IfErr run.outcome (λ f. is_unstarted f ≡ true → (run.minutes.items ≡ []) × untouched)
+  -- with a fault too: workers have worked for the minutes, which report nothing that no worker told
+  pub worked : HaveWorkedFor G runs taken kits run.minutes.items old.schedule.content
   -- where it ended well: each try that was handed out stands in the log of one worker, as often as it was handed out, and no other does
   pub ends : IfOk run.outcome (λ s. length s.ends.items ≡ length kits)
   pub once : IfOk run.outcome (λ s. EachStandsInALog (handed_along run.minutes.items old.schedule.content) s.ends.items)

@@ -1,9 +1,10 @@
 -- What is left of a session that was served while the workers ran.
-use Rattle.std.specs.Prelude.{◌≡◌, ℕ, ◌<◌, ◌≤◌, Bool, true, false, List, [], ◌++◌, All, length, map, take, replicate, Option, None, Result, MatchResult, OnOk, IfErr, vec_capacity}
+use Rattle.std.specs.Prelude.{◌≡◌, ℕ, ◌<◌, ◌≤◌, Bool, true, false, List, [], ◌++◌, All, length, map, take, sum_by, replicate, Option, None, Result, MatchResult, OnOk, IfErr, vec_capacity}
 use Rattle.sqlite.specs.Held.{Held}
 use Rattle.sqlite.specs.State.{State}
 use Rattle.ruled_dispatch.specs.Lanes.{sent_of, heard_of, IsDirectorOf, IsWorkerOf, HasWorkers}
 use Rattle.ruled_dispatch.specs.declared.items.JobOrStop.TheVariants as item
+use Rattle.ruled_dispatch.specs.declared.items.Report.{Report}
 use Rattle.ruled_dispatch.specs.declared.lanes.Lanes.{Lanes}
 use Rattle.sched_events.specs.Steps.{steps, handed_along, AreAccepted}
 use Rattle.sched_events.specs.declared.events.Event.{Event}
@@ -19,6 +20,7 @@ use Rattle.sessions.specs.declared.line_reading.LineFault.{LineFault}
 use Rattle.sessions.specs.declared.state.Session.{Session}
 use Rattle.graph_file.specs.declared.operators.Operator.{Operator as Kind}
 use Rattle.instance_machine.specs.declared.tries.Outcome.{Outcome}
+use Rattle.sched_state.specs.declared.jobs.Job.{Job}
 use Rattle.ruled_dispatch.specs.declared.passes.WorkerPass.{WorkerPass}
 use Rattle.slot_desk.specs.declared.holds.Hold.{Hold}
 use Rattle.operators.specs.Kits.{IsKit}
@@ -26,15 +28,17 @@ use Rattle.work.specs.declared.crews.Crew.{Crew}
 use Rattle.work.specs.declared.crews.WorkerEnd.{WorkerEnd}
 use Rattle.crews.specs.Threads.{HaveWorked}
 use Rattle.conduct.specs.declared.equipment.Posts.{Posts}
-use Rattle.conduct.specs.Faults.{EndsInside, is_unstarted}
+use Rattle.conduct.specs.Faults.{EndsInside, all_started, is_unstarted}
 
 -- From the schedule a, with so many lanes: the schedule is that of the minutes, which were accepted; what was sent are the tries that they hand out,
--- and then so many stops; what was heard, if no report was missed, is what they report; and the restart is their first event.
+-- and then so many stops; what was heard, if no report was missed, is what they report, and missed or not, they report nothing more often than it was heard;
+-- and the restart is their first event.
 pub record IsStopped {S : Type 0} (a : Schedule) (lane_count stops : ℕ) (s : Session S) : Type 0 where
   pub stepped : s.director.schedule.content ≡ steps s.minutes.items a
   pub accepted : AreAccepted s.minutes.items a
   pub sent : sent_of s.pass ≡ map (λ j. item.Job j) (handed_along s.minutes.items a) ++ replicate stops item.Stop
   pub heard : s.missed ≡ false → map (λ t. t.report) (heard_of s.pass) ≡ reports_in s.minutes.items
+  pub each_heard : (weight : Report → ℕ) → sum_by weight (reports_in s.minutes.items) ≤ sum_by weight (map (λ t. t.report) (heard_of s.pass))
   pub begun : BeginWithRestart lane_count s.minutes.items
 
 -- A session that had stepped nothing yet was served with so many lanes, and then so many stops were sent: what is left of it, and how it ended. Of the
@@ -68,11 +72,11 @@ pub record IsReady {S D G O : Type 0} (kind_of : O → Kind) (lanes : Lanes) (la
   pub none : posts.handles.items ≡ []
   pub room : length crews ≤ vec_capacity posts.handles
 
--- What came of the threads: the session was served, each worker that was started worked from what it was given, and where the session came to its end these
--- are all.
-pub record IsManaged {S D G O W : Type 0} (look : Held S → State) (kind_of : O → Kind) (runs : O → List (ℕ × Outcome)) (taken : O → Option ℕ) (lanes : Lanes) (lane_count : ℕ)
+-- What came of the threads: the session was served, each worker that was started worked from what it was given, and these are all unless a thread was
+-- refused.
+pub record IsManaged {S D G O W : Type 0} (look : Held S → State) (kind_of : O → Kind) (runs : O → List (Job × Outcome)) (taken : O → Option Job) (lanes : Lanes) (lane_count : ℕ)
     (old : Session S) (posts : Posts D G O) (crews : List (Crew G O)) (new : Session S) (outcome : Result W ConductFault) (results : List (WorkerEnd G O × WorkerPass × List Hold))
     (are_told : Schedule → List Event → Option Line → Type 0) (untouched : Type 0) (failed : Option LineFault) (is_over : Bool) : Type 0 where
   pub served : IsServed look lanes lane_count (length results) old new outcome are_told untouched failed is_over
   pub worked : HaveWorked kind_of runs taken (take (length results) posts.passes.items) (take (length results) posts.shares.items) (take (length results) (map (λ c. c.kit) crews)) results
-  pub all : OnOk outcome (length results ≡ length crews)
+  pub all : all_started outcome ≡ true → length results ≡ length crews

@@ -3,6 +3,7 @@ ghost use Rattle.std.specs.Prelude.{◌≡◌, ◌≤◌, [], true, false, None,
 ghost use Rattle.sqlite.specs.Held.{state};
 ghost use Rattle.ruled_dispatch.specs.Lanes.{IsDirectorOf};
 ghost use Rattle.sessions.specs.Told.{AreTold};
+ghost use Rattle.conduct.specs.Faults.{all_started};
 ghost use Rattle.conduct.specs.Served.{IsServed};
 
 use crews::stop_all;
@@ -37,7 +38,7 @@ pub fn serve<S: Alter, L: Lines, C: Clock, R: Wait>(
     requires undrained { L.drains lines.old ≡ false }
     ensures served { IsServed (state S.Store) lanes.now lane_count started.workers session.old session.new result
         (AreTold L.tells C.gives lines.old clock.old lines.new clock.new) ((lines.new ≡ lines.old) × (clock.new ≡ clock.old)) (L.failed lines.new) (L.over lines.new) }
-    ensures all { OnOk result (started.are_all ≡ true) }
+    ensures all { all_started result ≡ true → started.are_all ≡ true }
 {
     if !started.are_all {
         stop_all(rt, lanes, &mut session.pass, started.workers);

@@ -1,14 +1,17 @@
 -- What is known of workers that began with new passes and with shares without a hold.
-use Rattle.std.proofs.Common.{◌≡◌, ℕ, suc, ◌+◌, ◌<◌, List, [], ◌∷◌, ◌++◌, length, get_or, map, All, Option, refl, ap, ◌∙◌, arith, replicate}
+use Rattle.std.proofs.Common.{◌≡◌, ℕ, suc, ◌+◌, ◌<◌, ◌≤◌, List, [], ◌∷◌, ◌++◌, length, get_or, map, All, Option, refl, ap, ◌∙◌, arith, replicate}
 use Rattle.std.specs.Prelude.{sum_by}
+use Rattle.std.proofs.lemmas.List.{length-map}
 use Rattle.std.proofs.lemmas.List.Sums.{sum_by-cons, sum_by-append}
 use Rattle.graph_file.specs.declared.operators.Operator.{Operator as Kind}
 use Rattle.instance_machine.specs.declared.tries.Outcome.{Outcome}
+use Rattle.sched_state.specs.declared.jobs.Job.{Job}
 use Rattle.ruled_dispatch.specs.declared.items.JobOrStop.{JobOrStop}
 use Rattle.ruled_dispatch.specs.declared.items.JobOrStop.TheVariants as items
 use Rattle.ruled_dispatch.specs.declared.lanes.Lanes.{Lanes}
+use Rattle.ruled_dispatch.specs.declared.passes.DirectorPass.{DirectorPass}
 use Rattle.ruled_dispatch.specs.declared.passes.WorkerPass.{WorkerPass}
-use Rattle.ruled_dispatch.specs.Lanes.{taken_of, told_of, IsWorkerOf, AreNumbered}
+use Rattle.ruled_dispatch.specs.Lanes.{sent_of, taken_of, told_of, IsWorkerOf, AreNumbered, IsSettledBut}
 use Rattle.slot_desk.specs.declared.holds.Hold.{Hold}
 use Rattle.slot_desk.specs.Holds.{in_hand, slots_of}
 use Rattle.operators.specs.declared.kits.Kit.{Kit}
@@ -17,7 +20,7 @@ use Rattle.work.specs.declared.crews.WorkerEnd.{WorkerEnd}
 use Rattle.work.specs.Logs.{jobs_of, reports_of}
 use Rattle.work.specs.Accounts.{IsAccount}
 use Rattle.crews.specs.Threads.{HaveWorked}
-use Rattle.crews.specs.Settled.{AreBack, AreAccounts}
+use Rattle.crews.specs.Settled.{AreBack, AreAccounts, AreAmongSent}
 use Rattle.crews.proofs.Places.{at_image}
 
 -- what all passes took is what the logs say, and a stop each
@@ -35,6 +38,17 @@ took_all weight (r ∷ rs) each =
     let stops = sum_by-cons weight items.Stop (replicate (length rs) items.Stop) in
     omega arith
 
+-- where all passes are back, what was sent is what the logs say, a stop each, and what is left
+pub back_are_sent : {G O : Type 0} (lanes : Lanes) (director : DirectorPass) (rs : List (WorkerEnd G O × WorkerPass × List Hold)) (passes : List WorkerPass) (count : ℕ)
+    → passes ≡ map (λ r. r.1) rs → AreBack lanes rs → IsSettledBut director passes count
+    → AreAmongSent (sent_of director) (map (λ r. r.0) rs)
+back_are_sent lanes director rs passes count are back tallied weight =
+    let all = tallied.2 weight in
+    let same = ap (sum_by (λ (w : WorkerPass). sum_by weight (taken_of w))) are in
+    let took = took_all weight rs (λ i r b. (back i r b).took) in
+    let stops = ap (λ m. sum_by weight (replicate m items.Stop)) (length-map rs (λ r. r.0)) in
+    omega arith
+
 nothing_held : {R : Type 0} (share : R → List Hold) (rs : List R) → ((i : ℕ) (r : R) → i < length rs → share (get_or rs i r) ≡ []) → in_hand (map share rs) ≡ 0
 nothing_held share [] each = refl
 nothing_held share (r ∷ rs) each =
@@ -43,7 +57,7 @@ nothing_held share (r ∷ rs) each =
     let all = sum_by-cons slots_of (share r) (map share rs) in
     omega arith
 
-module _ {G O : Type 0} (kind_of : O → Kind) (runs : O → List (ℕ × Outcome)) (taken : O → Option ℕ)
+module _ {G O : Type 0} (kind_of : O → Kind) (runs : O → List (Job × Outcome)) (taken : O → Option Job)
     (passes : List WorkerPass) (shares : List (List Hold)) (kits : List (Kit O)) (results : List (WorkerEnd G O × WorkerPass × List Hold))
     (worked : HaveWorked {G = G} {O = O} kind_of runs taken passes shares kits results) where
   -- workers that began with new passes are back

@@ -1,3 +1,4 @@
 pub mod Places
 pub mod Backs
 pub mod Owners
+pub mod Told

@@ -18,12 +18,12 @@ one b = cond b 1 0
 abbrev count : ℕ → List Report → ℕ
 count s rs = sum_by (λ r. one (r.serial == s)) rs
 
-below_or : (n m : ℕ) → (n < m) ⊎ (m ≤ n)
+pub below_or : (n m : ℕ) → (n < m) ⊎ (m ≤ n)
 below_or n zero = inr (omega arith)
 below_or zero (suc m) = inl (omega arith)
 below_or (suc n) (suc m) = ⊎_elim (λ (h : n < m). inl (omega arith)) (λ (h : m ≤ n). inr (omega arith)) (below_or n m)
 
-same_or : (n m : ℕ) → (n ≡ m) ⊎ (n ≢ m)
+pub same_or : (n m : ℕ) → (n ≡ m) ⊎ (n ≢ m)
 same_or n m = ⊎_elim (λ (h : n < m). inr (λ e. absurd (omega arith))) (λ (h : m ≤ n). ⊎_elim (λ (k : m < n). inr (λ e. absurd (omega arith))) (λ (k : n ≤ m). inl (omega arith)) (below_or m n)) (below_or n m)
 
 reports_times : (s : ℕ) (log : List Logged) → count s (reports_of log) ≡ times s log + times s log

@@ -2,6 +2,7 @@
 use Rattle.std.specs.Prelude.{◌≡◌, ◌==◌, ℕ, ◌+◌, ◌<◌, ◌≤◌, Bool, List, [], ◌∷◌, ◌++◌, length, map, filter, slice_index_or, sum_by, replicate, Option}
 use Rattle.std.specs.List.{list_any, count_by}
 use Rattle.instance_machine.specs.declared.tries.Outcome.{Outcome}
+use Rattle.sched_state.specs.declared.jobs.Job.{Job}
 use Rattle.ruled_dispatch.specs.declared.items.JobOrStop.{JobOrStop}
 use Rattle.ruled_dispatch.specs.declared.items.JobOrStop.TheVariants as items
 use Rattle.ruled_dispatch.specs.declared.items.Report.{Report}
@@ -43,8 +44,19 @@ module _ {G O : Type 0} where
       ((k : ℕ) (e : WorkerEnd G O) → k < length ends → told_by k heard ≡ reports_of (slice_index_or ends k e).log.items)
       × ((k : ℕ) → length ends ≤ k → told_by k heard ≡ [])
 
+  -- no item stands in the logs more often than it was sent, beside one stop for each worker
+  abbrev pub AreAmongSent : List JobOrStop → List (WorkerEnd G O) → Type 0
+  AreAmongSent sent ends =
+      (weight : JobOrStop → ℕ)
+      → sum_by (λ e. sum_by weight (jobs_of e.log.items)) ends + sum_by weight (replicate (length ends) items.Stop) ≤ sum_by weight sent
+
+  -- nothing was heard more often than the logs tell it
+  abbrev pub AreAmongTold : List WorkerReport → List (WorkerEnd G O) → Type 0
+  AreAmongTold heard ends =
+      (weight : Report → ℕ) → sum_by weight (map (λ r. r.report) heard) ≤ sum_by (λ e. sum_by weight (reports_of e.log.items)) ends
+
   -- each log is an account of the kit at its place, from what it was to what came back
-  abbrev pub AreAccounts : (O → List (ℕ × Outcome)) → (O → Option ℕ) → List (Kit O) → List (WorkerEnd G O) → Type 0
+  abbrev pub AreAccounts : (O → List (Job × Outcome)) → (O → Option Job) → List (Kit O) → List (WorkerEnd G O) → Type 0
   AreAccounts runs taken kits ends =
       (k : ℕ) (kit : Kit O) (e : WorkerEnd G O) → k < length ends
       → IsAccount runs taken (slice_index_or kits k kit) (slice_index_or ends k e).kit (slice_index_or ends k e).log.items

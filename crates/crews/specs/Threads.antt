@@ -2,6 +2,7 @@
 use Rattle.std.specs.Prelude.{◌≡◌, ℕ, ◌<◌, List, [], ◌∷◌, ◌++◌, length, slice_index_or, Option}
 use Rattle.graph_file.specs.declared.operators.Operator.{Operator as Kind}
 use Rattle.instance_machine.specs.declared.tries.Outcome.{Outcome}
+use Rattle.sched_state.specs.declared.jobs.Job.{Job}
 use Rattle.ruled_dispatch.specs.declared.items.JobOrStop.TheVariants as items
 use Rattle.ruled_dispatch.specs.declared.passes.WorkerPass.{WorkerPass}
 use Rattle.ruled_dispatch.specs.Lanes.{taken_of, told_of}
@@ -13,7 +14,7 @@ use Rattle.work.specs.Logs.{jobs_of, reports_of}
 use Rattle.work.specs.Accounts.{IsAccount}
 use Rattle.work.specs.Passes.{StaysWith}
 
-module _ {G O : Type 0} (kind_of : O → Kind) (runs : O → List (ℕ × Outcome)) (taken : O → Option ℕ) where
+module _ {G O : Type 0} (kind_of : O → Kind) (runs : O → List (Job × Outcome)) (taken : O → Option Job) where
   -- From this pass, share and kit a worker came to this end, pass and share: the log says which jobs it took, before one stop, and what it
   -- told, and is an account of the kit; and the pass and the share are what they were.
   pub record HasWorked (pass : WorkerPass) (share : List Hold) (kit : Kit O) (end : WorkerEnd G O) (now : WorkerPass) (back : List Hold) : Type 0 where

@@ -2,7 +2,7 @@
 ghost use Rattle.std.specs.Prelude.{◌≡◌, ◌+◌, ◌<◌, ◌≤◌, IfOk, IfErr, length, map, true};
 ghost use Rattle.ruled_dispatch.specs.Lanes.{sent_of, heard_of, IsDirectorOf, HasWorkers, IsSettledBut, IsHeardBut};
 ghost use Rattle.slot_desk.specs.Holds.{in_hand, slots_of, have_distinct_serials};
-ghost use Rattle.crews.specs.Settled.{AreBack, StandInLogs, AreHeard};
+ghost use Rattle.crews.specs.Settled.{AreBack, StandInLogs, AreHeard, AreAmongSent, AreAmongTold};
 
 use crate::rooms::{Parts, Room};
 use crate::threads::Worked;
@@ -24,7 +24,8 @@ pub struct Settled<G: Gate, O: Operator> {
 
 /// Counts what the queues hold and what the desk holds, once all workers have ended. It takes no memory.
 ///
-/// On `Err` something is left in a queue, so many items and reports, and there is no account.
+/// On `Err` something is left in a queue, so many items and reports, and there is no account; but no log has a job that was not sent, and
+/// nothing was heard that no log tells.
 pub fn settle<L: Ledger, G: Gate, O: Operator, R: Wait>(
     rt: &R,
     lanes: Lanes,
@@ -46,6 +47,8 @@ pub fn settle<L: Ledger, G: Gate, O: Operator, R: Wait>(
     ensures in_book { IfOk result (λ s. s.desk.slots ≡ slots_of s.desk.holds.items) }
     ensures each_has_one { IfOk result (λ s. length s.desk.holds.items ≤ s.desk.slots) }
     ensures distinct { IfOk result (λ s. have_distinct_serials s.desk.holds.items ≡ true) }
+    ensures sent { AreAmongSent (sent_of director) (map (λ r. r.0) results.items) }
+    ensures told { AreAmongTold (heard_of director) (map (λ r. r.0) results.items) }
     ensures left { IfErr result (λ t. 0 < t.jobs + t.reports) }
     ensures items_left { IfErr result (λ t. IsSettledBut director (map (λ r. r.1) results.items) t.jobs) }
     ensures reports_left { IfErr result (λ t. IsHeardBut director (map (λ r. r.1) results.items) t.reports) }

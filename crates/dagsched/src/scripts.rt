@@ -2,9 +2,10 @@
 use crate::records::put_failure;
 use crate::telling::tell;
 use command_words::{Command, FilePath, ScriptOptions};
+use fault_sentences::SentenceConsole;
 use meta_store::Store;
 use script_reader::Script;
-use script_runner::{FileSources, SentenceConsole, SystemClock, operators_for, run_team};
+use script_runner::{FileSources, SystemClock, operators_for, run_team};
 use sqlite::Alter;
 use sqlite_disk::{Files, Unknown};
 use sqlite_std_file::{File, OpenError};
@@ -44,9 +45,9 @@ pub fn run_script<S: Alter + Drop, T: Threads + Wait + Sync>(
         &mut clock,
     ) {
         Ok(ran) => Ok((ran.store, ran.status)),
-        Err((store, fault)) => {
-            let status = put_failure(rt, &fault)?;
-            Ok((store, status))
+        Err(unopened) => {
+            let status = put_failure(rt, &unopened.fault)?;
+            Ok((unopened.store, status))
         }
     }
 }

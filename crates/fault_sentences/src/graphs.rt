@@ -138,47 +138,22 @@ pub fn dag_sentence(
         return Ok(None);
     };
     let tasks = spec.tasks.as_slice();
-    match fault {
-        DagFault::DoubleTask(place) => {
-            task_sentence(
-                alloc,
-                asked,
-                text,
-                tasks,
-                *place as usize,
-                None,
-                "another task has this id",
-            )
-        }
+    let (place, upstream, said) = match fault {
+        DagFault::DoubleTask(place) => (*place, None, "another task has this id"),
         DagFault::UnknownUpstream(place) => {
             let upstream = tasks
                 .get(*place as usize)
                 .and_then(|task| unknown_upstream(task, tasks));
-            task_sentence(
-                alloc,
-                asked,
-                text,
-                tasks,
-                *place as usize,
-                upstream,
-                "is no task of this file",
-            )
+            (*place, upstream, "is no task of this file")
         }
         DagFault::DoubleEdge(place) => {
             let upstream = tasks.get(*place as usize).and_then(double_upstream);
-            task_sentence(
-                alloc,
-                asked,
-                text,
-                tasks,
-                *place as usize,
-                upstream,
-                "stands there twice",
-            )
+            (*place, upstream, "stands there twice")
         }
-        DagFault::Cycle(names) => cycle_sentence(alloc, asked, names.as_slice()),
-        DagFault::Memory => Ok(None),
-    }
+        DagFault::Cycle(names) => return cycle_sentence(alloc, asked, names.as_slice()),
+        DagFault::Memory => return Ok(None),
+    };
+    task_sentence(alloc, asked, text, tasks, place as usize, upstream, said)
 }
 
 // That the first task of a text with this pool names one that is not there.

@@ -91,14 +91,31 @@ fn is_key_of(place: Place, name: &str) -> bool {
 
 // Which of these words was probably meant.
 fn hint_of(alloc: Global, word: &str, words: &[&str]) -> Result<String, AllocError> {
-    if word.len() <= MOST_LETTERS {
-        for other in words {
-            if levenshtein(alloc, word, other)? <= MOST_EDITS {
-                return format!(in alloc; "; did you mean \"{other}\"?");
-            }
+    match nearest(alloc, word, words)? {
+        Some(meant) => format!(in alloc; "; did you mean \"{meant}\"?"),
+        None => Ok(String::new(alloc)),
+    }
+}
+
+// The nearest of these words, where few of its letters are others: the first of several.
+fn nearest<'a>(
+    alloc: Global,
+    word: &str,
+    words: &[&'a str],
+) -> Result<Option<&'a str>, AllocError> {
+    if word.len() > MOST_LETTERS {
+        return Ok(None);
+    }
+    let mut found = None;
+    let mut fewest = MOST_EDITS + 1;
+    for other in words {
+        let edits = levenshtein(alloc, word, other)?;
+        if edits < fewest {
+            found = Some(*other);
+            fewest = edits;
         }
     }
-    Ok(String::new(alloc))
+    Ok(found)
 }
 
 // What is said of the value at a key, or of its lack.

@@ -1,7 +1,8 @@
 //! Sentences for a person: what is wrong, where it stands, and what would be right.
 //!
 //! The lines of standard output are for programs, and `answer_lines` has them. [`note_of`] makes a sentence of the same fault, [`one_line`] lays it out as
-//! a line that is safe on a terminal, and [`ended_since`] and [`lost_at_restart`] say what became of tries.
+//! a line that is safe on a terminal, and [`SentenceConsole`] tells them of a script: of its commands, of tries that failed, and, on a terminal, how a drain
+//! goes on.
 //!
 //! ```text
 //! line 3: shop.toml:14: task "load": its upstream "extrakt" is no task of this file
@@ -16,6 +17,7 @@
 mod airflow;
 mod asked;
 mod commands;
+mod console;
 mod graphs;
 mod idle;
 mod keys;
@@ -25,9 +27,10 @@ mod notes;
 mod places;
 mod records;
 mod refusals;
+mod totals;
 mod tries;
 
 pub use asked::Asked;
+pub use console::SentenceConsole;
 pub use lines::one_line;
-pub use notes::{Note, note_of, unreadable_note};
-pub use tries::{ended_since, first_in_flight, lost_at_restart};
+pub use notes::{Note, note_of};

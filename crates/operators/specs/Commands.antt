@@ -1,10 +1,15 @@
 -- The program that a command starts, and the folder that a try of it has.
 use Rattle.std.specs.Prelude.{ℕ, List, [], ◌∷◌, ◌++◌, map, codes, bytes_eq, if◌then◌else◌}
 use Rattle.std.specs.Fmt.{decimal}
+use Rattle.sched_state.specs.declared.jobs.Job.{Job}
 
 -- the path of the folder of the try with this serial, under a base folder
 abbrev pub folder_path : List ℕ → ℕ → List ℕ
 folder_path base serial = base ++ codes "/try-" ++ decimal serial
+
+-- that of a job's try
+abbrev pub folder_of : List ℕ → Job → List ℕ
+folder_of base job = folder_path base job.serial
 
 -- the argument that stands for the path of the try's folder
 abbrev pub scratch_word : List ℕ

@@ -49,12 +49,12 @@ impl Operator for Exit {
     }
 
     fn begin(&mut self, job: &Job) -> Result<(), BeginFault> {
-        self.progress.begin(job.serial)
+        self.progress.begin(job)
     }
 
     fn perform(&mut self, job: &Job) -> Outcome {
         let outcome = outcome_of_try(job.action.argv(), job.try_number);
-        self.progress.add_outcome(job.serial, outcome);
+        self.progress.add_outcome(job, outcome);
         outcome
     }
 

@@ -4,6 +4,7 @@ ghost use Rattle.graph_file.specs.declared.operators.Operator.{Operator as Kind}
 ghost use Rattle.graph_file.specs.declared.operators.Operator.TheVariants as kinds;
 ghost use Rattle.operators.specs.Kits.{of_kind, each_once, times, IsKit, SameBut, where_same};
 ghost use Rattle.operators.specs.Outcomes.{CanEnd};
+ghost use Rattle.operators.specs.Progress.{by_serial};
 
 use crate::{BeginFault, Operator};
 use graph_file::Operator as Kind;
@@ -43,7 +44,7 @@ impl<O: Operator> Kit<O> {
 
     /// The tries that the operator of the kind performed, in order, by serial and outcome.
     pub fn runs(&self, kind: Kind) -> &[(u64, Outcome)]
-        ensures { result.now ≡ O.runs_of (of_kind self.now kind) }
+        ensures { result.now ≡ by_serial (O.runs_of (of_kind self.now kind)) }
     {
         match kind {
             Kind::Noop => self.noop.runs(),
@@ -59,7 +60,7 @@ impl<O: Operator> Kit<O> {
         ensures others { SameBut job.now.action.operator self.old self.new }
         ensures runs { (k : Kind) → O.runs_of (of_kind self.new k) ≡ O.runs_of (of_kind self.old k) }
         ensures taken { let kind = job.now.action.operator in MatchResult result
-            (λ _. (O.taken (of_kind self.new kind) ≡ Some job.now.serial)
+            (λ _. (O.taken (of_kind self.new kind) ≡ Some job.now)
             × (O.performed (of_kind self.new kind) ≡ false))
             (λ _. (O.taken (of_kind self.new kind) ≡ O.taken (of_kind self.old kind))
             × (O.performed (of_kind self.new kind) ≡ O.performed (of_kind self.old kind))) }
@@ -74,17 +75,17 @@ impl<O: Operator> Kit<O> {
         }
     }
 
-    /// Performs the job that the operator of its kind has taken up, once.
+    /// Performs the job that the operator of its kind has taken up, once; it must be as it was when it was taken up.
     pub fn perform(&mut self, job: &Job) -> Outcome
         requires kit { IsKit O.kind_of self.old }
         requires taken { let kind = job.now.action.operator in
-            (O.taken (of_kind self.old kind) ≡ Some job.now.serial)
+            (O.taken (of_kind self.old kind) ≡ Some job.now)
             × (O.performed (of_kind self.old kind) ≡ false) }
         ensures kit { IsKit O.kind_of self.new }
         ensures others { SameBut job.now.action.operator self.old self.new }
         ensures runs { (k : Kind) → O.runs_of (of_kind self.new k)
             ≡ O.runs_of (of_kind self.old k)
-            ++ where_same k job.now.action.operator ((job.now.serial, result) ∷ []) }
+            ++ where_same k job.now.action.operator ((job.now, result) ∷ []) }
         ensures taken { let kind = job.now.action.operator in
             (O.taken (of_kind self.new kind) ≡ O.taken (of_kind self.old kind))
             × (O.performed (of_kind self.new kind) ≡ true) }

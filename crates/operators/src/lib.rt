@@ -1,7 +1,7 @@
 //! Operators: what runs the tries. `noop`, `exit` and `command`, and a kit with one of each, which a worker has.
 //!
 //! An [`Operator`] takes a job up (`begin`), performs it, and gives it up (`finish`); it keeps, for each try that it performed, the serial
-//! with the outcome. In: `let kit = Kit::new(operators)?`, then `kit.begin(&job)?`, `let outcome = kit.perform(&job)` and
+//! with the outcome, and contracts see the whole job beside it. In: `let kit = Kit::new(operators)?`, then `kit.begin(&job)?`, `let outcome = kit.perform(&job)` and
 //! `kit.finish(job.action.operator())`. Out: the outcome, which is reported, and `kit.runs(kind)`.
 //!
 //! [`Program`], the operator of `command`, starts real programs with real folders. What it does to the system no contract can say: which
@@ -20,6 +20,7 @@ mod noop;
 mod operators;
 mod programs;
 mod progress;
+mod tries;
 mod variables;
 
 pub use boxed::BoxedOperator;

@@ -6,7 +6,7 @@ use crate::variables::run_id;
 use sched_state::Job;
 use std::alloc::{AllocError, Global};
 use std::fs::{self, File};
-use std::io::{self, Write};
+use std::io::{self, Read, Seek, SeekFrom, Write};
 use std::path::Path;
 use std::process::{Command, ExitStatus, Processes};
 use std::rt::Files;
@@ -33,7 +33,7 @@ pub fn log_path_of(alloc: Global, base: &str, job: &Job) -> Result<String, Alloc
     parts.concat(alloc)
 }
 
-/// Opens the log of a job's try, to write at its end, and makes it and the folders that it lies in where they are not there.
+/// Opens the log of a job's try, to write at its end and to read, and makes it and the folders that it lies in where they are not there.
 pub(crate) fn open_log<R: Files<File = File>>(
     rt: &R,
     alloc: Global,
@@ -45,11 +45,15 @@ pub(crate) fn open_log<R: Files<File = File>>(
     if let Some(folder) = path.parent() {
         fs::create_dir_all(rt, folder)?;
     }
-    File::options().create(true).append(true).open(rt, path)
+    File::options()
+        .create(true)
+        .read(true)
+        .append(true)
+        .open(rt, path)
 }
 
-/// Starts the program and waits for it to end. What it writes goes to the end of the log, in the order in which it is written; of a
-/// program that cannot be started the log says so.
+/// Starts the program and waits for it to end. What it writes goes to the end of the log, in the order in which it is written. Where it
+/// does not end with the status 0, the log then says how it ended, or that it could not be started.
 pub(crate) fn logged_status<R: Processes>(
     rt: &R,
     command: &mut Command,
@@ -58,9 +62,37 @@ pub(crate) fn logged_status<R: Processes>(
     command.stdout(log.try_clone()?);
     command.stderr(log.try_clone()?);
     let status = command.status(rt);
-    if let Err(error) = &status {
-        let mut log = log;
-        let _ = writeln!(log, "dagsched: the program cannot be started: {error}");
-    }
+    let _ = write_end(log, &status);
     status
+}
+
+// Writes how a program ended that did not end well, on a line of its own.
+fn write_end(log: File, status: &io::Result<ExitStatus>) -> io::Result<()> {
+    let mut log = log;
+    match status {
+        Ok(status) if status.success() => Ok(()),
+        Ok(status) => {
+            end_line(&mut log)?;
+            writeln!(log, "dagsched: {status}")
+        }
+        Err(error) => {
+            end_line(&mut log)?;
+            writeln!(log, "dagsched: the program cannot be started: {error}")
+        }
+    }
+}
+
+// Ends the last line of a file that does not end with one.
+fn end_line(file: &mut File) -> io::Result<()> {
+    if file.seek(SeekFrom::End(0))? == 0 {
+        return Ok(());
+    }
+    file.seek(SeekFrom::End(-1))?;
+    let mut last = [0];
+    file.read_exact(&mut last)?;
+    if last == [b'\n'] {
+        Ok(())
+    } else {
+        writeln!(file)
+    }
 }

@@ -46,12 +46,12 @@ impl Operator for Noop {
     }
 
     fn begin(&mut self, job: &Job) -> Result<(), BeginFault> {
-        self.progress.begin(job.serial)
+        self.progress.begin(job)
     }
 
     fn perform(&mut self, job: &Job) -> Outcome {
         let outcome = Outcome::Success;
-        self.progress.add_outcome(job.serial, outcome);
+        self.progress.add_outcome(job, outcome);
         outcome
     }
 

@@ -1,9 +1,11 @@
 //! What each operator shows, and what its calls make of it.
-ghost use Rattle.std.specs.Prelude.{◌≡◌, ◌↔◌, ℕ, List, [], ◌∷◌, ◌++◌, Bool, true, false, MatchResult, Some, None, Option, Err, IsSome};
+ghost use Rattle.std.specs.Prelude.{◌≡◌, ◌↔◌, List, [], ◌∷◌, ◌++◌, Bool, true, false, MatchResult, Some, None, Option, Err, IsSome};
 ghost use Rattle.graph_file.specs.declared.operators.Operator.{Operator as Kind};
 ghost use Rattle.graph_file.specs.declared.operators.Operator.TheVariants as kinds;
 ghost use Rattle.instance_machine.specs.declared.tries.Outcome.{Outcome};
+ghost use Rattle.sched_state.specs.declared.jobs.Job.{Job};
 ghost use Rattle.operators.specs.Outcomes.{CanEnd};
+ghost use Rattle.operators.specs.Progress.{by_serial};
 
 use graph_file::Operator as Kind;
 use instance_machine::Outcome;
@@ -27,11 +29,11 @@ pub trait Operator: Drop {
     /// The kind of the tasks whose tries it performs.
     ghost kind_of: { Self → Kind };
 
-    /// The tries that it performed, in order, by serial and outcome.
-    ghost runs_of: { Self → List (ℕ × Outcome) };
+    /// The tries that it performed, in order: the job of each, and how it ended.
+    ghost runs_of: { Self → List (Job × Outcome) };
 
-    /// The serial of the job that is taken up.
-    ghost taken: { Self → Option ℕ };
+    /// The job that is taken up.
+    ghost taken: { Self → Option Job };
 
     /// Whether that job was performed.
     ghost performed: { Self → Bool };
@@ -42,7 +44,7 @@ pub trait Operator: Drop {
 
     /// The tries that it performed, in order, by serial and outcome.
     fn runs(&self) -> &[(u64, Outcome)]
-        ensures { result.now ≡ runs_of self.now };
+        ensures { result.now ≡ by_serial (runs_of self.now) };
 
     /// Takes the job up, and makes room for its outcome.
     ///
@@ -51,16 +53,16 @@ pub trait Operator: Drop {
         ensures kind { kind_of self.new ≡ kind_of self.old }
         ensures runs { runs_of self.new ≡ runs_of self.old }
         ensures taken { MatchResult result
-            (λ _. (taken self.new ≡ Some job.now.serial) × (performed self.new ≡ false))
+            (λ _. (taken self.new ≡ Some job.now) × (performed self.new ≡ false))
             (λ _. (taken self.new ≡ taken self.old) × (performed self.new ≡ performed self.old)) }
         ensures busy { (result ≡ Err BeginFault.Busy) ↔ IsSome (taken self.old) }
         ensures scratch { result ≡ Err BeginFault.Scratch → kind_of self.old ≡ kinds.Command };
 
-    /// Performs the job that is taken up, once. This takes no memory of the operator's own.
+    /// Performs the job that is taken up, once; it must be as it was when it was taken up. This takes no memory of the operator's own.
     fn perform(&mut self, job: &Job) -> Outcome
-        requires { (taken self.old ≡ Some job.now.serial) × (performed self.old ≡ false) }
+        requires { (taken self.old ≡ Some job.now) × (performed self.old ≡ false) }
         ensures kind { kind_of self.new ≡ kind_of self.old }
-        ensures runs { runs_of self.new ≡ runs_of self.old ++ (job.now.serial, result) ∷ [] }
+        ensures runs { runs_of self.new ≡ runs_of self.old ++ (job.now, result) ∷ [] }
         ensures taken { (taken self.new ≡ taken self.old) × (performed self.new ≡ true) }
         ensures outcome { CanEnd (kind_of self.old) job.now result };
 

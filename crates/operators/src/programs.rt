@@ -1,7 +1,7 @@
 //! The operator of tasks that start a program (Airflow 2, `BashOperator`, without a shell).
 ghost use Rattle.std.specs.Prelude.{◌≡◌, None, [], false, option_map, string_bytes};
 ghost use Rattle.graph_file.specs.declared.operators.Operator.TheVariants as kinds;
-ghost use Rattle.operators.specs.Commands.{folder_path};
+ghost use Rattle.operators.specs.Commands.{folder_of};
 ghost use Rattle.operators.specs.Outcomes.{is_lost};
 
 use crate::commands::{command_of, outcome_of_code};
@@ -21,8 +21,9 @@ use std::rt::Files;
 ///
 /// Each try has a folder `try-SERIAL` of its own under the base folder, from `begin` on; one that is there is taken. `finish` and a drop
 /// remove it with all that is in it, as far as the system lets them. The program's standard input is empty. What it writes goes to the log
-/// of the try ([`log_path_of`](crate::log_path_of)), or is lost where there is no folder for logs. Status 0 is success, 99 asks to be skipped;
-/// another one, a signal, a log that cannot be opened and a program that cannot be started are failures.
+/// of the try ([`log_path_of`](crate::log_path_of)), where a line is added if it does not end with the status 0, or is lost if there is no
+/// folder for logs. Status 0 is success, 99 asks to be skipped; another one, a signal, a log that cannot be opened and a program that cannot
+/// be started are failures.
 pub struct Program<R: Files<File = File> + Processes + Drop> {
     progress: Progress,
     rt: R,
@@ -31,7 +32,7 @@ pub struct Program<R: Files<File = File> + Processes + Drop> {
     logs: Option<String>,
     // that of the try that is taken up
     folder: Option<TryFolder>,
-    ghost has_folder: { folder ≡ option_map (folder_path (string_bytes base)) progress.taken },
+    ghost has_folder: { folder ≡ option_map (folder_of (string_bytes base)) progress.taken },
 }
 
 impl<R: Files<File = File> + Processes + Drop> Program<R> {
@@ -82,7 +83,7 @@ impl<R: Files<File = File> + Processes + Drop> Operator for Program<R> {
         if let Some(left) = self.folder.replace(folder) {
             left.remove(&self.rt, self.alloc);
         }
-        self.progress.take_up(job.serial);
+        self.progress.take_up(job);
         Ok(())
     }
 
@@ -94,7 +95,7 @@ impl<R: Files<File = File> + Processes + Drop> Operator for Program<R> {
             }
             None => unreachable!(),
         };
-        self.progress.add_outcome(job.serial, outcome);
+        self.progress.add_outcome(job, outcome);
         outcome
     }
 

@@ -1,53 +1,67 @@
 //! What each operator keeps: the tries that it performed, and the job that it has taken up.
 ghost use Rattle.std.specs.Prelude.{◌≡◌, ◌↔◌, ◌<◌, ◌≤◌, None, Some, [], ◌∷◌, ◌++◌, true, false, IsSome, is_some, MatchResult, Err, OnOk};
+ghost use Rattle.operators.specs.Progress.{by_serial};
 
 use crate::BeginFault;
+use crate::tries::{Performed, Taken};
 use instance_machine::Outcome;
+use sched_state::Job;
 use std::alloc::{AllocError, Global};
 use std::marker::Model;
 
-/// The tries that were performed, the serial that is taken up, and whether that one was performed.
+/// The tries that were performed, the job that is taken up, and whether that one was performed.
 ///
-/// While a serial is taken up and not performed there is room for its outcome. Contracts see the three, and how much room there is.
+/// While a job is taken up and not performed there is room for its outcome. Contracts see the three, and how much room there is. The jobs
+/// are there for proofs alone: a program sees the serials with the outcomes.
 #[derive(Drop)]
 pub struct Progress {
     runs: Vec<(u64, Outcome)>,
-    taken: Option<u64>,
+    // the same tries, with their jobs
+    tries: Vec<Performed>,
+    taken: Option<Taken>,
     performed: bool,
 }
 
 impl Model for Progress {
-    ghost use Rattle.std.specs.Prelude.{◌≡◌, ◌<◌, ◌-◌, false, IsSome, vec_len, vec_capacity};
-    ghost use Rattle.operators.specs.Progress.{ProgressValue};
+    ghost use Rattle.std.specs.Prelude.{◌≡◌, ◌<◌, ◌-◌, min, false, IsSome, vec_len, vec_capacity};
+    ghost use Rattle.operators.specs.Progress.{ProgressValue, by_serial};
 
     ghost Value = { ProgressValue };
 
-    ghost view = { λ p. record { runs = p.runs.items; taken = p.taken; performed = p.performed; room = vec_capacity p.runs - vec_len p.runs } };
+    ghost view = { λ p. record {
+      runs = p.tries.items;
+      taken = p.taken;
+      performed = p.performed;
+      room = min (vec_capacity p.runs - vec_len p.runs) (vec_capacity p.tries - vec_len p.tries);
+    } };
 
-    ghost invariant = { λ p. IsSome p.taken → p.performed ≡ false → vec_len p.runs < vec_capacity p.runs };
+    ghost invariant = { λ p. (p.runs.items ≡ by_serial p.tries.items)
+        × (IsSome p.taken → p.performed ≡ false
+        → (vec_len p.runs < vec_capacity p.runs) × (vec_len p.tries < vec_capacity p.tries)) };
 }
 
 impl Progress {
-    /// No try, and no serial taken up. This takes no memory.
+    /// No try, and no job taken up. This takes no memory.
     pub fn new(alloc: Global) -> Progress
         ensures runs { result.runs ≡ [] }
         ensures taken { (result.taken ≡ None) × (result.performed ≡ false) }
     {
         Progress {
             runs: Vec::new(alloc),
+            tries: Vec::new(alloc),
             taken: None,
             performed: false,
         }
     }
 
-    /// The tries that were performed.
+    /// The tries that were performed, in order, by serial and outcome.
     pub fn runs(&self) -> &[(u64, Outcome)]
-        ensures { result.now ≡ self.now.runs }
+        ensures { result.now ≡ by_serial self.now.runs }
     {
         self.runs.as_slice()
     }
 
-    /// Whether a serial is taken up.
+    /// Whether a job is taken up.
     pub fn is_busy(&self) -> bool
         ensures { result ≡ is_some self.now.taken }
     {
@@ -61,24 +75,26 @@ impl Progress {
         ensures room { OnOk result (0 < self.new.room) }
         ensures kept { self.old.room ≤ self.new.room }
     {
-        self.runs.reserve(1)
+        self.runs.reserve(1)?;
+        self.tries.reserve(1)?;
+        Ok(())
     }
 
-    /// Takes the serial up, where there is room for its outcome.
-    pub fn take_up(&mut self, serial: u64)
+    /// Takes the job up, where there is room for its outcome.
+    pub fn take_up(&mut self, job: &Job)
         requires { 0 < self.old.room }
         ensures runs { self.new.runs ≡ self.old.runs }
-        ensures taken { (self.new.taken ≡ Some serial) × (self.new.performed ≡ false) }
+        ensures taken { (self.new.taken ≡ Some job.now) × (self.new.performed ≡ false) }
     {
-        self.taken = Some(serial);
+        self.taken = Some(Taken::of(job));
         self.performed = false;
     }
 
-    /// Makes room for one more outcome, and takes the serial up. An operator without a folder begins so.
-    pub fn begin(&mut self, serial: u64) -> Result<(), BeginFault>
+    /// Makes room for one more outcome, and takes the job up. An operator without a folder begins so.
+    pub fn begin(&mut self, job: &Job) -> Result<(), BeginFault>
         ensures runs { self.new.runs ≡ self.old.runs }
         ensures taken { MatchResult result
-            (λ _. (self.new.taken ≡ Some serial) × (self.new.performed ≡ false))
+            (λ _. (self.new.taken ≡ Some job.now) × (self.new.performed ≡ false))
             (λ _. (self.new.taken ≡ self.old.taken) × (self.new.performed ≡ self.old.performed)) }
         ensures busy { (result ≡ Err BeginFault.Busy) ↔ IsSome self.old.taken }
         ensures scratch { result ≡ Err BeginFault.Scratch → ⊥ }
@@ -89,21 +105,22 @@ impl Progress {
         if self.reserve().is_err() {
             return Err(BeginFault::Memory);
         }
-        self.take_up(serial);
+        self.take_up(job);
         Ok(())
     }
 
-    /// Adds the outcome of the serial that is taken up. This takes no memory.
-    pub fn add_outcome(&mut self, serial: u64, outcome: Outcome)
-        requires { (self.old.taken ≡ Some serial) × (self.old.performed ≡ false) }
-        ensures runs { self.new.runs ≡ self.old.runs ++ (serial, outcome) ∷ [] }
+    /// Adds the outcome of the job that is taken up. This takes no memory.
+    pub fn add_outcome(&mut self, job: &Job, outcome: Outcome)
+        requires { (self.old.taken ≡ Some job.now) × (self.old.performed ≡ false) }
+        ensures runs { self.new.runs ≡ self.old.runs ++ (job.now, outcome) ∷ [] }
         ensures taken { (self.new.taken ≡ self.old.taken) × (self.new.performed ≡ true) }
     {
-        self.runs.push_reserved((serial, outcome));
+        self.runs.push_reserved((job.serial, outcome));
+        self.tries.push_reserved(Performed::of(job, outcome));
         self.performed = true;
     }
 
-    /// Gives up the serial that is taken up, where one is.
+    /// Gives up the job that is taken up, where one is.
     pub fn give_up(&mut self)
         ensures runs { self.new.runs ≡ self.old.runs }
         ensures taken { self.new.taken ≡ None }

@@ -141,6 +141,13 @@ impl Schedule {
         self.runs.len()
     }
 
+    /// The graphs, by id, each with its text and its pause.
+    pub fn graphs(&self) -> &[LoadedGraph]
+        ensures { result.now ≡ self.now.content.graphs }
+    {
+        self.graphs.as_slice()
+    }
+
     /// The graph with this id, with its text and its pause.
     pub fn graph_of(&self, id: &Name) -> Option<&LoadedGraph>
         ensures { option_copied result ≡ graph_named self.now.content id.now }

@@ -12,9 +12,9 @@ use Rattle.script_commands.specs.Commands.{Request, IsNext, IsFirst, IsGiven, co
 use Rattle.word_app.specs.App.{Texts}
 use Rattle.script_commands.specs.declared.commands.ScriptCommand.TheVariants.{Step, LoadFile, TickNow, Drain, List as ListRows, Explain}
 use Rattle.script_commands.specs.declared.commands.SourceFault.{SourceFault}
-use Rattle.sessions.specs.Exchanges.{looks, Exchange}
+use Rattle.sessions.specs.Exchanges.{heard_where, looks, Exchange, Looked, Heard, Told}
 use Rattle.sessions.specs.Readings.{Reading}
-use Rattle.sessions.specs.Lines.{reading_of, ticked, Takes}
+use Rattle.sessions.specs.Lines.{heard_for, reading_of, ticked, Takes}
 use Rattle.sessions.specs.declared.clocks.ClockFault.{ClockFault}
 use Rattle.sessions.specs.declared.line_reading.Line.{Line}
 use Rattle.sessions.specs.declared.line_reading.Line.TheVariants as Says
@@ -269,31 +269,31 @@ module _ (names : Texts) (before : ℕ) (drained : Bool) where
     pub is : asked ≡ one ∷ []
     pub done : MayBeDone one texts moments told status shown
 
-  perhaps : (e : Event) (q : Result Answer Fault) → IsPerhaps e (inr (e, q) ∷ []) (status_of q) (shown_for e q)
+  perhaps : (e : Event) (q : Result Answer Fault) → IsPerhaps e (Told e q ∷ []) (status_of q) (shown_for e q)
   perhaps e q = (q, refl, refl, refl)
 
-  pub closed : (line : Line) (asked : List Request) (texts : List FileAnswer) (e : Event) (q : Result Answer Fault) → IsOpen (Some line) asked texts → Takes line e → IsClosed asked texts (ticked line e) (inr (e, q) ∷ []) (status_of q) (shown_for e q)
+  pub closed : (line : Line) (asked : List Request) (texts : List FileAnswer) (e : Event) (q : Result Answer Fault) → IsOpen (Some line) asked texts → Takes line e → IsClosed asked texts (ticked line e) (heard_for line ++ Told e q ∷ []) (status_of q) (shown_for e q)
   closed (Says.Event x) asked texts e q (inl (one, none)) same = record {
     one = Ok (Step x);
     is = one;
-    done = (none, refl, inl (subst (λ (y : Event). IsPerhaps y (inr (e, q) ∷ []) (status_of q) (shown_for e q)) (sym same) (perhaps e q)));
+    done = (none, refl, inl (subst (λ (y : Event). IsPerhaps y (Told e q ∷ []) (status_of q) (shown_for e q)) (sym same) (perhaps e q)));
   }
   closed (Says.Event x) asked texts e q (inr (path, text, one, read, loads)) same = record {
     one = Ok (LoadFile path);
     is = one;
-    done = (refl, inr (text, read, subst (λ (y : Event). IsPerhaps y (inr (e, q) ∷ []) (status_of q) (shown_for e q)) (sym same ∙ loads) (perhaps e q)));
+    done = (refl, inr (text, read, subst (λ (y : Event). IsPerhaps y (Told e q ∷ []) (status_of q) (shown_for e q)) (sym same ∙ loads) (perhaps e q)));
   }
   closed Says.TickNow asked texts e q (one, none) (moment, same) = record {
     one = Ok TickNow;
     is = one;
-    done = (none, inr (moment, ap reading_of same, subst (λ (y : Event). IsPerhaps y (inr (e, q) ∷ []) (status_of q) (shown_for e q)) same (perhaps e q)));
+    done = (none, inr (moment, Told e q ∷ [], ap reading_of same, refl, subst (λ (y : Event). IsPerhaps y (Told e q ∷ []) (status_of q) (shown_for e q)) same (perhaps e q)));
   }
   closed Says.Drain asked texts e q waits takes = absurd takes
 
-  pub closed_untold : (asked : List Request) (texts : List FileAnswer) (fault : ClockFault) → IsOpen (Some Says.TickNow) asked texts → IsClosed asked texts (Err fault ∷ []) [] 4 (clock_text fault)
+  pub closed_untold : (asked : List Request) (texts : List FileAnswer) (fault : ClockFault) → IsOpen (Some Says.TickNow) asked texts → IsClosed asked texts (Err fault ∷ []) (Heard ∷ []) 4 (clock_text fault)
   closed_untold asked texts fault (one, none) = record { one = Ok TickNow; is = one; done = (none, inl (fault, refl, refl, refl, refl)) }
 
-  pub closed_drain : (asked : List Request) (texts : List FileAnswer) (a : Schedule) → in_flight a ≡ 0 → IsOpen (Some Says.Drain) asked texts → IsClosed asked texts [] (looks 1 a) 0 (shown_text ShowsDone)
+  pub closed_drain : (asked : List Request) (texts : List FileAnswer) (a : Schedule) → in_flight a ≡ 0 → IsOpen (Some Says.Drain) asked texts → IsClosed asked texts [] (Heard ∷ looks 1 a) 0 (shown_text ShowsDone)
   closed_drain asked texts a idle (one, none) = record { one = Ok Drain; is = one; done = (none, refl, ((a, refl, idle), refl, refl)) }
 
   module _ (first : Option (List ℕ)) (gives : List FileAnswer → Type 0) (shows shows' : List ℕ → Type 0) (told : List Exchange) (ticks : List Reading) (line : Line) (left : Option (List ℕ)) (status : ℕ) (ended : Bool) (h : HasDone names before drained first gives shows told ticks (Some line) left status false ended) where
@@ -322,16 +322,15 @@ module _ (names : Texts) (before : ℕ) (drained : Bool) where
         }
 
     pub told_more : (e : Event) (q : Result Answer Fault) (status' : ℕ) (broken : Bool) → Takes line e → status' ≡ max status (status_of q) → (broken ≡ false → (xs : List ℕ) → shows xs → shows' (xs ++ shown_for e q))
-        → HasDone names before drained first gives shows' (told ++ inr (e, q) ∷ []) (ticks ++ ticked line e) None left status' broken ended
-    told_more e q status' broken takes is show = closed_more (inr (e, q) ∷ []) (ticked line e) (status_of q) status' (shown_for e q) broken (closed line h.open_asked h.open_texts e q waits_open takes) is show
+        → HasDone names before drained first gives shows' (told ++ (heard_for line ++ Told e q ∷ [])) (ticks ++ ticked line e) None left status' broken ended
+    told_more e q status' broken takes is show = closed_more (heard_for line ++ Told e q ∷ []) (ticked line e) (status_of q) status' (shown_for e q) broken (closed line h.open_asked h.open_texts e q waits_open takes) is show
 
   -- the clock gave no moment
   pub untold_more : (first : Option (List ℕ)) (gives : List FileAnswer → Type 0) (shows shows' : List ℕ → Type 0) (told : List Exchange) (ticks : List Reading) (left : Option (List ℕ)) (status status' : ℕ) (fault : ClockFault) (broken ended : Bool)
       → HasDone names before drained first gives shows told ticks (Some Says.TickNow) left status false ended → status' ≡ max status 4 → (broken ≡ false → (xs : List ℕ) → shows xs → shows' (xs ++ clock_text fault))
-      → HasDone names before drained first gives shows' told (ticks ++ Err fault ∷ []) None left status' broken ended
+      → HasDone names before drained first gives shows' (told ++ Heard ∷ []) (ticks ++ Err fault ∷ []) None left status' broken ended
   untold_more first gives shows shows' told ticks left status status' fault broken ended h more show =
-      subst (λ (t : List Exchange). HasDone names before drained first gives shows' t (ticks ++ Err fault ∷ []) None left status' broken ended) (append-nil told)
-      (closed_more first gives shows shows' told ticks Says.TickNow left status ended h [] (Err fault ∷ []) 4 status' (clock_text fault) broken (closed_untold h.open_asked h.open_texts fault (waits_open first gives shows shows' told ticks Says.TickNow left status ended h)) more show)
+      closed_more first gives shows shows' told ticks Says.TickNow left status ended h (Heard ∷ []) (Err fault ∷ []) 4 status' (clock_text fault) broken (closed_untold h.open_asked h.open_texts fault (waits_open first gives shows shows' told ticks Says.TickNow left status ended h)) more show
 
   -- it is not said to have ended where it was not said before, and what was shown was written
   pub ended_less : (first : Option (List ℕ)) (gives : List FileAnswer → Type 0) (shows shows' : List ℕ → Type 0) (told : List Exchange) (ticks : List Reading) (waits : Option Line) (left : Option (List ℕ)) (status : ℕ) (is_broken ended ended' : Bool) → (ended' ≡ true → ended ≡ true) → (is_broken ≡ false → (xs : List ℕ) → shows xs → shows' xs)
@@ -358,7 +357,7 @@ module _ (names : Texts) (before : ℕ) (drained : Bool) where
   -- a drain that waits, if one does, is answered of a schedule in which no try is in flight
   pub drain_answered : (first from was now : Option (List ℕ)) (gives : List FileAnswer → Type 0) (told : List Exchange) (ticks : List Reading) (left : Option (List ℕ)) (status : ℕ) (drains ended : Bool) (a : Schedule) → (drains ≡ true → in_flight a ≡ 0) → AnswersDrain drains was now
       → HasDone names before drained first gives (Appends from was) told ticks (waiting None drains) left status false ended
-      → (times : ℕ) × HasDone names before drained first gives (Appends from now) (told ++ looks times a) ticks None left status false false
+      → (times : ℕ) × HasDone names before drained first gives (Appends from now) (told ++ (heard_where drains ++ looks times a)) ticks None left status false false
   drain_answered first from was now gives told ticks left status false ended a idle same h = (
     0,
     subst (λ (t : List Exchange). HasDone names before drained first gives (Appends from now) t ticks None left status false false) (sym (append-nil told))
@@ -366,30 +365,11 @@ module _ (names : Texts) (before : ℕ) (drained : Bool) where
   )
   drain_answered first from was now gives told ticks left status true ended a idle more h = (
     1,
-    subst (λ (r : List Reading). HasDone names before drained first gives (Appends from now) (told ++ looks 1 a) r None left status false false) (append-nil ticks)
-        (ended_less first gives (Appends from now) (Appends from now) (told ++ looks 1 a) (ticks ++ []) None left status false ended false (λ no. absurd (true≢false (sym no))) (λ fine xs w. w)
-        (closed_more first gives (Appends from was) (Appends from now) told ticks Says.Drain left status ended h (looks 1 a) [] 0 status (shown_text ShowsDone) false (closed_drain h.open_asked h.open_texts a (idle refl) (waits_open first gives (Appends from was) (Appends from now) told ticks Says.Drain left status ended h)) (omega arith)
+    subst (λ (r : List Reading). HasDone names before drained first gives (Appends from now) (told ++ (Heard ∷ looks 1 a)) r None left status false false) (append-nil ticks)
+        (ended_less first gives (Appends from now) (Appends from now) (told ++ (Heard ∷ looks 1 a)) (ticks ++ []) None left status false ended false (λ no. absurd (true≢false (sym no))) (λ fine xs w. w)
+        (closed_more first gives (Appends from was) (Appends from now) told ticks Says.Drain left status ended h (Heard ∷ looks 1 a) [] 0 status (shown_text ShowsDone) false (closed_drain h.open_asked h.open_texts a (idle refl) (waits_open first gives (Appends from was) (Appends from now) told ticks Says.Drain left status ended h)) (omega arith)
         (λ fine xs w. appends_then from was now xs (shown_text ShowsDone) w more))),
   )
-
-  -- the answer of a drain that waits, if one does, could not be written
-  drain_unwritten : (first : Option (List ℕ)) (gives : List FileAnswer → Type 0) (shows shows' : List ℕ → Type 0) (told : List Exchange) (ticks : List Reading) (left left' : Option (List ℕ)) (status : ℕ) (drains ended : Bool)
-      → HasDone names before drained first gives shows told ticks (waiting None drains) left status false ended
-      → HasDone names before drained first gives shows' told ticks None left' status true false
-  drain_unwritten first gives shows shows' told ticks left left' status false ended h = broken first gives shows told ticks left status ended h gives shows' left' status (λ g. g) refl
-  drain_unwritten first gives shows shows' told ticks left left' status true ended h = record {
-    done = h.done;
-    open_asked = [];
-    open_texts = [];
-    each = h.each;
-    opens = inl (refl, refl);
-    texts = subst gives (ap (λ l. texts_in h.done ++ l) (waits_open first gives shows shows' told ticks Says.Drain left status ended h).1) h.texts;
-    exchanged = h.exchanged;
-    read_of = h.read_of;
-    read = λ known e. let r = h.read known e in (h.open_asked ++ r.0, r.1, (λ no. absurd (true≢false (sym no))), λ no. absurd (true≢false no));
-    status_is = h.status_is;
-    output = λ no. absurd (true≢false no);
-  }
 
   -- ---- the same of what was read
   at_err : {E : Type 0} (Q : E → Type 0) (r : Result (Option Line) E) → IsErrAnd r Q → (first : Option (List ℕ)) (gives : List FileAnswer → Type 0) (shows : List ℕ → Type 0) (told : List Exchange) (ticks : List Reading) (left : Option (List ℕ)) (status : ℕ)
@@ -402,11 +382,29 @@ module _ (names : Texts) (before : ℕ) (drained : Bool) where
       → HasDone names before drained first gives shows told ticks None left status false ended → HasDone names before drained first gives shows' told ticks (line_of r) left' status (is_err r) (is_end r)
   broken_off Q r is first gives shows shows' told ticks left left' status ended h = at_err Q r is first gives shows' told ticks left' status (broken first gives shows told ticks left status ended h gives shows' left' status (λ g. g) refl)
 
-  pub drain_broken : {E : Type 0} (Q : E → Type 0) (r : Result (Option Line) E) → IsErrAnd r Q → (first : Option (List ℕ)) (gives : List FileAnswer → Type 0) (shows shows' : List ℕ → Type 0) (told : List Exchange) (ticks : List Reading) (left left' : Option (List ℕ)) (status : ℕ) (drains ended : Bool) (a : Schedule)
-      → HasDone names before drained first gives shows told ticks (waiting None drains) left status false ended → HasDone names before drained first gives shows' (told ++ looks 0 a) ticks (line_of r) left' status (is_err r) (is_end r)
-  drain_broken Q r is first gives shows shows' told ticks left left' status drains ended a h =
-      subst (λ (t : List Exchange). HasDone names before drained first gives shows' t ticks (line_of r) left' status (is_err r) (is_end r)) (sym (append-nil told))
-      (at_err Q r is first gives shows' told ticks left' status (drain_unwritten first gives shows shows' told ticks left left' status drains ended h))
+  -- the answer of a drain that waits, if one does, could not be written; it counts as answered
+  drain_unwritten : (first : Option (List ℕ)) (gives : List FileAnswer → Type 0) (shows shows' : List ℕ → Type 0) (told : List Exchange) (ticks : List Reading) (left : Option (List ℕ)) (status : ℕ) (drains ended : Bool) (a : Schedule) → (drains ≡ true → in_flight a ≡ 0)
+      → HasDone names before drained first gives shows told ticks (waiting None drains) left status false ended
+      → (times : ℕ) × HasDone names before drained first gives shows' (told ++ (heard_where drains ++ looks times a)) ticks None left status true false
+  drain_unwritten first gives shows shows' told ticks left status false ended a idle h = (
+    0,
+    subst (λ (t : List Exchange). HasDone names before drained first gives shows' t ticks None left status true false) (sym (append-nil told))
+        (broken first gives shows told ticks left status ended h gives shows' left status (λ g. g) refl),
+  )
+  drain_unwritten first gives shows shows' told ticks left status true ended a idle h = (
+    1,
+    subst (λ (r : List Reading). HasDone names before drained first gives shows' (told ++ (Heard ∷ looks 1 a)) r None left status true false) (append-nil ticks)
+        (ended_less first gives shows' shows' (told ++ (Heard ∷ looks 1 a)) (ticks ++ []) None left status true ended false (λ no. absurd (true≢false (sym no))) (λ fine xs w. w)
+        (closed_more first gives shows shows' told ticks Says.Drain left status ended h (Heard ∷ looks 1 a) [] 0 status (shown_text ShowsDone) true (closed_drain h.open_asked h.open_texts a (idle refl) (waits_open first gives shows shows' told ticks Says.Drain left status ended h)) (omega arith)
+        (λ no. absurd (true≢false no)))),
+  )
+
+  pub drain_broken : {E : Type 0} (Q : E → Type 0) (r : Result (Option Line) E) → IsErrAnd r Q → (first : Option (List ℕ)) (gives : List FileAnswer → Type 0) (shows shows' : List ℕ → Type 0) (told : List Exchange) (ticks : List Reading) (left : Option (List ℕ)) (status : ℕ) (drains ended : Bool) (a : Schedule) → (drains ≡ true → in_flight a ≡ 0)
+      → HasDone names before drained first gives shows told ticks (waiting None drains) left status false ended
+      → (times : ℕ) × HasDone names before drained first gives shows' (told ++ (heard_where drains ++ looks times a)) ticks (line_of r) left status (is_err r) (is_end r)
+  drain_broken Q r is first gives shows shows' told ticks left status drains ended a idle h =
+      let now = drain_unwritten first gives shows shows' told ticks left status drains ended a idle h in
+      (now.0, at_err Q r is first gives shows' (told ++ (heard_where drains ++ looks now.0 a)) ticks left status now.1)
 
   module _ {E : Type 0} (from was now : Option (List ℕ)) (first : Option (List ℕ)) (gives gives' : List FileAnswer → Type 0) (told : List Exchange) (ticks : List Reading) (left left' : Option (List ℕ)) (status status' : ℕ) (ended : Bool)
       (h : HasDone names before drained first gives (Appends from was) told ticks None left status false ended)
@@ -444,5 +442,6 @@ pub as_ok : (E : Type 0) (a b : Option Line) → a ≡ b → ◌≡◌ {A = Resu
 as_ok E a b e = ap (λ (x : Option Line). let r : Result (Option Line) E = Ok x in r) e
 
 -- the schedule is looked at once more
-pub one_look_more : (told : List Exchange) (times : ℕ) (a : Schedule) → (told ++ looks times a) ++ looks 1 a ≡ told ++ looks (times + 1) a
-one_look_more told times a = append_assoc told (looks times a) (looks 1 a) ∙ ap (λ l. told ++ l) (replicate_more times (inl a))
+pub one_look_more : (told heard : List Exchange) (times : ℕ) (a : Schedule) → (told ++ (heard ++ looks times a)) ++ looks 1 a ≡ told ++ (heard ++ looks (times + 1) a)
+one_look_more told heard times a =
+    append_assoc told (heard ++ looks times a) (looks 1 a) ∙ ap (λ l. told ++ l) (append_assoc heard (looks times a) (looks 1 a) ∙ ap (λ l. heard ++ l) (replicate_more times (Looked a)))

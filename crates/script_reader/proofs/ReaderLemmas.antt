@@ -1,14 +1,14 @@
 -- What was done of a script, told of the states of its reader.
-use Rattle.std.proofs.Common.{inr, ◌≡◌, ◌∙◌, ℕ, max, Bool, true, false, true≢false, not, ◌&&◌, List, [], ◌∷◌, ◌++◌, Option, Some, None, is_some, Result, Ok, Err, is_err, refl, sym, ap, subst}
+use Rattle.std.proofs.Common.{◌≡◌, ◌∙◌, ℕ, max, Bool, true, false, true≢false, not, ◌&&◌, List, [], ◌∷◌, ◌++◌, Option, Some, None, is_some, Result, Ok, Err, is_err, refl, sym, ap, subst}
 use Rattle.std.specs.Io.KnownBytes.{Appends}
 use Rattle.sched_events.specs.declared.answers.Answer.{Answer}
 use Rattle.sched_events.specs.declared.events.Event.{Event}
 use Rattle.director.specs.declared.faults.Fault.{Fault}
 use Rattle.word_app.specs.App.{Texts}
 use Rattle.sched_model.specs.Schedule.{Schedule}
-use Rattle.sessions.specs.Exchanges.{looks, Exchange}
+use Rattle.sessions.specs.Exchanges.{heard_where, looks, Exchange, Heard, Told}
 use Rattle.sessions.specs.Readings.{Reading}
-use Rattle.sessions.specs.Lines.{opened_by, reads_drain, ticked, Takes}
+use Rattle.sessions.specs.Lines.{heard_for, opened_by, reads_drain, ticked, Takes}
 use Rattle.sessions.specs.declared.clocks.ClockFault.{ClockFault}
 use Rattle.sessions.specs.declared.line_reading.Line.{Line}
 use Rattle.sessions.specs.declared.line_reading.Line.TheVariants as Says
@@ -62,17 +62,17 @@ module _ {R W F P : Type 0} (remaining : R → Option (List ℕ)) (contents : W 
 
   pub answered_tells : (told : List Exchange) (ticks : List Reading) (line : Line) (e : Event) (q : Result Answer Fault) → Stays
       → new.status ≡ max old.status (status_of q) → (is_some new.failed ≡ false → Appends (contents old.output) (contents new.output) (shown_for e q)) → old.failed ≡ None → Takes line e
-      → Tells remaining contents gives s told ticks (Some line) old → Tells remaining contents gives s (told ++ inr (e, q) ∷ []) (ticks ++ ticked line e) None new
+      → Tells remaining contents gives s told ticks (Some line) old → Tells remaining contents gives s (told ++ (heard_for line ++ Told e q ∷ [])) (ticks ++ ticked line e) None new
   answered_tells told ticks line e q stays status shown none takes h =
-      moved (told ++ inr (e, q) ∷ []) (ticks ++ ticked line e) stays h.0 (h.2.waiting refl)
+      moved (told ++ (heard_for line ++ Told e q ∷ [])) (ticks ++ ticked line e) stays h.0 (h.2.waiting refl)
       (told_more s.words.names s.status s.has_drained (remaining s.input) (given old.sources) (written old.output) (written new.output) told ticks line (remaining old.input) old.status (old.is_over && not s.is_over) (sound told ticks line none h) e q new.status (is_some new.failed) takes status
       (λ fine xs w. appends_then (contents s.output) (contents old.output) (contents new.output) xs (shown_for e q) w (shown fine)))
 
   pub untold_tells : (told : List Exchange) (ticks : List Reading) (fault : ClockFault) → Stays
       → new.status ≡ max old.status 4 → (is_some new.failed ≡ false → Appends (contents old.output) (contents new.output) (clock_text fault)) → old.failed ≡ None
-      → Tells remaining contents gives s told ticks (Some Says.TickNow) old → Tells remaining contents gives s told (ticks ++ Err fault ∷ []) None new
+      → Tells remaining contents gives s told ticks (Some Says.TickNow) old → Tells remaining contents gives s (told ++ Heard ∷ []) (ticks ++ Err fault ∷ []) None new
   untold_tells told ticks fault stays more shown none h =
-      moved told (ticks ++ Err fault ∷ []) stays h.0 (h.2.waiting refl)
+      moved (told ++ Heard ∷ []) (ticks ++ Err fault ∷ []) stays h.0 (h.2.waiting refl)
       (untold_more s.words.names s.status s.has_drained (remaining s.input) (given old.sources) (written old.output) (written new.output) told ticks (remaining old.input) old.status new.status fault (is_some new.failed) (old.is_over && not s.is_over) (sound told ticks Says.TickNow none h) more
       (λ fine xs w. appends_then (contents s.output) (contents old.output) (contents new.output) xs (clock_text fault) w (shown fine)))
 
@@ -102,13 +102,13 @@ module _ {R W F P : Type 0} (remaining : R → Option (List ℕ)) (contents : W 
   Reads input output sources status seen told ticks next =
       (drained : Bool) (names : Texts) (before : ℕ) (first from : Option (List ℕ)) (f : F) (has_ended : Bool) → names ≡ old.words.names
       → HasDone names before drained first (λ given. gives f given old.sources) (Appends from (contents old.output)) told ticks (waiting None old.has_drained) (remaining old.input) old.status false has_ended
-      → (times : ℕ) × HasDone names before drained first (λ given. gives f given sources) (Appends from (contents output)) (told ++ looks times seen) ticks (line_of next) (remaining input) status (is_err next) (is_end next)
+      → (times : ℕ) × HasDone names before drained first (λ given. gives f given sources) (Appends from (contents output)) (told ++ (heard_where old.has_drained ++ looks times seen)) ticks (line_of next) (remaining input) status (is_err next) (is_end next)
 
   -- of a reader that has these parts after a read
   pub read_tells : {E : Type 0} (input : R) (output : W) (sources : F) (status : ℕ) (failed : Option LineFault) (over drains : Bool) (seen : Schedule) (told : List Exchange) (ticks : List Reading) (next : Result (Option Line) E) → Reads input output sources status seen told ticks next
       → old.failed ≡ None → is_some failed ≡ is_err next → over ≡ is_end next → drains ≡ reads_drain next
       → Tells remaining contents gives s told ticks None old
-      → (times : ℕ) × HasDone s.words.names s.status s.has_drained (remaining s.input) (λ given. gives s.sources given sources) (Appends (contents s.output) (contents output)) (told ++ looks times seen) ticks (waiting (opened_by next) drains) (remaining input) status (is_some failed) (over && not s.is_over)
+      → (times : ℕ) × HasDone s.words.names s.status s.has_drained (remaining s.input) (λ given. gives s.sources given sources) (Appends (contents s.output) (contents output)) (told ++ (heard_where old.has_drained ++ looks times seen)) ticks (waiting (opened_by next) drains) (remaining input) status (is_some failed) (over && not s.is_over)
       × IsQuiet (opened_by next) (over && not s.is_over) drains
   read_tells input output sources status failed over drains seen told ticks next read none broken ended flag h =
       let files : List FileAnswer → Type 0 = λ given. gives s.sources given sources in
@@ -116,7 +116,7 @@ module _ {R W F P : Type 0} (remaining : R → Option (List ℕ)) (contents : W 
       let was : HasDone s.words.names s.status s.has_drained (remaining s.input) (λ given. gives s.sources given old.sources) (Appends (contents s.output) (contents old.output)) told ticks (waiting None old.has_drained) (remaining old.input) old.status false (old.is_over && not s.is_over) =
       subst (λ (o : Option LineFault). HasDone s.words.names s.status s.has_drained (remaining s.input) (λ given. gives s.sources given old.sources) (Appends (contents s.output) (contents old.output)) told ticks (waiting None old.has_drained) (remaining old.input) old.status (is_some o) (old.is_over && not s.is_over)) none h.1 in
       let now = read s.has_drained s.words.names s.status (remaining s.input) (contents s.output) s.sources (old.is_over && not s.is_over) (sym h.0) was in
-      let all : List Exchange = told ++ looks now.0 seen in (
+      let all : List Exchange = told ++ (heard_where old.has_drained ++ looks now.0 seen) in (
         now.0,
         ended_less s.words.names s.status s.has_drained (remaining s.input) files shows shows all ticks (waiting (opened_by next) drains) (remaining input) status (is_some failed) (is_end next) (over && not s.is_over)
             (λ both. sym ended ∙ first_of over (not s.is_over) both) (λ fine xs w. w)

@@ -1,5 +1,5 @@
 -- The statuses of what was done.
-use Rattle.std.proofs.Common.{◌≡◌, ◌≢◌, ◌==◌, ◌<◌, inl, inr, ℕ, max, All, true, List, [], ◌∷◌, ◌++◌, length, Result, Ok, Err, OnOk, refl, sym, ap, subst, arith}
+use Rattle.std.proofs.Common.{◌≡◌, ◌∙◌, ◌≢◌, ◌==◌, ◌<◌, inl, inr, ℕ, max, All, true, List, [], ◌∷◌, ◌++◌, length, Result, Ok, Err, OnOk, refl, sym, ap, subst, arith}
 use Rattle.std.proofs.lemmas.List.Elements.{All-cons, All-head, All-nil, All-tail}
 use Rattle.sched_model.specs.Schedule.{Schedule}
 use Rattle.sched_events.specs.declared.events.Event.{Event}
@@ -63,7 +63,8 @@ done_whole (Ok (Step e)) texts readings exchanges status shown (none, untold, in
 done_whole (Ok (LoadFile path)) texts readings exchanges status shown (untold, inl (fault, none, nothing, four, text)) z = absurd (omega arith)
 done_whole (Ok (LoadFile path)) texts readings exchanges status shown (untold, inr (text, read, may)) z = accepted (Load text) exchanges status shown may z
 done_whole (Ok TickNow) texts readings exchanges status shown (none, inl (fault, untold, nothing, four, text)) z = absurd (omega arith)
-done_whole (Ok TickNow) texts readings exchanges status shown (none, inr (moment, is, may)) z = accepted (Tick moment) exchanges status shown may z
+done_whole (Ok TickNow) texts readings exchanges status shown (none, inr (moment, told, is, heard, may)) z =
+    ap (λ (xs : List Exchange). length (told_in xs) == 1) heard ∙ accepted (Tick moment) told status shown may z
 done_whole (Ok Drain) texts readings exchanges status shown may z = refl
 done_whole (Ok (ListRows listing)) texts readings exchanges status shown may z = refl
 done_whole (Ok (Explain question)) texts readings exchanges status shown may z = refl

@@ -1,5 +1,5 @@
 -- What was done of the commands of a script, and what is left of it.
-use Rattle.std.proofs.Common.{inl, inr, true≢false, refl, sym, arith}
+use Rattle.std.proofs.Common.{inl, true≢false, refl, sym, arith}
 use Rattle.std.specs.Prelude.{◌≡◌, ◌⊎◌, ◌==◌, ◌&&◌, not, ℕ, max, Bool, true, false, List, [], ◌∷◌, ◌++◌, length, map, All, Option, Some, None, Result, Ok, Err}
 use Rattle.std.specs.List.{flat_map}
 use Rattle.sched_model.specs.Schedule.{Schedule}
@@ -16,7 +16,7 @@ use Rattle.script_commands.specs.Commands.{Request, commands_in}
 use Rattle.script_commands.specs.declared.commands.ScriptCommand.TheVariants.{Step, LoadFile, TickNow, Drain, List as ListRows, Explain}
 use Rattle.script_commands.specs.declared.commands.SourceFault.{SourceFault}
 use Rattle.script_commands.specs.declared.commands.SourceFault.TheVariants.{Memory as NoMemory}
-use Rattle.sessions.specs.Exchanges.{looks, told_in, Exchange}
+use Rattle.sessions.specs.Exchanges.{looks, told_in, Exchange, Heard, Told}
 use Rattle.sessions.specs.Readings.{Reading}
 use Rattle.sessions.specs.declared.clocks.ClockFault.{ClockFault}
 use Rattle.sessions.specs.declared.line_reading.Line.{Line}
@@ -34,7 +34,8 @@ abbrev pub FileAnswer : Type 0
 FileAnswer = List ℕ × Result (List ℕ) SourceFault
 
 -- What was done of a command: what the sources answered for it, if it asked them, what the clock gave for it, what passed between it and the run, which
--- is the schedule that it looked at, or the event that it names, with what came of it; the status of its answer, and the bytes that show it.
+-- is the schedule that it looked at, or the event that it names, with what came of it, and that reports were heard for it; the status of its answer, and
+-- the bytes that show it.
 pub record Done : Type 0 where
   pub asked : Request
   pub texts : List FileAnswer
@@ -46,7 +47,7 @@ pub record Done : Type 0 where
 -- an event was answered: it was accepted, or it was not; the status and the text are those of the answer
 abbrev pub IsPerhaps : Event → List Exchange → ℕ → List ℕ → Type 0
 IsPerhaps e exchanges status shown =
-    (answer : Result Answer Fault) × (exchanges ≡ inr (e, answer) ∷ []) × (status ≡ status_of answer) × (shown ≡ shown_for e answer)
+    (answer : Result Answer Fault) × (exchanges ≡ Told e answer ∷ []) × (status ≡ status_of answer) × (shown ≡ shown_for e answer)
 
 -- the text that a line loads could not be had, for want of memory, so the line was answered when it was read
 abbrev pub IsUnhad : Event → List Exchange → ℕ → List ℕ → Type 0
@@ -60,16 +61,16 @@ IsLoadPerhaps path texts exchanges status shown =
     ((fault : SourceFault) × (texts ≡ (path, Err fault) ∷ []) × ((a : Schedule) × (exchanges ≡ looks 1 a)) × (status ≡ 4) × (shown ≡ source_text fault))
     ⊎ ((text : List ℕ) × (texts ≡ (path, Ok text) ∷ []) × IsPerhaps (Load text) exchanges status shown)
 
--- the clock gave a moment, and the tick at it was accepted or not; or it gave none
+-- reports were heard; the clock gave a moment, and the tick at it was accepted or not; or it gave none
 abbrev pub IsTickPerhaps : List Reading → List Exchange → ℕ → List ℕ → Type 0
 IsTickPerhaps readings exchanges status shown =
-    ((fault : ClockFault) × (readings ≡ Err fault ∷ []) × (exchanges ≡ []) × (status ≡ 4) × (shown ≡ clock_text fault))
-    ⊎ ((moment : ℕ) × (readings ≡ Ok moment ∷ []) × IsPerhaps (Tick moment) exchanges status shown)
+    ((fault : ClockFault) × (readings ≡ Err fault ∷ []) × (exchanges ≡ Heard ∷ []) × (status ≡ 4) × (shown ≡ clock_text fault))
+    ⊎ ((moment : ℕ) × (told : List Exchange) × (readings ≡ Ok moment ∷ []) × (exchanges ≡ Heard ∷ told) × IsPerhaps (Tick moment) told status shown)
 
--- a drain was answered: of a schedule that was looked at for it, in which no try is in flight
+-- a drain was answered: reports were heard, and then a schedule was looked at for it, in which no try is in flight
 abbrev pub IsDrained : List Exchange → ℕ → List ℕ → Type 0
 IsDrained exchanges status shown =
-    ((a : Schedule) × (exchanges ≡ looks 1 a) × (in_flight a ≡ 0)) × (status ≡ 0) × (shown ≡ shown_text ShowsDone)
+    ((a : Schedule) × (exchanges ≡ Heard ∷ looks 1 a) × (in_flight a ≡ 0)) × (status ≡ 0) × (shown ≡ shown_text ShowsDone)
 
 -- The status and the text of a command that is answered when it is read, of this schedule and of what the sources answered for it: 0 and the rows for a
 -- list; 0 and the reasons for a question that has an answer, and those of its fault for one that has none; those of the fault of what is no command. Of a

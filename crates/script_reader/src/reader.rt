@@ -1,5 +1,5 @@
 //! A script that is read command by command, and answered line by line.
-ghost use Rattle.std.specs.Prelude.{◌≡◌, ◌++◌, ℕ, max, List, [], Bool, true, false, None, Some, Option, Ok, Err, is_err, IfOk, IfSome, MatchResult, OnOk};
+ghost use Rattle.std.specs.Prelude.{◌≡◌, ◌++◌, ℕ, max, List, [], Bool, true, false, None, Some, Option, Ok, Err, is_err, IfOk, IfErr, IfSome, MatchResult, OnOk};
 ghost use Rattle.std.specs.Io.KnownBytes.{Appends};
 ghost use Rattle.sched_model.specs.Schedule.{Schedule as ScheduleModel};
 ghost use Rattle.sched_model.specs.States.{in_flight};
@@ -8,7 +8,7 @@ ghost use Rattle.script_commands.specs.declared.commands.ScriptCommand.TheVarian
 ghost use Rattle.answer_lines.specs.CommandFaults.{command_fault_text};
 ghost use Rattle.command_words.specs.Lines.{IsListed};
 ghost use Rattle.word_app.specs.App.{Texts};
-ghost use Rattle.sessions.specs.Exchanges.{looks, Exchange};
+ghost use Rattle.sessions.specs.Exchanges.{heard_where, looks, Exchange};
 ghost use Rattle.sessions.specs.Readings.{Reading};
 ghost use Rattle.sessions.specs.Lines.{may_be_read, reads_drain};
 ghost use Rattle.script_reader.specs.Commands.{AnswersMore, Does, is_end, line_of};
@@ -54,8 +54,8 @@ pub struct ScriptReader<R: Read + Drop, W: Write + Drop, F: Sources, P: Console>
 }
 
 impl<R: Read + Drop, W: Write + Drop, F: Sources, P: Console> ScriptReader<R, W, F, P> {
-    /// A script of which nothing is read yet.
-    pub fn new(alloc: Global, script: Script<R, W, F, P>) -> Result<Self, AllocError>
+    /// A script of which nothing is read yet. Where memory runs out, it is given back.
+    pub fn new(alloc: Global, script: Script<R, W, F, P>) -> Result<Self, Script<R, W, F, P>>
         ensures listed { IfOk result (λ reader. IsListed reader.words.names) }
         ensures input { IfOk result (λ reader. reader.input ≡ script.input) }
         ensures output { IfOk result (λ reader. reader.output ≡ script.output) }
@@ -64,8 +64,12 @@ impl<R: Read + Drop, W: Write + Drop, F: Sources, P: Console> ScriptReader<R, W,
         ensures failed { IfOk result (λ reader. reader.failed ≡ None) }
         ensures over { IfOk result (λ reader. reader.is_over ≡ false) }
         ensures drains { IfOk result (λ reader. reader.has_drained ≡ false) }
+        ensures console { IfOk result (λ reader. reader.console ≡ script.console) }
+        ensures kept { IfErr result (λ left. left ≡ script) }
     {
-        let lines = LineReader::new(alloc)?;
+        let Ok(lines) = LineReader::new(alloc) else {
+            return Err(script);
+        };
         let Script {
             input,
             output,
@@ -87,6 +91,28 @@ impl<R: Read + Drop, W: Write + Drop, F: Sources, P: Console> ScriptReader<R, W,
         })
     }
 
+    /// The script, of which what was not read is left.
+    pub fn into_script(self) -> Script<R, W, F, P>
+        ensures input { result.input ≡ self.input }
+        ensures output { result.output ≡ self.output }
+        ensures sources { result.sources ≡ self.sources }
+        ensures console { result.console ≡ self.console }
+    {
+        let ScriptReader {
+            input,
+            output,
+            sources,
+            console,
+            ..
+        } = self;
+        Script {
+            input,
+            output,
+            sources,
+            console,
+        }
+    }
+
     // Answers a drain that was read, of this schedule; then reads and answers commands, up to one that leaves a line to the run; nothing where the script
     // is over.
     pub(crate) fn read_line(&mut self, schedule: &Schedule) -> io::Result<Option<Line>>
@@ -97,7 +123,7 @@ impl<R: Read + Drop, W: Write + Drop, F: Sources, P: Console> ScriptReader<R, W,
             → HasDone names before drained first (λ given. F.gives s given self.old.sources) (Appends from (W.contents self.old.output))
             exchanges readings (waiting None self.old.has_drained) (R.remaining self.old.input) self.old.status false has_ended
             → (times : ℕ) × HasDone names before drained first (λ given. F.gives s given self.new.sources) (Appends from (W.contents self.new.output))
-            (exchanges ++ looks times schedule.now.content) readings (line_of result) (R.remaining self.new.input) self.new.status (is_err result) (is_end result) }
+            (exchanges ++ (heard_where self.old.has_drained ++ looks times schedule.now.content)) readings (line_of result) (R.remaining self.new.input) self.new.status (is_err result) (is_end result) }
         ensures failed { self.new.failed ≡ self.old.failed }
         ensures drains { self.new.has_drained ≡ reads_drain result }
         ensures line { IfOk result (λ next. IfSome next (λ line. may_be_read line ≡ true)) }

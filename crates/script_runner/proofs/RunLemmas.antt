@@ -1,9 +1,10 @@
 -- What the run of a script promises, from what the conductor promises.
-use Rattle.std.proofs.Common.{◌≡◌, ◌≢◌, ◌∙◌, ◌++◌, ℕ, Bool, true, false, true≢false, not, ◌&&◌, List, [], flat_map, Option, None, is_some, Result, Ok, Err, is_ok, MatchResult, IfErr, IfOk, OnOk, refl, sym, ap, subst, inl, inr, arith}
+use Rattle.std.proofs.Common.{◌≡◌, ◌≢◌, ◌∙◌, ◌∷◌, ◌++◌, ℕ, Bool, true, false, true≢false, not, ◌&&◌, List, [], flat_map, Option, None, is_some, Result, Ok, Err, is_ok, MatchResult, IfErr, IfOk, OnOk, refl, sym, ap, subst, inl, inr, arith}
 use Rattle.std.specs.Io.KnownBytes.{Appends}
 use Rattle.sqlite.specs.Held.{Held}
 use Rattle.sqlite.specs.State.{State, HasCleanDisk}
 use Rattle.instance_machine.specs.declared.tries.Outcome.{Outcome}
+use Rattle.sched_state.specs.declared.jobs.Job.{Job}
 use Rattle.operators.specs.declared.kits.Kit.{Kit}
 use Rattle.sched_state.specs.Limits.{ceilings}
 use Rattle.sched_model.specs.Schedule.{Schedule}
@@ -15,9 +16,10 @@ use Rattle.word_app.specs.App.{Texts}
 use Rattle.script_commands.specs.Commands.{Request}
 use Rattle.command_words.specs.Lines.{IsListed}
 use Rattle.director.specs.Directors.{DirectorValue, Keeps, Opens, RestartsIn}
-use Rattle.sessions.specs.Exchanges.{Exchange, told_in, TookPlace}
+use Rattle.minutes.specs.Minutes.{BeginWithRestart}
+use Rattle.sessions.specs.Exchanges.{Exchange, Heard, told_in, TookPlaceBehind}
 use Rattle.sessions.specs.Readings.{Reading}
-use Rattle.sessions.proofs.ExchangeLemmas.{told_are_answered, told_of_each}
+use Rattle.sessions.proofs.ExchangeLemmas.{behind_are_answered, told_of_each}
 use Rattle.sessions.specs.declared.faults.ConductFault.{ConductFault}
 use Rattle.sessions.specs.declared.faults.ConductFault.TheVariants as fault
 use Rattle.sessions.specs.declared.line_reading.Line.{Line}
@@ -98,11 +100,11 @@ ended broken status shows output text (Ok v) closes written = tt
 ended broken status shows output text (Err f) closes written = λ other. let fine = closes other in fine.1 text (written fine.0)
 
 -- ---- the events of the minutes beside the script's lines
-pub named : {T : Type 0} (words : Texts) (before : ℕ) (drained : Bool) (first : Option (List ℕ)) (gives : List FileAnswer → Type 0) (clock : List Reading → Type 0) (shows output : List ℕ → Type 0) (told : List Exchange) (start : Schedule) (minutes : List Event) (moments : List Reading) (waits : Option Line) (left : Option (List ℕ)) (answers status : ℕ) (broken over was_over : Bool) (outcome : Result T ConductFault)
-    → IsListed words → before ≡ 0 → drained ≡ false → HasDone words before drained first gives shows told moments waits left answers broken (over && not was_over) → (is_ok outcome ≡ true → (broken ≡ false) × ((xs : List ℕ) → shows xs → output xs)) → (broken ≡ true → may_break_off outcome ≡ true) → IfErr outcome (λ f. status ≢ 4 → (broken ≡ false) × ((xs : List ℕ) → shows xs → output (xs ++ end_text f))) → TookPlace told minutes start → clock moments → was_over ≡ false
+pub named : {T : Type 0} (words : Texts) (before : ℕ) (drained : Bool) (first : Option (List ℕ)) (gives : List FileAnswer → Type 0) (clock : List Reading → Type 0) (shows output : List ℕ → Type 0) (told : List Exchange) (start : Schedule) (minutes : List Event) (moments : List Reading) (waits : Option Line) (left : Option (List ℕ)) (answers status lanes : ℕ) (broken over was_over : Bool) (outcome : Result T ConductFault)
+    → IsListed words → before ≡ 0 → drained ≡ false → HasDone words before drained first gives shows told moments waits left answers broken (over && not was_over) → (is_ok outcome ≡ true → (broken ≡ false) × ((xs : List ℕ) → shows xs → output xs)) → (broken ≡ true → may_break_off outcome ≡ true) → IfErr outcome (λ f. status ≢ 4 → (broken ≡ false) × ((xs : List ℕ) → shows xs → output (xs ++ end_text f))) → BeginWithRestart lanes minutes → TookPlaceBehind told (Heard ∷ []) minutes start → clock moments → was_over ≡ false
     → (came_to_its_end outcome ≡ true → (over ≡ true) × (waits ≡ None)) → IsEndStatus answers outcome status
     → AreNamed first gives clock output start minutes outcome status
-named words before drained first gives clock shows output told start minutes moments waits left answers status broken over was_over outcome listed zero undrained h writes breaks closes took given fresh whole is =
+named words before drained first gives clock shows output told start minutes moments waits left answers status lanes broken over was_over outcome listed zero undrained h writes breaks closes begun took given fresh whole is =
     let greatest : answers ≡ greatest_status h.done = omega (arith, h.status_is, zero) in
     let ends : came_to_its_end outcome ≡ true → (over && not was_over) ≡ true = λ came. ap (λ b. b && not was_over) (whole came).0 ∙ ap not fresh in
     record {
@@ -117,8 +119,8 @@ named words before drained first gives clock shows output told start minutes mom
       none_waits = λ came. (whole came).1;
       texts = h.texts;
       readings = subst clock h.read_of given;
-      took_place = subst (λ (xs : List Exchange). TookPlace xs minutes start) h.exchanged took;
-      answers_are = told_are_answered told minutes start took ∙ ap told_in h.exchanged ∙ told_of_each (λ (d : Done). d.exchanges) h.done;
+      took_place = subst (λ (xs : List Exchange). TookPlaceBehind xs (Heard ∷ []) minutes start) h.exchanged took;
+      answers_are = behind_are_answered lanes told minutes start begun took ∙ ap told_in h.exchanged ∙ told_of_each (λ (d : Done). d.exchanges) h.done;
       shown = λ well. let fine = writes well in fine.1 (flat_map (λ (d : Done). d.shown) h.done) (h.output fine.0);
       ended_with = ended broken status shows output (flat_map (λ (d : Done). d.shown) h.done) outcome closes h.output;
       read = λ known e.
@@ -143,7 +145,7 @@ still : {A : Type 0} (none untouched still' : Type 0) (r : Result A ConductFault
 still none untouched still' (Ok v) to was = tt
 still none untouched still' (Err f) to was = λ is. let both = was is in (both.0, to both.1)
 
-module _ {S G O : Type 0} (look : Held S → State) (runs : O → List (ℕ × Outcome)) (taken : O → Option ℕ) where
+module _ {S G O : Type 0} (look : Held S → State) (runs : O → List (Job × Outcome)) (taken : O → Option Job) where
   pub is_run : (bytes : Option (List ℕ)) (gives : List FileAnswer → Type 0) (clock : List Reading → Type 0) (output : List ℕ → Type 0) (lanes : ℕ) (kits : List (Kit O)) (before : State) (d : DirectorValue S) (conducted : Conducted S G O) (status : ℕ)
       (are_told : Schedule → List Event → Option Line → Type 0) (untouched quiet : Type 0) (failed : Option LineFault) (over : Bool)
       → IsConducted look runs taken lanes kits d conducted are_told untouched failed over → (untouched → quiet)
@@ -173,6 +175,7 @@ module _ {S G O : Type 0} (look : Held S → State) (runs : O → List (ℕ × O
         fault = c.fault;
         workers = c.workers;
         unstarted = still (es ≡ []) untouched quiet conducted.outcome to c.unstarted;
+        worked = c.worked;
         idle = where_well (in_flight (steps es a) ≡ 0) conducted.outcome (λ well. ap in_flight (sym c.stepped) ∙ (c.whole well).3);
         ends = c.ends;
         once = c.once;
@@ -201,7 +204,7 @@ pub record IsFresh {R W F P : Type 0} (first : ScriptReader R W F P) : Type 0 wh
   pub drains : first.has_drained ≡ false
   pub listed : IsListed first.words.names
 
-module _ {S G O R W F P C : Type 0} (look : Held S → State) (runs : O → List (ℕ × Outcome)) (taken : O → Option ℕ) (remaining : R → Option (List ℕ)) (contents : W → Option (List ℕ)) (gives : F → List FileAnswer → F → Type 0) (ticks : C → List Reading → C → Type 0) where
+module _ {S G O R W F P C : Type 0} (look : Held S → State) (runs : O → List (Job × Outcome)) (taken : O → Option Job) (remaining : R → Option (List ℕ)) (contents : W → Option (List ℕ)) (gives : F → List FileAnswer → F → Type 0) (ticks : C → List Reading → C → Type 0) where
   -- what comes back of what was conducted, with the last state of the reader
   pub record ComesBack (conducted : Conducted S G O) (last : ScriptReader R W F P) (store : Held S) (minutes : List Event) (outcome : Result (Settled G O) ConductFault) (status : ℕ) (sources : F) (output : W) : Type 0 where
     pub store_is : store ≡ conducted.director.store
@@ -249,8 +252,8 @@ module _ {S G O R W F P C : Type 0} (look : Held S → State) (runs : O → List
       let text : List ℕ → Type 0 = λ shown. Appends (contents first.output) (contents output) shown in
       let quiet : Type 0 = (last.sources ≡ first.sources) × (later ≡ clock) in
       let named_here : AreNamed bytes files times text d.schedule.content es conducted.outcome status =
-      named first.words.names first.status first.has_drained bytes files times (Appends (contents first.output) (contents last.output)) text t.exchanges d.schedule.content es t.readings (waiting c.waits last.has_drained) (remaining last.input) last.status status (is_some last.failed) last.is_over first.is_over conducted.outcome
-      fresh.listed fresh.status fresh.drains t.told.1 (writes lanes kits d conducted first last clock later output c back.output_is) (breaks_off last.failed conducted.outcome c.fault) (closing (contents first.output) (contents last.output) (contents output) last.failed last.status status conducted.outcome c.fault back.status_is back.ended_is) t.took_place t.given fresh.over (undrained lanes kits d conducted first last clock later c fresh) back.status_is
+      named first.words.names first.status first.has_drained bytes files times (Appends (contents first.output) (contents last.output)) text t.exchanges d.schedule.content es t.readings (waiting c.waits last.has_drained) (remaining last.input) last.status status lanes (is_some last.failed) last.is_over first.is_over conducted.outcome
+      fresh.listed fresh.status fresh.drains t.told.1 (writes lanes kits d conducted first last clock later output c back.output_is) (breaks_off last.failed conducted.outcome c.fault) (closing (contents first.output) (contents last.output) (contents output) last.failed last.status status conducted.outcome c.fault back.status_is back.ended_is) c.begun t.took_place t.given fresh.over (undrained lanes kits d conducted first last clock later c fresh) back.status_is
       in
       let here = is_run look runs taken bytes files times text lanes kits before d conducted status _ ((last ≡ first) × (later ≡ clock)) quiet last.failed last.is_over c (λ same. (ap (λ (r : ScriptReader R W F P). r.sources) same.0, same.1)) sound opened restarted named_here in
       subst (λ (f : F). IsRun look runs taken bytes (λ given. gives first.sources given f) times text ((f ≡ first.sources) × (later ≡ clock)) lanes kits before store minutes outcome status) (sym back.sources_are)

@@ -1,12 +1,12 @@
 -- What a run says beside the lines of its script.
-use Rattle.std.specs.Prelude.{◌≡◌, ◌≢◌, ℕ, Bool, true, false, List, [], ◌++◌, map, flat_map, All, Option, Some, None, Result, Err, is_ok, IfErr}
+use Rattle.std.specs.Prelude.{◌≡◌, ◌≢◌, ℕ, Bool, true, false, List, [], ◌∷◌, ◌++◌, map, flat_map, All, Option, Some, None, Result, Err, is_ok, IfErr}
 use Rattle.word_app.specs.App.{Texts}
 use Rattle.command_words.specs.Lines.{IsListed}
 use Rattle.sched_events.specs.declared.events.Event.{Event}
 use Rattle.script_commands.specs.Commands.{Request, commands_in}
 use Rattle.sched_model.specs.Schedule.{Schedule}
 use Rattle.minutes.specs.Minutes.{answered}
-use Rattle.sessions.specs.Exchanges.{told_in, TookPlace}
+use Rattle.sessions.specs.Exchanges.{told_in, Heard, TookPlaceBehind}
 use Rattle.sessions.specs.Readings.{Reading}
 use Rattle.sessions.specs.declared.faults.ConductFault.{ConductFault}
 use Rattle.sessions.specs.declared.faults.ConductFault.TheVariants.{ReadFault, Memory}
@@ -23,7 +23,8 @@ may_break_off _ = false
 
 -- The events that are answered in these minutes, from this schedule on, are, in order, those that the commands of a script name, of these bytes, where they
 -- are known, by the words that `list` takes. A command that is answered when it is read is answered of the schedule of the minutes up to it, and an event
--- that was not accepted has its cause there; a drain is answered of the schedule of minutes up to it in which no try is in flight. For each `load PATH` the
+-- that was not accepted has its cause there; a drain is answered of the schedule of minutes up to it in which no try is in flight. All of this is behind the
+-- restart. Reports stand in the minutes where a drain waited, before a `tick now`, and behind the last command, and nowhere else. For each `load PATH` the
 -- sources were asked once, for its path, and for nothing else: the text that is loaded, or the fault that is shown, is the next that they gave. A moment of
 -- `tick now` is the next that the clock gave. Where the run came to its end, all commands are done; where it did not, one that was read may still wait for
 -- its answer, or, where the script could not be read or answered further, be a `load PATH` for which the sources gave a fault that could not be shown. Where
@@ -43,9 +44,9 @@ pub record AreNamed {T : Type 0} (bytes : Option (List ℕ)) (sources : List Fil
   pub none_waits : came_to_its_end outcome ≡ true → waits ≡ None
   pub texts : sources (flat_map (λ d. d.texts) done ++ open_texts)
   pub readings : clock (flat_map (λ d. d.readings) done)
-  -- what passed between the commands and the run, one after another, took place while the minutes were made; so the events that were told as accepted are
-  -- those that the minutes answer
-  pub took_place : TookPlace (flat_map (λ d. d.exchanges) done) minutes first
+  -- what passed between the commands and the run, one after another, took place behind the restart while the minutes were made, and then reports were heard;
+  -- so the events that were told as accepted are those that the minutes answer
+  pub took_place : TookPlaceBehind (flat_map (λ d. d.exchanges) done) (Heard ∷ []) minutes first
   pub answers_are : answered minutes first ≡ flat_map (λ d. told_in d.exchanges) done
   pub shown : is_ok outcome ≡ true → output (flat_map (λ d. d.shown) done)
   pub ended_with : IfErr outcome (λ f. status ≢ 4 → output (flat_map (λ d. d.shown) done ++ end_text f))

@@ -3,6 +3,7 @@ use Rattle.std.specs.Prelude.{◌≡◌, ◌==◌, ℕ, ◌<◌, true, List, [],
 use Rattle.sqlite.specs.Held.{Held}
 use Rattle.sqlite.specs.State.{State, HasCleanDisk}
 use Rattle.instance_machine.specs.declared.tries.Outcome.{Outcome}
+use Rattle.sched_state.specs.declared.jobs.Job.{Job}
 use Rattle.operators.specs.declared.kits.Kit.{Kit}
 use Rattle.record_rows.specs.Rows.{Rows}
 use Rattle.record_tables.specs.Holds.{Stores}
@@ -20,7 +21,7 @@ use Rattle.sessions.specs.declared.faults.ConductFault.{ConductFault}
 use Rattle.sessions.specs.declared.line_reading.LineFault.{LineFault}
 use Rattle.crews.specs.Settled.{AreAccounts}
 use Rattle.crews.specs.declared.settling.Settled.{Settled}
-use Rattle.conduct.specs.Ends.{EachStandsInALog, EachToldItsOwn}
+use Rattle.conduct.specs.Ends.{EachStandsInALog, EachToldItsOwn, HaveWorkedFor}
 use Rattle.conduct.specs.Faults.{EndsRun, came_to_its_end, is_no_worker, is_unstarted}
 use Rattle.script_reader.specs.Done.{FileAnswer}
 use Rattle.script_runner.specs.Named.{AreNamed}
@@ -28,7 +29,7 @@ use Rattle.script_runner.specs.Named.{AreNamed}
 -- A script of these bytes was run with so many lanes and these kits on what a record held before: what the record is now, the minutes, what became of the
 -- crews, and the status. The sources and the clock gave what their relations say, or were asked nothing (untouched); the output has grown as its relation
 -- says.
-pub record IsRun {S G O : Type 0} (look : Held S → State) (runs : O → List (ℕ × Outcome)) (taken : O → Option ℕ) (bytes : Option (List ℕ)) (sources : List FileAnswer → Type 0) (clock : List Reading → Type 0) (output : List ℕ → Type 0) (untouched : Type 0) (lanes : ℕ) (kits : List (Kit O)) (before : State) (store : Held S) (minutes : List Event) (outcome : Result (Settled G O) ConductFault) (status : ℕ) : Type 0 where
+pub record IsRun {S G O : Type 0} (look : Held S → State) (runs : O → List (Job × Outcome)) (taken : O → Option Job) (bytes : Option (List ℕ)) (sources : List FileAnswer → Type 0) (clock : List Reading → Type 0) (output : List ℕ → Type 0) (untouched : Type 0) (lanes : ℕ) (kits : List (Kit O)) (before : State) (store : Held S) (minutes : List Event) (outcome : Result (Settled G O) ConductFault) (status : ℕ) : Type 0 where
   -- the schedule that was opened, without lanes, and the answer to its restart
   pub first : Schedule
   pub given : Answer
@@ -52,6 +53,8 @@ pub record IsRun {S G O : Type 0} (look : Held S → State) (runs : O → List (
   pub fault : MatchResult outcome (λ _. failed ≡ None) (λ f. EndsRun f failed)
   pub workers : MatchResult outcome (λ _. 0 < length kits) (λ f. is_no_worker f ≡ (length kits == 0))
   pub unstarted : IfErr outcome (λ f. is_unstarted f ≡ true → (minutes ≡ []) × untouched)
+  -- with a fault too: workers have worked for the minutes, which report nothing that no worker told
+  pub worked : HaveWorkedFor G runs taken kits minutes first
   -- where the run ended well: no try is in flight; each try that was handed out stands in the log of one worker, as often as it was handed out, and no
   -- other does; what the minutes report of a worker's jobs is what that worker told, in its order; and its log is an account of its kit
   pub idle : IfOk outcome (λ s. in_flight (steps minutes first) ≡ 0)

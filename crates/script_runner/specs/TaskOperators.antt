@@ -1,8 +1,9 @@
 -- What an operator of whichever kind shows: what the one inside does.
-use Rattle.std.specs.Prelude.{◌≡◌, ℕ, Bool, List, [], Option, None}
+use Rattle.std.specs.Prelude.{◌≡◌, Bool, List, [], Option, None}
 use Rattle.graph_file.specs.declared.operators.Operator.{Operator as Kind}
 use Rattle.graph_file.specs.declared.operators.Operator.TheVariants as kinds
 use Rattle.instance_machine.specs.declared.tries.Outcome.{Outcome}
+use Rattle.sched_state.specs.declared.jobs.Job.{Job}
 use Rattle.script_runner.specs.declared.task_operators.TaskOperator.{TaskOperator}
 use Rattle.script_runner.specs.declared.task_operators.TaskOperator.TheVariants.{Noop, Exit, Command}
 
@@ -12,12 +13,12 @@ module _ {P : Type 0} where
   kind_of kind (Exit o) = kinds.Exit
   kind_of kind (Command o) = kind o
 
-  abbrev pub runs_of : (P → List (ℕ × Outcome)) → TaskOperator P → List (ℕ × Outcome)
+  abbrev pub runs_of : (P → List (Job × Outcome)) → TaskOperator P → List (Job × Outcome)
   runs_of runs (Noop o) = o.progress.runs
   runs_of runs (Exit o) = o.progress.runs
   runs_of runs (Command o) = runs o
 
-  abbrev pub taken_by : (P → Option ℕ) → TaskOperator P → Option ℕ
+  abbrev pub taken_by : (P → Option Job) → TaskOperator P → Option Job
   taken_by taken (Noop o) = o.progress.taken
   taken_by taken (Exit o) = o.progress.taken
   taken_by taken (Command o) = taken o
@@ -28,5 +29,5 @@ module _ {P : Type 0} where
   performed_by performed (Command o) = performed o
 
 -- the operator has performed no try and taken none up
-abbrev pub IsFresh : {O : Type 0} → (O → List (ℕ × Outcome)) → (O → Option ℕ) → O → Type 0
+abbrev pub IsFresh : {O : Type 0} → (O → List (Job × Outcome)) → (O → Option Job) → O → Type 0
 IsFresh runs taken o = (runs o ≡ []) × (taken o ≡ None)

@@ -2,6 +2,7 @@
 use Rattle.std.specs.Prelude.{◌≡◌, ℕ, true, List, [], ◌∷◌, map, All, Option, Result}
 use Rattle.graph_file.specs.declared.operators.Operator.{Operator as Kind}
 use Rattle.instance_machine.specs.declared.tries.Outcome.{Outcome}
+use Rattle.sched_state.specs.declared.jobs.Job.{Job}
 use Rattle.sqlite.specs.Held.{Held}
 use Rattle.sqlite.specs.State.{State}
 use Rattle.operators.specs.Kits.{of_kind, each_once, IsKit}
@@ -30,7 +31,7 @@ module _ {O : Type 0} (kind_of : O → Kind) where
   AreKitsOf (operators ∷ rest) [] = ⊥
 
 -- what `run_on` promises of a script that workers with these operators ran
-pub record IsTeamRun {S G O : Type 0} (look : Held S → State) (kind_of : O → Kind) (runs : O → List (ℕ × Outcome)) (taken : O → Option ℕ) (bytes : Option (List ℕ)) (sources : List FileAnswer → Type 0) (clock : List Reading → Type 0) (output : List ℕ → Type 0) (untouched : Type 0) (lanes : ℕ) (operators : List (List O)) (before : State) (store : Held S) (minutes : List Event) (outcome : Result (Settled G O) ConductFault) (status : ℕ) : Type 0 where
+pub record IsTeamRun {S G O : Type 0} (look : Held S → State) (kind_of : O → Kind) (runs : O → List (Job × Outcome)) (taken : O → Option Job) (bytes : Option (List ℕ)) (sources : List FileAnswer → Type 0) (clock : List Reading → Type 0) (output : List ℕ → Type 0) (untouched : Type 0) (lanes : ℕ) (operators : List (List O)) (before : State) (store : Held S) (minutes : List Event) (outcome : Result (Settled G O) ConductFault) (status : ℕ) : Type 0 where
   pub kits : List (Kit O)
   pub made : AreKitsOf kind_of operators kits
   pub run : IsRun look runs taken bytes sources clock output untouched lanes kits before store minutes outcome status

@@ -7,13 +7,11 @@
 //! let ran = run_on(rt, alloc, store, RunOptions { lanes: 4 }, crews, script, &mut clock)?;
 //! ```
 //!
-//! Beside it stands what the program runs scripts with: the system's clock, files by their paths, sentences for a person, with a line on a terminal while a
-//! drain goes on, and teams of operators ([`run_team`]). What the system's clock says and what stands in a file is the system's: nothing is proved of it but that a reading of the
+//! Beside it stands what the program runs scripts with: the system's clock, files by their paths, and teams of operators ([`run_team`]). What the system's clock says and what stands in a file is the system's: nothing is proved of it but that a reading of the
 //! clock becomes the second in which it lies, or is out of range, and that each answer is a moment, a text or a fault.
 //!
 //! ```text
 //! let team = operators_for(*rt, alloc, 4, "dagsched-scratch", None)?;
-//! let console = SentenceConsole::new(*rt, alloc, words, rt.stderr());
 //! let script = Script { input, output, sources: FileSources::new(*rt, alloc), console };
 //! let ran = run_team(rt, alloc, store, 4, team, script, &mut SystemClock::new(*rt))?;
 //! ```
@@ -23,15 +21,12 @@
 
 mod file_sources;
 mod running;
-mod sentence_console;
 mod system_clock;
 mod task_operators;
 mod teams;
-mod totals;
 
 pub use file_sources::FileSources;
-pub use running::{Ran, RunOptions, run_on};
-pub use sentence_console::SentenceConsole;
+pub use running::{Ran, RunOptions, Unopened, run_on};
 pub use system_clock::SystemClock;
 pub use task_operators::{TaskOperator, operators_for};
 pub use teams::run_team;

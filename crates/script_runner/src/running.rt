@@ -1,5 +1,5 @@
 //! A script that is run on a record, by workers.
-ghost use Rattle.std.specs.Prelude.{◌≡◌, ◌≢◌, ◌≤◌, All, IfOk, IfErr, IsTrue, OnErr, OnOk, length, map};
+ghost use Rattle.std.specs.Prelude.{◌≡◌, ◌≢◌, ◌≤◌, All, IfOk, IfErr, IsTrue, OnOk, length, map};
 ghost use Rattle.std.specs.Io.KnownBytes.{Appends};
 ghost use Rattle.sqlite.specs.Held.{state};
 ghost use Rattle.sqlite.specs.State.{HasCleanDisk};
@@ -19,7 +19,7 @@ use script_reader::{Console, Script, ScriptReader, Sources};
 use sessions::{Clock, ConductFault};
 use sqlite::Alter;
 use std::alloc::Global;
-use std::io::{BufRead, Write};
+use std::io::{BufRead, Read, Write};
 use std::sync::Wait;
 use std::thread::Threads;
 use work::{Crew, Gate};
@@ -49,10 +49,21 @@ pub struct Ran<S: Alter, G: Gate, O: Operator, F: Sources, W: Write + Drop> {
     pub output: W,
 }
 
+/// A record that was not opened, so that no script was run on it.
+#[derive(Drop)]
+pub struct Unopened<S: Alter, R: Read + Drop, W: Write + Drop, F: Sources, P: Console> {
+    /// The record.
+    pub store: Store<S>,
+    /// Why it is not opened.
+    pub fault: Fault,
+    /// The script, of which nothing was read or answered.
+    pub script: Script<R, W, F, P>,
+}
+
 /// Opens a record within the greatest limits, without lanes, and runs a script on it with workers, one for each crew, each on a thread of its own.
 ///
-/// The output is flushed before each command is read. The script's console tells a person what the answers do not. An error says why the record is not
-/// opened, and gives it back.
+/// The output is flushed before each command is read. The script's console tells a person what the answers do not. Where the record is not opened, it is
+/// given back with the script, and the script, its sources and the clock are as they were.
 pub fn run_on<
     S: Alter + Drop,
     G: Gate + Send,
@@ -71,7 +82,7 @@ pub fn run_on<
     crews: Vec<Crew<G, O>>,
     script: Script<R, W, F, P>,
     clock: &mut C,
-) -> Result<Ran<S, G, O, F, W>, (Store<S>, Fault)>
+) -> Result<Ran<S, G, O, F, W>, Unopened<S, R, W, F, P>>
     requires lanes { options.lanes ≤ 64 }
     requires crews { length crews.items ≤ 16 }
     requires kits { All (λ c. IsKit O.kind_of c.kit) crews.items }
@@ -79,16 +90,24 @@ pub fn run_on<
         (λ given. F.gives script.sources given ran.sources) (λ moments. C.gives clock.old moments clock.new)
         (λ shown. Appends (W.contents script.output) (W.contents ran.output) shown)
         ((ran.sources ≡ script.sources) × (clock.new ≡ clock.old)) options.lanes (map (λ c. c.kit) crews.items) (state S.Store store) ran.store ran.minutes.items ran.outcome ran.status) }
-    ensures fault { IfErr result (λ e. HasCleanDisk (state S.Store e.0)
-        → IsOpenFault ceilings 0 (state S.Store store).now e.1) }
-    ensures kept { IfErr result (λ e. HasCleanDisk (state S.Store e.0)
-        → IsTrue (state S.Store e.0).is_open
-        → ((state S.Store e.0).now ≡ (state S.Store store).now)
-        × ((state S.Store e.0).committed ≡ (state S.Store store).committed)) }
-    ensures untouched { OnErr result (clock.new ≡ clock.old) }
+    ensures fault { IfErr result (λ e. HasCleanDisk (state S.Store e.store)
+        → IsOpenFault ceilings 0 (state S.Store store).now e.fault) }
+    ensures kept { IfErr result (λ e. HasCleanDisk (state S.Store e.store)
+        → IsTrue (state S.Store e.store).is_open
+        → ((state S.Store e.store).now ≡ (state S.Store store).now)
+        × ((state S.Store e.store).committed ≡ (state S.Store store).committed)) }
+    ensures untouched { IfErr result (λ e. (e.script.input ≡ script.input) × (e.script.output ≡ script.output)
+        × (e.script.sources ≡ script.sources) × (e.script.console ≡ script.console) × (clock.new ≡ clock.old)) }
 {
-    let Ok(mut reader) = ScriptReader::new(alloc, script) else {
-        return Err((store, Fault::Memory));
+    let mut reader = match ScriptReader::new(alloc, script) {
+        Ok(reader) => reader,
+        Err(script) => {
+            return Err(Unopened {
+                store,
+                fault: Fault::Memory,
+                script,
+            });
+        }
     };
     match Director::open(alloc, store, 0, Limits::full()) {
         Ok(director) => {
@@ -105,7 +124,11 @@ pub fn run_on<
             );
             Ok(close(reader, conducted))
         }
-        Err(unopened) => Err(unopened),
+        Err((store, fault)) => Err(Unopened {
+            store,
+            fault,
+            script: reader.into_script(),
+        }),
     }
 }
 

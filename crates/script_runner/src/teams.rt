@@ -1,5 +1,5 @@
 //! Scripts run by teams: for each worker a list of operators, and a gate.
-ghost use Rattle.std.specs.Prelude.{◌≡◌, ◌≤◌, All, IfErr, IfOk, IsTrue, OnErr, length, map};
+ghost use Rattle.std.specs.Prelude.{◌≡◌, ◌≤◌, All, IfErr, IfOk, IsTrue, length, map};
 ghost use Rattle.std.specs.Io.KnownBytes.{Appends};
 ghost use Rattle.sqlite.specs.Held.{state};
 ghost use Rattle.sqlite.specs.State.{HasCleanDisk};
@@ -8,7 +8,7 @@ ghost use Rattle.sched_state.specs.Limits.{ceilings};
 ghost use Rattle.director.specs.Faults.{IsOpenFault};
 ghost use Rattle.script_runner.specs.Teams.{AreKitsOf, IsTeamRun, IsWhole};
 
-use crate::running::{Ran, RunOptions, run_on};
+use crate::running::{Ran, RunOptions, Unopened, run_on};
 use director::Fault;
 use meta_store::Store;
 use operators::{Kit, Operator};
@@ -41,7 +41,7 @@ pub fn run_team<
     team: Vec<(Vec<O>, G)>,
     script: Script<R, W, F, P>,
     clock: &mut C,
-) -> Result<Ran<S, G, O, F, W>, (Store<S>, Fault)>
+) -> Result<Ran<S, G, O, F, W>, Unopened<S, R, W, F, P>>
     requires lanes { lanes ≤ 64 }
     requires workers { length team.items ≤ 16 }
     requires whole { All (λ w. IsWhole O.kind_of w.0.items) team.items }
@@ -49,16 +49,21 @@ pub fn run_team<
         (λ given. F.gives script.sources given ran.sources) (λ moments. C.gives clock.old moments clock.new)
         (λ shown. Appends (W.contents script.output) (W.contents ran.output) shown)
         ((ran.sources ≡ script.sources) × (clock.new ≡ clock.old)) lanes (map (λ w. w.0.items) team.items) (state S.Store store) ran.store ran.minutes.items ran.outcome ran.status) }
-    ensures fault { IfErr result (λ e. HasCleanDisk (state S.Store e.0)
-        → IsOpenFault ceilings 0 (state S.Store store).now e.1) }
-    ensures kept { IfErr result (λ e. HasCleanDisk (state S.Store e.0)
-        → IsTrue (state S.Store e.0).is_open
-        → ((state S.Store e.0).now ≡ (state S.Store store).now)
-        × ((state S.Store e.0).committed ≡ (state S.Store store).committed)) }
-    ensures untouched { OnErr result (clock.new ≡ clock.old) }
+    ensures fault { IfErr result (λ e. HasCleanDisk (state S.Store e.store)
+        → IsOpenFault ceilings 0 (state S.Store store).now e.fault) }
+    ensures kept { IfErr result (λ e. HasCleanDisk (state S.Store e.store)
+        → IsTrue (state S.Store e.store).is_open
+        → ((state S.Store e.store).now ≡ (state S.Store store).now)
+        × ((state S.Store e.store).committed ≡ (state S.Store store).committed)) }
+    ensures untouched { IfErr result (λ e. (e.script.input ≡ script.input) × (e.script.output ≡ script.output)
+        × (e.script.sources ≡ script.sources) × (e.script.console ≡ script.console) × (clock.new ≡ clock.old)) }
 {
     let Ok(crews) = make_crews(alloc, team) else {
-        return Err((store, Fault::Memory));
+        return Err(Unopened {
+            store,
+            fault: Fault::Memory,
+            script,
+        });
     };
     run_on(rt, alloc, store, RunOptions { lanes }, crews, script, clock)
 }

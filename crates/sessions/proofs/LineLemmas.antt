@@ -1,5 +1,5 @@
 -- An event of a line, and what the lines are told of it.
-use Rattle.std.proofs.Common.{◌≡◌, ◌∙◌, ℕ, inr, true, false, true≢false, List, [], ◌∷◌, ◌++◌, Option, None, Result, Ok, Err, OnOk, refl, sym, ap, subst}
+use Rattle.std.proofs.Common.{◌≡◌, ◌∙◌, ℕ, ◌<◌, true, false, true≢false, List, [], ◌∷◌, ◌++◌, length, Option, None, Result, Ok, Err, MatchResult, OnOk, refl, sym, ap, subst}
 use Rattle.sched_events.specs.Steps.{steps, answer_to}
 use Rattle.sched_events.specs.declared.answers.Answer.{Answer}
 use Rattle.sched_events.specs.declared.events.Event.{Event}
@@ -9,14 +9,14 @@ use Rattle.director.specs.Faults.{IsFaultOf}
 use Rattle.director.specs.Lists.{IsOutcome}
 use Rattle.director.specs.declared.faults.Fault.{Fault}
 use Rattle.minutes.specs.Minutes.{is_of_line, is_restart, report_part}
-use Rattle.sessions.specs.Exchanges.{Exchange, looks, StillTookPlace, TookPlace}
+use Rattle.sessions.specs.Exchanges.{Exchange, Told, Heard, looks, StillTookPlace, TookPlaceBehind}
 use Rattle.sessions.specs.Lines.{opened_by, TellsOn}
 use Rattle.sessions.specs.Readings.{Reading}
-use Rattle.sessions.specs.Told.{AreTold}
+use Rattle.sessions.specs.Told.{AreTold, AreToldUpTo}
 use Rattle.sessions.specs.declared.line_reading.Line.{Line}
 use Rattle.sessions.specs.declared.line_reading.LineFault.{LineFault}
 use Rattle.sessions.specs.declared.state.Session.{Session}
-use Rattle.sessions.proofs.ExchangeLemmas.{looks_later, own_later, refused_later, told_later}
+use Rattle.sessions.proofs.ExchangeLemmas.{behind_now, behind_then, behind_unheard, looks_take_place, own_later, refusal_takes_place, told_takes_place}
 
 -- ---- an event of a line
 pub line_reports : (e : Event) → is_of_line e ≡ true → report_part e ≡ []
@@ -30,54 +30,66 @@ line_later _ is = refl
 -- ---- what is told
 module _ {S : Type 0} where
   -- an event that was stepped is told as accepted
-  pub line_told : (a : Schedule) (s u : Session S) (e : Event) (q : Result Answer Fault) (answer : Answer) (xs : List Exchange)
-      → is_of_line e ≡ true → s.director.schedule.content ≡ steps s.minutes.items a → q ≡ Ok answer → answer ≡ answer_to e s.director.schedule.content → u.minutes.items ≡ s.minutes.items ++ e ∷ []
-      → TookPlace xs s.minutes.items a → TookPlace (xs ++ inr (e, q) ∷ []) u.minutes.items a
-  line_told a s u e q answer xs is stepped ok was minutes took =
+  pub line_told : (a : Schedule) (s u : Session S) (e : Event) (q : Result Answer Fault) (answer : Answer) (xs last : List Exchange)
+      → 0 < length s.minutes.items → is_of_line e ≡ true → s.director.schedule.content ≡ steps s.minutes.items a → q ≡ Ok answer → answer ≡ answer_to e s.director.schedule.content → u.minutes.items ≡ s.minutes.items ++ e ∷ []
+      → TookPlaceBehind xs last s.minutes.items a → TookPlaceBehind (xs ++ (last ++ Told e q ∷ [])) [] u.minutes.items a
+  line_told a s u e q answer xs last some is stepped ok was minutes took =
       let es : List Event = s.minutes.items in
-      subst (λ (l : List Event). TookPlace (xs ++ inr (e, q) ∷ []) l a) (sym minutes)
-      (subst (λ (r : Result Answer Fault). TookPlace (xs ++ inr (e, r) ∷ []) (es ++ e ∷ []) a) (sym ok)
-      (subst (λ (b : Answer). TookPlace (xs ++ inr (e, Ok b) ∷ []) (es ++ e ∷ []) a) (sym (was ∙ ap (answer_to e) stepped)) (told_later xs es e a is took)))
+      subst (λ (l : List Event). TookPlaceBehind (xs ++ (last ++ Told e q ∷ [])) [] l a) (sym minutes)
+      (subst (λ (r : Result Answer Fault). TookPlaceBehind (xs ++ (last ++ Told e r ∷ [])) [] (es ++ e ∷ []) a) (sym ok)
+      (behind_then xs last (Told e (Ok answer) ∷ []) es (e ∷ []) a some took (told_takes_place e answer (steps es a) is (was ∙ ap (answer_to e) stepped))))
 
   -- one that was not is told with its cause
-  pub fault_told : (a : Schedule) (s u : Session S) (e : Event) (q : Result Answer Fault) (fault : Fault) (after : Schedule) (xs : List Exchange)
-      → s.director.schedule.content ≡ steps s.minutes.items a → IsOutcome s.director.schedule.content e q after → q ≡ Err fault → u.minutes.items ≡ s.minutes.items
-      → TookPlace xs s.minutes.items a → TookPlace (xs ++ inr (e, q) ∷ []) u.minutes.items a
-  fault_told a s u e q fault after xs stepped outcome err minutes took =
+  pub fault_told : (a : Schedule) (s u : Session S) (e : Event) (q : Result Answer Fault) (fault : Fault) (after : Schedule) (xs last : List Exchange)
+      → 0 < length s.minutes.items → s.director.schedule.content ≡ steps s.minutes.items a → IsOutcome s.director.schedule.content e q after → q ≡ Err fault → u.minutes.items ≡ s.minutes.items
+      → TookPlaceBehind xs last s.minutes.items a → TookPlaceBehind (xs ++ (last ++ Told e q ∷ [])) [] u.minutes.items a
+  fault_told a s u e q fault after xs last some stepped outcome err minutes took =
       let was : IsOutcome s.director.schedule.content e (Err fault) after = subst (λ (r : Result Answer Fault). IsOutcome s.director.schedule.content e r after) err outcome in
       let stands : IsFaultOf (steps s.minutes.items a) e fault = subst (λ (b : Schedule). IsFaultOf b e fault) stepped was.0 in
-      subst (λ (l : List Event). TookPlace (xs ++ inr (e, q) ∷ []) l a) (sym minutes)
-      (subst (λ (r : Result Answer Fault). TookPlace (xs ++ inr (e, r) ∷ []) s.minutes.items a) (sym err) (refused_later xs s.minutes.items e fault a stands took))
+      subst (λ (l : List Event). TookPlaceBehind (xs ++ (last ++ Told e q ∷ [])) [] l a) (sym minutes)
+      (subst (λ (r : Result Answer Fault). TookPlaceBehind (xs ++ (last ++ Told e r ∷ [])) [] s.minutes.items a) (sym err)
+      (behind_now xs last (Told e (Err fault) ∷ []) s.minutes.items a some took (refusal_takes_place e fault (steps s.minutes.items a) stands)))
 
   -- one of the run's own is not told
   pub own_told : (s u : Session S) (e : Event) → is_of_line e ≡ false → u.minutes.items ≡ s.minutes.items ++ e ∷ [] → StillTookPlace s.minutes.items u.minutes.items
-  own_told s u e is minutes = λ a xs took. subst (λ (l : List Event). TookPlace xs l a) (sym minutes) (own_later xs s.minutes.items e a is took)
+  own_told s u e is minutes = λ a xs took. subst (λ (l : List Event). TookPlaceBehind xs (Heard ∷ []) l a) (sym minutes) (own_later xs s.minutes.items e a is took)
 
 -- the schedule was looked at, perhaps, which is that of the minutes
-pub told_seen : {L C : Type 0} (tells : L → List Exchange → List Reading → Option Line → L → Type 0) (gives : C → List Reading → C → Type 0) (l : L) (c : C) (lines read : L) (clock : C) (a seen : Schedule) (es : List Event) (waits : Option Line)
-    → seen ≡ steps es a
-    → AreTold tells gives l c lines clock a es None
-    → ((s : L) (exchanges : List Exchange) (readings : List Reading) → tells s exchanges readings None lines → (times : ℕ) × tells s (exchanges ++ looks times seen) readings waits read)
-    → AreTold tells gives l c read clock a es waits
-told_seen tells gives l c lines read clock a seen es waits stepped before reads =
+pub told_seen : {L C : Type 0} (tells : L → List Exchange → List Reading → Option Line → L → Type 0) (gives : C → List Reading → C → Type 0) (l : L) (c : C) (lines read : L) (clock : C) (a seen : Schedule) (es : List Event) (last : List Exchange) (waits : Option Line)
+    → 0 < length es → seen ≡ steps es a
+    → AreToldUpTo last tells gives l c lines clock a es None
+    → ((s : L) (exchanges : List Exchange) (readings : List Reading) → tells s exchanges readings None lines → (times : ℕ) × tells s (exchanges ++ (last ++ looks times seen)) readings waits read)
+    → AreToldUpTo [] tells gives l c read clock a es waits
+told_seen tells gives l c lines read clock a seen es last waits some stepped before reads =
     let r = reads l before.exchanges before.readings before.told in
     record {
-      exchanges = before.exchanges ++ looks r.0 seen;
-      took_place = looks_later r.0 before.exchanges es a seen stepped before.took_place;
+      exchanges = before.exchanges ++ (last ++ looks r.0 seen);
+      took_place = behind_now before.exchanges last (looks r.0 seen) es a some before.took_place (looks_take_place r.0 seen (steps es a) stepped);
       readings = before.readings;
       told = r.1;
       given = before.given;
     }
 
 -- a line was read, or none
-pub told_read : {L C : Type 0} (tells : L → List Exchange → List Reading → Option Line → L → Type 0) (gives : C → List Reading → C → Type 0) (l : L) (c : C) (lines read : L) (clock : C) (a seen : Schedule) (es : List Event) (next now : Option Line)
-    → next ≡ now → seen ≡ steps es a
-    → AreTold tells gives l c lines clock a es None
-    → ((s : L) (exchanges : List Exchange) (readings : List Reading) → tells s exchanges readings None lines → (times : ℕ) × tells s (exchanges ++ looks times seen) readings (opened_by {F = LineFault} (Ok next)) read)
-    → AreTold tells gives l c read clock a es (opened_by {F = LineFault} (Ok now))
-told_read tells gives l c lines read clock a seen es next now is stepped before reads =
-    subst (λ (line : Option Line). AreTold tells gives l c read clock a es (opened_by {F = LineFault} (Ok line))) is
-    (told_seen tells gives l c lines read clock a seen es (opened_by {F = LineFault} (Ok next)) stepped before reads)
+pub told_read : {L C : Type 0} (tells : L → List Exchange → List Reading → Option Line → L → Type 0) (gives : C → List Reading → C → Type 0) (l : L) (c : C) (lines read : L) (clock : C) (a seen : Schedule) (es : List Event) (last : List Exchange) (next now : Option Line)
+    → next ≡ now → 0 < length es → seen ≡ steps es a
+    → AreToldUpTo last tells gives l c lines clock a es None
+    → ((s : L) (exchanges : List Exchange) (readings : List Reading) → tells s exchanges readings None lines → (times : ℕ) × tells s (exchanges ++ (last ++ looks times seen)) readings (opened_by {F = LineFault} (Ok next)) read)
+    → AreToldUpTo [] tells gives l c read clock a es (opened_by {F = LineFault} (Ok now))
+told_read tells gives l c lines read clock a seen es last next now is some stepped before reads =
+    subst (λ (line : Option Line). AreToldUpTo [] tells gives l c read clock a es (opened_by {F = LineFault} (Ok line))) is
+    (told_seen tells gives l c lines read clock a seen es last (opened_by {F = LineFault} (Ok next)) some stepped before reads)
+
+-- nothing was heard
+pub told_unheard : {L C : Type 0} (tells : L → List Exchange → List Reading → Option Line → L → Type 0) (gives : C → List Reading → C → Type 0) (l : L) (c : C) (lines : L) (clock : C) (a : Schedule) (es : List Event) (waits : Option Line)
+    → AreToldUpTo [] tells gives l c lines clock a es waits → AreTold tells gives l c lines clock a es waits
+told_unheard tells gives l c lines clock a es waits before = record {
+  exchanges = before.exchanges;
+  took_place = behind_unheard before.exchanges es a before.took_place;
+  readings = before.readings;
+  told = before.told;
+  given = before.given;
+}
 
 -- there was no exchange more, and what took place is what it was before
 pub told_on : {L C : Type 0} (tells : L → List Exchange → List Reading → Option Line → L → Type 0) (gives : C → List Reading → C → Type 0) (l : L) (c : C) (lines later : L) (clock : C) (a : Schedule) (es fs : List Event) (waits : Option Line)
@@ -91,7 +103,11 @@ told_on tells gives l c lines later clock a es fs waits on still before = record
   given = before.given;
 }
 
--- what holds anyway holds where it ends well
+-- what holds anyway holds where it ends well, and where it does not
 pub where_ok : {A F P : Type 0} (r : Result A F) → P → OnOk r P
 where_ok (Ok v) p = p
 where_ok (Err f) p = tt
+
+pub either_way : {A F : Type 0} (P Q : Type 0) (r : Result A F) → P → Q → MatchResult r (λ _. P) (λ _. Q)
+either_way P Q (Ok v) p q = p
+either_way P Q (Err f) p q = q

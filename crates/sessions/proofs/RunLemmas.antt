@@ -1,6 +1,8 @@
 -- What is true of a session, over a step that was taken and one that was not.
-use Rattle.std.proofs.Common.{◌≡◌, ◌∙◌, ℕ, ◌+◌, ◌<◌, true, false, List, [], ◌∷◌, ◌++◌, length, map, None, Result, Ok, Err, refl, sym, ap, subst, arith, append-nil, length-append}
+use Rattle.std.proofs.Common.{◌≡◌, ◌∙◌, ℕ, ◌+◌, ◌<◌, ◌≤◌, Bool, true, false, true≢false, List, [], ◌∷◌, ◌++◌, length, map, None, Result, Ok, Err, refl, sym, ap, subst, arith, append-nil, length-append}
+use Rattle.std.specs.Prelude.{sum_by}
 use Rattle.std.proofs.lemmas.List.{length-map, map-append}
+use Rattle.std.proofs.lemmas.List.Sums.{sum_by-append, sum_by-cons}
 use Rattle.sqlite.specs.Held.{Held}
 use Rattle.sqlite.specs.State.{State}
 use Rattle.ruled_dispatch.specs.Lanes.{sent_of, heard_of, IsDirectorOf, HasWorkers}
@@ -40,6 +42,10 @@ count_heard before later rs e =
     sym (length-map later (λ (t : WorkerReport). t.report)) ∙ ap length e ∙ length-append (map (λ (t : WorkerReport). t.report) before) rs
     ∙ ap (λ n. n + length rs) (length-map before (λ (t : WorkerReport). t.report))
 
+by_cases : {P : Type 0} (b : Bool) → (b ≡ false → P) → (b ≡ true → P) → P
+by_cases false f t = f refl
+by_cases true f t = t refl
+
 module _ {S : Type 0} where
   -- one event more
   pub grown : (before later : List WorkerReport) (a : Schedule) (n : ℕ) (s u : Session S) (e : Event) (answer : Answer) → IsRunWith before a n s
@@ -67,6 +73,11 @@ module _ {S : Type 0} where
             let more : length later ≡ length before + length (report_part e) = count_heard before later (report_part e) heard in
             let less : length (reports_in es) < length before = was.lacking (sym missed ∙ some) in
             omega arith;
+        each_heard = λ weight.
+            let all : sum_by weight (reports_in u.minutes.items) ≡ sum_by weight (reports_in es) + sum_by weight (report_part e) = ap (λ l. sum_by weight (reports_in l)) minutes ∙ (ap (sum_by weight) (reports_more es e) ∙ sum_by-append weight (reports_in es) (report_part e)) in
+            let more : sum_by weight (map (λ (t : WorkerReport). t.report) later) ≡ sum_by weight (map (λ (t : WorkerReport). t.report) before) + sum_by weight (report_part e) = ap (sum_by weight) heard ∙ sum_by-append weight (map (λ (t : WorkerReport). t.report) before) (report_part e) in
+            let old : sum_by weight (reports_in es) ≤ sum_by weight (map (λ (t : WorkerReport). t.report) before) = was.each_heard weight in
+            omega arith;
         begun = subst (BeginWithRestart n) (sym minutes) begun;
       }
 
@@ -77,13 +88,19 @@ module _ {S : Type 0} where
       → sent_of u.pass ≡ sent_of s.pass
       → (u.missed ≡ false → (s.missed ≡ false) × (later ≡ before))
       → (u.missed ≡ true → length (reports_in s.minutes.items) < length later)
+      → ((weight : Report → ℕ) → sum_by weight (map (λ t. t.report) before) ≤ sum_by weight (map (λ t. t.report) later))
       → IsRunWith later a n u
-  unstepped before later a n s u was same minutes sent heard lacking = record {
+  unstepped before later a n s u was same minutes sent heard lacking more = record {
     stepped = same ∙ was.stepped ∙ ap (λ l. steps l a) (sym minutes);
     accepted = subst (λ l. AreAccepted l a) (sym minutes) was.accepted;
     sent = sent ∙ was.sent ∙ ap (λ l. as_sent (handed_along l a)) (sym minutes);
     heard = λ none. let h = heard none in ap (map (λ (t : WorkerReport). t.report)) h.1 ∙ was.heard h.0 ∙ ap reports_in (sym minutes);
     lacking = λ some. subst (λ l. length (reports_in l) < length later) (sym minutes) (lacking some);
+    each_heard = λ weight.
+        let all : sum_by weight (reports_in u.minutes.items) ≡ sum_by weight (reports_in s.minutes.items) = ap (λ (l : List Event). sum_by weight (reports_in l)) minutes in
+        let old : sum_by weight (reports_in s.minutes.items) ≤ sum_by weight (map (λ (t : WorkerReport). t.report) before) = was.each_heard weight in
+        let grows : sum_by weight (map (λ (t : WorkerReport). t.report) before) ≤ sum_by weight (map (λ (t : WorkerReport). t.report) later) = more weight in
+        omega arith;
     begun = subst (BeginWithRestart n) (sym minutes) was.begun;
   }
 
@@ -97,6 +114,30 @@ module _ {S : Type 0} where
       → IsRunWith later a n u
   unheard later a n s u was same minutes sent missed heard =
       unstepped (heard_of s.pass) later a n s u was same minutes sent (λ none. (sym missed ∙ none, heard)) (λ some. subst (λ (l : List WorkerReport). length (reports_in s.minutes.items) < length l) (sym heard) (was.lacking (sym missed ∙ some)))
+      (λ weight. let all : sum_by weight (map (λ (t : WorkerReport). t.report) later) ≡ sum_by weight (map (λ (t : WorkerReport). t.report) (heard_of s.pass)) = ap (λ (l : List WorkerReport). sum_by weight (map (λ (t : WorkerReport). t.report) l)) heard in omega arith)
+
+  -- one more was heard, and it was missed
+  pub missed_one : (before later : List WorkerReport) (told : WorkerReport) (a : Schedule) (n : ℕ) (s u : Session S) → IsRunWith before a n s
+      → u.director.schedule.content ≡ s.director.schedule.content
+      → u.minutes.items ≡ s.minutes.items
+      → sent_of u.pass ≡ sent_of s.pass
+      → u.missed ≡ true
+      → later ≡ before ++ told ∷ []
+      → IsRunWith later a n u
+  missed_one before later told a n s u was same minutes sent missed heard =
+      let one : map (λ (t : WorkerReport). t.report) later ≡ map (λ (t : WorkerReport). t.report) before ++ told.report ∷ [] = ap (map (λ (t : WorkerReport). t.report)) heard ∙ map-append (λ (t : WorkerReport). t.report) before (told ∷ []) in
+      let longer : length later ≡ length before + 1 = count_heard before later (told.report ∷ []) one in
+      let fewer : length (reports_in s.minutes.items) < length later =
+      by_cases s.missed
+      (λ none. let all : length before ≡ length (reports_in s.minutes.items) = sym (length-map before (λ (t : WorkerReport). t.report)) ∙ ap length (was.heard none) in omega arith)
+      (λ some. let less : length (reports_in s.minutes.items) < length before = was.lacking some in omega arith)
+      in
+      unstepped before later a n s u was same minutes sent
+      (λ none. absurd (true≢false (sym missed ∙ none)))
+      (λ some. fewer)
+      (λ weight.
+      let all : sum_by weight (map (λ (t : WorkerReport). t.report) later) ≡ sum_by weight (map (λ (t : WorkerReport). t.report) before) + sum_by weight (told.report ∷ []) = ap (sum_by weight) one ∙ sum_by-append weight (map (λ (t : WorkerReport). t.report) before) (told.report ∷ []) in
+      omega arith)
 
 module _ {S : Type 0} (look : Held S → State) where
   -- ---- steps that follow each other

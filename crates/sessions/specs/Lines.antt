@@ -3,7 +3,7 @@ use Rattle.std.specs.Prelude.{◌≡◌, ℕ, Bool, true, false, List, [], ◌�
 use Rattle.sched_events.specs.declared.events.Event.{Event}
 use Rattle.sched_events.specs.declared.events.Event.TheVariants.{Tick}
 use Rattle.minutes.specs.Minutes.{is_of_line}
-use Rattle.sessions.specs.Exchanges.{Exchange}
+use Rattle.sessions.specs.Exchanges.{Exchange, Heard}
 use Rattle.sessions.specs.Readings.{Reading}
 use Rattle.sessions.specs.declared.line_reading.Line.{Line}
 use Rattle.sessions.specs.declared.line_reading.Line.TheVariants as Says
@@ -43,6 +43,12 @@ abbrev pub Takes : Line → Event → Type 0
 Takes (Says.Event x) e = x ≡ e
 Takes Says.TickNow e = (moment : ℕ) × (e ≡ Tick moment)
 Takes Says.Drain e = ⊥
+
+-- what takes place before a line is answered: for one that says to tick now reports are heard
+abbrev pub heard_for : Line → List Exchange
+heard_for (Says.Event e) = []
+heard_for Says.TickNow = Heard ∷ []
+heard_for Says.Drain = []
 
 -- the reading of the clock at whose moment a tick is
 abbrev pub reading_of : Event → List Reading

@@ -1,9 +1,10 @@
 -- What is true of a session at each moment, and what its steps keep.
-use Rattle.std.specs.Prelude.{◌≡◌, ◌<◌, ℕ, true, false, List, [], ◌∷◌, ◌++◌, length, map, Result, OnOk, vec_len, vec_capacity}
+use Rattle.std.specs.Prelude.{◌≡◌, ◌<◌, ◌≤◌, ℕ, true, false, List, [], ◌∷◌, ◌++◌, length, map, sum_by, Result, OnOk, vec_len, vec_capacity}
 use Rattle.sqlite.specs.Held.{Held}
 use Rattle.sqlite.specs.State.{State}
 use Rattle.ruled_dispatch.specs.Lanes.{sent_of, heard_of, IsDirectorOf, HasWorkers}
 use Rattle.ruled_dispatch.specs.declared.items.JobOrStop.TheVariants as item
+use Rattle.ruled_dispatch.specs.declared.items.Report.{Report}
 use Rattle.ruled_dispatch.specs.declared.items.WorkerReport.{WorkerReport}
 use Rattle.ruled_dispatch.specs.declared.lanes.Lanes.{Lanes}
 use Rattle.sched_events.specs.Steps.{steps, handed_along, AreAccepted}
@@ -17,14 +18,15 @@ use Rattle.minutes.specs.Minutes.{reports_in, BeginWithRestart}
 use Rattle.sessions.specs.declared.state.Session.{Session}
 
 -- From the schedule a, with so many lanes, and of reports that were heard: the schedule is that of the minutes, each of which was accepted;
--- what was sent are the tries that they hand out; the reports, if none was missed, are theirs, and else more than theirs; and the restart is
--- their first event.
+-- what was sent are the tries that they hand out; the reports, if none was missed, are theirs, and else more than theirs; missed or not, the
+-- minutes have no report more often than it was heard; and the restart is their first event.
 pub record IsRunWith {S : Type 0} (reports : List WorkerReport) (a : Schedule) (lane_count : ℕ) (s : Session S) : Type 0 where
   pub stepped : s.director.schedule.content ≡ steps s.minutes.items a
   pub accepted : AreAccepted s.minutes.items a
   pub sent : sent_of s.pass ≡ map (λ j. item.Job j) (handed_along s.minutes.items a)
   pub heard : s.missed ≡ false → map (λ t. t.report) reports ≡ reports_in s.minutes.items
   pub lacking : s.missed ≡ true → length (reports_in s.minutes.items) < length reports
+  pub each_heard : (weight : Report → ℕ) → sum_by weight (reports_in s.minutes.items) ≤ sum_by weight (map (λ t. t.report) reports)
   pub begun : BeginWithRestart lane_count s.minutes.items
 
 -- the same of what the session heard

@@ -1,21 +1,25 @@
 -- What passed between a run and its lines, and what a clock gave in it.
-use Rattle.std.specs.Prelude.{◌≡◌, List, Option, None, Result, OnOk}
+use Rattle.std.specs.Prelude.{◌≡◌, List, [], ◌∷◌, Option, None, Result, OnOk}
 use Rattle.sched_events.specs.declared.events.Event.{Event}
 use Rattle.sched_model.specs.Schedule.{Schedule}
-use Rattle.sessions.specs.Exchanges.{Exchange, TookPlace}
+use Rattle.sessions.specs.Exchanges.{Exchange, Heard, TookPlaceBehind}
 use Rattle.sessions.specs.Readings.{Reading}
 use Rattle.sessions.specs.declared.line_reading.Line.{Line}
 
 -- From these states of the lines and of the clock to those after, while these minutes were made from this schedule on: of each event that a line names the
 -- lines were told its answer, or why it was not accepted, by a cause that the schedule of the minutes so far has; what they looked at were schedules of the
--- minutes so far; of each line that says to tick now they were told what the clock gave for it, the moment of the tick, or why there is none; and this line
--- waits for its answer.
-pub record AreTold {L C : Type 0} (tells : L → List Exchange → List Reading → Option Line → L → Type 0) (gives : C → List Reading → C → Type 0) (l : L) (c : C) (later : L) (then : C) (a : Schedule) (minutes : List Event) (waits : Option Line) : Type 0 where
+-- minutes so far; of each line that says to tick now they were told what the clock gave for it, the moment of the tick, or why there is none; this line waits
+-- for its answer; and then these last exchanges took place, of which the lines were not told yet. All of it was behind the restart.
+pub record AreToldUpTo {L C : Type 0} (last : List Exchange) (tells : L → List Exchange → List Reading → Option Line → L → Type 0) (gives : C → List Reading → C → Type 0) (l : L) (c : C) (later : L) (then : C) (a : Schedule) (minutes : List Event) (waits : Option Line) : Type 0 where
   pub exchanges : List Exchange
-  pub took_place : TookPlace exchanges minutes a
+  pub took_place : TookPlaceBehind exchanges last minutes a
   pub readings : List Reading
   pub told : tells l exchanges readings waits later
   pub given : gives c readings then
+
+-- the same of a whole run: in the end reports were heard
+abbrev pub AreTold : {L C : Type 0} → (L → List Exchange → List Reading → Option Line → L → Type 0) → (C → List Reading → C → Type 0) → L → C → L → C → Schedule → List Event → Option Line → Type 0
+AreTold tells gives l c later then a minutes waits = AreToldUpTo (Heard ∷ []) tells gives l c later then a minutes waits
 
 -- the same, and where it ends well none waits
 abbrev pub AreToldBy : {T F : Type 0} → Result T F → (List Event → Option Line → Type 0) → List Event → Type 0

@@ -1,13 +1,15 @@
 //! A session that follows its lines until they are over.
-ghost use Rattle.std.specs.Prelude.{◌≡◌, ◌≤◌, ◌<◌, [], ℕ, length, true, false, None, Some, MatchResult, OnOk};
+ghost use Rattle.std.specs.Prelude.{◌≡◌, ◌≤◌, ◌<◌, [], ℕ, length, true, false, None, Some, Option, MatchResult, OnOk};
 ghost use Rattle.sqlite.specs.Held.{state};
 ghost use Rattle.ruled_dispatch.specs.Lanes.{IsDirectorOf};
 ghost use Rattle.sched_model.specs.Schedule.{Schedule};
 ghost use Rattle.sched_model.specs.States.{in_flight};
+ghost use Rattle.sessions.specs.Exchanges.{heard_where};
 ghost use Rattle.sessions.specs.Faults.{EndsBy};
 ghost use Rattle.sessions.specs.Lines.{is_drain, may_be_read, opens};
 ghost use Rattle.sessions.specs.Runs.{GoesOn, IsRun};
-ghost use Rattle.sessions.specs.Told.{AreTold, AreToldBy};
+ghost use Rattle.sessions.specs.Told.{AreTold, AreToldBy, AreToldUpTo};
+ghost use Rattle.sessions.specs.declared.line_reading.Line.{Line as LineModel};
 ghost use Rattle.sessions.specs.declared.line_reading.Line.TheVariants as Says;
 
 use crate::clocks::Clock;
@@ -39,7 +41,8 @@ impl<S: Alter> Session<S> {
         ensures begun { 0 < length self.new.minutes.items }
         ensures told { (a : Schedule) (lane_count : ℕ) (l : L) (c : C) → IsRun a lane_count self.old
             → AreTold L.tells C.gives l c lines.old clock.old a self.old.minutes.items (Some Says.TickNow)
-            → AreToldBy result (AreTold L.tells C.gives l c lines.new clock.new a) self.new.minutes.items }
+            → MatchResult result (λ _. AreToldUpTo [] L.tells C.gives l c lines.new clock.new a self.new.minutes.items None)
+            (λ _. (waits : Option LineModel) × AreTold L.tells C.gives l c lines.new clock.new a self.new.minutes.items waits) }
         ensures fault { MatchResult result (λ _. L.failed lines.new ≡ None)
             (λ f. EndsBy f (L.failed lines.new)) }
         ensures drains { L.drains lines.new ≡ L.drains lines.old }
@@ -77,7 +80,7 @@ impl<S: Alter> Session<S> {
         ensures goes_on { (lane_count : ℕ)
             → GoesOn (state S.Store) lanes.now lane_count self.old self.new }
         ensures told { (a : Schedule) (lane_count : ℕ) (l : L) (c : C) → IsRun a lane_count self.old
-            → AreTold L.tells C.gives l c lines.old clock.old a self.old.minutes.items None
+            → AreToldUpTo (heard_where (L.drains lines.old)) L.tells C.gives l c lines.old clock.old a self.old.minutes.items None
             → AreToldBy result (AreTold L.tells C.gives l c lines.new clock.new a) self.new.minutes.items }
         ensures fault { MatchResult result (λ _. L.failed lines.new ≡ None)
             (λ f. EndsBy f (L.failed lines.new)) }
@@ -99,7 +102,8 @@ impl<S: Alter> Session<S> {
         unreachable!()
     }
 
-    // Does a line that was just read.
+    // Does a line that was just read. Reports are heard for one that says to drain, of which the lines are told by the next call, and for one that says to
+    // tick now.
     fn do_line<L: Lines, C: Clock, R: Wait>(
         &mut self,
         rt: &R,
@@ -118,8 +122,9 @@ impl<S: Alter> Session<S> {
             → GoesOn (state S.Store) lanes.now lane_count self.old self.new }
         ensures begun { 0 < length self.new.minutes.items }
         ensures told { (a : Schedule) (lane_count : ℕ) (l : L) (c : C) → IsRun a lane_count self.old
-            → AreTold L.tells C.gives l c lines.old clock.old a self.old.minutes.items (opens line)
-            → AreToldBy result (AreTold L.tells C.gives l c lines.new clock.new a) self.new.minutes.items }
+            → AreToldUpTo [] L.tells C.gives l c lines.old clock.old a self.old.minutes.items (opens line)
+            → MatchResult result (λ _. AreToldUpTo (heard_where (L.drains lines.new)) L.tells C.gives l c lines.new clock.new a self.new.minutes.items None)
+            (λ _. (waits : Option LineModel) × AreTold L.tells C.gives l c lines.new clock.new a self.new.minutes.items waits) }
         ensures fault { MatchResult result (λ _. L.failed lines.new ≡ None)
             (λ f. EndsBy f (L.failed lines.new)) }
         ensures drained { OnOk result (L.drains lines.new ≡ true → in_flight self.new.director.schedule.content ≡ 0) }

@@ -7,9 +7,9 @@ ghost use Rattle.sched_events.specs.declared.events.Event.{Event};
 ghost use Rattle.sched_events.specs.declared.events.Event.TheVariants.{Restart};
 ghost use Rattle.sched_model.specs.Schedule.{Schedule};
 ghost use Rattle.minutes.specs.Minutes.{is_of_line};
-ghost use Rattle.sessions.specs.Exchanges.{Exchange, TookPlace};
+ghost use Rattle.sessions.specs.Exchanges.{Exchange, TookPlaceBehind};
 ghost use Rattle.sessions.specs.Faults.{EndsBy};
-ghost use Rattle.sessions.specs.Lines.{ticked, Takes};
+ghost use Rattle.sessions.specs.Lines.{heard_for, ticked, Takes};
 ghost use Rattle.sessions.specs.Readings.{Reading};
 ghost use Rattle.sessions.specs.Runs.{GoesOn, IsAccepted, IsRun, IsTried};
 ghost use Rattle.sessions.specs.declared.line_reading.Line.{Line};
@@ -72,7 +72,7 @@ impl<S: Alter> Session<S> {
         requires fresh { self.old.minutes.items ≡ [] }
         requires lanes { lane_count ≤ self.old.director.schedule.content.limits.lanes }
         ensures goes_on { GoesOn (state S.Store) lanes.now lane_count self.old self.new }
-        ensures told { (a : Schedule) → TookPlace [] self.new.minutes.items a }
+        ensures told { (a : Schedule) → TookPlaceBehind [] [] self.new.minutes.items a }
         ensures begun { OnOk result (self.new.minutes.items ≡ Restart lane_count ∷ []) }
         ensures unbegun { OnErr result (self.new.minutes.items ≡ []) }
         ensures fault { IfErr result (λ f. EndsBy f None) }
@@ -87,7 +87,8 @@ impl<S: Alter> Session<S> {
         }
     }
 
-    /// Steps the event of the line that is open, and tells the lines its answer, or why it was not accepted.
+    /// Steps the event of the line that is open, and tells the lines its answer, or why it was not accepted. Nothing took place before but what the
+    /// lines were told of, or, for a line that says to tick now, that reports were heard.
     pub fn step_line<L: Lines, R: Wait>(
         &mut self,
         rt: &R,
@@ -104,9 +105,10 @@ impl<S: Alter> Session<S> {
             → GoesOn (state S.Store) lanes.now lane_count self.old self.new }
         ensures begun { 0 < length self.new.minutes.items }
         ensures told { (a : Schedule) (lane_count : ℕ) (l : L) (exchanges : List Exchange) (readings : List Reading) (line : Line)
-            → IsRun a lane_count self.old → Takes line event → TookPlace exchanges self.old.minutes.items a
+            → IsRun a lane_count self.old → Takes line event
+            → TookPlaceBehind exchanges (heard_for line) self.old.minutes.items a
             → L.tells l exchanges readings (Some line) lines.old
-            → (now : List Exchange) × TookPlace now self.new.minutes.items a
+            → (now : List Exchange) × TookPlaceBehind now [] self.new.minutes.items a
             × L.tells l now (readings ++ ticked line event) None lines.new }
         ensures failed { MatchResult result (λ _. L.failed lines.new ≡ None)
             (λ fault. L.failed lines.new ≡ Some fault) }

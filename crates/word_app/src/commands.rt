@@ -46,7 +46,7 @@ pub(crate) fn list_command<'a>(
 {
     let rows = word(alloc, "rows", "ROWS", "What is printed, a line each").value_parser(names);
     let command = Command::new(alloc, "list").about(
-        "Prints the runs, the task instances or the pools",
+        "Prints the graphs, the runs, the task instances or the pools",
     );
     let command = command.arg(rows)?;
     Ok(command)

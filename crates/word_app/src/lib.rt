@@ -4,7 +4,7 @@
 //! defaults. The texts of its help are no part of that, and no contract speaks of them.
 //!
 //! ```text
-//! let command = word_app::command(alloc, ["runs", "tasks", "pools"].as_slice())?;
+//! let command = word_app::command(alloc, ["dags", "runs", "tasks", "pools"].as_slice())?;
 //! let matches = command.try_get_matches_from(words)?;
 //! ```
 #![tactic(auto)]

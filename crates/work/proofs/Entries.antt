@@ -1,12 +1,13 @@
 -- Entries of a log: of a kit that has the same taken up, and one alone.
-use Rattle.std.proofs.Common.{◌≡◌, ℕ, zero, suc, Option, All, [], ◌∷◌, sym, ◌∙◌, arith}
+use Rattle.std.proofs.Common.{◌≡◌, zero, suc, Option, All, [], ◌∷◌, sym, ◌∙◌, arith}
 use Rattle.graph_file.specs.declared.operators.Operator.{Operator as Kind}
+use Rattle.sched_state.specs.declared.jobs.Job.{Job}
 use Rattle.operators.specs.declared.kits.Kit.{Kit}
 use Rattle.operators.specs.Kits.{of_kind}
 use Rattle.work.specs.declared.logs.Logged.{Logged}
 use Rattle.work.specs.Accounts.{IsEntry}
 
-pub entry_before : {O : Type 0} (taken : O → Option ℕ) (before now : Kit O) (e : Logged) → ((kind : Kind) → taken (of_kind now kind) ≡ taken (of_kind before kind)) → IsEntry taken now e → IsEntry taken before e
+pub entry_before : {O : Type 0} (taken : O → Option Job) (before now : Kit O) (e : Logged) → ((kind : Kind) → taken (of_kind now kind) ≡ taken (of_kind before kind)) → IsEntry taken now e → IsEntry taken before e
 entry_before taken before now e kept entry = record {
   ended = record {
     ended = λ begun. (sym (kept e.job.action.operator) ∙ (entry.ended.ended begun).0, (entry.ended.ended begun).1);

@@ -1,5 +1,5 @@
 -- When a log is an account of what a kit did.
-use Rattle.std.specs.Prelude.{◌≡◌, ℕ, Bool, true, false, List, ◌++◌, All, Option, None}
+use Rattle.std.specs.Prelude.{◌≡◌, Bool, true, false, List, ◌++◌, All, Option, None}
 use Rattle.graph_file.specs.declared.operators.Operator.{Operator as Kind}
 use Rattle.graph_file.specs.declared.operators.Operator.TheVariants as kinds
 use Rattle.instance_machine.specs.declared.tries.Outcome.{Outcome}
@@ -13,18 +13,18 @@ use Rattle.work.specs.Logs.{runs_of, hold_of}
 
 -- A job may end so, begun or not: it is begun only by an operator that has taken nothing up, and then ends as an operator of its kind ends
 -- it; what is not begun failed, and is of `command` where its operator has taken nothing up.
-pub record MayEnd {O : Type 0} (taken : O → Option ℕ) (kit : Kit O) (job : Job) (begun : Bool) (outcome : Outcome) : Type 0 where
+pub record MayEnd {O : Type 0} (taken : O → Option Job) (kit : Kit O) (job : Job) (begun : Bool) (outcome : Outcome) : Type 0 where
   pub ended : begun ≡ true → (taken (of_kind kit job.action.operator) ≡ None) × CanEnd job.action.operator job outcome
   pub failed : begun ≡ false → (outcome ≡ ends.Failed) × (taken (of_kind kit job.action.operator) ≡ None → job.action.operator ≡ kinds.Command)
 
 -- an entry of the log of a kit: its job may have ended so, and the slots that were left are the job's
-pub record IsEntry {O : Type 0} (taken : O → Option ℕ) (kit : Kit O) (e : Logged) : Type 0 where
+pub record IsEntry {O : Type 0} (taken : O → Option Job) (kit : Kit O) (e : Logged) : Type 0 where
   pub ended : MayEnd taken kit e.job e.begun e.outcome
   pub left : e.left ≡ hold_of e.job
 
 -- The log is an account of the kit, from what it was before to what it is after: each operator's runs have grown by those of the entries of
 -- its kind that were begun, in order; what each has taken up is what it had; and each entry is one of this kit.
-pub record IsAccount {O : Type 0} (runs : O → List (ℕ × Outcome)) (taken : O → Option ℕ) (before after : Kit O) (log : List Logged) : Type 0 where
+pub record IsAccount {O : Type 0} (runs : O → List (Job × Outcome)) (taken : O → Option Job) (before after : Kit O) (log : List Logged) : Type 0 where
   pub ran : (kind : Kind) → runs (of_kind after kind) ≡ runs (of_kind before kind) ++ runs_of kind log
   pub kept : (kind : Kind) → taken (of_kind after kind) ≡ taken (of_kind before kind)
   pub entries : All (IsEntry taken before) log

@@ -1,5 +1,5 @@
 -- What a worker's log says: which jobs it took, what it told of them, and what its operators performed.
-use Rattle.std.specs.Prelude.{ℕ, Bool, List, [], ◌∷◌, map, flat_map, ◌&&◌, if◌then◌else◌}
+use Rattle.std.specs.Prelude.{Bool, List, [], ◌∷◌, map, flat_map, ◌&&◌, if◌then◌else◌}
 use Rattle.graph_file.specs.declared.operators.Operator.{Operator as Kind}
 use Rattle.instance_machine.specs.declared.tries.Outcome.{Outcome}
 use Rattle.instance_machine.specs.declared.tries.Stage.TheVariants as stages
@@ -24,11 +24,11 @@ abbrev pub reports_of : List Logged → List Report
 reports_of log = flat_map both_reports log
 
 -- what the operator of the kind adds to its runs for a job, where it was begun
-abbrev pub run_of : Kind → Job → Bool → Outcome → List (ℕ × Outcome)
-run_of kind job begun outcome = if begun && same_kind kind job.action.operator then (job.serial, outcome) ∷ [] else []
+abbrev pub run_of : Kind → Job → Bool → Outcome → List (Job × Outcome)
+run_of kind job begun outcome = if begun && same_kind kind job.action.operator then (job, outcome) ∷ [] else []
 
 -- what it adds for all of them, in order
-abbrev pub runs_of : Kind → List Logged → List (ℕ × Outcome)
+abbrev pub runs_of : Kind → List Logged → List (Job × Outcome)
 runs_of kind log = flat_map (λ e. run_of kind e.job e.begun e.outcome) log
 
 -- the slots that a job takes while it runs

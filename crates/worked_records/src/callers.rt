@@ -2,14 +2,13 @@
 ghost use Rattle.graph_file.specs.declared.operators.Operator.TheVariants as kinds;
 
 use crate::parties::Party;
-use graph_file::Operator as Kind;
+use cron_timetable::Interval;
+use graph_file::{Action, Bounded, Name, Operator as Kind, Sequence};
 use instance_machine::Outcome;
 use operators::{BeginFault, Operator, Progress};
-use sched_state::Job;
-use std::alloc::Global;
-
-// a serial that no script here comes to
-const ANOTHER: u64 = 1_000_000;
+use sched_core::Moment;
+use sched_state::{Job, RunKind};
+use std::alloc::{AllocError, Global};
 
 /// Performs commands by doing nothing, or by meeting the other party.
 #[derive(Drop)]
@@ -27,14 +26,14 @@ impl Caller {
         }
     }
 
-    /// An operator that has another try taken up, where there was memory.
-    pub fn busy(alloc: Global) -> Caller {
+    /// An operator that has another try taken up, where there was memory for it.
+    pub fn busy(alloc: Global) -> Result<Caller, AllocError> {
         let mut progress = Progress::new(alloc);
-        let _ = progress.begin(ANOTHER);
-        Caller {
+        let _ = progress.begin(&another_job(alloc)?);
+        Ok(Caller {
             progress,
             party: None,
-        }
+        })
     }
 }
 
@@ -56,18 +55,34 @@ impl Operator for Caller {
     }
 
     fn begin(&mut self, job: &Job) -> Result<(), BeginFault> {
-        self.progress.begin(job.serial)
+        self.progress.begin(job)
     }
 
     fn perform(&mut self, job: &Job) -> Outcome {
         if let Some(party) = &self.party {
             party.meet();
         }
-        self.progress.add_outcome(job.serial, Outcome::Success);
+        self.progress.add_outcome(job, Outcome::Success);
         Outcome::Success
     }
 
     fn finish(&mut self) {
         self.progress.give_up();
     }
+}
+
+// A job that no script here hands out.
+fn another_job(alloc: Global) -> Result<Job, AllocError> {
+    Ok(Job {
+        serial: 1_000_000,
+        graph: Name::read(alloc, "another").map_err(|_| AllocError)?,
+        logical: Moment::at(0),
+        interval: Interval::empty_at(Moment::at(0)),
+        kind: RunKind::Manual,
+        task: Name::read(alloc, "another").map_err(|_| AllocError)?,
+        try_number: 1,
+        action: Action::new(Kind::Noop, Sequence::new(Vec::new(alloc))),
+        pool: Name::read(alloc, "default_pool").map_err(|_| AllocError)?,
+        slots: Bounded::new(1),
+    })
 }

@@ -24,7 +24,7 @@ pub fn write_answer<T: Threads + Wait + Sync>(
 ) -> io::Result<()> {
     let alloc = host.alloc();
     let caller = if busy {
-        Caller::busy(alloc)
+        Caller::busy(alloc)?
     } else {
         Caller::new(alloc, None)
     };

@@ -13,7 +13,7 @@ use crews::Settled;
 use meta_store::Store;
 use sched_core::Event;
 use script_reader::{NoConsole, Script, failure_status};
-use script_runner::{FileSources, SystemClock, TaskOperator, run_team};
+use script_runner::{FileSources, SystemClock, TaskOperator, Unopened, run_team};
 use sessions::ConductFault;
 use sqlite::{Alter, Connection};
 use std::alloc::Global;
@@ -161,13 +161,20 @@ fn run_on_record<S: Alter + Drop, T: Threads + Wait + Sync>(
             };
             (ran.store, Ok(end))
         }
-        Err((record, fault)) => {
+        Err(
+            Unopened {
+                store,
+                fault,
+                script,
+            },
+        ) => {
+            drop(script);
             let end = End {
                 status: Some(failure_status(&fault)),
                 work: None,
             };
             let put = put(printed, Shown::Failure(&fault));
-            (record, put.map(|()| end))
+            (store, put.map(|()| end))
         }
     }
 }

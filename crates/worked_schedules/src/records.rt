@@ -110,10 +110,10 @@ fn new_director(alloc: Global, limits: Limits) -> Result<Director<MemStore>, All
     Director::open(alloc, store, 0, limits).map_err(|_| AllocError)
 }
 
-// What is shown of a schedule: its runs, task instances and pools, and what it leaves.
+// What is shown of a schedule: its graphs, runs, task instances and pools, and what it leaves.
 fn shown(alloc: Global, schedule: &Schedule) -> io::Result<Vec<u8>> {
     let mut text = Vec::new(alloc);
-    for listing in [Listing::Runs, Listing::Tasks, Listing::Pools] {
+    for listing in [Listing::Dags, Listing::Runs, Listing::Tasks, Listing::Pools] {
         put_listing(&mut text, schedule, listing)?;
     }
     put_left(schedule, &mut text)?;

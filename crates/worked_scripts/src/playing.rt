@@ -3,11 +3,12 @@ ghost use Rattle.std.specs.Prelude.{◌≤◌};
 
 use crate::clocks::worked_clock;
 use crate::failing::{Calls, Sink, Source};
+use fault_sentences::SentenceConsole;
 use meta_store::Store;
 use moment_core::Moment;
 use sched_core::Limits;
 use script_reader::Script;
-use script_runner::{FileSources, SentenceConsole, operators_for, run_team};
+use script_runner::{FileSources, operators_for, run_team};
 use sqlite::{Connection, MemStore};
 use std::alloc::Global;
 use std::fs;

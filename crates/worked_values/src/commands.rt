@@ -43,6 +43,7 @@ fn write_options(rt: &HostRuntime, options: &ScriptOptions) -> io::Result<()> {
 
 fn write_listing(rt: &HostRuntime, listing: Listing) -> io::Result<()> {
     match listing {
+        Listing::Dags => rt.print("list dags"),
         Listing::Runs => rt.print("list runs"),
         Listing::Tasks => rt.print("list tasks"),
         Listing::Pools => rt.print("list pools"),

@@ -12,7 +12,7 @@ pub struct Hand<O: Operator> {
     operator: O,
     begun: Option<Job>,
     ghost is_begun: { (job : Job) → begun ≡ Some job
-        → (O.taken operator ≡ Some job.serial) × (O.performed operator ≡ false) },
+        → (O.taken operator ≡ Some job) × (O.performed operator ≡ false) },
 }
 
 impl<O: Operator> Hand<O> {

@@ -48,12 +48,12 @@ impl<R: Processes + Drop> Operator for Plain<R> {
     }
 
     fn begin(&mut self, job: &Job) -> Result<(), BeginFault> {
-        self.progress.begin(job.serial)
+        self.progress.begin(job)
     }
 
     fn perform(&mut self, job: &Job) -> Outcome {
         let outcome = start(&self.rt, self.alloc);
-        self.progress.add_outcome(job.serial, outcome);
+        self.progress.add_outcome(job, outcome);
         outcome
     }
 

@@ -62,7 +62,7 @@ fn perform_each<O: Operator>(turn: Turn<O>) -> u64 {
 fn perform_once<O: Operator>(operator: &mut O, job: &Job) -> Result<Outcome, BeginFault>
     ensures kind { O.kind_of operator.new ≡ O.kind_of operator.old }
     ensures runs { MatchResult result
-        (λ outcome. O.runs_of operator.new ≡ O.runs_of operator.old ++ (job.now.serial, outcome) ∷ [])
+        (λ outcome. O.runs_of operator.new ≡ O.runs_of operator.old ++ (job.now, outcome) ∷ [])
         (λ _. O.runs_of operator.new ≡ O.runs_of operator.old) }
     ensures taken { MatchResult result
         (λ _. (O.taken operator.old ≡ None) × (O.taken operator.new ≡ None))

@@ -11,7 +11,7 @@ use Rattle.sessions.specs.declared.faults.ConductFault.TheVariants as fault
 use Rattle.crews.specs.Threads.{HaveWorked}
 use Rattle.crews.proofs.Backs.{are_back, are_accounts, none_in_hand}
 use Rattle.conduct.proofs.Runs.{worked_from}
-use Rattle.conduct.proofs.Composition.{both_ok, conducted, if_ok, onto_ok, take_all, unstarted_run}
+use Rattle.conduct.proofs.Composition.{both_ok, conducted, if_ok, on_ok, take_all, unstarted_run}
 use Rattle.conduct.proofs.conducting.conduct_at.Goals as goal
 
 pub returns-in_default : goal.returns-in_default
@@ -51,7 +51,7 @@ close-requires-clause-workers g c =
     let passes = vec_items c.in-Ok.equipment.posts.passes in
     let len : c.len-workers.result ≡ length (vec_items c.args.crews) = search rules in
     let has = subst (λ (p : DirectorPass). HasWorkers p (length passes)) (sym c.new-session.ensures.pass) e.all.2 in
-    onto_ok m.outcome d.all (λ same. subst (λ k. HasWorkers m.session.pass k) (e.workers.0 ∙ len ∙ sym same) (d.served.workers (length passes) has))
+    λ started. subst (λ k. HasWorkers m.session.pass k) (e.workers.0 ∙ len ∙ sym (d.all started)) (d.served.workers (length passes) has)
 
 pub close-requires-clause-back : goal.close-requires-clause-back
 close-requires-clause-back g c =
@@ -66,14 +66,14 @@ close-requires-clause-back g c =
     let shares = vec_items q.posts.shares in
     let results = vec_items m.results in
     let len : c.len-workers.result ≡ length crews = search rules in
-    onto_ok m.outcome d.all
-    (λ same.
+    λ started.
+    let same = d.all started in
     let count : length results ≡ c.len-workers.result = same ∙ sym len in
     let worked =
     worked_from op.kind_of op.runs_of op.taken _ _ _ _ _ _ results (take_all (length results) passes (count ∙ sym e.workers.0)) (take_all (length results) shares (count ∙ sym e.workers.1))
     (take_all (length results) kits (same ∙ sym (length-map crews (λ x. x.kit)))) d.worked
     in
-    are_back op.kind_of op.runs_of op.taken passes shares kits results worked q.lanes e.all.1 e.numbers e.new.0 e.new.1)
+    are_back op.kind_of op.runs_of op.taken passes shares kits results worked q.lanes e.all.1 e.numbers e.new.0 e.new.1
 
 pub close-requires-clause-all : goal.close-requires-clause-all
 close-requires-clause-all g c =
@@ -83,13 +83,12 @@ close-requires-clause-all g c =
     let results = vec_items m.results in
     let len : c.len-workers.result ≡ length (vec_items c.args.crews) = search rules in
     let room : c.in-Ok.equipment.room ≡ c.len-workers.result = e.room.2 in
-    onto_ok m.outcome d.all
-    (λ same.
-    let long : length results ≡ length (vec_items c.args.crews) = same in (
-      subst (λ k. 0 < k) (sym same) c.requires.crews.0,
-      same ∙ sym c.requires.parts.1 ∙ c.requires.parts.0,
+    λ started.
+    let long : length results ≡ length (vec_items c.args.crews) = d.all started in (
+      subst (λ k. 0 < k) (sym long) c.requires.crews.0,
+      long ∙ sym c.requires.parts.1 ∙ c.requires.parts.0,
       omega arith,
-    ))
+    )
 
 pub returns : goal.returns
 returns g c =
@@ -118,9 +117,10 @@ returns g c =
     let sound : IsSoundAndSaid a = subst (λ (s : ScheduleValue). IsSoundAndSaid s.content) c.schedule.ensures c.runs.ensures.kept in
     conducted (state g.S.Store) op.runs_of op.taken q.lanes c.args.lane_count (length results) kits c.args.director c.new-session.result m.session m.outcome results (λ r. r.0) c.close.result _ _ _ _
     (subst (λ k. 0 < k) (sym long) c.requires.crews.0) n.director run d.served z.director (ap vec_items z.minutes) z.ok z.fault
-    (onto_ok m.outcome d.all (λ same. same ∙ sym long)) z.ends
+    (λ started. d.all started ∙ sym long) z.ends
     (if_ok c.close.result.outcome z.once (λ s each. each a c.args.lane_count stop))
     (if_ok c.close.result.outcome z.own (λ s each. each a c.args.lane_count sound stop))
-    (onto_ok m.outcome d.all (λ same. are_accounts op.kind_of op.runs_of op.taken passes shares kits results (worked same)))
-    (both_ok c.close.result.outcome m.outcome z.ok (onto_ok m.outcome d.all (λ same. none_in_hand op.kind_of op.runs_of op.taken passes shares kits results (worked same) (e.workers.1 ∙ sym e.workers.0) e.none)) z.desk
+    (λ started. are_accounts op.kind_of op.runs_of op.taken passes shares kits results (worked (d.all started)))
+    (both_ok c.close.result.outcome m.outcome z.ok (on_ok m.outcome (λ started. none_in_hand op.kind_of op.runs_of op.taken passes shares kits results (worked (d.all started)) (e.workers.1 ∙ sym e.workers.0) e.none)) z.desk
     (λ s none p. (p.0 ∙ none, p.1)))
+    z.sent z.told

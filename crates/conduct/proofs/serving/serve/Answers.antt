@@ -1,6 +1,7 @@
-use Rattle.std.proofs.Common.{◌≡◌, [], None, refl, ap}
+use Rattle.std.proofs.Common.{◌≡◌, [], ◌∷◌, List, None, refl, sym, subst}
 use Rattle.sqlite.specs.Held.{state}
-use Rattle.minutes.specs.Minutes.{answered}
+use Rattle.sched_events.specs.declared.events.Event.{Event}
+use Rattle.sessions.specs.Exchanges.{Heard, TookPlaceBehind}
 use Rattle.sessions.specs.Told.{AreTold}
 use Rattle.conduct.proofs.Runs.{served, stopped}
 use Rattle.conduct.proofs.serving.serve.Goals as goal
@@ -30,7 +31,7 @@ returns-then-not-started-clause-served g c =
         None,
         record {
           exchanges = [];
-          took_place = ap (λ l. answered l a) c.requires.fresh;
+          took_place = subst (λ (l : List Event). TookPlaceBehind [] (Heard ∷ []) l a) (sym c.requires.fresh) refl;
           readings = [];
           told = g.met.L.Lines.begins c.args.lines.now;
           given = g.met.C.Clock.begins c.args.clock.now;

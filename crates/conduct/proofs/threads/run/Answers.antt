@@ -1,6 +1,6 @@
 use Rattle.std.proofs.Common.{rules, ◌≡◌, length, map, take, vec_items, vec_len, ap, sym, ◌∙◌}
 use Rattle.std.proofs.lemmas.List.{length-map}
-use Rattle.conduct.proofs.Runs.{all_started, same_stops, worked_from}
+use Rattle.conduct.proofs.Runs.{each_started, same_stops, worked_from}
 use Rattle.conduct.proofs.threads.run.Goals as goal
 
 pub returns-clause-managed : goal.returns-clause-managed
@@ -19,5 +19,5 @@ returns-clause-managed g c =
           (started.shares ∙ ap (λ n. take n (vec_items c.args.posts.shares)) long)
           (started.kits ∙ ap (λ n. take n (map (λ x. x.kit) (vec_items c.args.crews))) long)
           c.join_all-results.ensures;
-      all = all_started c.serve-outcome.result c.start_all-are_all.result _ _ (length results) c.serve-outcome.ensures.all started.all (sym long);
+      all = each_started c.serve-outcome.result c.start_all-are_all.result _ _ (length results) c.serve-outcome.ensures.all started.all (sym long);
     }

@@ -8,7 +8,8 @@ use Rattle.ruled_dispatch.specs.Lanes.{taken_of, told_of, heard_of, IsWorkerOf, 
 use Rattle.work.specs.declared.crews.WorkerEnd.{WorkerEnd}
 use Rattle.work.specs.Logs.{jobs_of, reports_of}
 use Rattle.crews.proofs.Places.{none_left, at_image}
-use Rattle.crews.proofs.Backs.{took_all}
+use Rattle.crews.proofs.Backs.{back_are_sent, took_all}
+use Rattle.crews.proofs.Told.{back_are_told}
 use Rattle.crews.proofs.settling.settle.Goals as goal
 
 pub tally-left-requires : goal.tally-left-requires
@@ -37,6 +38,30 @@ returns-then-left-gt0-2-clause-items_left g c =
 pub returns-then-left-gt0-2-clause-reports_left : goal.returns-then-left-gt0-2-clause-reports_left
 returns-then-left-gt0-2-clause-reports_left g c =
     subst (λ xs. IsHeardBut c.args.director xs c.tally-left.result.reports) c.take_apart-ends.ensures.passes c.tally-left.ensures.reports
+
+pub returns-then-left-gt0-clause-sent : goal.returns-then-left-gt0-clause-sent
+returns-then-left-gt0-clause-sent g c =
+    back_are_sent c.args.lanes c.args.director (vec_items c.args.results) (vec_items c.take_apart-ends.result.passes) _ c.take_apart-ends.ensures.passes c.requires.back c.tally-left.ensures.jobs
+
+pub returns-then-left-gt0-clause-told : goal.returns-then-left-gt0-clause-told
+returns-then-left-gt0-clause-told g c =
+    back_are_told c.args.lanes c.args.director (vec_items c.args.results) (vec_items c.take_apart-ends.result.passes) _ c.take_apart-ends.ensures.passes c.requires.back c.tally-left.ensures.reports
+
+pub returns-then-left-gt0-2-clause-sent : goal.returns-then-left-gt0-2-clause-sent
+returns-then-left-gt0-2-clause-sent g c =
+    back_are_sent c.args.lanes c.args.director (vec_items c.args.results) (vec_items c.take_apart-ends.result.passes) _ c.take_apart-ends.ensures.passes c.requires.back c.tally-left.ensures.jobs
+
+pub returns-then-left-gt0-2-clause-told : goal.returns-then-left-gt0-2-clause-told
+returns-then-left-gt0-2-clause-told g c =
+    back_are_told c.args.lanes c.args.director (vec_items c.args.results) (vec_items c.take_apart-ends.result.passes) _ c.take_apart-ends.ensures.passes c.requires.back c.tally-left.ensures.reports
+
+pub returns-clause-sent : goal.returns-clause-sent
+returns-clause-sent g c =
+    back_are_sent c.args.lanes c.args.director (vec_items c.args.results) (vec_items c.take_apart-ends.result.passes) _ c.take_apart-ends.ensures.passes c.requires.back c.tally-left.ensures.jobs
+
+pub returns-clause-told : goal.returns-clause-told
+returns-clause-told g c =
+    back_are_told c.args.lanes c.args.director (vec_items c.args.results) (vec_items c.take_apart-ends.result.passes) _ c.take_apart-ends.ensures.passes c.requires.back c.tally-left.ensures.reports
 
 pub returns-clause-once : goal.returns-clause-once
 returns-clause-once g c = λ weight.

@@ -1,9 +1,10 @@
-use Rattle.std.proofs.Common.{◌∙◌, Some, None, vec_items, refl, ap, subst}
+use Rattle.std.proofs.Common.{◌∙◌, [], Some, None, vec_items, refl, ap}
 use Rattle.sqlite.specs.Held.{state}
 use Rattle.director.specs.Directors.{ScheduleValue}
+use Rattle.sessions.specs.Exchanges.{heard_where}
 use Rattle.sessions.specs.Lines.{opens}
-use Rattle.sessions.specs.Told.{AreTold}
-use Rattle.sessions.proofs.LineLemmas.{told_on, told_read, told_seen, where_ok}
+use Rattle.sessions.specs.Told.{AreToldUpTo}
+use Rattle.sessions.proofs.LineLemmas.{told_on, told_read, told_seen, told_unheard, where_ok}
 use Rattle.sessions.proofs.RunLemmas.{goes_then}
 use Rattle.sessions.proofs.state.Session.follow.Goals as goal
 
@@ -18,10 +19,11 @@ returns-in-Ok-None-clause-goes_on g c n = goes_then (state g.S.Store) c.args.lan
 
 pub returns-in-Ok-None-clause-told : goal.returns-in-Ok-None-clause-told
 returns-in-Ok-None-clause-told g c a n l k was told =
-    let read : AreTold g.L.Lines.tells g.C.Clock.gives l k c.next-in-loop.new.self c.loop.clock a (vec_items c.loop.self.minutes) None =
-    told_read g.L.Lines.tells g.C.Clock.gives l k c.loop.lines c.next-in-loop.new.self c.loop.clock a _ (vec_items c.loop.self.minutes) c.in-Ok-None.field-0 None c.in-Ok-None.field-0-is (ap (λ (s : ScheduleValue). s.content) c.schedule.ensures ∙ ((c.loop.invariant.goes_on n).run a was).stepped) (c.loop.invariant.told a n l k was told) c.in-Ok-None.ensures.told in (
+    let read : AreToldUpTo [] g.L.Lines.tells g.C.Clock.gives l k c.next-in-loop.new.self c.loop.clock a (vec_items c.loop.self.minutes) None =
+    told_read g.L.Lines.tells g.C.Clock.gives l k c.loop.lines c.next-in-loop.new.self c.loop.clock a _ (vec_items c.loop.self.minutes) (heard_where (g.L.Lines.drains c.loop.lines)) c.in-Ok-None.field-0 None c.in-Ok-None.field-0-is c.loop.invariant.begun (ap (λ (s : ScheduleValue). s.content) c.schedule.ensures ∙ ((c.loop.invariant.goes_on n).run a was).stepped) (c.loop.invariant.told a n l k was told) c.in-Ok-None.ensures.told in (
       None,
-      told_on g.L.Lines.tells g.C.Clock.gives l k c.next-in-loop.new.self c.drain.new.lines c.loop.clock a (vec_items c.loop.self.minutes) (vec_items c.drain.new.self.minutes) None c.drain.ensures.told c.drain.ensures.kept read,
+      told_on g.L.Lines.tells g.C.Clock.gives l k c.next-in-loop.new.self c.drain.new.lines c.loop.clock a (vec_items c.loop.self.minutes) (vec_items c.drain.new.self.minutes) None c.drain.ensures.told c.drain.ensures.kept
+          (told_unheard g.L.Lines.tells g.C.Clock.gives l k c.next-in-loop.new.self c.loop.clock a (vec_items c.loop.self.minutes) None read),
       where_ok c.drain.result refl,
     )
 
@@ -30,9 +32,10 @@ returns-in-Err-do_line-clause-goes_on g c n = goes_then (state g.S.Store) c.args
 
 pub returns-in-Err-do_line-clause-told : goal.returns-in-Err-do_line-clause-told
 returns-in-Err-do_line-clause-told g c a n l k was told =
-    let read : AreTold g.L.Lines.tells g.C.Clock.gives l k c.next-in-loop.new.self c.loop.clock a (vec_items c.loop.self.minutes) (opens c.in-Ok-Some.line) =
-    told_read g.L.Lines.tells g.C.Clock.gives l k c.loop.lines c.next-in-loop.new.self c.loop.clock a _ (vec_items c.loop.self.minutes) c.in-Ok-Some.field-0 (Some c.in-Ok-Some.line) c.in-Ok-Some.field-0-is (ap (λ (s : ScheduleValue). s.content) c.schedule.ensures ∙ ((c.loop.invariant.goes_on n).run a was).stepped) (c.loop.invariant.told a n l k was told) c.in-Ok-Some.ensures.told in
-    c.in-Err-do_line.ensures.told a n l k ((c.loop.invariant.goes_on n).run a was) read
+    let read : AreToldUpTo [] g.L.Lines.tells g.C.Clock.gives l k c.next-in-loop.new.self c.loop.clock a (vec_items c.loop.self.minutes) (opens c.in-Ok-Some.line) =
+    told_read g.L.Lines.tells g.C.Clock.gives l k c.loop.lines c.next-in-loop.new.self c.loop.clock a _ (vec_items c.loop.self.minutes) (heard_where (g.L.Lines.drains c.loop.lines)) c.in-Ok-Some.field-0 (Some c.in-Ok-Some.line) c.in-Ok-Some.field-0-is c.loop.invariant.begun (ap (λ (s : ScheduleValue). s.content) c.schedule.ensures ∙ ((c.loop.invariant.goes_on n).run a was).stepped) (c.loop.invariant.told a n l k was told) c.in-Ok-Some.ensures.told in
+    let after = c.in-Err-do_line.ensures.told a n l k ((c.loop.invariant.goes_on n).run a was) read in
+    (after.0, after.1, tt)
 
 pub loop-preserved : goal.loop-preserved
 loop-preserved g c =
@@ -42,10 +45,9 @@ loop-preserved g c =
       goes_on = λ n. goes_then (state g.S.Store) c.args.lanes.now n c.args.self.now c.loop.self c.do_line.new.self (was.goes_on n) (done.goes_on n);
       begun = done.begun;
       told = λ a n l k run told.
-          let read : AreTold g.L.Lines.tells g.C.Clock.gives l k c.next-in-loop.new.self c.loop.clock a (vec_items c.loop.self.minutes) (opens c.in-Ok-Some.line) =
-          told_read g.L.Lines.tells g.C.Clock.gives l k c.loop.lines c.next-in-loop.new.self c.loop.clock a _ (vec_items c.loop.self.minutes) c.in-Ok-Some.field-0 (Some c.in-Ok-Some.line) c.in-Ok-Some.field-0-is (ap (λ (s : ScheduleValue). s.content) c.schedule.ensures ∙ ((was.goes_on n).run a run).stepped) (was.told a n l k run told) c.in-Ok-Some.ensures.told in
-          let after = c.in_default.ensures.told a n l k ((was.goes_on n).run a run) read in
-          subst (λ waits. AreTold g.L.Lines.tells g.C.Clock.gives l k c.do_line.new.lines c.do_line.new.clock a (vec_items c.do_line.new.self.minutes) waits) after.2 after.1;
+          let read : AreToldUpTo [] g.L.Lines.tells g.C.Clock.gives l k c.next-in-loop.new.self c.loop.clock a (vec_items c.loop.self.minutes) (opens c.in-Ok-Some.line) =
+          told_read g.L.Lines.tells g.C.Clock.gives l k c.loop.lines c.next-in-loop.new.self c.loop.clock a _ (vec_items c.loop.self.minutes) (heard_where (g.L.Lines.drains c.loop.lines)) c.in-Ok-Some.field-0 (Some c.in-Ok-Some.line) c.in-Ok-Some.field-0-is c.loop.invariant.begun (ap (λ (s : ScheduleValue). s.content) c.schedule.ensures ∙ ((was.goes_on n).run a run).stepped) (was.told a n l k run told) c.in-Ok-Some.ensures.told in
+          c.in_default.ensures.told a n l k ((was.goes_on n).run a run) read;
       failed = c.in_default.ensures.fault;
       drained = c.in_default.ensures.drained;
     }
@@ -53,8 +55,9 @@ loop-preserved g c =
 pub returns-in-Err-clause-told : goal.returns-in-Err-clause-told
 returns-in-Err-clause-told g c a n l k was told = (
   None,
-  told_seen g.L.Lines.tells g.C.Clock.gives l k c.loop.lines c.next-in-loop.new.self c.loop.clock a _ (vec_items c.loop.self.minutes) None
+  told_unheard g.L.Lines.tells g.C.Clock.gives l k c.next-in-loop.new.self c.loop.clock a (vec_items c.loop.self.minutes) None
+      (told_seen g.L.Lines.tells g.C.Clock.gives l k c.loop.lines c.next-in-loop.new.self c.loop.clock a _ (vec_items c.loop.self.minutes) (heard_where (g.L.Lines.drains c.loop.lines)) None c.loop.invariant.begun
       (ap (λ (s : ScheduleValue). s.content) c.schedule.ensures ∙ ((c.loop.invariant.goes_on n).run a was).stepped)
-      (c.loop.invariant.told a n l k was told) c.in-Err.ensures.told,
+      (c.loop.invariant.told a n l k was told) c.in-Err.ensures.told),
   tt,
 )

@@ -1,8 +1,9 @@
 //! What a person is told beside the answers: sentences, and a line on a terminal that says how a drain goes on.
+use crate::asked::Asked;
+use crate::lines::one_line;
+use crate::notes::{Note, note_of, unreadable_note};
 use crate::totals::Totals;
-use fault_sentences::{
-    Asked, Note, ended_since, first_in_flight, lost_at_restart, note_of, one_line, unreadable_note,
-};
+use crate::tries::{ended_since, first_in_flight, lost_at_restart};
 use sched_core::{Event, Schedule};
 use script_commands::{CommandFault, SourceFault};
 use script_reader::{Console, Shown, Spot};
