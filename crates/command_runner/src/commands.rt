@@ -18,8 +18,8 @@ use std::io::Write;
 ///
 /// `trigger`, `backfill`, `clear`, `pause`, `unpause` and `resize` open the record within the greatest limits, without lanes, and step their event.
 /// `list` and `explain` look at what the record holds, and leave it as it is. `run` is the caller's; it and what is for scripts alone, `load`, `tick`
-/// and `drain`, have no place here. The console is given why an event was not done or a question not answered, and may tell of it before the output is
-/// flushed.
+/// and `drain`, have no place here. The console is given what came of an event, or why a question was not answered, and may tell of it before the output
+/// is flushed.
 pub fn run_command<S: Alter + Drop, W: Write, P: Console>(
     alloc: Global,
     store: Store<S>,

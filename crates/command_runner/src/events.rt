@@ -1,16 +1,19 @@
 //! One event on a record.
+ghost use Rattle.std.specs.Prelude.{Ok, OnOk};
+ghost use Rattle.std.specs.Io.KnownBytes.{Appends};
 ghost use Rattle.sqlite.specs.Held.{state};
+ghost use Rattle.script_reader.specs.Statuses.{shown_for};
 ghost use Rattle.command_runner.specs.Events.{IsEventDone, IsStepDone};
 
 use crate::writing::status_after;
 use answer_lines::{Shown, put};
 use director::Director;
-use meta_store::Store;
-use sched_core::{Event, Limits};
+use meta_store::{Limits, Store};
+use sched_events::{Answer, Event};
 use script_reader::{Console, failure_status};
 use sqlite::Alter;
 use std::alloc::Global;
-use std::io::Write;
+use std::io::{self, Write};
 
 // Opens the record without lanes, and steps the event.
 pub(crate) fn step_event<S: Alter + Drop, W: Write, P: Console>(
@@ -50,7 +53,7 @@ fn step_in<S: Alter + Drop, W: Write, P: Console>(
     let mut director = director;
     match director.step(alloc, event) {
         Ok(answer) => {
-            let put = put(output, Shown::Answer(event, &answer));
+            let put = put_answer(event, &answer, output, console);
             console.tell(Some(director.schedule()));
             (director.close(), status_after(0, put))
         }
@@ -61,4 +64,18 @@ fn step_in<S: Alter + Drop, W: Write, P: Console>(
             (director.close(), status_after(failure_status(&fault), put))
         }
     }
+}
+
+// Writes the answer to an event, of which the console may tell.
+fn put_answer<W: Write, P: Console>(
+    event: &Event,
+    answer: &Answer,
+    output: &mut W,
+    console: &mut P,
+) -> io::Result<()>
+    ensures { OnOk result (Appends (W.contents output.old) (W.contents output.new)
+        (shown_for event.now (Ok answer.now))) }
+{
+    console.put(None, Some(event), Shown::Answer(event, answer));
+    put(output, Shown::Answer(event, answer))
 }

@@ -18,9 +18,8 @@ use Rattle.sched_events.specs.Steps.{steps, handed_along, AreAccepted}
 use Rattle.sched_events.specs.declared.events.Event.{Event}
 use Rattle.sched_model.specs.Schedule.{Schedule}
 use Rattle.sched_model.specs.States.{in_flight}
-use Rattle.director.specs.Directors.{DirectorValue, Follows}
 use Rattle.minutes.specs.Minutes.{BeginWithRestart, reports_in}
-use Rattle.sessions.specs.Runs.{IsRun}
+use Rattle.sessions.specs.Runs.{DirectorValue, Follows, IsRun}
 use Rattle.sessions.specs.declared.faults.ConductFault.{ConductFault}
 use Rattle.sessions.specs.declared.faults.ConductFault.TheVariants as fault
 use Rattle.sessions.specs.declared.line_reading.Line.{Line}
@@ -124,9 +123,9 @@ started_or : {A P Q : Type 0} (q : Result A ConductFault) → IfErr q (λ f. is_
 started_or (Ok v) refused started none = started refl
 started_or (Err f) refused started none = by_cases (is_unstarted f) (λ is. none (refused is)) (λ is. started (ap not is))
 
-module _ {G O : Type 0} (runs : O → List (Job × Outcome)) (taken : O → Option Job) (kits : List (Kit O)) where
+module _ {G O : Type 0} (runs : O → List (Job × Outcome)) (refused : O → List Job) (taken : O → Option Job) (kits : List (Kit O)) where
   -- no worker reported
-  none_worked : (minutes : List Event) (a : Schedule) → minutes ≡ [] → HaveWorkedFor G runs taken kits minutes a
+  none_worked : (minutes : List Event) (a : Schedule) → minutes ≡ [] → HaveWorkedFor G runs refused taken kits minutes a
   none_worked minutes a none = record {
     ends = [];
     few = omega arith;
@@ -137,10 +136,10 @@ module _ {G O : Type 0} (runs : O → List (Job × Outcome)) (taken : O → Opti
 
   -- each log is back
   all_worked : (ends : List (WorkerEnd G O)) (minutes now : List Event) (a : Schedule) (sent : List JobOrStop) (heard : List WorkerReport) (stops : ℕ)
-      → minutes ≡ now → length ends ≡ length kits → AreAccounts runs taken kits ends
+      → minutes ≡ now → length ends ≡ length kits → AreAccounts runs refused taken kits ends
       → sent ≡ map (λ j. items.Job j) (handed_along now a) ++ replicate stops items.Stop → AreAmongSent sent ends
       → ((weight : Report → ℕ) → sum_by weight (reports_in now) ≤ sum_by weight (map (λ t. t.report) heard)) → AreAmongTold heard ends
-      → HaveWorkedFor G runs taken kits minutes a
+      → HaveWorkedFor G runs refused taken kits minutes a
   all_worked ends minutes now a sent heard stops same all accounts is among each told = record {
     ends = ends;
     few = omega arith;
@@ -156,11 +155,11 @@ module _ {G O : Type 0} (runs : O → List (Job × Outcome)) (taken : O → Opti
 
 module _ {S G O : Type 0} where
   -- nothing was stepped, and no thread was started
-  pub unstarted_run : (look : Held S → State) (runs : O → List (Job × Outcome)) (taken : O → Option Job) (lane_count : ℕ) (kits : List (Kit O)) (old : DirectorValue S) (run : Conducted S G O) (are_told : Schedule → List Event → Option Line → Type 0) (untouched : Type 0) (failed : Option LineFault) (is_over : Bool) (f : ConductFault)
+  pub unstarted_run : (look : Held S → State) (runs : O → List (Job × Outcome)) (refused : O → List Job) (taken : O → Option Job) (lane_count : ℕ) (kits : List (Kit O)) (old : DirectorValue S) (run : Conducted S G O) (are_told : Schedule → List Event → Option Line → Type 0) (untouched : Type 0) (failed : Option LineFault) (is_over : Bool) (f : ConductFault)
       → run.director ≡ old → run.minutes.items ≡ [] → run.outcome ≡ Err f → are_told old.schedule.content [] None → untouched
       → came_to_its_end run.outcome ≡ false → EndsRun f failed → is_no_worker f ≡ (length kits == 0)
-      → IsConducted look runs taken lane_count kits old run are_told untouched failed is_over
-  unstarted_run look runs taken lane_count kits old run are_told untouched failed is_over f d e o nothing same short ends none =
+      → IsConducted look runs refused taken lane_count kits old run are_told untouched failed is_over
+  unstarted_run look runs refused taken lane_count kits old run are_told untouched failed is_over f d e o nothing same short ends none =
       let a = old.schedule.content in
       record {
         stepped = ap (λ (x : DirectorValue S). x.schedule.content) d ∙ ap (λ (l : List Event). steps l a) (sym e);
@@ -174,16 +173,16 @@ module _ {S G O : Type 0} where
         fault = subst (λ r. MatchResult r (λ _. failed ≡ None) (λ g. EndsRun g failed)) (sym o) ends;
         workers = subst (λ r. MatchResult r (λ _. 0 < length kits) (λ g. is_no_worker g ≡ (length kits == 0))) (sym o) none;
         unstarted = subst (λ r. IfErr r (λ g. is_unstarted g ≡ true → (run.minutes.items ≡ []) × untouched)) (sym o) (λ _. (e, same));
-        worked = none_worked runs taken kits run.minutes.items a e;
+        worked = none_worked runs refused taken kits run.minutes.items a e;
         ends = subst (λ r. IfOk r (λ s. length s.ends.items ≡ length kits)) (sym o) tt;
         once = subst (λ r. IfOk r (λ s. EachStandsInALog (handed_along run.minutes.items a) s.ends.items)) (sym o) tt;
         own = subst (λ r. IfOk r (λ s. EachToldItsOwn run.minutes.items s.ends.items)) (sym o) tt;
-        accounts = subst (λ r. IfOk r (λ s. AreAccounts runs taken kits s.ends.items)) (sym o) tt;
+        accounts = subst (λ r. IfOk r (λ s. AreAccounts runs refused taken kits s.ends.items)) (sym o) tt;
         desk = subst (λ r. IfOk r (λ s. (s.desk.slots ≡ 0) × (s.desk.holds.items ≡ []))) (sym o) tt;
       }
 
   -- a session was served while the workers ran, and what the workers did was settled
-  pub conducted : {W R : Type 0} (look : Held S → State) (runs : O → List (Job × Outcome)) (taken : O → Option Job) (lanes : Lanes) (lane_count stops : ℕ) (kits : List (Kit O)) (old : DirectorValue S) (fresh now : Session S) (outcome : Result W ConductFault)
+  pub conducted : {W R : Type 0} (look : Held S → State) (runs : O → List (Job × Outcome)) (refused : O → List Job) (taken : O → Option Job) (lanes : Lanes) (lane_count stops : ℕ) (kits : List (Kit O)) (old : DirectorValue S) (fresh now : Session S) (outcome : Result W ConductFault)
       (results : List R) (end_of : R → WorkerEnd G O) (run : Conducted S G O) (are_told : Schedule → List Event → Option Line → Type 0) (untouched : Type 0) (failed : Option LineFault) (is_over : Bool)
       → 0 < length kits
       → fresh.director ≡ old → IsRun old.schedule.content lane_count fresh
@@ -194,12 +193,12 @@ module _ {S G O : Type 0} where
       → IfOk run.outcome (λ s. s.ends.items ≡ map end_of results)
       → IfOk run.outcome (λ s. EachStandsInALog (handed_along now.minutes.items old.schedule.content) s.ends.items)
       → IfOk run.outcome (λ s. EachToldItsOwn now.minutes.items s.ends.items)
-      → (all_started outcome ≡ true → AreAccounts runs taken kits (map end_of results))
+      → (all_started outcome ≡ true → AreAccounts runs refused taken kits (map end_of results))
       → IfOk run.outcome (λ s. (s.desk.slots ≡ 0) × (length s.desk.holds.items ≤ s.desk.slots))
       → (all_started outcome ≡ true → AreAmongSent (sent_of now.pass) (map end_of results))
       → (all_started outcome ≡ true → AreAmongTold (heard_of now.pass) (map end_of results))
-      → IsConducted look runs taken lane_count kits old run are_told untouched failed is_over
-  conducted {W} {R} look runs taken lanes lane_count stops kits old fresh now outcome results end_of run are_told untouched failed is_over some of_old is_run served dir min ok pass all ends once own accounts desk sent told =
+      → IsConducted look runs refused taken lane_count kits old run are_told untouched failed is_over
+  conducted {W} {R} look runs refused taken lanes lane_count stops kits old fresh now outcome results end_of run are_told untouched failed is_over some of_old is_run served dir min ok pass all ends once own accounts desk sent told =
       let a = old.schedule.content in
       let stop = served.run a is_run in
       let what = served.told a is_run in
@@ -225,12 +224,12 @@ module _ {S G O : Type 0} where
         worked =
             started_or outcome served.unstarted
             (λ is.
-            all_worked runs taken kits (map end_of results) run.minutes.items now.minutes.items a (sent_of now.pass) (heard_of now.pass) stops
+            all_worked runs refused taken kits (map end_of results) run.minutes.items now.minutes.items a (sent_of now.pass) (heard_of now.pass) stops
             min (length-map results end_of ∙ all is) (accounts is) stop.sent (sent is) stop.each_heard (told is))
-            (λ none. none_worked runs taken kits run.minutes.items a (min ∙ none.0));
+            (λ none. none_worked runs refused taken kits run.minutes.items a (min ∙ none.0));
         ends = both_ok run.outcome outcome ok (on_ok outcome all) ends (λ s same is. ap length is ∙ length-map results end_of ∙ same);
         once = if_ok run.outcome once (λ s each. subst (λ (l : List Event). EachStandsInALog (handed_along l a) s.ends.items) (sym min) each);
         own = if_ok run.outcome own (λ s each. subst (λ (l : List Event). EachToldItsOwn l s.ends.items) (sym min) each);
-        accounts = both_ok run.outcome outcome ok (on_ok outcome accounts) ends (λ s are is. subst (λ (l : List (WorkerEnd G O)). AreAccounts runs taken kits l) (sym is) are);
+        accounts = both_ok run.outcome outcome ok (on_ok outcome accounts) ends (λ s are is. subst (λ (l : List (WorkerEnd G O)). AreAccounts runs refused taken kits l) (sym is) are);
         desk = if_ok run.outcome desk (λ s d. (d.0, empty_list s.desk.holds.items (subst (λ n. length s.desk.holds.items ≤ n) d.0 d.1)));
       }

@@ -100,12 +100,12 @@ module _ {S : Type 0} where
   same_stops {W} {look} {lanes} {lane_count} {old} {now} {outcome} {are_told} {untouched} {failed} {is_over} n m same = subst (λ k. IsServed look lanes lane_count k old now outcome are_told untouched failed is_over) same
 
 -- workers that worked from what their handles say worked from what they were given
-pub worked_from : {G O : Type 0} (kind_of : O → Kind) (runs : O → List (Job × Outcome)) (taken : O → Option Job) (ps ps' : List WorkerPass) (ss ss' : List (List Hold)) (ks ks' : List (Kit O)) (results : List (WorkerEnd G O × WorkerPass × List Hold))
-    → ps ≡ ps' → ss ≡ ss' → ks ≡ ks' → HaveWorked kind_of runs taken ps ss ks results → HaveWorked kind_of runs taken ps' ss' ks' results
-worked_from {G = G} {O = O} kind_of runs taken ps ps' ss ss' ks ks' results a b d h =
-    subst (λ (p : List WorkerPass). HaveWorked kind_of runs taken p ss' ks' results) a
-    (subst (λ (s : List (List Hold)). HaveWorked kind_of runs taken ps s ks' results) b
-    (subst (λ (k : List (Kit O)). HaveWorked kind_of runs taken ps ss k results) d h))
+pub worked_from : {G O : Type 0} (kind_of : O → Kind) (runs : O → List (Job × Outcome)) (refused : O → List Job) (taken : O → Option Job) (ps ps' : List WorkerPass) (ss ss' : List (List Hold)) (ks ks' : List (Kit O)) (results : List (WorkerEnd G O × WorkerPass × List Hold))
+    → ps ≡ ps' → ss ≡ ss' → ks ≡ ks' → HaveWorked kind_of runs refused taken ps ss ks results → HaveWorked kind_of runs refused taken ps' ss' ks' results
+worked_from {G = G} {O = O} kind_of runs refused taken ps ps' ss ss' ks ks' results a b d h =
+    subst (λ (p : List WorkerPass). HaveWorked kind_of runs refused taken p ss' ks' results) a
+    (subst (λ (s : List (List Hold)). HaveWorked kind_of runs refused taken ps s ks' results) b
+    (subst (λ (k : List (Kit O)). HaveWorked kind_of runs refused taken ps ss k results) d h))
 
 -- each was started
 pub each_started : {W : Type 0} (r : Result W ConductFault) (b : Bool) (n m k : ℕ) → (all_started r ≡ true → b ≡ true) → MatchBool b (n ≡ m) (n < m) → k ≡ n → all_started r ≡ true → k ≡ m

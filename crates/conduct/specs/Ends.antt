@@ -36,9 +36,9 @@ module _ {G O : Type 0} where
 
 -- Workers with these kits, or with the first of them, have worked for these minutes, from this schedule on: the log of each is an account of its kit; no job
 -- stands in the logs more often than the minutes hand it out; and the minutes report nothing more often than the logs tell it.
-pub record HaveWorkedFor {O : Type 0} (G : Type 0) (runs : O → List (Job × Outcome)) (taken : O → Option Job) (kits : List (Kit O)) (minutes : List Event) (a : Schedule) : Type 0 where
+pub record HaveWorkedFor {O : Type 0} (G : Type 0) (runs : O → List (Job × Outcome)) (refused : O → List Job) (taken : O → Option Job) (kits : List (Kit O)) (minutes : List Event) (a : Schedule) : Type 0 where
   pub ends : List (WorkerEnd G O)
   pub few : length ends ≤ length kits
-  pub accounts : AreAccounts runs taken kits ends
+  pub accounts : AreAccounts runs refused taken kits ends
   pub handed : (weight : Job → ℕ) → sum_by (λ e. sum_by weight (logged e.log.items)) ends ≤ sum_by weight (handed_along minutes a)
   pub told : (weight : Report → ℕ) → sum_by weight (reports_in minutes) ≤ sum_by (λ e. sum_by weight (reports_of e.log.items)) ends

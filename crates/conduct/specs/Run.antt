@@ -10,8 +10,8 @@ use Rattle.sched_events.specs.Steps.{steps, handed_along, AreAccepted}
 use Rattle.sched_events.specs.declared.events.Event.{Event}
 use Rattle.sched_model.specs.Schedule.{Schedule}
 use Rattle.sched_model.specs.States.{in_flight}
-use Rattle.director.specs.Directors.{DirectorValue, Follows}
 use Rattle.minutes.specs.Minutes.{BeginWithRestart}
+use Rattle.sessions.specs.Runs.{DirectorValue, Follows}
 use Rattle.sessions.specs.declared.line_reading.Line.{Line}
 use Rattle.sessions.specs.declared.line_reading.LineFault.{LineFault}
 use Rattle.conduct.specs.declared.conducting.Conducted.{Conducted}
@@ -21,7 +21,7 @@ use Rattle.conduct.specs.Faults.{EndsRun, came_to_its_end, is_no_worker, is_unst
 -- What came of a run: from a director, with so many lanes, and with these kits, one of each crew. Of the lines and the clock: how they came from their
 -- first states to their last ones while minutes were made from a schedule on (are_told), or that they are as they were (untouched); what the lines failed
 -- in, and whether they are over.
-pub record IsConducted {S G O : Type 0} (look : Held S → State) (runs : O → List (Job × Outcome)) (taken : O → Option Job) (lane_count : ℕ) (kits : List (Kit O)) (old : DirectorValue S) (run : Conducted S G O) (are_told : Schedule → List Event → Option Line → Type 0) (untouched : Type 0) (failed : Option LineFault) (is_over : Bool) : Type 0 where
+pub record IsConducted {S G O : Type 0} (look : Held S → State) (runs : O → List (Job × Outcome)) (refused : O → List Job) (taken : O → Option Job) (lane_count : ℕ) (kits : List (Kit O)) (old : DirectorValue S) (run : Conducted S G O) (are_told : Schedule → List Event → Option Line → Type 0) (untouched : Type 0) (failed : Option LineFault) (is_over : Bool) : Type 0 where
   -- with a fault too: the schedule is that of the minutes, each of which was accepted, and the record follows it
   pub stepped : run.director.schedule.content ≡ steps run.minutes.items old.schedule.content
   pub accepted : AreAccepted run.minutes.items old.schedule.content
@@ -42,13 +42,13 @@ pub record IsConducted {S G O : Type 0} (look : Held S → State) (runs : O → 
   pub workers : MatchResult run.outcome (λ _. 0 < length kits) (λ f. is_no_worker f ≡ (length kits == 0))
   pub unstarted : IfErr run.outcome (λ f. is_unstarted f ≡ true → (run.minutes.items ≡ []) × untouched)
   -- with a fault too: workers have worked for the minutes, which report nothing that no worker told
-  pub worked : HaveWorkedFor G runs taken kits run.minutes.items old.schedule.content
+  pub worked : HaveWorkedFor G runs refused taken kits run.minutes.items old.schedule.content
   -- where it ended well: each try that was handed out stands in the log of one worker, as often as it was handed out, and no other does
   pub ends : IfOk run.outcome (λ s. length s.ends.items ≡ length kits)
   pub once : IfOk run.outcome (λ s. EachStandsInALog (handed_along run.minutes.items old.schedule.content) s.ends.items)
   -- what the minutes report of a worker's jobs is what that worker told, in its order
   pub own : IfOk run.outcome (λ s. EachToldItsOwn run.minutes.items s.ends.items)
   -- each worker told what its operators did: its log is an account of its kit
-  pub accounts : IfOk run.outcome (λ s. AreAccounts runs taken kits s.ends.items)
+  pub accounts : IfOk run.outcome (λ s. AreAccounts runs refused taken kits s.ends.items)
   -- nothing is left at the desk
   pub desk : IfOk run.outcome (λ s. (s.desk.slots ≡ 0) × (s.desk.holds.items ≡ []))

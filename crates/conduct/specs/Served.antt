@@ -10,9 +10,8 @@ use Rattle.sched_events.specs.Steps.{steps, handed_along, AreAccepted}
 use Rattle.sched_events.specs.declared.events.Event.{Event}
 use Rattle.sched_model.specs.Schedule.{Schedule}
 use Rattle.sched_model.specs.States.{in_flight}
-use Rattle.director.specs.Directors.{Follows}
 use Rattle.minutes.specs.Minutes.{reports_in, BeginWithRestart}
-use Rattle.sessions.specs.Runs.{IsRun}
+use Rattle.sessions.specs.Runs.{Follows, IsRun}
 use Rattle.sessions.specs.Told.{AreToldBy}
 use Rattle.sessions.specs.declared.faults.ConductFault.{ConductFault}
 use Rattle.sessions.specs.declared.line_reading.Line.{Line}
@@ -74,9 +73,9 @@ pub record IsReady {S D G O : Type 0} (kind_of : O → Kind) (lanes : Lanes) (la
 
 -- What came of the threads: the session was served, each worker that was started worked from what it was given, and these are all unless a thread was
 -- refused.
-pub record IsManaged {S D G O W : Type 0} (look : Held S → State) (kind_of : O → Kind) (runs : O → List (Job × Outcome)) (taken : O → Option Job) (lanes : Lanes) (lane_count : ℕ)
+pub record IsManaged {S D G O W : Type 0} (look : Held S → State) (kind_of : O → Kind) (runs : O → List (Job × Outcome)) (refused : O → List Job) (taken : O → Option Job) (lanes : Lanes) (lane_count : ℕ)
     (old : Session S) (posts : Posts D G O) (crews : List (Crew G O)) (new : Session S) (outcome : Result W ConductFault) (results : List (WorkerEnd G O × WorkerPass × List Hold))
     (are_told : Schedule → List Event → Option Line → Type 0) (untouched : Type 0) (failed : Option LineFault) (is_over : Bool) : Type 0 where
   pub served : IsServed look lanes lane_count (length results) old new outcome are_told untouched failed is_over
-  pub worked : HaveWorked kind_of runs taken (take (length results) posts.passes.items) (take (length results) posts.shares.items) (take (length results) (map (λ c. c.kit) crews)) results
+  pub worked : HaveWorked kind_of runs refused taken (take (length results) posts.passes.items) (take (length results) posts.shares.items) (take (length results) (map (λ c. c.kit) crews)) results
   pub all : all_started outcome ≡ true → length results ≡ length crews

@@ -9,10 +9,9 @@ use crate::closing::close;
 use crate::equipment::{Equipment, equip};
 use crate::threads::manage;
 use crews::Settled;
-use director::Director;
 use operators::Operator;
 use sched_events::Event;
-use sessions::{Clock, ConductFault, Lines, Session};
+use sessions::{Clock, ConductFault, Director, Lines, Session};
 use sqlite::Alter;
 use std::alloc::Global;
 use std::marker::Brand;
@@ -58,7 +57,7 @@ pub fn conduct<
     requires kits { All (λ c. IsKit O.kind_of c.kit) crews.items }
     requires sound { L.failed lines.old ≡ None }
     requires undrained { L.drains lines.old ≡ false }
-    ensures { IsConducted (state S.Store) O.runs_of O.taken lane_count (map (λ c. c.kit) crews.items) director result
+    ensures { IsConducted (state S.Store) O.runs_of O.refused_of O.taken lane_count (map (λ c. c.kit) crews.items) director result
         (AreTold L.tells C.gives lines.old clock.old lines.new clock.new) ((lines.new ≡ lines.old) × (clock.new ≡ clock.old)) (L.failed lines.new) (L.over lines.new) }
 {
     let workers = crews.len();
@@ -107,7 +106,7 @@ fn conduct_at<
     requires kits { All (λ c. IsKit O.kind_of c.kit) crews.items }
     requires sound { L.failed lines.old ≡ None }
     requires undrained { L.drains lines.old ≡ false }
-    ensures { IsConducted (state S.Store) O.runs_of O.taken lane_count (map (λ c. c.kit) crews.items) director result
+    ensures { IsConducted (state S.Store) O.runs_of O.refused_of O.taken lane_count (map (λ c. c.kit) crews.items) director result
         (AreTold L.tells C.gives lines.old clock.old lines.new clock.new) ((lines.new ≡ lines.old) × (clock.new ≡ clock.old)) (L.failed lines.new) (L.over lines.new) }
 {
     let workers = crews.len();

@@ -63,7 +63,7 @@ pub fn manage<
 ) -> Managed<D, S, G, O>
     requires { IsReady O.kind_of lanes.now lane_count session posts crews.items
         (L.failed lines.old) (L.drains lines.old) }
-    ensures managed { IsManaged (state S.Store) O.kind_of O.runs_of O.taken lanes.now lane_count session posts crews.items result.session result.outcome result.results.items
+    ensures managed { IsManaged (state S.Store) O.kind_of O.runs_of O.refused_of O.taken lanes.now lane_count session posts crews.items result.session result.outcome result.results.items
         (AreTold L.tells C.gives lines.old clock.old lines.new clock.new) ((lines.new ≡ lines.old) × (clock.new ≡ clock.old)) (L.failed lines.new) (L.over lines.new) }
 {
     let Lent {
@@ -114,7 +114,7 @@ fn in_scope<
     requires { IsReady O.kind_of lanes.now lane_count session posts crews.items
         (L.failed lines.old) (L.drains lines.old) }
     ensures lent { (result.lines.ghost_name ≡ lines.entry.ghost_name) × (result.clock.ghost_name ≡ clock.entry.ghost_name) }
-    ensures managed { IsManaged (state S.Store) O.kind_of O.runs_of O.taken lanes.now lane_count session posts crews.items result.session result.outcome result.results.items
+    ensures managed { IsManaged (state S.Store) O.kind_of O.runs_of O.refused_of O.taken lanes.now lane_count session posts crews.items result.session result.outcome result.results.items
         (AreTold L.tells C.gives lines.old clock.old result.lines.now result.clock.now) ((result.lines.now ≡ lines.old) × (result.clock.now ≡ clock.old)) (L.failed result.lines.now) (L.over result.lines.now) }
 {
     thread::scope(
@@ -124,7 +124,7 @@ fn in_scope<
             requires { IsReady O.kind_of lanes.now lane_count session posts crews.items
                 (L.failed lines.now) (L.drains lines.now) }
             ensures lent { (result.lines.ghost_name ≡ lines.entry.ghost_name) × (result.clock.ghost_name ≡ clock.entry.ghost_name) }
-            ensures managed { IsManaged (state S.Store) O.kind_of O.runs_of O.taken lanes.entry.now lane_count session posts crews.items result.session result.outcome result.results.items
+            ensures managed { IsManaged (state S.Store) O.kind_of O.runs_of O.refused_of O.taken lanes.entry.now lane_count session posts crews.items result.session result.outcome result.results.items
                 (AreTold L.tells C.gives lines.entry.now clock.entry.now result.lines.now result.clock.now) ((result.lines.now ≡ lines.entry.now) × (result.clock.now ≡ clock.entry.now)) (L.failed result.lines.now) (L.over result.lines.now) }
         {
             run(
@@ -163,7 +163,7 @@ fn run<
     requires { IsReady O.kind_of lanes.now lane_count session posts crews.items
         (L.failed lines.old) (L.drains lines.old) }
     ensures lent { (result.lines.ghost_name ≡ lines.entry.ghost_name) × (result.clock.ghost_name ≡ clock.entry.ghost_name) }
-    ensures managed { IsManaged (state S.Store) O.kind_of O.runs_of O.taken lanes.now lane_count session posts crews.items result.session result.outcome result.results.items
+    ensures managed { IsManaged (state S.Store) O.kind_of O.runs_of O.refused_of O.taken lanes.now lane_count session posts crews.items result.session result.outcome result.results.items
         (AreTold L.tells C.gives lines.old clock.old result.lines.now result.clock.now) ((result.lines.now ≡ lines.old) × (result.clock.now ≡ clock.old)) (L.failed result.lines.now) (L.over result.lines.now) }
 {
     let mut session = session;

@@ -57,9 +57,9 @@ nothing_held share (r ∷ rs) each =
     let all = sum_by-cons slots_of (share r) (map share rs) in
     omega arith
 
-module _ {G O : Type 0} (kind_of : O → Kind) (runs : O → List (Job × Outcome)) (taken : O → Option Job)
+module _ {G O : Type 0} (kind_of : O → Kind) (runs : O → List (Job × Outcome)) (refused : O → List Job) (taken : O → Option Job)
     (passes : List WorkerPass) (shares : List (List Hold)) (kits : List (Kit O)) (results : List (WorkerEnd G O × WorkerPass × List Hold))
-    (worked : HaveWorked {G = G} {O = O} kind_of runs taken passes shares kits results) where
+    (worked : HaveWorked {G = G} {O = O} kind_of runs refused taken passes shares kits results) where
   -- workers that began with new passes are back
   pub are_back : (lanes : Lanes) → All (IsWorkerOf lanes) passes → AreNumbered passes → All (λ w. taken_of w ≡ []) passes → All (λ w. told_of w ≡ []) passes → AreBack lanes results
   are_back lanes of numbered fresh quiet i r below =
@@ -83,9 +83,9 @@ module _ {G O : Type 0} (kind_of : O → Kind) (runs : O → List (Job × Outcom
       (worked.1 i r.1 [] r.0.kit r b).same ∙ none i [] c)
 
   -- their logs are accounts of their kits
-  pub are_accounts : AreAccounts runs taken kits (map (λ r. r.0) results)
+  pub are_accounts : AreAccounts runs refused taken kits (map (λ r. r.0) results)
   are_accounts k kit e below =
-      at_image (λ r. r.0) results (λ n x. IsAccount runs taken (get_or kits n kit) x.kit x.log.items)
+      at_image (λ r. r.0) results (λ n x. IsAccount runs refused taken (get_or kits n kit) x.kit x.log.items)
       (λ i r b. (let n = worked.0 in (worked.1 i r.1 [] kit r (omega arith)).account)) k e below
 
   -- and their kits are whole

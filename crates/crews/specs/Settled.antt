@@ -56,10 +56,10 @@ module _ {G O : Type 0} where
       (weight : Report → ℕ) → sum_by weight (map (λ r. r.report) heard) ≤ sum_by (λ e. sum_by weight (reports_of e.log.items)) ends
 
   -- each log is an account of the kit at its place, from what it was to what came back
-  abbrev pub AreAccounts : (O → List (Job × Outcome)) → (O → Option Job) → List (Kit O) → List (WorkerEnd G O) → Type 0
-  AreAccounts runs taken kits ends =
+  abbrev pub AreAccounts : (O → List (Job × Outcome)) → (O → List Job) → (O → Option Job) → List (Kit O) → List (WorkerEnd G O) → Type 0
+  AreAccounts runs refused taken kits ends =
       (k : ℕ) (kit : Kit O) (e : WorkerEnd G O) → k < length ends
-      → IsAccount runs taken (slice_index_or kits k kit) (slice_index_or ends k e).kit (slice_index_or ends k e).log.items
+      → IsAccount runs refused taken (slice_index_or kits k kit) (slice_index_or ends k e).kit (slice_index_or ends k e).log.items
 
 -- a job of this serial stands in the log
 abbrev pub has_serial : ℕ → List Logged → Bool

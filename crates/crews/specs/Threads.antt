@@ -14,13 +14,13 @@ use Rattle.work.specs.Logs.{jobs_of, reports_of}
 use Rattle.work.specs.Accounts.{IsAccount}
 use Rattle.work.specs.Passes.{StaysWith}
 
-module _ {G O : Type 0} (kind_of : O → Kind) (runs : O → List (Job × Outcome)) (taken : O → Option Job) where
+module _ {G O : Type 0} (kind_of : O → Kind) (runs : O → List (Job × Outcome)) (refused : O → List Job) (taken : O → Option Job) where
   -- From this pass, share and kit a worker came to this end, pass and share: the log says which jobs it took, before one stop, and what it
   -- told, and is an account of the kit; and the pass and the share are what they were.
   pub record HasWorked (pass : WorkerPass) (share : List Hold) (kit : Kit O) (end : WorkerEnd G O) (now : WorkerPass) (back : List Hold) : Type 0 where
     pub took : taken_of now ≡ (taken_of pass ++ jobs_of end.log.items) ++ items.Stop ∷ []
     pub told : told_of now ≡ told_of pass ++ reports_of end.log.items
-    pub account : IsAccount runs taken kit end.kit end.log.items
+    pub account : IsAccount runs refused taken kit end.kit end.log.items
     pub whole : IsKit kind_of end.kit
     pub stays : StaysWith pass now
     pub same : back ≡ share

@@ -33,7 +33,7 @@ impl<L: Ledger, G: Gate, O: Operator> Promise<(EndAt<L, G, O>, WorkerPass, Share
     for Works<L, O> {
     ghost use Rattle.crews.specs.Threads.{HasWorked};
 
-    ghost kept_by = { λ p r. HasWorked O.kind_of O.runs_of O.taken p.pass.value p.share.value p.kit.value r.0 r.1 r.2 };
+    ghost kept_by = { λ p r. HasWorked O.kind_of O.runs_of O.refused_of O.taken p.pass.value p.share.value p.kit.value r.0 r.1 r.2 };
 }
 
 /// The thread of a worker.
@@ -125,7 +125,7 @@ fn start<
     };
     let job = move || -> Worked<L, G, O>
         requires { IsWorkerOf lanes.now pass × IsKit O.kind_of crew.kit }
-        ensures { HasWorked O.kind_of O.runs_of O.taken pass share crew.kit result.0 result.1 result.2 }
+        ensures { HasWorked O.kind_of O.runs_of O.refused_of O.taken pass share crew.kit result.0 result.1 result.2 }
     { work(rt, alloc, lanes, desk, pass, share, crew) };
     match scope.spawn_with(promise, job) {
         Ok(handle) => Some(handle),
@@ -138,7 +138,7 @@ pub fn join_all<L: Ledger, G: Gate, O: Operator, R: Threads + Wait>(
     rt: &R,
     handles: Vec<Handle<L, G, O>>,
 ) -> Vec<Worked<L, G, O>>
-    ensures { HaveWorked O.kind_of O.runs_of O.taken (map (λ h. h.promise.pass.value) handles.items) (map (λ h. h.promise.share.value) handles.items) (map (λ h. h.promise.kit.value) handles.items) result.items }
+    ensures { HaveWorked O.kind_of O.runs_of O.refused_of O.taken (map (λ h. h.promise.pass.value) handles.items) (map (λ h. h.promise.share.value) handles.items) (map (λ h. h.promise.kit.value) handles.items) result.items }
 {
     let mut handles = handles;
     let mut pause = Pause::new();

@@ -10,8 +10,9 @@ use command_words::Command;
 use director::Fault;
 use fault_sentences::SentenceConsole;
 use meta_store::Store;
+use record_files::open_database;
 use script_reader::failure_status;
-use sqlite::{Alter, Connection, Error, ErrorCode, FileStore, Files, Options};
+use sqlite::{Alter, Connection, Error, ErrorCode, FileStore, Files, Options, Start, Unknown};
 use std::alloc::Global;
 use std::fs;
 use std::io::{self, BufWriter, ErrorKind, Write};
@@ -26,8 +27,20 @@ pub fn in_file<T: Threads + Wait + Sync>(
     command: &Command,
     words: Vec<String>,
 ) -> io::Result<u8> {
+    on_path(threads, rt, path, Unknown, command, words)
+}
+
+// The same, whatever the file and its log hold at first, for which `start` stands: no code can read it.
+fn on_path<F: Start, T: Threads + Wait + Sync>(
+    threads: &T,
+    rt: &HostRuntime,
+    path: &str,
+    start: F,
+    command: &Command,
+    words: Vec<String>,
+) -> io::Result<u8> {
     let was_there = fs::metadata(rt, path).is_ok();
-    match Connection::open(rt, path) {
+    match open_database(rt, path, start) {
         Ok(conn) => {
             if !was_there {
                 tell_made(rt, path);

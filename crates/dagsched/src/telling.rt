@@ -60,7 +60,7 @@ fn unopened_text(rt: &HostRuntime, path: &str) -> Result<String, AllocError> {
     match fs::metadata(rt, path) {
         Ok(found) if found.is_dir() => format!(in alloc; "dagsched: {path}: it is a folder"),
         Ok(_) => match fs::open(rt, path) {
-            Ok(_) => format!(in alloc; "dagsched: {path}: it may not be written"),
+            Ok(_) => refused_text(rt, path),
             Err(error) => format!(in alloc; "dagsched: {path}: {error}"),
         },
         Err(error) if error.kind() != ErrorKind::NotFound => {
@@ -68,6 +68,20 @@ fn unopened_text(rt: &HostRuntime, path: &str) -> Result<String, AllocError> {
         }
         Err(_) => unmade_text(rt, path),
     }
+}
+
+// Why SQLite does not open a file that can be read.
+fn refused_text(rt: &HostRuntime, path: &str) -> Result<String, AllocError> {
+    let alloc = rt.alloc();
+    let journal = format!(in alloc; "{path}-journal")?;
+    if fs::metadata(rt, journal.as_str()).is_ok_and(|found| found.len() > 0) {
+        return format!(in alloc;
+            "dagsched: {path}: another program left {journal}: open the file with sqlite3 once"
+        );
+    }
+    format!(in alloc;
+        "dagsched: {path}: it, or {path}-wal, may not be written or has a second name (a hard link), or {path}-wal is a link"
+    )
 }
 
 // Why there is no file at a path, and none can be made.

@@ -2,7 +2,7 @@
 use crate::asked::Asked;
 use crate::moments::moment_text;
 use crate::records::told;
-use command_words::{UsageFault, refusal_text};
+use command_words::{UsageFault, help_text, refusal_text};
 use graph_file::is_name;
 use moment_core::{Moment, MomentFault};
 use script_commands::{CommandFault, SourceFault};
@@ -39,16 +39,26 @@ fn usage_sentence(
             alloc,
             "run and --record stand on the program's command line, not in a script",
         ),
-        UsageFault::NotHere => told(
-            alloc,
-            "load, tick and drain stand in a script: echo \"tick now\" | dagsched --record PATH run",
-        ),
+        UsageFault::NotHere => place_sentence(alloc, asked),
         UsageFault::BadLine => told(
             alloc,
             "the line, or one of the graph's text, is longer than 65,536 bytes or is not UTF-8",
         ),
         UsageFault::Memory => Ok(None),
     }
+}
+
+// That a command stands in scripts alone, and how it is given there.
+fn place_sentence(alloc: Global, asked: Asked<'_>) -> Result<Option<String>, AllocError> {
+    let values = asked.values(alloc)?;
+    let line = match values.as_slice().first().copied() {
+        Some("load") => "load FILE",
+        Some("drain") => "drain",
+        _ => "tick now",
+    };
+    Ok(Some(format!(in alloc;
+        "load, tick and drain stand in a script: echo \"{line}\" | dagsched --record PATH run"
+    )?))
 }
 
 // What clap says of the words, as one line, and what a shell would have done with them.
@@ -68,6 +78,9 @@ fn words_sentence(alloc: Global, asked: Asked<'_>) -> Result<Option<String>, All
     let mut words = Vec::new(alloc);
     for word in parts.as_slice() {
         words.push(String::from_str(alloc, word)?)?;
+    }
+    if help_text(alloc, words.as_slice())?.is_some() {
+        return told(alloc, "help is for a shell: dagsched COMMAND --help");
     }
     let Some(said) = refusal_text(alloc, words.as_slice())? else {
         return Ok(None);
@@ -120,7 +133,7 @@ fn push_part(text: &mut String, before: &str, part: &str) -> Result<(), AllocErr
 fn hint_of(asked: Asked<'_>, words: &[&str]) -> Option<&'static str> {
     let line = asked.line();
     if line.contains(" #") {
-        Some("# begins no comment after a command")
+        Some("a comment begins in the first column, so # is a word here")
     } else if has_quote(line) {
         Some("there are no quotes and no escapes, and a path is one word")
     } else if words.iter().skip(1).any(|word| *word == "--record") {

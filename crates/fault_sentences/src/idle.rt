@@ -4,8 +4,9 @@ use crate::notes::{Note, Rest, push_clock};
 use cron_timetable::{Interval, Timetable};
 use graph_file::Name;
 use moment_core::Moment;
-use sched_core::{LoadedGraph, Run, Schedule};
 use sched_events::{Answer, Event};
+use sched_state::{LoadedGraph, Run};
+use script_reader::Schedule;
 use std::alloc::{AllocError, Global};
 
 /// What a command that changed nothing was to do with the runs of a graph from one date to another.

@@ -7,7 +7,7 @@
 //! ```text
 //! line 3: shop.toml:14: task "load": its upstream "extrakt" is no task of this file
 //! line 9: the moment lies before 2024-03-04T00:00:00+00:00, which the record's clock has reached: it never goes back
-//! 2 failed: shop 2024-03-01T00:00:00+00:00 load, shop 2024-03-02T00:00:00+00:00 load; 1 waits for a retry until 2024-03-04T00:05:00+00:00
+//! 2 failed: shop 2024-03-01T00:00:00+00:00 load, shop 2024-03-02T00:00:00+00:00 load; 1 up for a retry, from 2024-03-04T00:05:00+00:00 on
 //! ```
 //!
 //! What a sentence says is shown by stored runs and not proved. Proved is that making one stops at nothing: no index out of range, no number too great, and

@@ -5,11 +5,11 @@ use crate::graphs::load_note;
 use crate::idle::{Idle, idle_note};
 use crate::records::{clock_sentence, end_sentence, store_sentence};
 use crate::refusals::{refusal_note, unexplained_sentence};
-use answer_lines::{Fault, Shown};
 use graph_file::Name;
 use moment_core::Moment;
-use sched_core::{LoadedGraph, Schedule};
 use sched_events::Event;
+use sched_state::LoadedGraph;
+use script_reader::{Fault, Schedule, Shown};
 use std::alloc::{AllocError, Global};
 use std::io;
 
@@ -165,9 +165,10 @@ fn push_slots(
                 sentence.push_str("; ")?;
             }
             let (id, pool) = (task.task_id.as_str(), task.pool.as_str());
+            let slots = if needed == 1 { "slot" } else { "slots" };
             return write!(
                 sentence,
-                "task \"{id}\" needs {needed} slots of the pool \"{pool}\", which has {size}: it waits until resize {pool} {needed}"
+                "task \"{id}\" needs {needed} {slots} of the pool \"{pool}\", which has {size}: it waits until resize {pool} {needed}"
             );
         }
     }

@@ -1,5 +1,5 @@
 //! Sentences on records, clocks and ends of runs.
-use answer_lines::{ClockFault, ConductFault, StoreFault};
+use script_reader::{ClockFault, ConductFault, StoreFault};
 use std::alloc::{AllocError, Global};
 
 // Why a record is not opened or written.

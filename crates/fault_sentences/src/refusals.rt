@@ -3,9 +3,9 @@ use crate::asked::Asked;
 use crate::graphs::{dag_sentence, graph_sentence, pool_sentence};
 use crate::moments::DATES_HINT;
 use crate::notes::{Note, Rest};
-use answer_lines::ExplainFault;
 use graph_file::Name;
 use sched_events::{Event, Refusal};
+use script_reader::ExplainFault;
 use std::alloc::{AllocError, Global};
 
 // What is to be told of an event that is refused.
@@ -77,9 +77,9 @@ fn plain(refusal: &Refusal) -> Option<&'static str> {
             "the graph has a run of this date already: a run by hand has the record's clock as its date, and only a tick moves it",
         ),
         Refusal::NoInterval => Some("no interval of the graph's schedule has ended yet"),
-        Refusal::InFlight(_) => {
-            Some("wait until it has ended, as by drain: a task that runs is not set back")
-        }
+        Refusal::InFlight(_) => Some(
+            "wait until it has ended (in a script of your own: drain): a task that runs is not set back",
+        ),
         Refusal::PoolFault(_) => Some("there are 64 pools, and none is ever taken out"),
         Refusal::RecordFull => Some(
             "the record would have more than 1,000,000 runs, which is the most",

@@ -1,5 +1,6 @@
 //! How far the task instances of a schedule are.
-use sched_core::{LoadedGraph, Run, Schedule};
+use sched_state::{LoadedGraph, Run};
+use script_reader::Schedule;
 use trigger_rules::State;
 
 // How many task instances are how far.

@@ -2,7 +2,8 @@
 use graph_file::TaskSpec;
 use instance_machine::{End, Instance, Outcome, Try};
 use moment_core::Moment;
-use sched_core::{LoadedGraph, Run, Schedule};
+use sched_state::{LoadedGraph, Run};
+use script_reader::Schedule;
 use std::alloc::{AllocError, Global};
 use trigger_rules::State;
 
@@ -179,7 +180,7 @@ impl Tally {
         write!(self.names, "{graph} {logical} {task}")
     }
 
-    // `2 failed, 1 lost, 1 waits for a retry until MOMENT: DAG LOGICAL TASK, ..`
+    // `2 failed, 1 lost: DAG LOGICAL TASK, ..; 1 up for a retry, from MOMENT on`
     fn sentence(self, alloc: Global) -> Result<Option<String>, AllocError> {
         let mut text = String::new(alloc);
         push_count(&mut text, self.failed, "failed")?;
@@ -188,18 +189,32 @@ impl Tally {
             self.lost,
             "lost when the scheduler was stopped (the programs may still run)",
         )?;
-        push_count(&mut text, self.retries, "up for a retry")?;
-        if text.is_empty() {
-            return Ok(None);
-        }
-        if let Some(moment) = moment_of(self.retry_at) {
-            write!(text, ", from {moment} on")?;
-        }
         if !self.names.is_empty() {
             text.push_str(": ")?;
             text.push_str(self.names.as_str())?;
         }
-        Ok(Some(text))
+        self.push_retries(&mut text)?;
+        if text.is_empty() {
+            Ok(None)
+        } else {
+            Ok(Some(text))
+        }
+    }
+
+    // Adds how many wait for a retry, and from which moment on.
+    fn push_retries(&self, text: &mut String) -> Result<(), AllocError> {
+        let count = self.retries;
+        if count == 0 {
+            return Ok(());
+        }
+        if !text.is_empty() {
+            text.push_str("; ")?;
+        }
+        write!(text, "{count} up for a retry")?;
+        match moment_of(self.retry_at) {
+            Some(moment) => write!(text, ", from {moment} on"),
+            None => Ok(()),
+        }
     }
 }
 

@@ -1,11 +1,13 @@
 -- How a try may end under an operator of each kind.
-use Rattle.std.specs.Prelude.{◌≡◌, ℕ, ◌-◌, ◌==◌, min, Bool, true, false, List, [], length, slice_index_or, if◌then◌else◌, Option, Some, option_map, unwrap_or, ℤ, pos}
+use Rattle.std.specs.Prelude.{◌≡◌, ℕ, ◌-◌, ◌==◌, min, Bool, true, false, List, [], ◌∷◌, length, slice_index_or, if◌then◌else◌, Option, Some, option_map, unwrap_or, Result, Ok, Err, ℤ, pos}
 use Rattle.graph_file.specs.Operators.{status_of}
 use Rattle.graph_file.specs.declared.operators.Operator.{Operator as Kind}
 use Rattle.graph_file.specs.declared.operators.Operator.TheVariants.{Noop, Command, Exit}
 use Rattle.instance_machine.specs.declared.tries.Outcome.{Outcome}
 use Rattle.instance_machine.specs.declared.tries.Outcome.TheVariants as ends
 use Rattle.sched_state.specs.declared.jobs.Job.{Job}
+use Rattle.operators.specs.declared.operators.BeginFault.{BeginFault}
+use Rattle.operators.specs.declared.operators.BeginFault.TheVariants.{Scratch}
 
 -- what an exit status says of a try: 0 is success, 99 asks to be skipped, and another one is a failure
 abbrev pub status_outcome : ℕ → Outcome
@@ -28,6 +30,11 @@ exit_outcome argv n = unwrap_or (option_map status_outcome (status_of (text_of_t
 abbrev pub is_lost : Outcome → Bool
 is_lost ends.Lost = true
 is_lost _ = false
+
+-- the job, where its folder could not be made
+abbrev pub refused_by : {T : Type 0} → Result T BeginFault → Job → List Job
+refused_by (Err Scratch) job = job ∷ []
+refused_by _ job = []
 
 -- an operator of this kind may end a try of the job so
 abbrev pub CanEnd : Kind → Job → Outcome → Type 0

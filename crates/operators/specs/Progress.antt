@@ -3,10 +3,11 @@ use Rattle.std.specs.Prelude.{ℕ, Bool, List, map, Option}
 use Rattle.instance_machine.specs.declared.tries.Outcome.{Outcome}
 use Rattle.sched_state.specs.declared.jobs.Job.{Job}
 
--- the tries that were performed, in order, by job and outcome; the job that is taken up; whether that one was performed; for how many more
--- tries there is room
+-- the tries that were performed, in order, by job and outcome; the jobs whose folder could not be made, in order; the job that is taken up;
+-- whether that one was performed; for how many more tries there is room
 pub record ProgressValue : Type 0 where
   pub runs : List (Job × Outcome)
+  pub refused : List Job
   pub taken : Option Job
   pub performed : Bool
   pub room : ℕ

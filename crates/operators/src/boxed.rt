@@ -12,6 +12,8 @@ impl Operator for Box<dyn Operator + Send> {
 
     ghost runs_of = { λ b. (Operator-box b).runs_of b.value };
 
+    ghost refused_of = { λ b. (Operator-box b).refused_of b.value };
+
     ghost taken = { λ b. (Operator-box b).taken b.value };
 
     ghost performed = { λ b. (Operator-box b).performed b.value };

@@ -21,6 +21,7 @@ impl Exit {
     /// An operator that has performed nothing. This takes no memory.
     pub fn new(alloc: Global) -> Exit
         ensures runs { ⟦<Exit as Operator>⟧.runs_of result ≡ [] }
+        ensures refused { ⟦<Exit as Operator>⟧.refused_of result ≡ [] }
         ensures taken { (⟦<Exit as Operator>⟧.taken result ≡ None)
             × (⟦<Exit as Operator>⟧.performed result ≡ false) }
         ensures kind { ⟦<Exit as Operator>⟧.kind_of result ≡ kinds.Exit }
@@ -35,6 +36,8 @@ impl Operator for Exit {
     ghost kind_of = { λ _. kinds.Exit };
 
     ghost runs_of = { λ o. o.progress.runs };
+
+    ghost refused_of = { λ o. o.progress.refused };
 
     ghost taken = { λ o. o.progress.taken };
 

@@ -3,7 +3,7 @@ ghost use Rattle.std.specs.Prelude.{◌≡◌, ◌↔◌, None, Some, [], ◌∷
 ghost use Rattle.graph_file.specs.declared.operators.Operator.{Operator as Kind};
 ghost use Rattle.graph_file.specs.declared.operators.Operator.TheVariants as kinds;
 ghost use Rattle.operators.specs.Kits.{of_kind, each_once, times, IsKit, SameBut, where_same};
-ghost use Rattle.operators.specs.Outcomes.{CanEnd};
+ghost use Rattle.operators.specs.Outcomes.{CanEnd, refused_by};
 ghost use Rattle.operators.specs.Progress.{by_serial};
 
 use crate::{BeginFault, Operator};
@@ -59,6 +59,9 @@ impl<O: Operator> Kit<O> {
         ensures kit { IsKit O.kind_of self.new }
         ensures others { SameBut job.now.action.operator self.old self.new }
         ensures runs { (k : Kind) → O.runs_of (of_kind self.new k) ≡ O.runs_of (of_kind self.old k) }
+        ensures refused { (k : Kind) → O.refused_of (of_kind self.new k)
+            ≡ O.refused_of (of_kind self.old k)
+            ++ where_same k job.now.action.operator (refused_by result job.now) }
         ensures taken { let kind = job.now.action.operator in MatchResult result
             (λ _. (O.taken (of_kind self.new kind) ≡ Some job.now)
             × (O.performed (of_kind self.new kind) ≡ false))
@@ -86,6 +89,7 @@ impl<O: Operator> Kit<O> {
         ensures runs { (k : Kind) → O.runs_of (of_kind self.new k)
             ≡ O.runs_of (of_kind self.old k)
             ++ where_same k job.now.action.operator ((job.now, result) ∷ []) }
+        ensures refused { (k : Kind) → O.refused_of (of_kind self.new k) ≡ O.refused_of (of_kind self.old k) }
         ensures taken { let kind = job.now.action.operator in
             (O.taken (of_kind self.new kind) ≡ O.taken (of_kind self.old kind))
             × (O.performed (of_kind self.new kind) ≡ true) }
@@ -104,6 +108,7 @@ impl<O: Operator> Kit<O> {
         ensures kit { IsKit O.kind_of self.new }
         ensures others { SameBut kind self.old self.new }
         ensures runs { (k : Kind) → O.runs_of (of_kind self.new k) ≡ O.runs_of (of_kind self.old k) }
+        ensures refused { (k : Kind) → O.refused_of (of_kind self.new k) ≡ O.refused_of (of_kind self.old k) }
         ensures taken { O.taken (of_kind self.new kind) ≡ None }
     {
         match kind {

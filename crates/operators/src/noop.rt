@@ -18,6 +18,7 @@ impl Noop {
     /// An operator that has performed nothing. This takes no memory.
     pub fn new(alloc: Global) -> Noop
         ensures runs { ⟦<Noop as Operator>⟧.runs_of result ≡ [] }
+        ensures refused { ⟦<Noop as Operator>⟧.refused_of result ≡ [] }
         ensures taken { (⟦<Noop as Operator>⟧.taken result ≡ None)
             × (⟦<Noop as Operator>⟧.performed result ≡ false) }
         ensures kind { ⟦<Noop as Operator>⟧.kind_of result ≡ kinds.Noop }
@@ -32,6 +33,8 @@ impl Operator for Noop {
     ghost kind_of = { λ _. kinds.Noop };
 
     ghost runs_of = { λ o. o.progress.runs };
+
+    ghost refused_of = { λ o. o.progress.refused };
 
     ghost taken = { λ o. o.progress.taken };
 

@@ -4,7 +4,7 @@ ghost use Rattle.graph_file.specs.declared.operators.Operator.{Operator as Kind}
 ghost use Rattle.graph_file.specs.declared.operators.Operator.TheVariants as kinds;
 ghost use Rattle.instance_machine.specs.declared.tries.Outcome.{Outcome};
 ghost use Rattle.sched_state.specs.declared.jobs.Job.{Job};
-ghost use Rattle.operators.specs.Outcomes.{CanEnd};
+ghost use Rattle.operators.specs.Outcomes.{CanEnd, refused_by};
 ghost use Rattle.operators.specs.Progress.{by_serial};
 
 use graph_file::Operator as Kind;
@@ -32,6 +32,9 @@ pub trait Operator: Drop {
     /// The tries that it performed, in order: the job of each, and how it ended.
     ghost runs_of: { Self → List (Job × Outcome) };
 
+    /// The jobs that it did not take up because their folder could not be made, in order.
+    ghost refused_of: { Self → List Job };
+
     /// The job that is taken up.
     ghost taken: { Self → Option Job };
 
@@ -52,6 +55,7 @@ pub trait Operator: Drop {
     fn begin(&mut self, job: &Job) -> Result<(), BeginFault>
         ensures kind { kind_of self.new ≡ kind_of self.old }
         ensures runs { runs_of self.new ≡ runs_of self.old }
+        ensures refused { refused_of self.new ≡ refused_of self.old ++ refused_by result job.now }
         ensures taken { MatchResult result
             (λ _. (taken self.new ≡ Some job.now) × (performed self.new ≡ false))
             (λ _. (taken self.new ≡ taken self.old) × (performed self.new ≡ performed self.old)) }
@@ -63,6 +67,7 @@ pub trait Operator: Drop {
         requires { (taken self.old ≡ Some job.now) × (performed self.old ≡ false) }
         ensures kind { kind_of self.new ≡ kind_of self.old }
         ensures runs { runs_of self.new ≡ runs_of self.old ++ (job.now, result) ∷ [] }
+        ensures refused { refused_of self.new ≡ refused_of self.old }
         ensures taken { (taken self.new ≡ taken self.old) × (performed self.new ≡ true) }
         ensures outcome { CanEnd (kind_of self.old) job.now result };
 
@@ -70,5 +75,6 @@ pub trait Operator: Drop {
     fn finish(&mut self)
         ensures kind { kind_of self.new ≡ kind_of self.old }
         ensures runs { runs_of self.new ≡ runs_of self.old }
+        ensures refused { refused_of self.new ≡ refused_of self.old }
         ensures taken { taken self.new ≡ None };
 }

@@ -40,6 +40,7 @@ impl<R: Files<File = File> + Processes + Drop> Program<R> {
     /// This takes no memory, and touches no folder.
     pub fn new(rt: R, alloc: Global, base: String, logs: Option<String>) -> Program<R>
         ensures runs { ⟦<Program<R> as Operator>⟧.runs_of result ≡ [] }
+        ensures refused { ⟦<Program<R> as Operator>⟧.refused_of result ≡ [] }
         ensures taken { (⟦<Program<R> as Operator>⟧.taken result ≡ None)
             × (⟦<Program<R> as Operator>⟧.performed result ≡ false) }
         ensures kind { ⟦<Program<R> as Operator>⟧.kind_of result ≡ kinds.Command }
@@ -60,6 +61,8 @@ impl<R: Files<File = File> + Processes + Drop> Operator for Program<R> {
 
     ghost runs_of = { λ o. o.progress.runs };
 
+    ghost refused_of = { λ o. o.progress.refused };
+
     ghost taken = { λ o. o.progress.taken };
 
     ghost performed = { λ o. o.progress.performed };
@@ -79,12 +82,20 @@ impl<R: Files<File = File> + Processes + Drop> Operator for Program<R> {
         if self.progress.reserve().is_err() {
             return Err(BeginFault::Memory);
         }
-        let folder = TryFolder::make(&self.rt, self.alloc, self.base.as_str(), job.serial)?;
-        if let Some(left) = self.folder.replace(folder) {
-            left.remove(&self.rt, self.alloc);
+        match TryFolder::make(&self.rt, self.alloc, self.base.as_str(), job.serial) {
+            Ok(folder) => {
+                if let Some(left) = self.folder.replace(folder) {
+                    left.remove(&self.rt, self.alloc);
+                }
+                self.progress.take_up(job);
+                Ok(())
+            }
+            Err(BeginFault::Scratch) => {
+                self.progress.refuse(job);
+                Err(BeginFault::Scratch)
+            }
+            Err(fault) => Err(fault),
         }
-        self.progress.take_up(job);
-        Ok(())
     }
 
     fn perform(&mut self, job: &Job) -> Outcome {

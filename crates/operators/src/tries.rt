@@ -1,4 +1,4 @@
-//! What proofs remember of tries. Nothing of it has bytes.
+//! What proofs remember of jobs and tries. Nothing of it has bytes.
 ghost use Rattle.std.specs.Prelude.{◌≡◌};
 
 use instance_machine::Outcome;
@@ -6,13 +6,13 @@ use sched_state::Job;
 use std::marker::Model;
 use std::snapshot::Snapshot;
 
-/// The job that is taken up. Contracts see the job.
+/// A job as it was. Contracts see the job.
 #[derive(Drop)]
-pub struct Taken {
+pub struct Remembered {
     job: Snapshot<Job>,
 }
 
-impl Model for Taken {
+impl Model for Remembered {
     ghost use Rattle.sched_state.specs.declared.jobs.Job.{Job};
 
     ghost Value = { Job };
@@ -20,12 +20,12 @@ impl Model for Taken {
     ghost view = { λ t. t.job.value };
 }
 
-impl Taken {
+impl Remembered {
     /// The job as it is.
-    pub fn of(job: &Job) -> Taken
+    pub fn of(job: &Job) -> Remembered
         ensures { result ≡ job.now }
     {
-        Taken {
+        Remembered {
             job: Snapshot::of(job),
         }
     }

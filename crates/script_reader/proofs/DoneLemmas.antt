@@ -12,13 +12,12 @@ use Rattle.script_commands.specs.Commands.{Request, IsNext, IsFirst, IsGiven, co
 use Rattle.word_app.specs.App.{Texts}
 use Rattle.script_commands.specs.declared.commands.ScriptCommand.TheVariants.{Step, LoadFile, TickNow, Drain, List as ListRows, Explain}
 use Rattle.script_commands.specs.declared.commands.SourceFault.{SourceFault}
-use Rattle.sessions.specs.Exchanges.{heard_where, looks, Exchange, Looked, Heard, Told}
-use Rattle.sessions.specs.Readings.{Reading}
-use Rattle.sessions.specs.Lines.{heard_for, reading_of, ticked, Takes}
+use Rattle.sessions.specs.Exchanges.{heard_where, looks, Asked, Exchange, Looked, Heard, Told}
+use Rattle.sessions.specs.Lines.{before_answer, Takes}
 use Rattle.sessions.specs.declared.clocks.ClockFault.{ClockFault}
 use Rattle.sessions.specs.declared.line_reading.Line.{Line}
 use Rattle.sessions.specs.declared.line_reading.Line.TheVariants as Says
-use Rattle.director.specs.declared.faults.Fault.{Fault}
+use Rattle.sessions.specs.Faults.{Fault}
 use Rattle.answer_lines.specs.RunFaults.{clock_text}
 use Rattle.answer_lines.specs.Shown.{shown_text}
 use Rattle.answer_lines.specs.declared.shown.Shown.TheVariants.{Done as ShowsDone}
@@ -32,7 +31,7 @@ use Rattle.script_reader.proofs.StatusLemmas.{at_once, given_done, raised}
 
 -- one command more that is answered when it is read
 abbrev pub only_asked : Request → List FileAnswer → List Exchange → ℕ → List ℕ → Done
-only_asked r texts exchanges status shown = record { asked = r; texts = texts; readings = []; exchanges = exchanges; status = status; shown = shown }
+only_asked r texts exchanges status shown = record { asked = r; texts = texts; exchanges = exchanges; status = status; shown = shown }
 
 abbrev pub texts_in : List Done → List FileAnswer
 texts_in done = flat_map (λ (d : Done). d.texts) done
@@ -45,9 +44,6 @@ exchanged_in done = flat_map (λ (d : Done). d.exchanges) done
 
 abbrev pub shown_in : List Done → List ℕ
 shown_in done = flat_map (λ (d : Done). d.shown) done
-
-abbrev pub readings_in : List Done → List Reading
-readings_in done = flat_map (λ (d : Done). d.readings) done
 
 one_more : {X A : Type 0} (f : X → List A) (xs : List X) (x : X) → flat_map f (xs ++ x ∷ []) ≡ flat_map f xs ++ f x
 one_more f xs x = flat_map-append f xs (x ∷ []) ∙ ap (λ l. flat_map f xs ++ l) (append-nil (f x))
@@ -113,7 +109,7 @@ module _ (names : Texts) where
 
 module _ (names : Texts) (before : ℕ) (drained : Bool) where
   -- what is known where no line waits
-  module _ (first : Option (List ℕ)) (gives : List FileAnswer → Type 0) (shows : List ℕ → Type 0) (told : List Exchange) (ticks : List Reading) (left : Option (List ℕ)) (status : ℕ) (ended : Bool) (h : HasDone names before drained first gives shows told ticks None left status false ended) where
+  module _ (first : Option (List ℕ)) (gives : List FileAnswer → Type 0) (shows : List ℕ → Type 0) (told : List Exchange) (left : Option (List ℕ)) (status : ℕ) (ended : Bool) (h : HasDone names before drained first gives shows told None left status false ended) where
     none_waits : IsOpen None h.open_asked h.open_texts
     none_waits = kept_open (false && not ended) None h.open_asked h.open_texts refl h.opens
 
@@ -127,7 +123,7 @@ module _ (names : Texts) (before : ℕ) (drained : Bool) where
         (b.0, b.1, r.1 ∙ ap (λ l. asked_in h.done ++ (l ++ r.0)) none_waits.0 ∙ ap (λ l. asked_in h.done ++ l) b.2)
 
     -- the script is over
-    pub over : (left' : Option (List ℕ)) → ((known : List ℕ) → left ≡ Some known → (commands_in names known ≡ []) × (left' ≡ Some [])) → HasDone names before drained first gives shows told ticks None left' status false true
+    pub over : (left' : Option (List ℕ)) → ((known : List ℕ) → left ≡ Some known → (commands_in names known ≡ []) × (left' ≡ Some [])) → HasDone names before drained first gives shows told None left' status false true
     unfolding commands_in
     over left' is = record {
       done = h.done;
@@ -137,14 +133,13 @@ module _ (names : Texts) (before : ℕ) (drained : Bool) where
       opens = inl (refl, refl);
       texts = subst gives (sym (append-nil (texts_in h.done))) none_open;
       exchanged = h.exchanged;
-      read_of = h.read_of;
       read = λ known e. let l = none_left known e in let n = is l.0 l.1 in ([], l.2 ∙ ap (λ r. asked_in h.done ++ r) n.0, (λ _. refl), λ _. ([], n.1, refl));
       status_is = h.status_is;
       output = h.output;
     }
 
     -- it could not be read or answered further, perhaps after a command that was not answered
-    pub broken : (gives' : List FileAnswer → Type 0) (shows' : List ℕ → Type 0) (left' : Option (List ℕ)) (status' : ℕ) → (gives (texts_in h.done) → gives' (texts_in h.done)) → status' ≡ status → HasDone names before drained first gives' shows' told ticks None left' status' true false
+    pub broken : (gives' : List FileAnswer → Type 0) (shows' : List ℕ → Type 0) (left' : Option (List ℕ)) (status' : ℕ) → (gives (texts_in h.done) → gives' (texts_in h.done)) → status' ≡ status → HasDone names before drained first gives' shows' told None left' status' true false
     broken gives' shows' left' status' to same = record {
       done = h.done;
       open_asked = [];
@@ -153,7 +148,6 @@ module _ (names : Texts) (before : ℕ) (drained : Bool) where
       opens = inl (refl, refl);
       texts = subst gives' (sym (append-nil (texts_in h.done))) (to none_open);
       exchanged = h.exchanged;
-      read_of = h.read_of;
       read = λ known e. let l = none_left known e in (commands_in names l.0, l.2, (λ no. absurd (true≢false (sym no))), λ no. absurd (true≢false no));
       status_is = same ∙ h.status_is;
       output = λ no. absurd (true≢false no);
@@ -164,8 +158,8 @@ module _ (names : Texts) (before : ℕ) (drained : Bool) where
       after = next names drained first left left' (asked_in h.done) given none_left is
 
       -- a command that is answered when it is read
-      pub answered_more : (gives' : List FileAnswer → Type 0) (shows' : List ℕ → Type 0) (texts : List FileAnswer) (seen : List Exchange) (status' own : ℕ) (text : List ℕ) → (gives (texts_in h.done) → gives' (texts_in h.done ++ texts)) → (shows (shown_in h.done) → shows' (shown_in h.done ++ text)) → status' ≡ max status own → MayBeDone given texts [] seen own text
-          → HasDone names before drained first gives' shows' (told ++ seen) ticks None left' status' false false
+      pub answered_more : (gives' : List FileAnswer → Type 0) (shows' : List ℕ → Type 0) (texts : List FileAnswer) (seen : List Exchange) (status' own : ℕ) (text : List ℕ) → (gives (texts_in h.done) → gives' (texts_in h.done ++ texts)) → (shows (shown_in h.done) → shows' (shown_in h.done ++ text)) → status' ≡ max status own → MayBeDone given texts seen own text
+          → HasDone names before drained first gives' shows' (told ++ seen) None left' status' false false
       answered_more gives' shows' texts seen status' own text to show more may =
           let n = after in
           let d : Done = only_asked n.wanted texts seen own text in
@@ -177,7 +171,6 @@ module _ (names : Texts) (before : ℕ) (drained : Bool) where
             opens = inl (refl, refl);
             texts = subst gives' (sym (append-nil (texts_in (h.done ++ d ∷ [])) ∙ one_more (λ (x : Done). x.texts) h.done d)) (to none_open);
             exchanged = ap (λ l. l ++ seen) h.exchanged ∙ sym (one_more (λ (x : Done). x.exchanges) h.done d);
-            read_of = h.read_of ∙ sym (one_more (λ (x : Done). x.readings) h.done d ∙ append-nil (readings_in h.done));
             read = λ known e. let r = n.read known e in (commands_in names r.0, r.2 ∙ sym (asked_more h.done d (commands_in names r.0)), (λ no. absurd (true≢false (sym no))), λ _. (r.0, r.1, refl));
             status_is = raised before status status' h.done d more h.status_is;
             output = λ _. subst shows' (sym (one_more (λ (x : Done). x.shown) h.done d)) (show (h.output refl));
@@ -185,7 +178,7 @@ module _ (names : Texts) (before : ℕ) (drained : Bool) where
 
       -- a command that leaves a line to the run
       pub opened_more : (gives' : List FileAnswer → Type 0) (shows' : List ℕ → Type 0) (line : Option Line) (texts : List FileAnswer) → IsOpen line (after.wanted ∷ []) texts → (gives (texts_in h.done) → gives' (texts_in h.done ++ texts)) → (shows (shown_in h.done) → shows' (shown_in h.done))
-          → HasDone names before drained first gives' shows' told ticks line left' status false false
+          → HasDone names before drained first gives' shows' told line left' status false false
       opened_more gives' shows' line texts opens to show =
           let n = after in
           record {
@@ -196,7 +189,6 @@ module _ (names : Texts) (before : ℕ) (drained : Bool) where
             opens = inl opens;
             texts = to none_open;
             exchanged = h.exchanged;
-            read_of = h.read_of;
             read = λ known e. let r = n.read known e in (commands_in names r.0, r.2, (λ no. absurd (true≢false (sym no))), λ _. (r.0, r.1, refl));
             status_is = h.status_is;
             output = λ _. show (h.output refl);
@@ -204,7 +196,7 @@ module _ (names : Texts) (before : ℕ) (drained : Bool) where
 
       -- a load of a file that is not read, whose answer could not be written
       pub unwritten_more : (gives' : List FileAnswer → Type 0) (shows' : List ℕ → Type 0) (status' : ℕ) (texts : List FileAnswer) (path : List ℕ) (fault : SourceFault) → given ≡ Ok (LoadFile path) → texts ≡ (path, Err fault) ∷ [] → (gives (texts_in h.done) → gives' (texts_in h.done ++ texts)) → status' ≡ status
-          → HasDone names before drained first gives' shows' told ticks None left' status' true false
+          → HasDone names before drained first gives' shows' told None left' status' true false
       unwritten_more gives' shows' status' texts path fault file asked to same =
           let n = after in
           record {
@@ -215,7 +207,6 @@ module _ (names : Texts) (before : ℕ) (drained : Bool) where
             opens = inr (refl, refl, (path, fault, ap (λ (r : Request). r ∷ []) (file_given n.wanted given path n.same file), asked));
             texts = to none_open;
             exchanged = h.exchanged;
-            read_of = h.read_of;
             read = λ known e. let r = n.read known e in (commands_in names r.0, r.2, (λ no. absurd (true≢false (sym no))), λ no. absurd (true≢false no));
             status_is = same ∙ h.status_is;
             output = λ no. absurd (true≢false no);
@@ -236,75 +227,75 @@ module _ (names : Texts) (before : ℕ) (drained : Bool) where
   left_to_run (Err fault) texts line is = absurd is
 
   -- ---- one command more, whatever is done of it
-  module _ (first : Option (List ℕ)) (gives gives' : List FileAnswer → Type 0) (shows shows' : List ℕ → Type 0) (told : List Exchange) (ticks : List Reading) (left left' : Option (List ℕ)) (status status' : ℕ) (ended : Bool) (h : HasDone names before drained first gives shows told ticks None left status false ended) (given : Request) (is : (known : List ℕ) → left ≡ Some known → IsNext names known (Some given) left') where
+  module _ (first : Option (List ℕ)) (gives gives' : List FileAnswer → Type 0) (shows shows' : List ℕ → Type 0) (told : List Exchange) (left left' : Option (List ℕ)) (status status' : ℕ) (ended : Bool) (h : HasDone names before drained first gives shows told None left status false ended) (given : Request) (is : (known : List ℕ) → left ≡ Some known → IsNext names known (Some given) left') where
     -- it leaves a line to the run
     pub line_more : (texts : List FileAnswer) (line : Line) → Leaves given texts line → status' ≡ status → ((xs : List FileAnswer) → gives xs → gives' (xs ++ texts)) → ((xs : List ℕ) → shows xs → shows' xs)
-        → HasDone names before drained first gives' shows' told ticks (Some line) left' status' false false
+        → HasDone names before drained first gives' shows' told (Some line) left' status' false false
     line_more texts line leaves same to show =
-        let n = after first gives shows told ticks left status ended h left' given is in
+        let n = after first gives shows told left status ended h left' given is in
         let wanted : given ≡ n.wanted = leaves_given n.wanted given texts line n.same leaves in
-        subst (λ (m : ℕ). HasDone names before drained first gives' shows' told ticks (Some line) left' m false false) (sym same)
-        (opened_more first gives shows told ticks left status ended h left' given is gives' shows' (Some line) texts
+        subst (λ (m : ℕ). HasDone names before drained first gives' shows' told (Some line) left' m false false) (sym same)
+        (opened_more first gives shows told left status ended h left' given is gives' shows' (Some line) texts
         (subst (λ (r : Request). IsOpen (Some line) (r ∷ []) texts) wanted (left_to_run given texts line leaves)) (to (texts_in h.done)) (show (shown_in h.done)))
 
     -- it is answered
-    pub none_more : (a : Schedule) (texts : List FileAnswer) (own : ℕ) (text : List ℕ) → ((xs : List FileAnswer) → gives xs → gives' (xs ++ texts)) → ((xs : List ℕ) → shows xs → shows' (xs ++ text)) → status' ≡ max status own → IsAnswered a given texts own text → HasDone names before drained first gives' shows' (told ++ looks 1 a) ticks None left' status' false false
+    pub none_more : (a : Schedule) (texts : List FileAnswer) (own : ℕ) (text : List ℕ) → ((xs : List FileAnswer) → gives xs → gives' (xs ++ texts)) → ((xs : List ℕ) → shows xs → shows' (xs ++ text)) → status' ≡ max status own → IsAnswered a given texts own text → HasDone names before drained first gives' shows' (told ++ looks 1 a) None left' status' false false
     none_more a texts own text to show more at =
-        answered_more first gives shows told ticks left status ended h left' given is gives' shows' texts (looks 1 a) status' own text (to (texts_in h.done)) (show (shown_in h.done)) more (at_once a given texts own text at)
+        answered_more first gives shows told left status ended h left' given is gives' shows' texts (looks 1 a) status' own text (to (texts_in h.done)) (show (shown_in h.done)) more (at_once a given texts own text at)
 
     -- it cannot be answered
-    lost_more : (texts : List FileAnswer) → (texts ≡ []) ⊎ ((path : List ℕ) × (fault : SourceFault) × (given ≡ Ok (LoadFile path)) × (texts ≡ (path, Err fault) ∷ [])) → ((xs : List FileAnswer) → gives xs → gives' (xs ++ texts)) → status' ≡ status → HasDone names before drained first gives' shows' told ticks None left' status' true false
+    lost_more : (texts : List FileAnswer) → (texts ≡ []) ⊎ ((path : List ℕ) × (fault : SourceFault) × (given ≡ Ok (LoadFile path)) × (texts ≡ (path, Err fault) ∷ [])) → ((xs : List FileAnswer) → gives xs → gives' (xs ++ texts)) → status' ≡ status → HasDone names before drained first gives' shows' told None left' status' true false
     lost_more texts (inl none) to same =
         let xs = texts_in h.done in
-        broken first gives shows told ticks left status ended h gives' shows' left' status' (λ g. subst gives' (ap (λ l. xs ++ l) none ∙ append-nil xs) (to xs g)) same
-    lost_more texts (inr (path, fault, file, asked)) to same = unwritten_more first gives shows told ticks left status ended h left' given is gives' shows' status' texts path fault file asked (to (texts_in h.done)) same
+        broken first gives shows told left status ended h gives' shows' left' status' (λ g. subst gives' (ap (λ l. xs ++ l) none ∙ append-nil xs) (to xs g)) same
+    lost_more texts (inr (path, fault, file, asked)) to same = unwritten_more first gives shows told left status ended h left' given is gives' shows' status' texts path fault file asked (to (texts_in h.done)) same
 
-    pub fault_more : (texts : List FileAnswer) → IsLost given texts → ((xs : List FileAnswer) → gives xs → gives' (xs ++ texts)) → status' ≡ status → HasDone names before drained first gives' shows' told ticks None left' status' true false
+    pub fault_more : (texts : List FileAnswer) → IsLost given texts → ((xs : List FileAnswer) → gives xs → gives' (xs ++ texts)) → status' ≡ status → HasDone names before drained first gives' shows' told None left' status' true false
     fault_more texts lost to same = lost_more texts (lost_file given texts lost) to same
 
   -- ---- the line that waits is answered
   -- the command that waited, and what may be done of it so
-  pub record IsClosed (asked : List Request) (texts : List FileAnswer) (moments : List Reading) (told : List Exchange) (status : ℕ) (shown : List ℕ) : Type 0 where
+  pub record IsClosed (asked : List Request) (texts : List FileAnswer) (told : List Exchange) (status : ℕ) (shown : List ℕ) : Type 0 where
     pub one : Request
     pub is : asked ≡ one ∷ []
-    pub done : MayBeDone one texts moments told status shown
+    pub done : MayBeDone one texts told status shown
 
   perhaps : (e : Event) (q : Result Answer Fault) → IsPerhaps e (Told e q ∷ []) (status_of q) (shown_for e q)
   perhaps e q = (q, refl, refl, refl)
 
-  pub closed : (line : Line) (asked : List Request) (texts : List FileAnswer) (e : Event) (q : Result Answer Fault) → IsOpen (Some line) asked texts → Takes line e → IsClosed asked texts (ticked line e) (heard_for line ++ Told e q ∷ []) (status_of q) (shown_for e q)
+  pub closed : (line : Line) (asked : List Request) (texts : List FileAnswer) (e : Event) (q : Result Answer Fault) → IsOpen (Some line) asked texts → Takes line e → IsClosed asked texts (before_answer line e ++ Told e q ∷ []) (status_of q) (shown_for e q)
   closed (Says.Event x) asked texts e q (inl (one, none)) same = record {
     one = Ok (Step x);
     is = one;
-    done = (none, refl, inl (subst (λ (y : Event). IsPerhaps y (Told e q ∷ []) (status_of q) (shown_for e q)) (sym same) (perhaps e q)));
+    done = (none, inl (subst (λ (y : Event). IsPerhaps y (Told e q ∷ []) (status_of q) (shown_for e q)) (sym same) (perhaps e q)));
   }
   closed (Says.Event x) asked texts e q (inr (path, text, one, read, loads)) same = record {
     one = Ok (LoadFile path);
     is = one;
-    done = (refl, inr (text, read, subst (λ (y : Event). IsPerhaps y (Told e q ∷ []) (status_of q) (shown_for e q)) (sym same ∙ loads) (perhaps e q)));
+    done = inr (text, read, subst (λ (y : Event). IsPerhaps y (Told e q ∷ []) (status_of q) (shown_for e q)) (sym same ∙ loads) (perhaps e q));
   }
   closed Says.TickNow asked texts e q (one, none) (moment, same) = record {
     one = Ok TickNow;
     is = one;
-    done = (none, inr (moment, Told e q ∷ [], ap reading_of same, refl, subst (λ (y : Event). IsPerhaps y (Told e q ∷ []) (status_of q) (shown_for e q)) same (perhaps e q)));
+    done = (none, inr (moment, Told e q ∷ [], ap (λ (y : Event). before_answer Says.TickNow y ++ Told e q ∷ []) same, subst (λ (y : Event). IsPerhaps y (Told e q ∷ []) (status_of q) (shown_for e q)) same (perhaps e q)));
   }
   closed Says.Drain asked texts e q waits takes = absurd takes
 
-  pub closed_untold : (asked : List Request) (texts : List FileAnswer) (fault : ClockFault) → IsOpen (Some Says.TickNow) asked texts → IsClosed asked texts (Err fault ∷ []) (Heard ∷ []) 4 (clock_text fault)
-  closed_untold asked texts fault (one, none) = record { one = Ok TickNow; is = one; done = (none, inl (fault, refl, refl, refl, refl)) }
+  pub closed_untold : (asked : List Request) (texts : List FileAnswer) (fault : ClockFault) → IsOpen (Some Says.TickNow) asked texts → IsClosed asked texts (Heard ∷ Asked (Err fault) ∷ []) 4 (clock_text fault)
+  closed_untold asked texts fault (one, none) = record { one = Ok TickNow; is = one; done = (none, inl (fault, refl, refl, refl)) }
 
-  pub closed_drain : (asked : List Request) (texts : List FileAnswer) (a : Schedule) → in_flight a ≡ 0 → IsOpen (Some Says.Drain) asked texts → IsClosed asked texts [] (Heard ∷ looks 1 a) 0 (shown_text ShowsDone)
-  closed_drain asked texts a idle (one, none) = record { one = Ok Drain; is = one; done = (none, refl, ((a, refl, idle), refl, refl)) }
+  pub closed_drain : (asked : List Request) (texts : List FileAnswer) (a : Schedule) → in_flight a ≡ 0 → IsOpen (Some Says.Drain) asked texts → IsClosed asked texts (Heard ∷ looks 1 a) 0 (shown_text ShowsDone)
+  closed_drain asked texts a idle (one, none) = record { one = Ok Drain; is = one; done = (none, ((a, refl, idle), refl, refl)) }
 
-  module _ (first : Option (List ℕ)) (gives : List FileAnswer → Type 0) (shows shows' : List ℕ → Type 0) (told : List Exchange) (ticks : List Reading) (line : Line) (left : Option (List ℕ)) (status : ℕ) (ended : Bool) (h : HasDone names before drained first gives shows told ticks (Some line) left status false ended) where
+  module _ (first : Option (List ℕ)) (gives : List FileAnswer → Type 0) (shows shows' : List ℕ → Type 0) (told : List Exchange) (line : Line) (left : Option (List ℕ)) (status : ℕ) (ended : Bool) (h : HasDone names before drained first gives shows told (Some line) left status false ended) where
     pub waits_open : IsOpen (Some line) h.open_asked h.open_texts
     waits_open = kept_open (false && not ended) (Some line) h.open_asked h.open_texts refl h.opens
 
-    closed_more : (added : List Exchange) (moments : List Reading) (own status' : ℕ) (text : List ℕ) (broken : Bool) → IsClosed h.open_asked h.open_texts moments added own text
+    closed_more : (added : List Exchange) (own status' : ℕ) (text : List ℕ) (broken : Bool) → IsClosed h.open_asked h.open_texts added own text
         → status' ≡ max status own → (broken ≡ false → (xs : List ℕ) → shows xs → shows' (xs ++ text))
-        → HasDone names before drained first gives shows' (told ++ added) (ticks ++ moments) None left status' broken ended
-    closed_more added moments own status' text broken c more show =
-        let d : Done = record { asked = c.one; texts = h.open_texts; readings = moments; exchanges = added; status = own; shown = text } in
+        → HasDone names before drained first gives shows' (told ++ added) None left status' broken ended
+    closed_more added own status' text broken c more show =
+        let d : Done = record { asked = c.one; texts = h.open_texts; exchanges = added; status = own; shown = text } in
         record {
           done = h.done ++ d ∷ [];
           open_asked = [];
@@ -313,7 +304,6 @@ module _ (names : Texts) (before : ℕ) (drained : Bool) where
           opens = inl (refl, refl);
           texts = subst gives (sym (append-nil (texts_in (h.done ++ d ∷ [])) ∙ one_more (λ (x : Done). x.texts) h.done d)) h.texts;
           exchanged = ap (λ l. l ++ added) h.exchanged ∙ sym (one_more (λ (x : Done). x.exchanges) h.done d);
-          read_of = ap (λ l. l ++ moments) h.read_of ∙ sym (one_more (λ (x : Done). x.readings) h.done d);
           read = λ known e.
               let r = h.read known e in
               (r.0, r.1 ∙ ap (λ l. asked_in h.done ++ (l ++ r.0)) c.is ∙ sym (asked_more h.done d r.0), r.2, λ _. r.3 refl);
@@ -322,20 +312,20 @@ module _ (names : Texts) (before : ℕ) (drained : Bool) where
         }
 
     pub told_more : (e : Event) (q : Result Answer Fault) (status' : ℕ) (broken : Bool) → Takes line e → status' ≡ max status (status_of q) → (broken ≡ false → (xs : List ℕ) → shows xs → shows' (xs ++ shown_for e q))
-        → HasDone names before drained first gives shows' (told ++ (heard_for line ++ Told e q ∷ [])) (ticks ++ ticked line e) None left status' broken ended
-    told_more e q status' broken takes is show = closed_more (heard_for line ++ Told e q ∷ []) (ticked line e) (status_of q) status' (shown_for e q) broken (closed line h.open_asked h.open_texts e q waits_open takes) is show
+        → HasDone names before drained first gives shows' (told ++ (before_answer line e ++ Told e q ∷ [])) None left status' broken ended
+    told_more e q status' broken takes is show = closed_more (before_answer line e ++ Told e q ∷ []) (status_of q) status' (shown_for e q) broken (closed line h.open_asked h.open_texts e q waits_open takes) is show
 
   -- the clock gave no moment
-  pub untold_more : (first : Option (List ℕ)) (gives : List FileAnswer → Type 0) (shows shows' : List ℕ → Type 0) (told : List Exchange) (ticks : List Reading) (left : Option (List ℕ)) (status status' : ℕ) (fault : ClockFault) (broken ended : Bool)
-      → HasDone names before drained first gives shows told ticks (Some Says.TickNow) left status false ended → status' ≡ max status 4 → (broken ≡ false → (xs : List ℕ) → shows xs → shows' (xs ++ clock_text fault))
-      → HasDone names before drained first gives shows' (told ++ Heard ∷ []) (ticks ++ Err fault ∷ []) None left status' broken ended
-  untold_more first gives shows shows' told ticks left status status' fault broken ended h more show =
-      closed_more first gives shows shows' told ticks Says.TickNow left status ended h (Heard ∷ []) (Err fault ∷ []) 4 status' (clock_text fault) broken (closed_untold h.open_asked h.open_texts fault (waits_open first gives shows shows' told ticks Says.TickNow left status ended h)) more show
+  pub untold_more : (first : Option (List ℕ)) (gives : List FileAnswer → Type 0) (shows shows' : List ℕ → Type 0) (told : List Exchange) (left : Option (List ℕ)) (status status' : ℕ) (fault : ClockFault) (broken ended : Bool)
+      → HasDone names before drained first gives shows told (Some Says.TickNow) left status false ended → status' ≡ max status 4 → (broken ≡ false → (xs : List ℕ) → shows xs → shows' (xs ++ clock_text fault))
+      → HasDone names before drained first gives shows' (told ++ Heard ∷ Asked (Err fault) ∷ []) None left status' broken ended
+  untold_more first gives shows shows' told left status status' fault broken ended h more show =
+      closed_more first gives shows shows' told Says.TickNow left status ended h (Heard ∷ Asked (Err fault) ∷ []) 4 status' (clock_text fault) broken (closed_untold h.open_asked h.open_texts fault (waits_open first gives shows shows' told Says.TickNow left status ended h)) more show
 
   -- it is not said to have ended where it was not said before, and what was shown was written
-  pub ended_less : (first : Option (List ℕ)) (gives : List FileAnswer → Type 0) (shows shows' : List ℕ → Type 0) (told : List Exchange) (ticks : List Reading) (waits : Option Line) (left : Option (List ℕ)) (status : ℕ) (is_broken ended ended' : Bool) → (ended' ≡ true → ended ≡ true) → (is_broken ≡ false → (xs : List ℕ) → shows xs → shows' xs)
-      → HasDone names before drained first gives shows told ticks waits left status is_broken ended → HasDone names before drained first gives shows' told ticks waits left status is_broken ended'
-  ended_less first gives shows shows' told ticks waits left status is_broken ended ended' less show h = record {
+  pub ended_less : (first : Option (List ℕ)) (gives : List FileAnswer → Type 0) (shows shows' : List ℕ → Type 0) (told : List Exchange) (waits : Option Line) (left : Option (List ℕ)) (status : ℕ) (is_broken ended ended' : Bool) → (ended' ≡ true → ended ≡ true) → (is_broken ≡ false → (xs : List ℕ) → shows xs → shows' xs)
+      → HasDone names before drained first gives shows told waits left status is_broken ended → HasDone names before drained first gives shows' told waits left status is_broken ended'
+  ended_less first gives shows shows' told waits left status is_broken ended ended' less show h = record {
     done = h.done;
     open_asked = h.open_asked;
     open_texts = h.open_texts;
@@ -343,91 +333,88 @@ module _ (names : Texts) (before : ℕ) (drained : Bool) where
     opens = undone_less is_broken ended ended' waits h.open_asked h.open_texts less h.opens;
     texts = h.texts;
     exchanged = h.exchanged;
-    read_of = h.read_of;
     read = λ known e. let r = h.read known e in (r.0, r.1, (λ is. r.2 (less is)), r.3);
     status_is = h.status_is;
     output = λ sound. show sound (shown_in h.done) (h.output sound);
   }
 
   -- the output was flushed
-  pub flushed : (first from was now : Option (List ℕ)) (gives : List FileAnswer → Type 0) (told : List Exchange) (ticks : List Reading) (left : Option (List ℕ)) (status : ℕ) (ended : Bool) → Keeps was now
-      → HasDone names before drained first gives (Appends from was) told ticks None left status false ended → HasDone names before drained first gives (Appends from now) told ticks None left status false ended
-  flushed first from was now gives told ticks left status ended keeps h = ended_less first gives (Appends from was) (Appends from now) told ticks None left status false ended ended (λ so. so) (λ fine xs w. appends_keep from was now xs w keeps) h
+  pub flushed : (first from was now : Option (List ℕ)) (gives : List FileAnswer → Type 0) (told : List Exchange) (left : Option (List ℕ)) (status : ℕ) (ended : Bool) → Keeps was now
+      → HasDone names before drained first gives (Appends from was) told None left status false ended → HasDone names before drained first gives (Appends from now) told None left status false ended
+  flushed first from was now gives told left status ended keeps h = ended_less first gives (Appends from was) (Appends from now) told None left status false ended ended (λ so. so) (λ fine xs w. appends_keep from was now xs w keeps) h
 
   -- a drain that waits, if one does, is answered of a schedule in which no try is in flight
-  pub drain_answered : (first from was now : Option (List ℕ)) (gives : List FileAnswer → Type 0) (told : List Exchange) (ticks : List Reading) (left : Option (List ℕ)) (status : ℕ) (drains ended : Bool) (a : Schedule) → (drains ≡ true → in_flight a ≡ 0) → AnswersDrain drains was now
-      → HasDone names before drained first gives (Appends from was) told ticks (waiting None drains) left status false ended
-      → (times : ℕ) × HasDone names before drained first gives (Appends from now) (told ++ (heard_where drains ++ looks times a)) ticks None left status false false
-  drain_answered first from was now gives told ticks left status false ended a idle same h = (
+  pub drain_answered : (first from was now : Option (List ℕ)) (gives : List FileAnswer → Type 0) (told : List Exchange) (left : Option (List ℕ)) (status : ℕ) (drains ended : Bool) (a : Schedule) → (drains ≡ true → in_flight a ≡ 0) → AnswersDrain drains was now
+      → HasDone names before drained first gives (Appends from was) told (waiting None drains) left status false ended
+      → (times : ℕ) × HasDone names before drained first gives (Appends from now) (told ++ (heard_where drains ++ looks times a)) None left status false false
+  drain_answered first from was now gives told left status false ended a idle same h = (
     0,
-    subst (λ (t : List Exchange). HasDone names before drained first gives (Appends from now) t ticks None left status false false) (sym (append-nil told))
-        (ended_less first gives (Appends from was) (Appends from now) told ticks None left status false ended false (λ no. absurd (true≢false (sym no))) (λ fine xs w. subst (λ n. Appends from n xs) (sym same) w) h),
+    subst (λ (t : List Exchange). HasDone names before drained first gives (Appends from now) t None left status false false) (sym (append-nil told))
+        (ended_less first gives (Appends from was) (Appends from now) told None left status false ended false (λ no. absurd (true≢false (sym no))) (λ fine xs w. subst (λ n. Appends from n xs) (sym same) w) h),
   )
-  drain_answered first from was now gives told ticks left status true ended a idle more h = (
+  drain_answered first from was now gives told left status true ended a idle more h = (
     1,
-    subst (λ (r : List Reading). HasDone names before drained first gives (Appends from now) (told ++ (Heard ∷ looks 1 a)) r None left status false false) (append-nil ticks)
-        (ended_less first gives (Appends from now) (Appends from now) (told ++ (Heard ∷ looks 1 a)) (ticks ++ []) None left status false ended false (λ no. absurd (true≢false (sym no))) (λ fine xs w. w)
-        (closed_more first gives (Appends from was) (Appends from now) told ticks Says.Drain left status ended h (Heard ∷ looks 1 a) [] 0 status (shown_text ShowsDone) false (closed_drain h.open_asked h.open_texts a (idle refl) (waits_open first gives (Appends from was) (Appends from now) told ticks Says.Drain left status ended h)) (omega arith)
-        (λ fine xs w. appends_then from was now xs (shown_text ShowsDone) w more))),
+    ended_less first gives (Appends from now) (Appends from now) (told ++ (Heard ∷ looks 1 a)) None left status false ended false (λ no. absurd (true≢false (sym no))) (λ fine xs w. w)
+        (closed_more first gives (Appends from was) (Appends from now) told Says.Drain left status ended h (Heard ∷ looks 1 a) 0 status (shown_text ShowsDone) false (closed_drain h.open_asked h.open_texts a (idle refl) (waits_open first gives (Appends from was) (Appends from now) told Says.Drain left status ended h)) (omega arith)
+        (λ fine xs w. appends_then from was now xs (shown_text ShowsDone) w more)),
   )
 
   -- ---- the same of what was read
-  at_err : {E : Type 0} (Q : E → Type 0) (r : Result (Option Line) E) → IsErrAnd r Q → (first : Option (List ℕ)) (gives : List FileAnswer → Type 0) (shows : List ℕ → Type 0) (told : List Exchange) (ticks : List Reading) (left : Option (List ℕ)) (status : ℕ)
-      → HasDone names before drained first gives shows told ticks None left status true false → HasDone names before drained first gives shows told ticks (line_of r) left status (is_err r) (is_end r)
-  at_err Q (Ok x) is first gives shows told ticks left status h = absurd is
-  at_err Q (Err e) is first gives shows told ticks left status h = h
+  at_err : {E : Type 0} (Q : E → Type 0) (r : Result (Option Line) E) → IsErrAnd r Q → (first : Option (List ℕ)) (gives : List FileAnswer → Type 0) (shows : List ℕ → Type 0) (told : List Exchange) (left : Option (List ℕ)) (status : ℕ)
+      → HasDone names before drained first gives shows told None left status true false → HasDone names before drained first gives shows told (line_of r) left status (is_err r) (is_end r)
+  at_err Q (Ok x) is first gives shows told left status h = absurd is
+  at_err Q (Err e) is first gives shows told left status h = h
 
   -- the script could not be read or answered further
-  pub broken_off : {E : Type 0} (Q : E → Type 0) (r : Result (Option Line) E) → IsErrAnd r Q → (first : Option (List ℕ)) (gives : List FileAnswer → Type 0) (shows shows' : List ℕ → Type 0) (told : List Exchange) (ticks : List Reading) (left left' : Option (List ℕ)) (status : ℕ) (ended : Bool)
-      → HasDone names before drained first gives shows told ticks None left status false ended → HasDone names before drained first gives shows' told ticks (line_of r) left' status (is_err r) (is_end r)
-  broken_off Q r is first gives shows shows' told ticks left left' status ended h = at_err Q r is first gives shows' told ticks left' status (broken first gives shows told ticks left status ended h gives shows' left' status (λ g. g) refl)
+  pub broken_off : {E : Type 0} (Q : E → Type 0) (r : Result (Option Line) E) → IsErrAnd r Q → (first : Option (List ℕ)) (gives : List FileAnswer → Type 0) (shows shows' : List ℕ → Type 0) (told : List Exchange) (left left' : Option (List ℕ)) (status : ℕ) (ended : Bool)
+      → HasDone names before drained first gives shows told None left status false ended → HasDone names before drained first gives shows' told (line_of r) left' status (is_err r) (is_end r)
+  broken_off Q r is first gives shows shows' told left left' status ended h = at_err Q r is first gives shows' told left' status (broken first gives shows told left status ended h gives shows' left' status (λ g. g) refl)
 
   -- the answer of a drain that waits, if one does, could not be written; it counts as answered
-  drain_unwritten : (first : Option (List ℕ)) (gives : List FileAnswer → Type 0) (shows shows' : List ℕ → Type 0) (told : List Exchange) (ticks : List Reading) (left : Option (List ℕ)) (status : ℕ) (drains ended : Bool) (a : Schedule) → (drains ≡ true → in_flight a ≡ 0)
-      → HasDone names before drained first gives shows told ticks (waiting None drains) left status false ended
-      → (times : ℕ) × HasDone names before drained first gives shows' (told ++ (heard_where drains ++ looks times a)) ticks None left status true false
-  drain_unwritten first gives shows shows' told ticks left status false ended a idle h = (
+  drain_unwritten : (first : Option (List ℕ)) (gives : List FileAnswer → Type 0) (shows shows' : List ℕ → Type 0) (told : List Exchange) (left : Option (List ℕ)) (status : ℕ) (drains ended : Bool) (a : Schedule) → (drains ≡ true → in_flight a ≡ 0)
+      → HasDone names before drained first gives shows told (waiting None drains) left status false ended
+      → (times : ℕ) × HasDone names before drained first gives shows' (told ++ (heard_where drains ++ looks times a)) None left status true false
+  drain_unwritten first gives shows shows' told left status false ended a idle h = (
     0,
-    subst (λ (t : List Exchange). HasDone names before drained first gives shows' t ticks None left status true false) (sym (append-nil told))
-        (broken first gives shows told ticks left status ended h gives shows' left status (λ g. g) refl),
+    subst (λ (t : List Exchange). HasDone names before drained first gives shows' t None left status true false) (sym (append-nil told))
+        (broken first gives shows told left status ended h gives shows' left status (λ g. g) refl),
   )
-  drain_unwritten first gives shows shows' told ticks left status true ended a idle h = (
+  drain_unwritten first gives shows shows' told left status true ended a idle h = (
     1,
-    subst (λ (r : List Reading). HasDone names before drained first gives shows' (told ++ (Heard ∷ looks 1 a)) r None left status true false) (append-nil ticks)
-        (ended_less first gives shows' shows' (told ++ (Heard ∷ looks 1 a)) (ticks ++ []) None left status true ended false (λ no. absurd (true≢false (sym no))) (λ fine xs w. w)
-        (closed_more first gives shows shows' told ticks Says.Drain left status ended h (Heard ∷ looks 1 a) [] 0 status (shown_text ShowsDone) true (closed_drain h.open_asked h.open_texts a (idle refl) (waits_open first gives shows shows' told ticks Says.Drain left status ended h)) (omega arith)
-        (λ no. absurd (true≢false no)))),
+    ended_less first gives shows' shows' (told ++ (Heard ∷ looks 1 a)) None left status true ended false (λ no. absurd (true≢false (sym no))) (λ fine xs w. w)
+        (closed_more first gives shows shows' told Says.Drain left status ended h (Heard ∷ looks 1 a) 0 status (shown_text ShowsDone) true (closed_drain h.open_asked h.open_texts a (idle refl) (waits_open first gives shows shows' told Says.Drain left status ended h)) (omega arith)
+        (λ no. absurd (true≢false no))),
   )
 
-  pub drain_broken : {E : Type 0} (Q : E → Type 0) (r : Result (Option Line) E) → IsErrAnd r Q → (first : Option (List ℕ)) (gives : List FileAnswer → Type 0) (shows shows' : List ℕ → Type 0) (told : List Exchange) (ticks : List Reading) (left : Option (List ℕ)) (status : ℕ) (drains ended : Bool) (a : Schedule) → (drains ≡ true → in_flight a ≡ 0)
-      → HasDone names before drained first gives shows told ticks (waiting None drains) left status false ended
-      → (times : ℕ) × HasDone names before drained first gives shows' (told ++ (heard_where drains ++ looks times a)) ticks (line_of r) left status (is_err r) (is_end r)
-  drain_broken Q r is first gives shows shows' told ticks left status drains ended a idle h =
-      let now = drain_unwritten first gives shows shows' told ticks left status drains ended a idle h in
-      (now.0, at_err Q r is first gives shows' (told ++ (heard_where drains ++ looks now.0 a)) ticks left status now.1)
+  pub drain_broken : {E : Type 0} (Q : E → Type 0) (r : Result (Option Line) E) → IsErrAnd r Q → (first : Option (List ℕ)) (gives : List FileAnswer → Type 0) (shows shows' : List ℕ → Type 0) (told : List Exchange) (left : Option (List ℕ)) (status : ℕ) (drains ended : Bool) (a : Schedule) → (drains ≡ true → in_flight a ≡ 0)
+      → HasDone names before drained first gives shows told (waiting None drains) left status false ended
+      → (times : ℕ) × HasDone names before drained first gives shows' (told ++ (heard_where drains ++ looks times a)) (line_of r) left status (is_err r) (is_end r)
+  drain_broken Q r is first gives shows shows' told left status drains ended a idle h =
+      let now = drain_unwritten first gives shows shows' told left status drains ended a idle h in
+      (now.0, at_err Q r is first gives shows' (told ++ (heard_where drains ++ looks now.0 a)) left status now.1)
 
-  module _ {E : Type 0} (from was now : Option (List ℕ)) (first : Option (List ℕ)) (gives gives' : List FileAnswer → Type 0) (told : List Exchange) (ticks : List Reading) (left left' : Option (List ℕ)) (status status' : ℕ) (ended : Bool)
-      (h : HasDone names before drained first gives (Appends from was) told ticks None left status false ended)
+  module _ {E : Type 0} (from was now : Option (List ℕ)) (first : Option (List ℕ)) (gives gives' : List FileAnswer → Type 0) (told : List Exchange) (left left' : Option (List ℕ)) (status status' : ℕ) (ended : Bool)
+      (h : HasDone names before drained first gives (Appends from was) told None left status false ended)
       (given : Request) (is : (known : List ℕ) → left ≡ Some known → IsNext names known (Some given) left') (a : Schedule) (d : Result (Option Line) E) (texts : List FileAnswer) (to : (xs : List FileAnswer) → gives xs → gives' (xs ++ texts)) (does : Does a given texts d status status' was now) where
     -- a command could not be answered
-    pub unanswered : {A : Type 0} (Q : A → Type 0) (r : Result (Option Line) A) → IsErrAnd r Q → (e : E) → d ≡ Err e → HasDone names before drained first gives' (Appends from now) told ticks (line_of r) left' status' (is_err r) (is_end r)
+    pub unanswered : {A : Type 0} (Q : A → Type 0) (r : Result (Option Line) A) → IsErrAnd r Q → (e : E) → d ≡ Err e → HasDone names before drained first gives' (Appends from now) told (line_of r) left' status' (is_err r) (is_end r)
     unanswered Q r err e by =
         let l : IsLost given texts × (status' ≡ status) = subst (λ (x : Result (Option Line) E). Does a given texts x status status' was now) by does in
-        at_err Q r err first gives' (Appends from now) told ticks left' status'
-        (fault_more first gives gives' (Appends from was) (Appends from now) told ticks left left' status status' ended h given is texts l.0 to l.1)
+        at_err Q r err first gives' (Appends from now) told left' status'
+        (fault_more first gives gives' (Appends from was) (Appends from now) told left left' status status' ended h given is texts l.0 to l.1)
 
     -- it left a line to the run
-    pub left_line : (line : Line) → d ≡ Ok (Some line) → HasDone names before drained first gives' (Appends from now) told ticks (Some line) left' status' false false
+    pub left_line : (line : Line) → d ≡ Ok (Some line) → HasDone names before drained first gives' (Appends from now) told (Some line) left' status' false false
     left_line line by =
         let l : Leaves given texts line × (status' ≡ status) × (now ≡ was) = subst (λ (x : Result (Option Line) E). Does a given texts x status status' was now) by does in
-        line_more first gives gives' (Appends from was) (Appends from now) told ticks left left' status status' ended h given is texts line l.0 l.1 to
+        line_more first gives gives' (Appends from was) (Appends from now) told left left' status status' ended h given is texts line l.0 l.1 to
         (λ xs w. subst (λ n. Appends from n xs) (sym l.2) w)
 
     -- it was answered
-    pub left_none : d ≡ Ok None → HasDone names before drained first gives' (Appends from now) (told ++ looks 1 a) ticks None left' status' false false
+    pub left_none : d ≡ Ok None → HasDone names before drained first gives' (Appends from now) (told ++ looks 1 a) None left' status' false false
     left_none by =
         let l : (own : ℕ) × (shown : List ℕ) × (status' ≡ max status own) × Appends was now shown × IsAnswered a given texts own shown = subst (λ (x : Result (Option Line) E). Does a given texts x status status' was now) by does in
-        none_more first gives gives' (Appends from was) (Appends from now) told ticks left left' status status' ended h given is a texts l.0 l.1 to
+        none_more first gives gives' (Appends from was) (Appends from now) told left left' status status' ended h given is a texts l.0 l.1 to
         (λ xs w. appends_then from was now xs l.1 w l.3) l.2 l.4
 
 -- words that are read in the same way ask for the same

@@ -6,8 +6,8 @@ use Rattle.sched_events.specs.declared.events.Event.{Event}
 use Rattle.sched_events.specs.declared.events.Event.TheVariants.{Load, Tick}
 use Rattle.sched_events.specs.declared.refusals.Refusal.{Refusal}
 use Rattle.sched_events.specs.declared.refusals.Refusal.TheVariants as refusal
-use Rattle.director.specs.declared.faults.Fault.{Fault}
-use Rattle.director.specs.declared.faults.Fault.TheVariants as failed
+use Rattle.sessions.specs.Faults.{Fault}
+use Rattle.sessions.specs.Faults.failed
 use Rattle.command_words.specs.declared.commands.UsageFault.{UsageFault}
 use Rattle.command_words.specs.declared.commands.UsageFault.TheVariants as usage
 use Rattle.script_commands.specs.Commands.{Request, IsGiven}
@@ -16,7 +16,6 @@ use Rattle.script_commands.specs.declared.commands.CommandFault.TheVariants.{Usa
 use Rattle.script_commands.specs.declared.commands.SourceFault.TheVariants as source
 use Rattle.script_commands.specs.declared.commands.ScriptCommand.TheVariants.{Step, LoadFile, TickNow, Drain, List as ListRows, Explain}
 use Rattle.sessions.specs.Exchanges.{looks, told_in, Exchange}
-use Rattle.sessions.specs.Readings.{Reading}
 use Rattle.answer_lines.specs.CommandFaults.{source_text}
 use Rattle.sessions.specs.declared.faults.ConductFault.{ConductFault}
 use Rattle.sessions.specs.declared.faults.ConductFault.TheVariants as ends
@@ -57,47 +56,47 @@ accepted : (e : Event) (exchanges : List Exchange) (status : ℕ) (shown : List 
 accepted e exchanges status shown (Ok answer, is, zero, text) z = ap (λ (xs : List Exchange). length (told_in xs) == 1) is
 accepted e exchanges status shown (Err fault, is, own, text) z = let some : 0 < failure_status fault = fails fault in absurd (omega arith)
 
-done_whole : (r : Request) (texts : List FileAnswer) (readings : List Reading) (exchanges : List Exchange) (status : ℕ) (shown : List ℕ) → MayBeDone r texts readings exchanges status shown → status ≡ 0 → is_whole r exchanges ≡ true
-done_whole (Ok (Step e)) texts readings exchanges status shown (none, untold, inl may) z = accepted e exchanges status shown may z
-done_whole (Ok (Step e)) texts readings exchanges status shown (none, untold, inr (text, loads, seen, four, said)) z = absurd (omega arith)
-done_whole (Ok (LoadFile path)) texts readings exchanges status shown (untold, inl (fault, none, nothing, four, text)) z = absurd (omega arith)
-done_whole (Ok (LoadFile path)) texts readings exchanges status shown (untold, inr (text, read, may)) z = accepted (Load text) exchanges status shown may z
-done_whole (Ok TickNow) texts readings exchanges status shown (none, inl (fault, untold, nothing, four, text)) z = absurd (omega arith)
-done_whole (Ok TickNow) texts readings exchanges status shown (none, inr (moment, told, is, heard, may)) z =
+done_whole : (r : Request) (texts : List FileAnswer) (exchanges : List Exchange) (status : ℕ) (shown : List ℕ) → MayBeDone r texts exchanges status shown → status ≡ 0 → is_whole r exchanges ≡ true
+done_whole (Ok (Step e)) texts exchanges status shown (none, inl may) z = accepted e exchanges status shown may z
+done_whole (Ok (Step e)) texts exchanges status shown (none, inr (text, loads, seen, four, said)) z = absurd (omega arith)
+done_whole (Ok (LoadFile path)) texts exchanges status shown (inl (fault, none, nothing, four, text)) z = absurd (omega arith)
+done_whole (Ok (LoadFile path)) texts exchanges status shown (inr (text, read, may)) z = accepted (Load text) exchanges status shown may z
+done_whole (Ok TickNow) texts exchanges status shown (none, inl (fault, untold, four, text)) z = absurd (omega arith)
+done_whole (Ok TickNow) texts exchanges status shown (none, inr (moment, told, heard, may)) z =
     ap (λ (xs : List Exchange). length (told_in xs) == 1) heard ∙ accepted (Tick moment) told status shown may z
-done_whole (Ok Drain) texts readings exchanges status shown may z = refl
-done_whole (Ok (ListRows listing)) texts readings exchanges status shown may z = refl
-done_whole (Ok (Explain question)) texts readings exchanges status shown may z = refl
-done_whole (Err fault) texts readings exchanges status shown (untold, (a, seen, at)) z = let some : 0 < command_status fault = is_no_command fault in let own : status ≡ command_status fault = at.1 in absurd (omega (arith, some, own, z))
+done_whole (Ok Drain) texts exchanges status shown may z = refl
+done_whole (Ok (ListRows listing)) texts exchanges status shown may z = refl
+done_whole (Ok (Explain question)) texts exchanges status shown may z = refl
+done_whole (Err fault) texts exchanges status shown (a, seen, at) z = let some : 0 < command_status fault = is_no_command fault in let own : status ≡ command_status fault = at.1 in absurd (omega (arith, some, own, z))
 
 pub all_whole : (ds : List Done) → All IsDone ds → greatest_status ds ≡ 0 → All (λ d. is_whole d.asked d.exchanges ≡ true) ds
 unfolding greatest_status
 all_whole [] each z = All-nil (λ (d : Done). is_whole d.asked d.exchanges ≡ true)
 all_whole (d ∷ ds) each z =
     let is : greatest_status (d ∷ ds) ≡ max d.status (greatest_status ds) = refl in
-    All-cons (λ (x : Done). is_whole x.asked x.exchanges ≡ true) d ds (done_whole d.asked d.texts d.readings d.exchanges d.status d.shown (All-head IsDone d ds each) (omega (arith, is, z)))
+    All-cons (λ (x : Done). is_whole x.asked x.exchanges ≡ true) d ds (done_whole d.asked d.texts d.exchanges d.status d.shown (All-head IsDone d ds each) (omega (arith, is, z)))
     (all_whole ds (All-tail IsDone d ds each) (omega (arith, is, z)))
 
 -- ---- a command that is answered when it is read is done so
-pub at_once : (a : Schedule) (r : Request) (texts : List FileAnswer) (status : ℕ) (shown : List ℕ) → IsAnswered a r texts status shown → MayBeDone r texts [] (looks 1 a) status shown
+pub at_once : (a : Schedule) (r : Request) (texts : List FileAnswer) (status : ℕ) (shown : List ℕ) → IsAnswered a r texts status shown → MayBeDone r texts (looks 1 a) status shown
 at_once a (Ok (Step e)) texts status shown is = absurd is
-at_once a (Ok (LoadFile path)) texts status shown (fault, asked, four, text) = (refl, inl (fault, asked, (a, refl), four, text))
+at_once a (Ok (LoadFile path)) texts status shown (fault, asked, four, text) = inl (fault, asked, (a, refl), four, text)
 at_once a (Ok TickNow) texts status shown is = absurd is
 at_once a (Ok Drain) texts status shown is = absurd is
-at_once a (Ok (ListRows listing)) texts status shown is = (refl, (a, refl, is))
-at_once a (Ok (Explain question)) texts status shown is = (refl, (a, refl, is))
-at_once a (Err fault) texts status shown is = (refl, (a, refl, is))
+at_once a (Ok (ListRows listing)) texts status shown is = (a, refl, is)
+at_once a (Ok (Explain question)) texts status shown is = (a, refl, is)
+at_once a (Err fault) texts status shown is = (a, refl, is)
 
 -- a text that could not be had, for want of memory
-unhad : (texts : List FileAnswer) (exchanges : List Exchange) (status : ℕ) (shown : List ℕ) → MayBeDone (Err (Source source.Memory)) texts [] exchanges status shown → (texts ≡ []) × ((a : Schedule) × (exchanges ≡ looks 1 a)) × (status ≡ 4) × (shown ≡ source_text source.Memory)
-unhad texts exchanges status shown (unmoved, (a, seen, at)) = (at.0, (a, seen), at.1, at.2)
+unhad : (texts : List FileAnswer) (exchanges : List Exchange) (status : ℕ) (shown : List ℕ) → MayBeDone (Err (Source source.Memory)) texts exchanges status shown → (texts ≡ []) × ((a : Schedule) × (exchanges ≡ looks 1 a)) × (status ≡ 4) × (shown ≡ source_text source.Memory)
+unhad texts exchanges status shown (a, seen, at) = (at.0, (a, seen), at.1, at.2)
 
 -- what is done as it was given is done as it is wanted
-pub given_done : (wanted given : Request) (texts : List FileAnswer) (exchanges : List Exchange) (status : ℕ) (shown : List ℕ) → IsGiven wanted given → MayBeDone given texts [] exchanges status shown → MayBeDone wanted texts [] exchanges status shown
-given_done wanted given texts exchanges status shown (inl same) may = subst (λ (r : Request). MayBeDone r texts [] exchanges status shown) same may
+pub given_done : (wanted given : Request) (texts : List FileAnswer) (exchanges : List Exchange) (status : ℕ) (shown : List ℕ) → IsGiven wanted given → MayBeDone given texts exchanges status shown → MayBeDone wanted texts exchanges status shown
+given_done wanted given texts exchanges status shown (inl same) may = subst (λ (r : Request). MayBeDone r texts exchanges status shown) same may
 given_done wanted given texts exchanges status shown (inr (memory, (text, loads))) may =
-    let lack = unhad texts exchanges status shown (subst (λ (r : Request). MayBeDone r texts [] exchanges status shown) memory may) in
-    subst (λ (r : Request). MayBeDone r texts [] exchanges status shown) (sym loads) (lack.0, refl, inr (text, refl, lack.1, lack.2, lack.3))
+    let lack = unhad texts exchanges status shown (subst (λ (r : Request). MayBeDone r texts exchanges status shown) memory may) in
+    subst (λ (r : Request). MayBeDone r texts exchanges status shown) (sym loads) (lack.0, inr (text, refl, lack.1, lack.2, lack.3))
 
 -- ---- the greatest status of one command more
 grown : (ds : List Done) (d : Done) → greatest_status (ds ++ d ∷ []) ≡ max (greatest_status ds) d.status

@@ -7,7 +7,6 @@ use Rattle.sched_model.specs.States.{in_flight}
 use Rattle.sched_events.specs.declared.answers.Answer.{Answer}
 use Rattle.sched_events.specs.declared.events.Event.{Event}
 use Rattle.sched_events.specs.declared.events.Event.TheVariants.{Load, Tick}
-use Rattle.director.specs.declared.faults.Fault.{Fault}
 use Rattle.explain.specs.Reasons.{IsUnexplained, explained}
 use Rattle.explain.specs.declared.reasons.ExplainFault.{ExplainFault}
 use Rattle.explain.specs.declared.reasons.Reason.{Reason}
@@ -16,8 +15,8 @@ use Rattle.script_commands.specs.Commands.{Request, commands_in}
 use Rattle.script_commands.specs.declared.commands.ScriptCommand.TheVariants.{Step, LoadFile, TickNow, Drain, List as ListRows, Explain}
 use Rattle.script_commands.specs.declared.commands.SourceFault.{SourceFault}
 use Rattle.script_commands.specs.declared.commands.SourceFault.TheVariants.{Memory as NoMemory}
-use Rattle.sessions.specs.Exchanges.{looks, told_in, Exchange, Heard, Told}
-use Rattle.sessions.specs.Readings.{Reading}
+use Rattle.sessions.specs.Exchanges.{looks, told_in, Asked, Exchange, Heard, Told}
+use Rattle.sessions.specs.Faults.{Fault}
 use Rattle.sessions.specs.declared.clocks.ClockFault.{ClockFault}
 use Rattle.sessions.specs.declared.line_reading.Line.{Line}
 use Rattle.sessions.specs.declared.line_reading.Line.TheVariants as Says
@@ -33,13 +32,12 @@ use Rattle.script_reader.specs.Statuses.{command_status, explain_status, shown_f
 abbrev pub FileAnswer : Type 0
 FileAnswer = List ℕ × Result (List ℕ) SourceFault
 
--- What was done of a command: what the sources answered for it, if it asked them, what the clock gave for it, what passed between it and the run, which
--- is the schedule that it looked at, or the event that it names, with what came of it, and that reports were heard for it; the status of its answer, and
--- the bytes that show it.
+-- What was done of a command: what the sources answered for it, if it asked them, what passed between it and the run, which is the schedule that it looked at,
+-- or the event that it names, with what came of it, and before it that reports were heard and what the clock gave for it; the status of its answer, and the
+-- bytes that show it.
 pub record Done : Type 0 where
   pub asked : Request
   pub texts : List FileAnswer
-  pub readings : List Reading
   pub exchanges : List Exchange
   pub status : ℕ
   pub shown : List ℕ
@@ -61,11 +59,11 @@ IsLoadPerhaps path texts exchanges status shown =
     ((fault : SourceFault) × (texts ≡ (path, Err fault) ∷ []) × ((a : Schedule) × (exchanges ≡ looks 1 a)) × (status ≡ 4) × (shown ≡ source_text fault))
     ⊎ ((text : List ℕ) × (texts ≡ (path, Ok text) ∷ []) × IsPerhaps (Load text) exchanges status shown)
 
--- reports were heard; the clock gave a moment, and the tick at it was accepted or not; or it gave none
-abbrev pub IsTickPerhaps : List Reading → List Exchange → ℕ → List ℕ → Type 0
-IsTickPerhaps readings exchanges status shown =
-    ((fault : ClockFault) × (readings ≡ Err fault ∷ []) × (exchanges ≡ Heard ∷ []) × (status ≡ 4) × (shown ≡ clock_text fault))
-    ⊎ ((moment : ℕ) × (told : List Exchange) × (readings ≡ Ok moment ∷ []) × (exchanges ≡ Heard ∷ told) × IsPerhaps (Tick moment) told status shown)
+-- reports were heard, and then the clock was asked: it gave none; or it gave a moment, and then the tick at it was accepted or not
+abbrev pub IsTickPerhaps : List Exchange → ℕ → List ℕ → Type 0
+IsTickPerhaps exchanges status shown =
+    ((fault : ClockFault) × (exchanges ≡ Heard ∷ Asked (Err fault) ∷ []) × (status ≡ 4) × (shown ≡ clock_text fault))
+    ⊎ ((moment : ℕ) × (told : List Exchange) × (exchanges ≡ Heard ∷ Asked (Ok moment) ∷ told) × IsPerhaps (Tick moment) told status shown)
 
 -- a drain was answered: reports were heard, and then a schedule was looked at for it, in which no try is in flight
 abbrev pub IsDrained : List Exchange → ℕ → List ℕ → Type 0
@@ -89,15 +87,15 @@ IsAnswered a (Err fault) texts status shown = (texts ≡ []) × (status ≡ comm
 
 -- What may be done of a command, and the status and the text of that. A command that is answered when it is read is answered of the schedule that it
 -- looked at, and so is a drain.
-abbrev pub MayBeDone : Request → List FileAnswer → List Reading → List Exchange → ℕ → List ℕ → Type 0
-MayBeDone (Ok (Step e)) texts readings exchanges status shown = (texts ≡ []) × (readings ≡ []) × (IsPerhaps e exchanges status shown ⊎ IsUnhad e exchanges status shown)
-MayBeDone (Ok (LoadFile path)) texts readings exchanges status shown = (readings ≡ []) × IsLoadPerhaps path texts exchanges status shown
-MayBeDone (Ok TickNow) texts readings exchanges status shown = (texts ≡ []) × IsTickPerhaps readings exchanges status shown
-MayBeDone (Ok Drain) texts readings exchanges status shown = (texts ≡ []) × (readings ≡ []) × IsDrained exchanges status shown
-MayBeDone asked texts readings exchanges status shown = (readings ≡ []) × ((a : Schedule) × (exchanges ≡ looks 1 a) × IsAnswered a asked texts status shown)
+abbrev pub MayBeDone : Request → List FileAnswer → List Exchange → ℕ → List ℕ → Type 0
+MayBeDone (Ok (Step e)) texts exchanges status shown = (texts ≡ []) × (IsPerhaps e exchanges status shown ⊎ IsUnhad e exchanges status shown)
+MayBeDone (Ok (LoadFile path)) texts exchanges status shown = IsLoadPerhaps path texts exchanges status shown
+MayBeDone (Ok TickNow) texts exchanges status shown = (texts ≡ []) × IsTickPerhaps exchanges status shown
+MayBeDone (Ok Drain) texts exchanges status shown = (texts ≡ []) × IsDrained exchanges status shown
+MayBeDone asked texts exchanges status shown = (a : Schedule) × (exchanges ≡ looks 1 a) × IsAnswered a asked texts status shown
 
 abbrev pub IsDone : Done → Type 0
-IsDone d = MayBeDone d.asked d.texts d.readings d.exchanges d.status d.shown
+IsDone d = MayBeDone d.asked d.texts d.exchanges d.status d.shown
 
 -- the greatest status of what was done, 0 where nothing was
 unfoldable pub greatest_status : List Done → ℕ
@@ -142,11 +140,11 @@ asked_from names true known = Ok Drain ∷ commands_in names known
 asked_from names false known = commands_in names known
 
 -- What was done of a script, of whose bytes these were there at first, and where a drain waited for its answer at first or not: commands one after
--- another, that drain before those of the bytes, with what the sources answered, with these exchanges, and with these readings of the clock; what was
--- shown of them; this line waits for its answer; and these bytes are left. What is left and what was shown is not said where the script could not be read
--- or answered further; there one load more may have been read, whose answer was not written. Where the script has ended, no command is left. The status is
--- the greatest of what was done and of the one before.
-pub record HasDone (names : Texts) (before : ℕ) (drained : Bool) (first : Option (List ℕ)) (gives : List FileAnswer → Type 0) (shows : List ℕ → Type 0) (exchanges : List Exchange) (readings : List Reading) (waits : Option Line) (left : Option (List ℕ)) (status : ℕ) (is_broken has_ended : Bool) : Type 0 where
+-- another, that drain before those of the bytes, with what the sources answered, and with these exchanges; what was shown of them; this line waits for its
+-- answer; and these bytes are left. What is left and what was shown is not said where the script could not be read or answered further; there one load more
+-- may have been read, whose answer was not written. Where the script has ended, no command is left. The status is the greatest of what was done and of the one
+-- before.
+pub record HasDone (names : Texts) (before : ℕ) (drained : Bool) (first : Option (List ℕ)) (gives : List FileAnswer → Type 0) (shows : List ℕ → Type 0) (exchanges : List Exchange) (waits : Option Line) (left : Option (List ℕ)) (status : ℕ) (is_broken has_ended : Bool) : Type 0 where
   pub done : List Done
   pub open_asked : List Request
   pub open_texts : List FileAnswer
@@ -154,7 +152,6 @@ pub record HasDone (names : Texts) (before : ℕ) (drained : Bool) (first : Opti
   pub opens : IsUndone (is_broken && not has_ended) waits open_asked open_texts
   pub texts : gives (flat_map (λ d. d.texts) done ++ open_texts)
   pub exchanged : exchanges ≡ flat_map (λ d. d.exchanges) done
-  pub read_of : readings ≡ flat_map (λ d. d.readings) done
   pub read : (known : List ℕ) → first ≡ Some known
       → (rest : List Request) × (asked_from names drained known ≡ map (λ d. d.asked) done ++ (open_asked ++ rest))
       × (has_ended ≡ true → rest ≡ []) × (is_broken ≡ false → (bytes : List ℕ) × (left ≡ Some bytes) × (rest ≡ commands_in names bytes))
@@ -180,7 +177,7 @@ first_asked names true known = refl
 first_asked names false known = refl
 
 pub begun : (names : Texts) (drained : Bool) (first : Option (List ℕ)) (gives : List FileAnswer → Type 0) (shows : List ℕ → Type 0) (status : ℕ) (broken was_over : Bool) → gives [] → shows []
-    → HasDone names status drained first gives shows [] [] (waiting None drained) first status broken (was_over && not was_over)
+    → HasDone names status drained first gives shows [] (waiting None drained) first status broken (was_over && not was_over)
 unfolding greatest_status
 begun names drained first gives shows status broken was_over none unshown = record {
   done = [];
@@ -190,7 +187,6 @@ begun names drained first gives shows status broken was_over none unshown = reco
   opens = inl (first_opens drained);
   texts = none;
   exchanged = refl;
-  read_of = refl;
   read = λ known e. (commands_in names known, first_asked names drained known, (λ ends. absurd (true≢false (not_both was_over ends))), λ _. (known, e, refl));
   status_is = let none : greatest_status [] ≡ 0 = refl in omega (arith, none);
   output = λ _. unshown;

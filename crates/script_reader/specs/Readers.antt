@@ -3,7 +3,6 @@ use Rattle.std.specs.Prelude.{◌≡◌, ℕ, Bool, true, false, ◌&&◌, not, 
 use Rattle.std.proofs.Common.{true≢false, sym}
 use Rattle.std.specs.Io.KnownBytes.{Appends}
 use Rattle.sessions.specs.Exchanges.{Exchange}
-use Rattle.sessions.specs.Readings.{Reading}
 use Rattle.sessions.specs.declared.line_reading.Line.{Line}
 use Rattle.script_reader.specs.Done.{FileAnswer, HasDone, begun, not_both, waiting}
 use Rattle.script_reader.specs.Shown.{nothing_written}
@@ -15,16 +14,16 @@ pub record IsQuiet (waits : Option Line) (has_ended drains : Bool) : Type 0 wher
   pub over : has_ended ≡ true → drains ≡ false
 
 module _ {R W F P : Type 0} (remaining : R → Option (List ℕ)) (contents : W → Option (List ℕ)) (gives : F → List FileAnswer → F → Type 0) where
-  -- from one state to another words are read in the same way, and the commands of the script were done, with these exchanges and readings of the clock, with what the sources gave;
-  -- what is shown of them was written; and a drain that waits in the one state is among them, and one that waits in the other is not done
-  abbrev pub Tells : ScriptReader R W F P → List Exchange → List Reading → Option Line → ScriptReader R W F P → Type 0
-  Tells s exchanges readings waits t =
+  -- from one state to another words are read in the same way, and the commands of the script were done, with these exchanges, with what the sources gave; what
+  -- is shown of them was written; and a drain that waits in the one state is among them, and one that waits in the other is not done
+  abbrev pub Tells : ScriptReader R W F P → List Exchange → Option Line → ScriptReader R W F P → Type 0
+  Tells s exchanges waits t =
       (t.words.names ≡ s.words.names)
       × HasDone s.words.names s.status s.has_drained (remaining s.input) (λ given. gives s.sources given t.sources)
-      (Appends (contents s.output) (contents t.output)) exchanges readings (waiting waits t.has_drained) (remaining t.input) t.status (is_some t.failed) (t.is_over && not s.is_over)
+      (Appends (contents s.output) (contents t.output)) exchanges (waiting waits t.has_drained) (remaining t.input) t.status (is_some t.failed) (t.is_over && not s.is_over)
       × IsQuiet waits (t.is_over && not s.is_over) t.has_drained
 
-  pub tells_nothing : ((f : F) → gives f [] f) → (s : ScriptReader R W F P) → Tells s [] [] None s
+  pub tells_nothing : ((f : F) → gives f [] f) → (s : ScriptReader R W F P) → Tells s [] None s
   tells_nothing none s = (
     refl,
     begun s.words.names s.has_drained (remaining s.input) (λ given. gives s.sources given s.sources) (Appends (contents s.output) (contents s.output)) s.status (is_some s.failed) s.is_over (none s.sources)

@@ -12,8 +12,8 @@ use Rattle.explain.specs.declared.reasons.ExplainFault.TheVariants as unexplaine
 use Rattle.sched_events.specs.declared.events.Event.{Event}
 use Rattle.answer_lines.specs.Answers.{answer_text}
 use Rattle.answer_lines.specs.RecordFaults.{failure_text}
-use Rattle.director.specs.declared.faults.Fault.{Fault}
-use Rattle.director.specs.declared.faults.Fault.TheVariants as failed
+use Rattle.sessions.specs.Faults.{Fault}
+use Rattle.sessions.specs.Faults.failed
 
 -- the status of a refusal: 1, and 4 for want of memory
 abbrev pub refusal_status : Refusal → ℕ

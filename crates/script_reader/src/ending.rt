@@ -8,8 +8,7 @@ use crate::console::Console;
 use crate::reader::ScriptReader;
 use crate::sources::Sources;
 use answer_lines::{Shown, put};
-use sched_core::Schedule;
-use sessions::ConductFault;
+use sessions::{ConductFault, Schedule};
 use std::io::{self, Read, Write};
 
 impl<R: Read + Drop, W: Write + Drop, F: Sources, P: Console> ScriptReader<R, W, F, P> {

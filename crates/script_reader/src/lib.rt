@@ -6,7 +6,8 @@
 //! to a [`Console`].
 //!
 //! ```text
-//! let mut reader = ScriptReader::new(alloc, Script { input, output, sources, console: NoConsole })?;
+//! let script = Script { input, output, sources, console: NoConsole };
+//! let Ok(mut reader) = ScriptReader::new(alloc, script) else { return };
 //! conduct(rt, alloc, director, 4, crews, &mut reader, &mut clock)
 //! ```
 //!
@@ -21,9 +22,10 @@ mod scripts;
 mod sources;
 mod statuses;
 
-pub use answer_lines::Shown;
+pub use answer_lines::{ClockFault, ConductFault, ExplainFault, Fault, Shown, StoreFault};
 pub use console::{Console, NoConsole, Spot};
 pub use reader::ScriptReader;
 pub use scripts::Script;
+pub use sessions::Schedule;
 pub use sources::Sources;
 pub use statuses::{command_status, explain_status, failure_status};

@@ -9,7 +9,6 @@ ghost use Rattle.answer_lines.specs.CommandFaults.{command_fault_text};
 ghost use Rattle.command_words.specs.Lines.{IsListed};
 ghost use Rattle.word_app.specs.App.{Texts};
 ghost use Rattle.sessions.specs.Exchanges.{heard_where, looks, Exchange};
-ghost use Rattle.sessions.specs.Readings.{Reading};
 ghost use Rattle.sessions.specs.Lines.{may_be_read, reads_drain};
 ghost use Rattle.script_reader.specs.Commands.{AnswersMore, Does, is_end, line_of};
 ghost use Rattle.script_reader.specs.Done.{FileAnswer, HasDone, waiting};
@@ -23,12 +22,11 @@ use crate::statuses::{command_status, explain_status};
 use answer_lines::{Shown, put, put_listing, put_reasons};
 use command_words::{CommandReader, FilePath, Question};
 use explain::explain;
-use sched_core::Schedule;
 use sched_events::Event;
 use sched_state::GraphText;
 use script_commands::{CommandFault, ScriptCommand, next_command};
 use script_lines::LineReader;
-use sessions::{Line, LineFault};
+use sessions::{Line, LineFault, Schedule};
 use std::alloc::{AllocError, Global};
 use std::io::{self, ErrorKind, Read, Write};
 
@@ -118,12 +116,12 @@ impl<R: Read + Drop, W: Write + Drop, F: Sources, P: Console> ScriptReader<R, W,
     pub(crate) fn read_line(&mut self, schedule: &Schedule) -> io::Result<Option<Line>>
         requires drained { self.old.has_drained ≡ true → in_flight schedule.now.content ≡ 0 }
         ensures words { self.new.words ≡ self.old.words }
-        ensures told { (drained : Bool) (names : Texts) (before : ℕ) (first from : Option (List ℕ)) (s : F) (exchanges : List Exchange) (readings : List Reading) (has_ended : Bool)
+        ensures told { (drained : Bool) (names : Texts) (before : ℕ) (first from : Option (List ℕ)) (s : F) (exchanges : List Exchange) (has_ended : Bool)
             → names ≡ self.old.words.names
             → HasDone names before drained first (λ given. F.gives s given self.old.sources) (Appends from (W.contents self.old.output))
-            exchanges readings (waiting None self.old.has_drained) (R.remaining self.old.input) self.old.status false has_ended
+            exchanges (waiting None self.old.has_drained) (R.remaining self.old.input) self.old.status false has_ended
             → (times : ℕ) × HasDone names before drained first (λ given. F.gives s given self.new.sources) (Appends from (W.contents self.new.output))
-            (exchanges ++ (heard_where self.old.has_drained ++ looks times schedule.now.content)) readings (line_of result) (R.remaining self.new.input) self.new.status (is_err result) (is_end result) }
+            (exchanges ++ (heard_where self.old.has_drained ++ looks times schedule.now.content)) (line_of result) (R.remaining self.new.input) self.new.status (is_err result) (is_end result) }
         ensures failed { self.new.failed ≡ self.old.failed }
         ensures drains { self.new.has_drained ≡ reads_drain result }
         ensures line { IfOk result (λ next. IfSome next (λ line. may_be_read line ≡ true)) }

@@ -17,7 +17,7 @@ use Rattle.script_commands.specs.Commands.{Request}
 use Rattle.command_words.specs.Lines.{IsListed}
 use Rattle.director.specs.Directors.{DirectorValue, Keeps, Opens, RestartsIn}
 use Rattle.minutes.specs.Minutes.{BeginWithRestart}
-use Rattle.sessions.specs.Exchanges.{Exchange, Heard, told_in, TookPlaceBehind}
+use Rattle.sessions.specs.Exchanges.{Exchange, Heard, readings_in, told_in, TookPlaceBehind}
 use Rattle.sessions.specs.Readings.{Reading}
 use Rattle.sessions.proofs.ExchangeLemmas.{behind_are_answered, told_of_each}
 use Rattle.sessions.specs.declared.faults.ConductFault.{ConductFault}
@@ -100,11 +100,11 @@ ended broken status shows output text (Ok v) closes written = tt
 ended broken status shows output text (Err f) closes written = λ other. let fine = closes other in fine.1 text (written fine.0)
 
 -- ---- the events of the minutes beside the script's lines
-pub named : {T : Type 0} (words : Texts) (before : ℕ) (drained : Bool) (first : Option (List ℕ)) (gives : List FileAnswer → Type 0) (clock : List Reading → Type 0) (shows output : List ℕ → Type 0) (told : List Exchange) (start : Schedule) (minutes : List Event) (moments : List Reading) (waits : Option Line) (left : Option (List ℕ)) (answers status lanes : ℕ) (broken over was_over : Bool) (outcome : Result T ConductFault)
-    → IsListed words → before ≡ 0 → drained ≡ false → HasDone words before drained first gives shows told moments waits left answers broken (over && not was_over) → (is_ok outcome ≡ true → (broken ≡ false) × ((xs : List ℕ) → shows xs → output xs)) → (broken ≡ true → may_break_off outcome ≡ true) → IfErr outcome (λ f. status ≢ 4 → (broken ≡ false) × ((xs : List ℕ) → shows xs → output (xs ++ end_text f))) → BeginWithRestart lanes minutes → TookPlaceBehind told (Heard ∷ []) minutes start → clock moments → was_over ≡ false
+pub named : {T : Type 0} (words : Texts) (before : ℕ) (drained : Bool) (first : Option (List ℕ)) (gives : List FileAnswer → Type 0) (clock : List Reading → Type 0) (shows output : List ℕ → Type 0) (told : List Exchange) (start : Schedule) (minutes : List Event) (waits : Option Line) (left : Option (List ℕ)) (answers status lanes : ℕ) (broken over was_over : Bool) (outcome : Result T ConductFault)
+    → IsListed words → before ≡ 0 → drained ≡ false → HasDone words before drained first gives shows told waits left answers broken (over && not was_over) → (is_ok outcome ≡ true → (broken ≡ false) × ((xs : List ℕ) → shows xs → output xs)) → (broken ≡ true → may_break_off outcome ≡ true) → IfErr outcome (λ f. status ≢ 4 → (broken ≡ false) × ((xs : List ℕ) → shows xs → output (xs ++ end_text f))) → BeginWithRestart lanes minutes → TookPlaceBehind told (Heard ∷ []) minutes start → clock (readings_in told) → was_over ≡ false
     → (came_to_its_end outcome ≡ true → (over ≡ true) × (waits ≡ None)) → IsEndStatus answers outcome status
     → AreNamed first gives clock output start minutes outcome status
-named words before drained first gives clock shows output told start minutes moments waits left answers status lanes broken over was_over outcome listed zero undrained h writes breaks closes begun took given fresh whole is =
+named words before drained first gives clock shows output told start minutes waits left answers status lanes broken over was_over outcome listed zero undrained h writes breaks closes begun took given fresh whole is =
     let greatest : answers ≡ greatest_status h.done = omega (arith, h.status_is, zero) in
     let ends : came_to_its_end outcome ≡ true → (over && not was_over) ≡ true = λ came. ap (λ b. b && not was_over) (whole came).0 ∙ ap not fresh in
     record {
@@ -118,7 +118,7 @@ named words before drained first gives clock shows output told start minutes mom
       opens = undone (may_break_off outcome) broken (over && not was_over) waits h.open_asked h.open_texts breaks h.opens;
       none_waits = λ came. (whole came).1;
       texts = h.texts;
-      readings = subst clock h.read_of given;
+      readings = subst (λ (xs : List Exchange). clock (readings_in xs)) h.exchanged given;
       took_place = subst (λ (xs : List Exchange). TookPlaceBehind xs (Heard ∷ []) minutes start) h.exchanged took;
       answers_are = behind_are_answered lanes told minutes start begun took ∙ ap told_in h.exchanged ∙ told_of_each (λ (d : Done). d.exchanges) h.done;
       shown = λ well. let fine = writes well in fine.1 (flat_map (λ (d : Done). d.shown) h.done) (h.output fine.0);
@@ -145,15 +145,15 @@ still : {A : Type 0} (none untouched still' : Type 0) (r : Result A ConductFault
 still none untouched still' (Ok v) to was = tt
 still none untouched still' (Err f) to was = λ is. let both = was is in (both.0, to both.1)
 
-module _ {S G O : Type 0} (look : Held S → State) (runs : O → List (Job × Outcome)) (taken : O → Option Job) where
+module _ {S G O : Type 0} (look : Held S → State) (runs : O → List (Job × Outcome)) (refused : O → List Job) (taken : O → Option Job) where
   pub is_run : (bytes : Option (List ℕ)) (gives : List FileAnswer → Type 0) (clock : List Reading → Type 0) (output : List ℕ → Type 0) (lanes : ℕ) (kits : List (Kit O)) (before : State) (d : DirectorValue S) (conducted : Conducted S G O) (status : ℕ)
       (are_told : Schedule → List Event → Option Line → Type 0) (untouched quiet : Type 0) (failed : Option LineFault) (over : Bool)
-      → IsConducted look runs taken lanes kits d conducted are_told untouched failed over → (untouched → quiet)
+      → IsConducted look runs refused taken lanes kits d conducted are_told untouched failed over → (untouched → quiet)
       → IsSoundAndSaid d.schedule.content
       → (HasCleanDisk (look d.store) → Opens ceilings 0 before.now d.schedule.content d.opened)
       → (HasCleanDisk (look d.store) → RestartsIn ceilings 0 before.now (look d.store).now)
       → AreNamed bytes gives clock output d.schedule.content conducted.minutes.items conducted.outcome status
-      → IsRun look runs taken bytes gives clock output quiet lanes kits before conducted.director.store conducted.minutes.items conducted.outcome status
+      → IsRun look runs refused taken bytes gives clock output quiet lanes kits before conducted.director.store conducted.minutes.items conducted.outcome status
   is_run bytes gives clock output lanes kits before d conducted status are_told untouched quiet failed over c to sound opened restarted named =
       let a = d.schedule.content in
       let es = conducted.minutes.items in
@@ -204,7 +204,7 @@ pub record IsFresh {R W F P : Type 0} (first : ScriptReader R W F P) : Type 0 wh
   pub drains : first.has_drained ≡ false
   pub listed : IsListed first.words.names
 
-module _ {S G O R W F P C : Type 0} (look : Held S → State) (runs : O → List (Job × Outcome)) (taken : O → Option Job) (remaining : R → Option (List ℕ)) (contents : W → Option (List ℕ)) (gives : F → List FileAnswer → F → Type 0) (ticks : C → List Reading → C → Type 0) where
+module _ {S G O R W F P C : Type 0} (look : Held S → State) (runs : O → List (Job × Outcome)) (refused : O → List Job) (taken : O → Option Job) (remaining : R → Option (List ℕ)) (contents : W → Option (List ℕ)) (gives : F → List FileAnswer → F → Type 0) (ticks : C → List Reading → C → Type 0) where
   -- what comes back of what was conducted, with the last state of the reader
   pub record ComesBack (conducted : Conducted S G O) (last : ScriptReader R W F P) (store : Held S) (minutes : List Event) (outcome : Result (Settled G O) ConductFault) (status : ℕ) (sources : F) (output : W) : Type 0 where
     pub store_is : store ≡ conducted.director.store
@@ -217,7 +217,7 @@ module _ {S G O R W F P C : Type 0} (look : Held S → State) (runs : O → List
 
   -- at the end of the run no drain waits
   undrained : (lanes : ℕ) (kits : List (Kit O)) (d : DirectorValue S) (conducted : Conducted S G O) (first last : ScriptReader R W F P) (clock later : C)
-      → (c : IsConducted look runs taken lanes kits d conducted (AreTold (Tells remaining contents gives) ticks first clock last later) ((last ≡ first) × (later ≡ clock)) last.failed last.is_over)
+      → (c : IsConducted look runs refused taken lanes kits d conducted (AreTold (Tells remaining contents gives) ticks first clock last later) ((last ≡ first) × (later ≡ clock)) last.failed last.is_over)
       → IsFresh first → came_to_its_end conducted.outcome ≡ true → (last.is_over ≡ true) × (waiting c.waits last.has_drained ≡ None)
   undrained lanes kits d conducted first last clock later c fresh came =
       let end = c.whole came in
@@ -226,7 +226,7 @@ module _ {S G O R W F P C : Type 0} (look : Held S → State) (runs : O → List
 
   -- what was written, where the run ended well
   writes : (lanes : ℕ) (kits : List (Kit O)) (d : DirectorValue S) (conducted : Conducted S G O) (first last : ScriptReader R W F P) (clock later : C) (output : W)
-      → IsConducted look runs taken lanes kits d conducted (AreTold (Tells remaining contents gives) ticks first clock last later) ((last ≡ first) × (later ≡ clock)) last.failed last.is_over
+      → IsConducted look runs refused taken lanes kits d conducted (AreTold (Tells remaining contents gives) ticks first clock last later) ((last ≡ first) × (later ≡ clock)) last.failed last.is_over
       → OnOk conducted.outcome (output ≡ last.output) → is_ok conducted.outcome ≡ true
       → (is_some last.failed ≡ false) × ((xs : List ℕ) → Appends (contents first.output) (contents last.output) xs → Appends (contents first.output) (contents output) xs)
   writes lanes kits d conducted first last clock later output c at well =
@@ -236,13 +236,13 @@ module _ {S G O R W F P C : Type 0} (look : Held S → State) (runs : O → List
       )
 
   pub ran : (lanes : ℕ) (kits : List (Kit O)) (before : State) (d : DirectorValue S) (conducted : Conducted S G O) (first last : ScriptReader R W F P) (clock later : C)
-      → IsConducted look runs taken lanes kits d conducted (AreTold (Tells remaining contents gives) ticks first clock last later) ((last ≡ first) × (later ≡ clock)) last.failed last.is_over
+      → IsConducted look runs refused taken lanes kits d conducted (AreTold (Tells remaining contents gives) ticks first clock last later) ((last ≡ first) × (later ≡ clock)) last.failed last.is_over
       → IsSoundAndSaid d.schedule.content
       → (HasCleanDisk (look d.store) → Opens ceilings 0 before.now d.schedule.content d.opened)
       → (HasCleanDisk (look d.store) → RestartsIn ceilings 0 before.now (look d.store).now)
       → IsFresh first
       → (store : Held S) (minutes : List Event) (outcome : Result (Settled G O) ConductFault) (status : ℕ) (sources : F) (output : W) → ComesBack conducted last store minutes outcome status sources output
-      → IsRun look runs taken (remaining first.input) (λ given. gives first.sources given sources) (λ moments. ticks clock moments later) (λ shown. Appends (contents first.output) (contents output) shown) ((sources ≡ first.sources) × (later ≡ clock)) lanes kits before store minutes outcome status
+      → IsRun look runs refused taken (remaining first.input) (λ given. gives first.sources given sources) (λ moments. ticks clock moments later) (λ shown. Appends (contents first.output) (contents output) shown) ((sources ≡ first.sources) × (later ≡ clock)) lanes kits before store minutes outcome status
   ran lanes kits before d conducted first last clock later c sound opened restarted fresh store minutes outcome status sources output back =
       let es = conducted.minutes.items in
       let t = c.told in
@@ -252,11 +252,11 @@ module _ {S G O R W F P C : Type 0} (look : Held S → State) (runs : O → List
       let text : List ℕ → Type 0 = λ shown. Appends (contents first.output) (contents output) shown in
       let quiet : Type 0 = (last.sources ≡ first.sources) × (later ≡ clock) in
       let named_here : AreNamed bytes files times text d.schedule.content es conducted.outcome status =
-      named first.words.names first.status first.has_drained bytes files times (Appends (contents first.output) (contents last.output)) text t.exchanges d.schedule.content es t.readings (waiting c.waits last.has_drained) (remaining last.input) last.status status lanes (is_some last.failed) last.is_over first.is_over conducted.outcome
+      named first.words.names first.status first.has_drained bytes files times (Appends (contents first.output) (contents last.output)) text t.exchanges d.schedule.content es (waiting c.waits last.has_drained) (remaining last.input) last.status status lanes (is_some last.failed) last.is_over first.is_over conducted.outcome
       fresh.listed fresh.status fresh.drains t.told.1 (writes lanes kits d conducted first last clock later output c back.output_is) (breaks_off last.failed conducted.outcome c.fault) (closing (contents first.output) (contents last.output) (contents output) last.failed last.status status conducted.outcome c.fault back.status_is back.ended_is) c.begun t.took_place t.given fresh.over (undrained lanes kits d conducted first last clock later c fresh) back.status_is
       in
-      let here = is_run look runs taken bytes files times text lanes kits before d conducted status _ ((last ≡ first) × (later ≡ clock)) quiet last.failed last.is_over c (λ same. (ap (λ (r : ScriptReader R W F P). r.sources) same.0, same.1)) sound opened restarted named_here in
-      subst (λ (f : F). IsRun look runs taken bytes (λ given. gives first.sources given f) times text ((f ≡ first.sources) × (later ≡ clock)) lanes kits before store minutes outcome status) (sym back.sources_are)
-      (subst (λ (s : Held S). IsRun look runs taken bytes files times text quiet lanes kits before s minutes outcome status) (sym back.store_is)
-      (subst (λ (l : List Event). IsRun look runs taken bytes files times text quiet lanes kits before conducted.director.store l outcome status) (sym back.minutes_are)
-      (subst (λ (o : Result (Settled G O) ConductFault). IsRun look runs taken bytes files times text quiet lanes kits before conducted.director.store es o status) (sym back.outcome_is) here)))
+      let here = is_run look runs refused taken bytes files times text lanes kits before d conducted status _ ((last ≡ first) × (later ≡ clock)) quiet last.failed last.is_over c (λ same. (ap (λ (r : ScriptReader R W F P). r.sources) same.0, same.1)) sound opened restarted named_here in
+      subst (λ (f : F). IsRun look runs refused taken bytes (λ given. gives first.sources given f) times text ((f ≡ first.sources) × (later ≡ clock)) lanes kits before store minutes outcome status) (sym back.sources_are)
+      (subst (λ (s : Held S). IsRun look runs refused taken bytes files times text quiet lanes kits before s minutes outcome status) (sym back.store_is)
+      (subst (λ (l : List Event). IsRun look runs refused taken bytes files times text quiet lanes kits before conducted.director.store l outcome status) (sym back.minutes_are)
+      (subst (λ (o : Result (Settled G O) ConductFault). IsRun look runs refused taken bytes files times text quiet lanes kits before conducted.director.store es o status) (sym back.outcome_is) here)))

@@ -6,7 +6,7 @@ use Rattle.sched_events.specs.declared.events.Event.{Event}
 use Rattle.script_commands.specs.Commands.{Request, commands_in}
 use Rattle.sched_model.specs.Schedule.{Schedule}
 use Rattle.minutes.specs.Minutes.{answered}
-use Rattle.sessions.specs.Exchanges.{told_in, Heard, TookPlaceBehind}
+use Rattle.sessions.specs.Exchanges.{readings_in, told_in, Heard, TookPlaceBehind}
 use Rattle.sessions.specs.Readings.{Reading}
 use Rattle.sessions.specs.declared.faults.ConductFault.{ConductFault}
 use Rattle.sessions.specs.declared.faults.ConductFault.TheVariants.{ReadFault, Memory}
@@ -43,7 +43,8 @@ pub record AreNamed {T : Type 0} (bytes : Option (List ℕ)) (sources : List Fil
   pub opens : IsUndone (may_break_off outcome) waits open_asked open_texts
   pub none_waits : came_to_its_end outcome ≡ true → waits ≡ None
   pub texts : sources (flat_map (λ d. d.texts) done ++ open_texts)
-  pub readings : clock (flat_map (λ d. d.readings) done)
+  -- what the clock gave is what passed of it, in order: for each `tick now` reports were heard, then the clock was asked, and then the tick was told
+  pub readings : clock (readings_in (flat_map (λ d. d.exchanges) done))
   -- what passed between the commands and the run, one after another, took place behind the restart while the minutes were made, and then reports were heard;
   -- so the events that were told as accepted are those that the minutes answer
   pub took_place : TookPlaceBehind (flat_map (λ d. d.exchanges) done) (Heard ∷ []) minutes first

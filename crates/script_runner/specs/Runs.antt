@@ -29,7 +29,7 @@ use Rattle.script_runner.specs.Named.{AreNamed}
 -- A script of these bytes was run with so many lanes and these kits on what a record held before: what the record is now, the minutes, what became of the
 -- crews, and the status. The sources and the clock gave what their relations say, or were asked nothing (untouched); the output has grown as its relation
 -- says.
-pub record IsRun {S G O : Type 0} (look : Held S → State) (runs : O → List (Job × Outcome)) (taken : O → Option Job) (bytes : Option (List ℕ)) (sources : List FileAnswer → Type 0) (clock : List Reading → Type 0) (output : List ℕ → Type 0) (untouched : Type 0) (lanes : ℕ) (kits : List (Kit O)) (before : State) (store : Held S) (minutes : List Event) (outcome : Result (Settled G O) ConductFault) (status : ℕ) : Type 0 where
+pub record IsRun {S G O : Type 0} (look : Held S → State) (runs : O → List (Job × Outcome)) (refused : O → List Job) (taken : O → Option Job) (bytes : Option (List ℕ)) (sources : List FileAnswer → Type 0) (clock : List Reading → Type 0) (output : List ℕ → Type 0) (untouched : Type 0) (lanes : ℕ) (kits : List (Kit O)) (before : State) (store : Held S) (minutes : List Event) (outcome : Result (Settled G O) ConductFault) (status : ℕ) : Type 0 where
   -- the schedule that was opened, without lanes, and the answer to its restart
   pub first : Schedule
   pub given : Answer
@@ -54,13 +54,13 @@ pub record IsRun {S G O : Type 0} (look : Held S → State) (runs : O → List (
   pub workers : MatchResult outcome (λ _. 0 < length kits) (λ f. is_no_worker f ≡ (length kits == 0))
   pub unstarted : IfErr outcome (λ f. is_unstarted f ≡ true → (minutes ≡ []) × untouched)
   -- with a fault too: workers have worked for the minutes, which report nothing that no worker told
-  pub worked : HaveWorkedFor G runs taken kits minutes first
+  pub worked : HaveWorkedFor G runs refused taken kits minutes first
   -- where the run ended well: no try is in flight; each try that was handed out stands in the log of one worker, as often as it was handed out, and no
   -- other does; what the minutes report of a worker's jobs is what that worker told, in its order; and its log is an account of its kit
   pub idle : IfOk outcome (λ s. in_flight (steps minutes first) ≡ 0)
   pub ends : IfOk outcome (λ s. length s.ends.items ≡ length kits)
   pub once : IfOk outcome (λ s. EachStandsInALog (handed_along minutes first) s.ends.items)
   pub own : IfOk outcome (λ s. EachToldItsOwn minutes s.ends.items)
-  pub accounts : IfOk outcome (λ s. AreAccounts runs taken kits s.ends.items)
+  pub accounts : IfOk outcome (λ s. AreAccounts runs refused taken kits s.ends.items)
   -- nothing is left at the desk
   pub desk : IfOk outcome (λ s. (s.desk.slots ≡ 0) × (s.desk.holds.items ≡ []))

@@ -18,6 +18,11 @@ module _ {P : Type 0} where
   runs_of runs (Exit o) = o.progress.runs
   runs_of runs (Command o) = runs o
 
+  abbrev pub refused_by : (P → List Job) → TaskOperator P → List Job
+  refused_by refused (Noop o) = o.progress.refused
+  refused_by refused (Exit o) = o.progress.refused
+  refused_by refused (Command o) = refused o
+
   abbrev pub taken_by : (P → Option Job) → TaskOperator P → Option Job
   taken_by taken (Noop o) = o.progress.taken
   taken_by taken (Exit o) = o.progress.taken
@@ -28,6 +33,6 @@ module _ {P : Type 0} where
   performed_by performed (Exit o) = o.progress.performed
   performed_by performed (Command o) = performed o
 
--- the operator has performed no try and taken none up
-abbrev pub IsFresh : {O : Type 0} → (O → List (Job × Outcome)) → (O → Option Job) → O → Type 0
-IsFresh runs taken o = (runs o ≡ []) × (taken o ≡ None)
+-- the operator has performed no try, refused none and taken none up
+abbrev pub IsFresh : {O : Type 0} → (O → List (Job × Outcome)) → (O → List Job) → (O → Option Job) → O → Type 0
+IsFresh runs refused taken o = (runs o ≡ []) × (refused o ≡ []) × (taken o ≡ None)

@@ -12,9 +12,9 @@ ghost use Rattle.script_runner.specs.Runs.{IsRun};
 use conduct::{Conducted, conduct};
 use crews::Settled;
 use director::{Director, Fault};
-use meta_store::Store;
+use meta_store::{Limits, Store};
 use operators::Operator;
-use sched_core::{Event, Limits};
+use sched_events::Event;
 use script_reader::{Console, Script, ScriptReader, Sources};
 use sessions::{Clock, ConductFault};
 use sqlite::Alter;
@@ -86,7 +86,7 @@ pub fn run_on<
     requires lanes { options.lanes ≤ 64 }
     requires crews { length crews.items ≤ 16 }
     requires kits { All (λ c. IsKit O.kind_of c.kit) crews.items }
-    ensures run { IfOk result (λ ran. IsRun (state S.Store) O.runs_of O.taken (R.Read.remaining script.input)
+    ensures run { IfOk result (λ ran. IsRun (state S.Store) O.runs_of O.refused_of O.taken (R.Read.remaining script.input)
         (λ given. F.gives script.sources given ran.sources) (λ moments. C.gives clock.old moments clock.new)
         (λ shown. Appends (W.contents script.output) (W.contents ran.output) shown)
         ((ran.sources ≡ script.sources) × (clock.new ≡ clock.old)) options.lanes (map (λ c. c.kit) crews.items) (state S.Store store) ran.store ran.minutes.items ran.outcome ran.status) }

@@ -1,7 +1,7 @@
 //! An operator of whichever kind, so that a worker may have one of each.
 ghost use Rattle.std.specs.Prelude.{◌≡◌, All, IfOk, length};
 ghost use Rattle.graph_file.specs.declared.operators.Operator.TheVariants as kinds;
-ghost use Rattle.script_runner.specs.TaskOperators.{IsFresh, kind_of, runs_of, taken_by};
+ghost use Rattle.script_runner.specs.TaskOperators.{IsFresh, kind_of, runs_of, refused_by, taken_by};
 ghost use Rattle.script_runner.specs.Teams.{IsWhole};
 
 use graph_file::Operator as Kind;
@@ -31,6 +31,8 @@ impl<P: Operator> Operator for TaskOperator<P> {
     ghost kind_of = { spec.kind_of P.kind_of };
 
     ghost runs_of = { spec.runs_of P.runs_of };
+
+    ghost refused_of = { spec.refused_by P.refused_of };
 
     ghost taken = { spec.taken_by P.taken };
 
@@ -89,7 +91,7 @@ pub fn operators_for<R: Files<File = File> + Processes + Copy + Drop>(
     ensures workers { IfOk result (λ team. length team.items ≡ workers) }
     ensures whole { IfOk result (λ team. All (λ w. IsWhole (kind_of (λ _. kinds.Command)) w.0.items) team.items) }
     ensures fresh { IfOk result (λ team. All (λ w. All (IsFresh
-        (runs_of ⟦<Program<R> as Operator>⟧.runs_of) (taken_by ⟦<Program<R> as Operator>⟧.taken))
+        (runs_of ⟦<Program<R> as Operator>⟧.runs_of) (refused_by ⟦<Program<R> as Operator>⟧.refused_of) (taken_by ⟦<Program<R> as Operator>⟧.taken))
         w.0.items) team.items) }
 {
     let mut team = Vec::new(alloc);
@@ -108,14 +110,17 @@ fn three_operators<R: Files<File = File> + Processes + Copy + Drop>(
 ) -> Result<Vec<TaskOperator<Program<R>>>, AllocError>
     ensures whole { IfOk result (λ operators. IsWhole (kind_of (λ _. kinds.Command)) operators.items) }
     ensures fresh { IfOk result (λ operators. All (IsFresh
-        (runs_of ⟦<Program<R> as Operator>⟧.runs_of) (taken_by ⟦<Program<R> as Operator>⟧.taken))
+        (runs_of ⟦<Program<R> as Operator>⟧.runs_of) (refused_by ⟦<Program<R> as Operator>⟧.refused_of) (taken_by ⟦<Program<R> as Operator>⟧.taken))
         operators.items) }
 {
     let base = String::from_str(alloc, scratch)?;
     let logs = logs.map(|base| String::from_str(alloc, base)).transpose()?;
+    let noop = Noop::new(alloc);
+    let exit = Exit::new(alloc);
+    let command = Program::new(rt, alloc, base, logs);
     let mut operators = Vec::new(alloc);
-    operators.push(TaskOperator::Noop(Noop::new(alloc)))?;
-    operators.push(TaskOperator::Exit(Exit::new(alloc)))?;
-    operators.push(TaskOperator::Command(Program::new(rt, alloc, base, logs)))?;
+    operators.push(TaskOperator::Noop(noop))?;
+    operators.push(TaskOperator::Exit(exit))?;
+    operators.push(TaskOperator::Command(command))?;
     Ok(operators)
 }

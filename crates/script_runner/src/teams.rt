@@ -45,7 +45,7 @@ pub fn run_team<
     requires lanes { lanes ≤ 64 }
     requires workers { length team.items ≤ 16 }
     requires whole { All (λ w. IsWhole O.kind_of w.0.items) team.items }
-    ensures run { IfOk result (λ ran. IsTeamRun (state S.Store) O.kind_of O.runs_of O.taken (R.Read.remaining script.input)
+    ensures run { IfOk result (λ ran. IsTeamRun (state S.Store) O.kind_of O.runs_of O.refused_of O.taken (R.Read.remaining script.input)
         (λ given. F.gives script.sources given ran.sources) (λ moments. C.gives clock.old moments clock.new)
         (λ shown. Appends (W.contents script.output) (W.contents ran.output) shown)
         ((ran.sources ≡ script.sources) × (clock.new ≡ clock.old)) lanes (map (λ w. w.0.items) team.items) (state S.Store store) ran.store ran.minutes.items ran.outcome ran.status) }

@@ -1,5 +1,5 @@
 -- What took place between a session and its lines, while the minutes grow.
-use Rattle.std.proofs.Common.{◌≡◌, ◌∙◌, ℕ, ◌<◌, zero, suc, true, false, true≢false, cond, All, List, [], ◌∷◌, ◌++◌, length, map, flat_map, Ok, Err, refl, sym, ap, subst, arith, append_assoc, append-nil}
+use Rattle.std.proofs.Common.{◌≡◌, ◌∙◌, ℕ, ◌<◌, zero, suc, Bool, true, false, true≢false, cond, All, List, [], ◌∷◌, ◌++◌, length, map, flat_map, Result, Ok, Err, refl, sym, ap, subst, arith, append_assoc, append-nil}
 use Rattle.std.proofs.lemmas.Grind.{flat_map-append}
 use Rattle.std.proofs.lemmas.List.{map-append}
 use Rattle.std.proofs.lemmas.List.Elements.{filter-append, All-head, All-tail}
@@ -12,7 +12,8 @@ use Rattle.minutes.specs.Minutes.{along, answered, answered_part, is_of_line, of
 use Rattle.minutes.proofs.GrowthLemmas.{answered_lines}
 use Rattle.director.specs.Faults.{IsFaultOf}
 use Rattle.director.specs.declared.faults.Fault.{Fault}
-use Rattle.sessions.specs.Exchanges.{Exchange, Looked, Told, Heard, is_heard, looks, told_by, told_in, TakesPlace, TookPlace, TookPlaceBehind}
+use Rattle.sessions.specs.Exchanges.{Exchange, Looked, Told, Heard, Asked, heard_where, is_heard, looks, readings_by, readings_in, told_by, told_in, TakesPlace, TookPlace, TookPlaceBehind}
+use Rattle.sessions.specs.Readings.{Reading}
 
 -- ---- one after another
 pub took_then : (xs ys : List Exchange) (es fs : List Event) (a : Schedule) → TookPlace xs es a → TookPlace ys fs (steps es a) → TookPlace (xs ++ ys) (es ++ fs) a
@@ -88,6 +89,14 @@ behind_unheard xs (e ∷ es) a took =
     let now : TookPlace xs es (step e a) = subst (λ (l : List Exchange). TookPlace l es (step e a)) (append-nil xs) took in
     subst (λ (l : List Event). TookPlace (xs ++ Heard ∷ []) l (step e a)) (append-nil es) (took_then xs (Heard ∷ []) es [] (step e a) now ([], [], refl, refl, refl))
 
+-- the clock was asked
+pub behind_asked : (xs last : List Exchange) (reading : Reading) (es : List Event) (a : Schedule) → TookPlaceBehind xs last es a → TookPlaceBehind xs (last ++ Asked reading ∷ []) es a
+behind_asked xs last reading [] a none = none
+behind_asked xs last reading (e ∷ es) a took =
+    subst (λ (l : List Exchange). TookPlace l es (step e a)) (append_assoc xs last (Asked reading ∷ []))
+    (subst (λ (l : List Event). TookPlace ((xs ++ last) ++ Asked reading ∷ []) l (step e a)) (append-nil es)
+    (took_then (xs ++ last) (Asked reading ∷ []) es [] (step e a) took ([], [], refl, refl, refl)))
+
 -- an event of the run's own was heard
 pub own_later : (xs : List Exchange) (es : List Event) (e : Event) (a : Schedule) → is_of_line e ≡ false → TookPlaceBehind xs (Heard ∷ []) es a → TookPlaceBehind xs (Heard ∷ []) (es ++ e ∷ []) a
 own_later xs [] e a is none = subst (λ (l : List Exchange). TookPlace (l ++ Heard ∷ []) [] (step e a)) (sym none) ([], [], refl, refl, refl)
@@ -120,6 +129,7 @@ one_answered (Looked b) es a (none, same) = ap (λ l. answered l a) none
 one_answered (Told e (Ok answer)) es a (one, is, same) = ap (λ l. answered l a) one ∙ line_answered e a is ∙ ap (λ (r : Answer). (e, r) ∷ []) (sym same)
 one_answered (Told e (Err fault)) es a (none, stands) = ap (λ l. answered l a) none
 one_answered Heard es a none = none_answered es a none
+one_answered (Asked reading) es a none = ap (λ l. answered l a) none
 
 -- it is what the minutes answer
 pub told_are_answered : (xs : List Exchange) (es : List Event) (a : Schedule) → TookPlace xs es a → answered es a ≡ told_in xs
@@ -139,6 +149,7 @@ one_told (Looked b) es a unheard (none, same) = none
 one_told (Told e (Ok answer)) es a unheard (one, is, same) = one
 one_told (Told e (Err fault)) es a unheard (none, stands) = none
 one_told Heard es a unheard none = absurd (true≢false unheard)
+one_told (Asked reading) es a unheard none = none
 
 pub unheard_are_told : (xs : List Exchange) (es : List Event) (a : Schedule) → All (λ x. is_heard x ≡ false) xs → TookPlace xs es a → es ≡ map (λ p. p.0) (told_in xs)
 unheard_are_told [] es a unheard none = none
@@ -154,3 +165,24 @@ each_takes_place xs ys x es a took =
     let r = took_parts xs (x ∷ ys) es a took in
     let here = r.4 in
     (r.0, here.0, here.1, r.2 ∙ ap (λ l. r.0 ++ l) here.2, told_are_answered xs r.0 a r.3, here.3)
+
+-- ---- what the clock gave
+pub readings_append : (xs ys : List Exchange) → readings_in (xs ++ ys) ≡ readings_in xs ++ readings_in ys
+readings_append xs ys = flat_map-append readings_by xs ys
+
+looks_unasked : (times : ℕ) (b : Schedule) → readings_in (looks times b) ≡ []
+looks_unasked zero b = refl
+looks_unasked (suc n) b = looks_unasked n b
+
+none_asked : (drains : Bool) (times : ℕ) (b : Schedule) → readings_in (heard_where drains ++ looks times b) ≡ []
+none_asked true times b = looks_unasked times b
+none_asked false times b = looks_unasked times b
+
+-- it is not asked where a schedule is looked at, perhaps once reports were heard
+pub seen_unasked : (xs : List Exchange) (drains : Bool) (times : ℕ) (b : Schedule) → readings_in (xs ++ (heard_where drains ++ looks times b)) ≡ readings_in xs
+seen_unasked xs drains times b =
+    readings_append xs (heard_where drains ++ looks times b) ∙ ap (λ l. readings_in xs ++ l) (none_asked drains times b) ∙ append-nil (readings_in xs)
+
+-- nor where an event is told
+pub told_unasked : (xs : List Exchange) (e : Event) (q : Result Answer Fault) → readings_in (xs ++ Told e q ∷ []) ≡ readings_in xs
+told_unasked xs e q = readings_append xs (Told e q ∷ []) ∙ append-nil (readings_in xs)

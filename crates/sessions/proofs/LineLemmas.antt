@@ -1,5 +1,5 @@
 -- An event of a line, and what the lines are told of it.
-use Rattle.std.proofs.Common.{◌≡◌, ◌∙◌, ℕ, ◌<◌, true, false, true≢false, List, [], ◌∷◌, ◌++◌, length, Option, None, Result, Ok, Err, MatchResult, OnOk, refl, sym, ap, subst}
+use Rattle.std.proofs.Common.{◌≡◌, ◌∙◌, ℕ, ◌<◌, Bool, true, false, true≢false, List, [], ◌∷◌, ◌++◌, length, Option, None, Result, Ok, Err, MatchResult, OnOk, refl, sym, ap, subst}
 use Rattle.sched_events.specs.Steps.{steps, answer_to}
 use Rattle.sched_events.specs.declared.answers.Answer.{Answer}
 use Rattle.sched_events.specs.declared.events.Event.{Event}
@@ -9,14 +9,14 @@ use Rattle.director.specs.Faults.{IsFaultOf}
 use Rattle.director.specs.Lists.{IsOutcome}
 use Rattle.director.specs.declared.faults.Fault.{Fault}
 use Rattle.minutes.specs.Minutes.{is_of_line, is_restart, report_part}
-use Rattle.sessions.specs.Exchanges.{Exchange, Told, Heard, looks, StillTookPlace, TookPlaceBehind}
+use Rattle.sessions.specs.Exchanges.{Exchange, Told, Heard, heard_where, looks, StillTookPlace, TookPlaceBehind}
 use Rattle.sessions.specs.Lines.{opened_by, TellsOn}
 use Rattle.sessions.specs.Readings.{Reading}
 use Rattle.sessions.specs.Told.{AreTold, AreToldUpTo}
 use Rattle.sessions.specs.declared.line_reading.Line.{Line}
 use Rattle.sessions.specs.declared.line_reading.LineFault.{LineFault}
 use Rattle.sessions.specs.declared.state.Session.{Session}
-use Rattle.sessions.proofs.ExchangeLemmas.{behind_now, behind_then, behind_unheard, looks_take_place, own_later, refusal_takes_place, told_takes_place}
+use Rattle.sessions.proofs.ExchangeLemmas.{behind_now, behind_then, behind_unheard, looks_take_place, own_later, refusal_takes_place, seen_unasked, told_takes_place}
 
 -- ---- an event of a line
 pub line_reports : (e : Event) → is_of_line e ≡ true → report_part e ≡ []
@@ -55,51 +55,48 @@ module _ {S : Type 0} where
   own_told s u e is minutes = λ a xs took. subst (λ (l : List Event). TookPlaceBehind xs (Heard ∷ []) l a) (sym minutes) (own_later xs s.minutes.items e a is took)
 
 -- the schedule was looked at, perhaps, which is that of the minutes
-pub told_seen : {L C : Type 0} (tells : L → List Exchange → List Reading → Option Line → L → Type 0) (gives : C → List Reading → C → Type 0) (l : L) (c : C) (lines read : L) (clock : C) (a seen : Schedule) (es : List Event) (last : List Exchange) (waits : Option Line)
+pub told_seen : {L C : Type 0} (tells : L → List Exchange → Option Line → L → Type 0) (gives : C → List Reading → C → Type 0) (l : L) (c : C) (lines read : L) (clock : C) (a seen : Schedule) (es : List Event) (drains : Bool) (waits : Option Line)
     → 0 < length es → seen ≡ steps es a
-    → AreToldUpTo last tells gives l c lines clock a es None
-    → ((s : L) (exchanges : List Exchange) (readings : List Reading) → tells s exchanges readings None lines → (times : ℕ) × tells s (exchanges ++ (last ++ looks times seen)) readings waits read)
+    → AreToldUpTo (heard_where drains) tells gives l c lines clock a es None
+    → ((s : L) (exchanges : List Exchange) → tells s exchanges None lines → (times : ℕ) × tells s (exchanges ++ (heard_where drains ++ looks times seen)) waits read)
     → AreToldUpTo [] tells gives l c read clock a es waits
-told_seen tells gives l c lines read clock a seen es last waits some stepped before reads =
-    let r = reads l before.exchanges before.readings before.told in
+told_seen tells gives l c lines read clock a seen es drains waits some stepped before reads =
+    let r = reads l before.exchanges before.told in
     record {
-      exchanges = before.exchanges ++ (last ++ looks r.0 seen);
-      took_place = behind_now before.exchanges last (looks r.0 seen) es a some before.took_place (looks_take_place r.0 seen (steps es a) stepped);
-      readings = before.readings;
+      exchanges = before.exchanges ++ (heard_where drains ++ looks r.0 seen);
+      took_place = behind_now before.exchanges (heard_where drains) (looks r.0 seen) es a some before.took_place (looks_take_place r.0 seen (steps es a) stepped);
       told = r.1;
-      given = before.given;
+      given = subst (λ (rs : List Reading). gives c rs clock) (sym (seen_unasked before.exchanges drains r.0 seen)) before.given;
     }
 
 -- a line was read, or none
-pub told_read : {L C : Type 0} (tells : L → List Exchange → List Reading → Option Line → L → Type 0) (gives : C → List Reading → C → Type 0) (l : L) (c : C) (lines read : L) (clock : C) (a seen : Schedule) (es : List Event) (last : List Exchange) (next now : Option Line)
+pub told_read : {L C : Type 0} (tells : L → List Exchange → Option Line → L → Type 0) (gives : C → List Reading → C → Type 0) (l : L) (c : C) (lines read : L) (clock : C) (a seen : Schedule) (es : List Event) (drains : Bool) (next now : Option Line)
     → next ≡ now → 0 < length es → seen ≡ steps es a
-    → AreToldUpTo last tells gives l c lines clock a es None
-    → ((s : L) (exchanges : List Exchange) (readings : List Reading) → tells s exchanges readings None lines → (times : ℕ) × tells s (exchanges ++ (last ++ looks times seen)) readings (opened_by {F = LineFault} (Ok next)) read)
+    → AreToldUpTo (heard_where drains) tells gives l c lines clock a es None
+    → ((s : L) (exchanges : List Exchange) → tells s exchanges None lines → (times : ℕ) × tells s (exchanges ++ (heard_where drains ++ looks times seen)) (opened_by {F = LineFault} (Ok next)) read)
     → AreToldUpTo [] tells gives l c read clock a es (opened_by {F = LineFault} (Ok now))
-told_read tells gives l c lines read clock a seen es last next now is some stepped before reads =
+told_read tells gives l c lines read clock a seen es drains next now is some stepped before reads =
     subst (λ (line : Option Line). AreToldUpTo [] tells gives l c read clock a es (opened_by {F = LineFault} (Ok line))) is
-    (told_seen tells gives l c lines read clock a seen es last (opened_by {F = LineFault} (Ok next)) some stepped before reads)
+    (told_seen tells gives l c lines read clock a seen es drains (opened_by {F = LineFault} (Ok next)) some stepped before reads)
 
 -- nothing was heard
-pub told_unheard : {L C : Type 0} (tells : L → List Exchange → List Reading → Option Line → L → Type 0) (gives : C → List Reading → C → Type 0) (l : L) (c : C) (lines : L) (clock : C) (a : Schedule) (es : List Event) (waits : Option Line)
+pub told_unheard : {L C : Type 0} (tells : L → List Exchange → Option Line → L → Type 0) (gives : C → List Reading → C → Type 0) (l : L) (c : C) (lines : L) (clock : C) (a : Schedule) (es : List Event) (waits : Option Line)
     → AreToldUpTo [] tells gives l c lines clock a es waits → AreTold tells gives l c lines clock a es waits
 told_unheard tells gives l c lines clock a es waits before = record {
   exchanges = before.exchanges;
   took_place = behind_unheard before.exchanges es a before.took_place;
-  readings = before.readings;
   told = before.told;
   given = before.given;
 }
 
 -- there was no exchange more, and what took place is what it was before
-pub told_on : {L C : Type 0} (tells : L → List Exchange → List Reading → Option Line → L → Type 0) (gives : C → List Reading → C → Type 0) (l : L) (c : C) (lines later : L) (clock : C) (a : Schedule) (es fs : List Event) (waits : Option Line)
+pub told_on : {L C : Type 0} (tells : L → List Exchange → Option Line → L → Type 0) (gives : C → List Reading → C → Type 0) (l : L) (c : C) (lines later : L) (clock : C) (a : Schedule) (es fs : List Event) (waits : Option Line)
     → TellsOn tells lines later → StillTookPlace es fs
     → AreTold tells gives l c lines clock a es waits → AreTold tells gives l c later clock a fs waits
 told_on tells gives l c lines later clock a es fs waits on still before = record {
   exchanges = before.exchanges;
   took_place = still a before.exchanges before.took_place;
-  readings = before.readings;
-  told = on l before.exchanges before.readings waits before.told;
+  told = on l before.exchanges waits before.told;
   given = before.given;
 }
 

@@ -1,4 +1,4 @@
--- What passes between a session and its lines while the minutes are made.
+-- What passes between a session, its lines and its clock while the minutes are made.
 use Rattle.std.specs.Prelude.{◌≡◌, ℕ, Bool, true, false, List, [], ◌∷◌, ◌++◌, flat_map, replicate, Result, Ok, Err}
 use Rattle.sched_events.specs.Steps.{answer_to, step, steps}
 use Rattle.sched_events.specs.declared.answers.Answer.{Answer}
@@ -7,6 +7,7 @@ use Rattle.sched_model.specs.Schedule.{Schedule}
 use Rattle.director.specs.Faults.{IsFaultOf}
 use Rattle.director.specs.declared.faults.Fault.{Fault}
 use Rattle.minutes.specs.Minutes.{is_of_line, of_lines}
+use Rattle.sessions.specs.Readings.{Reading}
 
 pub data Exchange : Type 0 where
   -- the lines look at a schedule
@@ -15,6 +16,8 @@ pub data Exchange : Type 0 where
   Told : Event → Result Answer Fault → Exchange
   -- the run hears what workers report, since the lines wait for that
   Heard : Exchange
+  -- the clock is asked, and gives this
+  Asked : Reading → Exchange
 
 -- so many looks at a schedule
 abbrev pub looks : ℕ → Schedule → List Exchange
@@ -29,6 +32,7 @@ abbrev pub is_heard : Exchange → Bool
 is_heard (Looked b) = false
 is_heard (Told e result) = false
 is_heard Heard = true
+is_heard (Asked reading) = false
 
 -- an event with its answer, where it was accepted
 abbrev pub told_part : Event → Result Answer Fault → List (Event × Answer)
@@ -40,18 +44,30 @@ abbrev pub told_by : Exchange → List (Event × Answer)
 told_by (Looked b) = []
 told_by (Told e result) = told_part e result
 told_by Heard = []
+told_by (Asked reading) = []
 
 abbrev pub told_in : List Exchange → List (Event × Answer)
 told_in exchanges = flat_map told_by exchanges
 
+-- what the clock gave in an exchange, and in several
+abbrev pub readings_by : Exchange → List Reading
+readings_by (Looked b) = []
+readings_by (Told e result) = []
+readings_by Heard = []
+readings_by (Asked reading) = reading ∷ []
+
+abbrev pub readings_in : List Exchange → List Reading
+readings_in exchanges = flat_map readings_by exchanges
+
 -- An exchange takes place at this schedule, while just these minutes are made. The schedule that is looked at is this one. An event that is accepted is of a
 -- line; it alone is made, with its answer. One that is not has a cause against it in this schedule, the first that stands; or an error of SQLite stood against
--- it, or want of memory. What is heard is of no line.
+-- it, or want of memory. What is heard is of no line. While the clock is asked nothing is made.
 abbrev pub TakesPlace : Exchange → List Event → Schedule → Type 0
 TakesPlace (Looked b) es a = (es ≡ []) × (b ≡ a)
 TakesPlace (Told e (Ok answer)) es a = (es ≡ e ∷ []) × (is_of_line e ≡ true) × (answer ≡ answer_to e a)
 TakesPlace (Told e (Err fault)) es a = (es ≡ []) × IsFaultOf a e fault
 TakesPlace Heard es a = of_lines es ≡ []
+TakesPlace (Asked reading) es a = es ≡ []
 
 -- These exchanges took place, in this order, while just these minutes were made from this schedule on: the minutes are parts one after another, one for each
 -- exchange, which takes place at the schedule of the minutes before its part. So reports come in only where they are heard.

@@ -1,10 +1,9 @@
--- What waits once a line is read, and what is told of its answer.
+-- What waits once a line is read, and what takes place before its answer.
 use Rattle.std.specs.Prelude.{◌≡◌, ℕ, Bool, true, false, List, [], ◌∷◌, Option, Some, None, Result, Ok, Err}
 use Rattle.sched_events.specs.declared.events.Event.{Event}
 use Rattle.sched_events.specs.declared.events.Event.TheVariants.{Tick}
 use Rattle.minutes.specs.Minutes.{is_of_line}
-use Rattle.sessions.specs.Exchanges.{Exchange, Heard}
-use Rattle.sessions.specs.Readings.{Reading}
+use Rattle.sessions.specs.Exchanges.{Asked, Exchange, Heard}
 use Rattle.sessions.specs.declared.line_reading.Line.{Line}
 use Rattle.sessions.specs.declared.line_reading.Line.TheVariants as Says
 
@@ -44,23 +43,14 @@ Takes (Says.Event x) e = x ≡ e
 Takes Says.TickNow e = (moment : ℕ) × (e ≡ Tick moment)
 Takes Says.Drain e = ⊥
 
--- what takes place before a line is answered: for one that says to tick now reports are heard
-abbrev pub heard_for : Line → List Exchange
-heard_for (Says.Event e) = []
-heard_for Says.TickNow = Heard ∷ []
-heard_for Says.Drain = []
-
--- the reading of the clock at whose moment a tick is
-abbrev pub reading_of : Event → List Reading
-reading_of (Tick moment) = Ok moment ∷ []
-reading_of _ = []
-
--- the same of a tick for a line that says to tick now
-abbrev pub ticked : Line → Event → List Reading
-ticked (Says.Event x) e = []
-ticked Says.TickNow e = reading_of e
-ticked Says.Drain e = []
+-- what takes place before a line is told what came of this event: for one that says to tick now reports are heard, and then the clock is asked, and gives the
+-- moment of the tick
+abbrev pub before_answer : Line → Event → List Exchange
+before_answer (Says.Event x) e = []
+before_answer Says.TickNow (Tick moment) = Heard ∷ Asked (Ok moment) ∷ []
+before_answer Says.TickNow e = []
+before_answer Says.Drain e = []
 
 -- from one state of lines to another there was no exchange more, and what waits is the same
-abbrev pub TellsOn : {L : Type 0} → (L → List Exchange → List Reading → Option Line → L → Type 0) → L → L → Type 0
-TellsOn {L} tells l later = (s : L) (exchanges : List Exchange) (readings : List Reading) (waits : Option Line) → tells s exchanges readings waits l → tells s exchanges readings waits later
+abbrev pub TellsOn : {L : Type 0} → (L → List Exchange → Option Line → L → Type 0) → L → L → Type 0
+TellsOn {L} tells l later = (s : L) (exchanges : List Exchange) (waits : Option Line) → tells s exchanges waits l → tells s exchanges waits later

@@ -11,7 +11,7 @@ use Rattle.sched_events.specs.Steps.{steps, handed_along, AreAccepted}
 use Rattle.sched_events.specs.declared.answers.Answer.{Answer}
 use Rattle.sched_events.specs.declared.events.Event.{Event}
 use Rattle.sched_model.specs.Schedule.{Schedule}
-use Rattle.director.specs.Directors.{Follows}
+pub use Rattle.director.specs.Directors.{DirectorValue, Follows, ScheduleValue}
 use Rattle.director.specs.Lists.{IsOutcome}
 use Rattle.director.specs.declared.faults.Fault.{Fault}
 use Rattle.minutes.specs.Minutes.{reports_in, BeginWithRestart}

@@ -4,9 +4,8 @@ ghost use Rattle.sched_events.specs.declared.answers.Answer.{Answer};
 ghost use Rattle.sched_events.specs.declared.events.Event.{Event};
 ghost use Rattle.sched_model.specs.States.{in_flight};
 ghost use Rattle.director.specs.declared.faults.Fault.{Fault};
-ghost use Rattle.sessions.specs.Exchanges.{heard_where, looks, Exchange, Heard, Told};
-ghost use Rattle.sessions.specs.Readings.{Reading};
-ghost use Rattle.sessions.specs.Lines.{heard_for, may_be_read, opened_by, reads_drain, ticked, Takes, TellsOn};
+ghost use Rattle.sessions.specs.Exchanges.{heard_where, looks, Asked, Exchange, Heard, Told};
+ghost use Rattle.sessions.specs.Lines.{before_answer, may_be_read, opened_by, reads_drain, Takes, TellsOn};
 ghost use Rattle.sessions.specs.declared.clocks.ClockFault.{ClockFault};
 ghost use Rattle.sessions.specs.declared.line_reading.Line.{Line};
 ghost use Rattle.sessions.specs.declared.line_reading.Line.TheVariants as Says;
@@ -43,9 +42,9 @@ pub enum LineFault {
 /// implements it need not keep it.
 pub trait Lines: Drop {
     /// From one state to another these exchanges took place: they looked at schedules, they were told of events what came of them, and reports were heard
-    /// for a drain or a line that says to tick now; of each line that says so they were told this of the clock, the moment of the tick or why there is
-    /// none; and this line waits for its answer then.
-    ghost tells: { Self → List Exchange → List Reading → Option Line → Self → Type 0 };
+    /// for a drain; for a line that says to tick now reports were heard, then the clock was asked, and then they were told the tick at the moment that it
+    /// gave, or why there is none; and this line waits for its answer then.
+    ghost tells: { Self → List Exchange → Option Line → Self → Type 0 };
 
     /// What they show of an answer, from the state before it to the state after it.
     ghost shows: { Self → Event → Result Answer Fault → Self → Type 0 };
@@ -67,8 +66,8 @@ pub trait Lines: Drop {
     fn next(&mut self, schedule: &Schedule) -> Result<Option<Line>, LineFault>
         requires sound { failed self.old ≡ None }
         requires drained { drains self.old ≡ true → in_flight schedule.now.content ≡ 0 }
-        ensures told { (s : Self) (exchanges : List Exchange) (readings : List Reading) → tells s exchanges readings None self.old
-            → (times : ℕ) × tells s (exchanges ++ (heard_where (drains self.old) ++ looks times schedule.now.content)) readings (opened_by result) self.new }
+        ensures told { (s : Self) (exchanges : List Exchange) → tells s exchanges None self.old
+            → (times : ℕ) × tells s (exchanges ++ (heard_where (drains self.old) ++ looks times schedule.now.content)) (opened_by result) self.new }
         ensures failed { MatchResult result (λ _. failed self.new ≡ None)
             (λ fault. failed self.new ≡ Some fault) }
         ensures line { IfOk result (λ next. MatchOption next (over self.new ≡ true)
@@ -76,24 +75,24 @@ pub trait Lines: Drop {
         ensures drains { drains self.new ≡ reads_drain result };
 
     /// Tells the line that waits that its event was accepted, with the answer, or why not. It counts as told even where that fails. For a line that says
-    /// to tick now reports were heard before.
+    /// to tick now reports were heard before, and then the clock was asked, which gave the moment of the tick.
     fn answered(&mut self, event: &Event, answer: &Result<Answer, Fault>) -> Result<(), LineFault>
         requires { failed self.old ≡ None }
-        ensures told { (s : Self) (exchanges : List Exchange) (readings : List Reading) (line : Line)
-            → Takes line event.now → tells s exchanges readings (Some line) self.old
-            → tells s (exchanges ++ (heard_for line ++ Told event.now answer.now ∷ [])) (readings ++ ticked line event.now) None self.new }
+        ensures told { (s : Self) (exchanges : List Exchange) (line : Line)
+            → Takes line event.now → tells s exchanges (Some line) self.old
+            → tells s (exchanges ++ (before_answer line event.now ++ Told event.now answer.now ∷ [])) None self.new }
         ensures shown { OnOk result (shows self.old event.now answer.now self.new) }
         ensures failed { MatchResult result (λ _. failed self.new ≡ None)
             (λ fault. failed self.new ≡ Some fault) }
         ensures over { over self.new ≡ over self.old }
         ensures drains { drains self.new ≡ drains self.old };
 
-    /// Tells the line that waits, which says to tick now, that the clock gave no moment. Reports were heard before.
+    /// Tells the line that waits, which says to tick now, that the clock gave no moment. Reports were heard before, and then the clock was asked.
     fn no_clock(&mut self, fault: ClockFault) -> Result<(), LineFault>
         requires { failed self.old ≡ None }
-        ensures told { (s : Self) (exchanges : List Exchange) (readings : List Reading)
-            → tells s exchanges readings (Some Says.TickNow) self.old
-            → tells s (exchanges ++ Heard ∷ []) (readings ++ Err fault ∷ []) None self.new }
+        ensures told { (s : Self) (exchanges : List Exchange)
+            → tells s exchanges (Some Says.TickNow) self.old
+            → tells s (exchanges ++ Heard ∷ Asked (Err fault) ∷ []) None self.new }
         ensures shown { OnOk result (shows_no_clock self.old fault self.new) }
         ensures failed { MatchResult result (λ _. failed self.new ≡ None)
             (λ fault. failed self.new ≡ Some fault) }
@@ -108,5 +107,5 @@ pub trait Lines: Drop {
         ensures drains { drains self.new ≡ drains self.old };
 
     /// Where nothing is done, nothing took place.
-    ghost begins: { (s : Self) → tells s [] [] None s };
+    ghost begins: { (s : Self) → tells s [] None s };
 }

@@ -1,16 +1,16 @@
 //! Steps of a session: the restart, and the event of a line.
-ghost use Rattle.std.specs.Prelude.{◌≡◌, ◌≤◌, ◌<◌, ◌++◌, ◌∷◌, [], ℕ, List, length, true, None, Some, MatchResult, IfErr, OnOk, OnErr, vec_len, vec_capacity};
+ghost use Rattle.std.specs.Prelude.{◌≡◌, ◌≤◌, ◌<◌, ◌++◌, ◌∷◌, [], ℕ, List, length, true, None, Some, Result, MatchResult, IfErr, OnOk, OnErr, vec_len, vec_capacity};
 ghost use Rattle.sqlite.specs.Held.{state};
 ghost use Rattle.ruled_dispatch.specs.Lanes.{IsDirectorOf};
 ghost use Rattle.sched_events.specs.declared.answers.Answer.{Answer};
 ghost use Rattle.sched_events.specs.declared.events.Event.{Event};
 ghost use Rattle.sched_events.specs.declared.events.Event.TheVariants.{Restart};
 ghost use Rattle.sched_model.specs.Schedule.{Schedule};
+ghost use Rattle.director.specs.declared.faults.Fault.{Fault};
 ghost use Rattle.minutes.specs.Minutes.{is_of_line};
-ghost use Rattle.sessions.specs.Exchanges.{Exchange, TookPlaceBehind};
+ghost use Rattle.sessions.specs.Exchanges.{Exchange, Told, TookPlaceBehind};
 ghost use Rattle.sessions.specs.Faults.{EndsBy};
-ghost use Rattle.sessions.specs.Lines.{heard_for, ticked, Takes};
-ghost use Rattle.sessions.specs.Readings.{Reading};
+ghost use Rattle.sessions.specs.Lines.{before_answer, Takes};
 ghost use Rattle.sessions.specs.Runs.{GoesOn, IsAccepted, IsRun, IsTried};
 ghost use Rattle.sessions.specs.declared.line_reading.Line.{Line};
 
@@ -88,7 +88,7 @@ impl<S: Alter> Session<S> {
     }
 
     /// Steps the event of the line that is open, and tells the lines its answer, or why it was not accepted. Nothing took place before but what the
-    /// lines were told of, or, for a line that says to tick now, that reports were heard.
+    /// lines were told of, or, for a line that says to tick now, that reports were heard, and then the clock was asked.
     pub fn step_line<L: Lines, R: Wait>(
         &mut self,
         rt: &R,
@@ -104,12 +104,13 @@ impl<S: Alter> Session<S> {
         ensures goes_on { (lane_count : ℕ)
             → GoesOn (state S.Store) lanes.now lane_count self.old self.new }
         ensures begun { 0 < length self.new.minutes.items }
-        ensures told { (a : Schedule) (lane_count : ℕ) (l : L) (exchanges : List Exchange) (readings : List Reading) (line : Line)
+        ensures told { (a : Schedule) (lane_count : ℕ) (l : L) (exchanges : List Exchange) (line : Line)
             → IsRun a lane_count self.old → Takes line event
-            → TookPlaceBehind exchanges (heard_for line) self.old.minutes.items a
-            → L.tells l exchanges readings (Some line) lines.old
-            → (now : List Exchange) × TookPlaceBehind now [] self.new.minutes.items a
-            × L.tells l now (readings ++ ticked line event) None lines.new }
+            → TookPlaceBehind exchanges (before_answer line event) self.old.minutes.items a
+            → L.tells l exchanges (Some line) lines.old
+            → (answer : Result Answer Fault)
+            × TookPlaceBehind (exchanges ++ (before_answer line event ++ Told event answer ∷ [])) [] self.new.minutes.items a
+            × L.tells l (exchanges ++ (before_answer line event ++ Told event answer ∷ [])) None lines.new }
         ensures failed { MatchResult result (λ _. L.failed lines.new ≡ None)
             (λ fault. L.failed lines.new ≡ Some fault) }
         ensures over { L.over lines.new ≡ L.over lines.old }

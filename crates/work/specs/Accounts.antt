@@ -9,7 +9,7 @@ use Rattle.operators.specs.declared.kits.Kit.{Kit}
 use Rattle.operators.specs.Kits.{of_kind}
 use Rattle.operators.specs.Outcomes.{CanEnd}
 use Rattle.work.specs.declared.logs.Logged.{Logged}
-use Rattle.work.specs.Logs.{runs_of, hold_of}
+use Rattle.work.specs.Logs.{runs_of, refused_in, hold_of}
 
 -- A job may end so, begun or not: it is begun only by an operator that has taken nothing up, and then ends as an operator of its kind ends
 -- it; what is not begun failed, and is of `command` where its operator has taken nothing up.
@@ -23,8 +23,10 @@ pub record IsEntry {O : Type 0} (taken : O → Option Job) (kit : Kit O) (e : Lo
   pub left : e.left ≡ hold_of e.job
 
 -- The log is an account of the kit, from what it was before to what it is after: each operator's runs have grown by those of the entries of
--- its kind that were begun, in order; what each has taken up is what it had; and each entry is one of this kit.
-pub record IsAccount {O : Type 0} (runs : O → List (Job × Outcome)) (taken : O → Option Job) (before after : Kit O) (log : List Logged) : Type 0 where
+-- its kind that were begun, in order; if it had taken nothing up, the jobs that it refused have grown by those that were not begun; what each has taken up
+-- is what it had; and each entry is one of this kit.
+pub record IsAccount {O : Type 0} (runs : O → List (Job × Outcome)) (refused : O → List Job) (taken : O → Option Job) (before after : Kit O) (log : List Logged) : Type 0 where
   pub ran : (kind : Kind) → runs (of_kind after kind) ≡ runs (of_kind before kind) ++ runs_of kind log
+  pub refusals : (kind : Kind) → taken (of_kind before kind) ≡ None → refused (of_kind after kind) ≡ refused (of_kind before kind) ++ refused_in kind log
   pub kept : (kind : Kind) → taken (of_kind after kind) ≡ taken (of_kind before kind)
   pub entries : All (IsEntry taken before) log

@@ -1,5 +1,5 @@
 -- What a worker's log says: which jobs it took, what it told of them, and what its operators performed.
-use Rattle.std.specs.Prelude.{Bool, List, [], ◌∷◌, map, flat_map, ◌&&◌, if◌then◌else◌}
+use Rattle.std.specs.Prelude.{Bool, List, [], ◌∷◌, map, flat_map, not, ◌&&◌, if◌then◌else◌}
 use Rattle.graph_file.specs.declared.operators.Operator.{Operator as Kind}
 use Rattle.instance_machine.specs.declared.tries.Outcome.{Outcome}
 use Rattle.instance_machine.specs.declared.tries.Stage.TheVariants as stages
@@ -30,6 +30,14 @@ run_of kind job begun outcome = if begun && same_kind kind job.action.operator t
 -- what it adds for all of them, in order
 abbrev pub runs_of : Kind → List Logged → List (Job × Outcome)
 runs_of kind log = flat_map (λ e. run_of kind e.job e.begun e.outcome) log
+
+-- what it adds to the jobs that it refused, for a job that was not begun
+abbrev pub refused_part : Kind → Job → Bool → List Job
+refused_part kind job begun = if not begun && same_kind kind job.action.operator then job ∷ [] else []
+
+-- what it adds for all of them, in order
+abbrev pub refused_in : Kind → List Logged → List Job
+refused_in kind log = flat_map (λ e. refused_part kind e.job e.begun) log
 
 -- the slots that a job takes while it runs
 abbrev pub hold_of : Job → Hold

@@ -3,7 +3,7 @@ ghost use Rattle.std.specs.Prelude.{◌≡◌, ◌++◌, ◌∷◌, [], None, tr
 ghost use Rattle.graph_file.specs.declared.operators.Operator.{Operator as Kind};
 ghost use Rattle.ruled_dispatch.specs.Lanes.{taken_of, told_of, IsWorkerOf};
 ghost use Rattle.operators.specs.Kits.{of_kind, IsKit};
-ghost use Rattle.work.specs.Logs.{reports_of, run_of, runs_of};
+ghost use Rattle.work.specs.Logs.{reports_of, run_of, runs_of, refused_in, refused_part};
 ghost use Rattle.work.specs.Accounts.{IsEntry, MayEnd};
 
 use crate::asking::{enter, leave, tell};
@@ -47,6 +47,9 @@ pub fn do_job<L: Ledger, G: Gate, O: Operator, R: Wait>(
     ensures kit { IsKit O.kind_of crew.new.kit }
     ensures runs { (kind : Kind) → O.runs_of (of_kind crew.new.kit kind)
         ≡ O.runs_of (of_kind crew.old.kit kind) ++ runs_of kind (result ∷ []) }
+    ensures refused { (kind : Kind) → O.taken (of_kind crew.old.kit kind) ≡ None
+        → O.refused_of (of_kind crew.new.kit kind)
+        ≡ O.refused_of (of_kind crew.old.kit kind) ++ refused_in kind (result ∷ []) }
     ensures taken { (kind : Kind) → O.taken (of_kind crew.new.kit kind)
         ≡ O.taken (of_kind crew.old.kit kind) }
     ensures entry { IsEntry O.taken crew.old.kit result }
@@ -81,6 +84,9 @@ fn attempt<O: Operator, R: Wait>(rt: &R, kit: &mut Kit<O>, job: &Job) -> (bool, 
     ensures kit { IsKit O.kind_of kit.new }
     ensures runs { (kind : Kind) → O.runs_of (of_kind kit.new kind)
         ≡ O.runs_of (of_kind kit.old kind) ++ run_of kind job.now result.0 result.1 }
+    ensures refused { (kind : Kind) → O.taken (of_kind kit.old kind) ≡ None
+        → O.refused_of (of_kind kit.new kind)
+        ≡ O.refused_of (of_kind kit.old kind) ++ refused_part kind job.now result.0 }
     ensures taken { (kind : Kind) → O.taken (of_kind kit.new kind) ≡ O.taken (of_kind kit.old kind) }
     ensures ended { MayEnd O.taken kit.old job.now result.0 result.1 }
 {

@@ -34,7 +34,7 @@ pub fn work<L: Ledger, G: Gate, O: Operator, R: Wait>(
     requires kit { IsKit O.kind_of crew.kit }
     ensures taken { taken_of result.1 ≡ (taken_of pass ++ jobs_of result.0.log.items) ++ items.Stop ∷ [] }
     ensures told { told_of result.1 ≡ told_of pass ++ reports_of result.0.log.items }
-    ensures account { IsAccount O.runs_of O.taken crew.kit result.0.kit result.0.log.items }
+    ensures account { IsAccount O.runs_of O.refused_of O.taken crew.kit result.0.kit result.0.log.items }
     ensures kit { IsKit O.kind_of result.0.kit }
     ensures pass { StaysWith pass result.1 }
     ensures share { result.2 ≡ share }

@@ -42,6 +42,8 @@ impl Operator for Caller {
 
     ghost runs_of = { λ o. o.progress.runs };
 
+    ghost refused_of = { λ o. o.progress.refused };
+
     ghost taken = { λ o. o.progress.taken };
 
     ghost performed = { λ o. o.progress.performed };

@@ -35,6 +35,8 @@ impl<R: Processes + Drop> Operator for Plain<R> {
 
     ghost runs_of = { λ o. o.progress.runs };
 
+    ghost refused_of = { λ o. o.progress.refused };
+
     ghost taken = { λ o. o.progress.taken };
 
     ghost performed = { λ o. o.progress.performed };

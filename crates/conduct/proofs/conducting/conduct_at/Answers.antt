@@ -3,9 +3,8 @@ use Rattle.std.proofs.lemmas.List.{length-map}
 use Rattle.sqlite.specs.Held.{state}
 use Rattle.ruled_dispatch.specs.Lanes.{IsDirectorOf, HasWorkers}
 use Rattle.ruled_dispatch.specs.declared.passes.DirectorPass.{DirectorPass}
-use Rattle.director.specs.Directors.{DirectorValue}
-use Rattle.sched_core.specs.Changes.{ScheduleValue}
 use Rattle.sched_events.specs.SettledAndSound.{IsSoundAndSaid}
+use Rattle.sessions.specs.Runs.{DirectorValue, ScheduleValue}
 use Rattle.sessions.specs.Told.{AreTold}
 use Rattle.sessions.specs.declared.faults.ConductFault.TheVariants as fault
 use Rattle.crews.specs.Threads.{HaveWorked}
@@ -20,8 +19,8 @@ returns-in_default g c =
     let kits = map (λ x. x.kit) crews in
     let some : 0 < length kits = subst (λ n. 0 < n) (sym (length-map crews (λ x. x.kit))) c.requires.crews.0 in
     let none : false ≡ (length kits == 0) = sym (ne_eqb (length kits) 0 (λ e. absurd (omega arith))) in
-    unstarted_run (state g.S.Store) g.O.Operator.runs_of g.O.Operator.taken c.args.lane_count kits c.args.director _ (AreTold g.L.Lines.tells g.C.Clock.gives c.args.lines.now c.args.clock.now c.args.lines.now c.args.clock.now) ((c.args.lines.now ≡ c.args.lines.now) × (c.args.clock.now ≡ c.args.clock.now)) _ _ fault.Memory refl c.new.ensures.items refl
-    (record { exchanges = []; took_place = refl; readings = []; told = g.met.L.Lines.begins c.args.lines.now; given = g.met.C.Clock.begins c.args.clock.now }) (refl, refl) refl (inl c.requires.sound) none
+    unstarted_run (state g.S.Store) g.O.Operator.runs_of g.O.Operator.refused_of g.O.Operator.taken c.args.lane_count kits c.args.director _ (AreTold g.L.Lines.tells g.C.Clock.gives c.args.lines.now c.args.clock.now c.args.lines.now c.args.clock.now) ((c.args.lines.now ≡ c.args.lines.now) × (c.args.clock.now ≡ c.args.clock.now)) _ _ fault.Memory refl c.new.ensures.items refl
+    (record { exchanges = []; took_place = refl; told = g.met.L.Lines.begins c.args.lines.now; given = g.met.C.Clock.begins c.args.clock.now }) (refl, refl) refl (inl c.requires.sound) none
 
 pub manage-managed-requires-after_bounds : goal.manage-managed-requires-after_bounds
 manage-managed-requires-after_bounds g c κs within =
@@ -70,10 +69,10 @@ close-requires-clause-back g c =
     let same = d.all started in
     let count : length results ≡ c.len-workers.result = same ∙ sym len in
     let worked =
-    worked_from op.kind_of op.runs_of op.taken _ _ _ _ _ _ results (take_all (length results) passes (count ∙ sym e.workers.0)) (take_all (length results) shares (count ∙ sym e.workers.1))
+    worked_from op.kind_of op.runs_of op.refused_of op.taken _ _ _ _ _ _ results (take_all (length results) passes (count ∙ sym e.workers.0)) (take_all (length results) shares (count ∙ sym e.workers.1))
     (take_all (length results) kits (same ∙ sym (length-map crews (λ x. x.kit)))) d.worked
     in
-    are_back op.kind_of op.runs_of op.taken passes shares kits results worked q.lanes e.all.1 e.numbers e.new.0 e.new.1
+    are_back op.kind_of op.runs_of op.refused_of op.taken passes shares kits results worked q.lanes e.all.1 e.numbers e.new.0 e.new.1
 
 pub close-requires-clause-all : goal.close-requires-clause-all
 close-requires-clause-all g c =
@@ -107,20 +106,20 @@ returns g c =
     let a = c.args.director.schedule.content in
     let len : c.len-workers.result ≡ length crews = search rules in
     let long = length-map crews (λ x. x.kit) in
-    let worked : length results ≡ length crews → HaveWorked op.kind_of op.runs_of op.taken passes shares kits results =
+    let worked : length results ≡ length crews → HaveWorked op.kind_of op.runs_of op.refused_of op.taken passes shares kits results =
     λ same.
-    worked_from op.kind_of op.runs_of op.taken _ _ _ _ _ _ results (take_all (length results) passes (same ∙ sym len ∙ sym e.workers.0)) (take_all (length results) shares (same ∙ sym len ∙ sym e.workers.1))
+    worked_from op.kind_of op.runs_of op.refused_of op.taken _ _ _ _ _ _ results (take_all (length results) passes (same ∙ sym len ∙ sym e.workers.0)) (take_all (length results) shares (same ∙ sym len ∙ sym e.workers.1))
     (take_all (length results) kits (same ∙ sym long)) d.worked
     in
     let run = n.run c.args.lane_count e.unused.0 e.unused.1 in
     let stop = d.served.run a run in
     let sound : IsSoundAndSaid a = subst (λ (s : ScheduleValue). IsSoundAndSaid s.content) c.schedule.ensures c.runs.ensures.kept in
-    conducted (state g.S.Store) op.runs_of op.taken q.lanes c.args.lane_count (length results) kits c.args.director c.new-session.result m.session m.outcome results (λ r. r.0) c.close.result _ _ _ _
+    conducted (state g.S.Store) op.runs_of op.refused_of op.taken q.lanes c.args.lane_count (length results) kits c.args.director c.new-session.result m.session m.outcome results (λ r. r.0) c.close.result _ _ _ _
     (subst (λ k. 0 < k) (sym long) c.requires.crews.0) n.director run d.served z.director (ap vec_items z.minutes) z.ok z.fault
     (λ started. d.all started ∙ sym long) z.ends
     (if_ok c.close.result.outcome z.once (λ s each. each a c.args.lane_count stop))
     (if_ok c.close.result.outcome z.own (λ s each. each a c.args.lane_count sound stop))
-    (λ started. are_accounts op.kind_of op.runs_of op.taken passes shares kits results (worked (d.all started)))
-    (both_ok c.close.result.outcome m.outcome z.ok (on_ok m.outcome (λ started. none_in_hand op.kind_of op.runs_of op.taken passes shares kits results (worked (d.all started)) (e.workers.1 ∙ sym e.workers.0) e.none)) z.desk
+    (λ started. are_accounts op.kind_of op.runs_of op.refused_of op.taken passes shares kits results (worked (d.all started)))
+    (both_ok c.close.result.outcome m.outcome z.ok (on_ok m.outcome (λ started. none_in_hand op.kind_of op.runs_of op.refused_of op.taken passes shares kits results (worked (d.all started)) (e.workers.1 ∙ sym e.workers.0) e.none)) z.desk
     (λ s none p. (p.0 ∙ none, p.1)))
     z.sent z.told

@@ -32,7 +32,6 @@ returns-then-not-started-clause-served g c =
         record {
           exchanges = [];
           took_place = subst (λ (l : List Event). TookPlaceBehind [] (Heard ∷ []) l a) (sym c.requires.fresh) refl;
-          readings = [];
           told = g.met.L.Lines.begins c.args.lines.now;
           given = g.met.C.Clock.begins c.args.clock.now;
         },

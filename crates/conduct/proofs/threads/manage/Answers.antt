@@ -14,11 +14,11 @@ returns g c =
     record {
       managed =
           subst
-          (λ l. IsManaged (state g.S.Store) g.O.Operator.kind_of g.O.Operator.runs_of g.O.Operator.taken c.args.lanes.now c.args.lane_count c.args.session c.args.posts (vec_items c.args.crews) r.session r.outcome (vec_items r.results)
+          (λ l. IsManaged (state g.S.Store) g.O.Operator.kind_of g.O.Operator.runs_of g.O.Operator.refused_of g.O.Operator.taken c.args.lanes.now c.args.lane_count c.args.session c.args.posts (vec_items c.args.crews) r.session r.outcome (vec_items r.results)
           (AreTold lines.tells gives c.args.lines.now c.args.clock.now l c.clock-1.given.0) ((l ≡ c.args.lines.now) × (c.clock-1.given.0 ≡ c.args.clock.now)) (lines.failed l) (lines.over l))
           (sym at)
           (subst
-          (λ k. IsManaged (state g.S.Store) g.O.Operator.kind_of g.O.Operator.runs_of g.O.Operator.taken c.args.lanes.now c.args.lane_count c.args.session c.args.posts (vec_items c.args.crews) r.session r.outcome (vec_items r.results)
+          (λ k. IsManaged (state g.S.Store) g.O.Operator.kind_of g.O.Operator.runs_of g.O.Operator.refused_of g.O.Operator.taken c.args.lanes.now c.args.lane_count c.args.session c.args.posts (vec_items c.args.crews) r.session r.outcome (vec_items r.results)
           (AreTold lines.tells gives c.args.lines.now c.args.clock.now r.lines.now k) ((r.lines.now ≡ c.args.lines.now) × (k ≡ c.args.clock.now)) (lines.failed r.lines.now) (lines.over r.lines.now))
           (sym then) c.in_scope-session.ensures.managed);
     }

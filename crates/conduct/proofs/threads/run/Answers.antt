@@ -14,7 +14,7 @@ returns-clause-managed g c =
     record {
       served = same_stops c.len.result (length results) (counted ∙ sym joined) c.serve-outcome.ensures.served;
       worked =
-          worked_from g.O.Operator.kind_of g.O.Operator.runs_of g.O.Operator.taken _ _ _ _ _ _ results
+          worked_from g.O.Operator.kind_of g.O.Operator.runs_of g.O.Operator.refused_of g.O.Operator.taken _ _ _ _ _ _ results
           (started.passes ∙ ap (λ n. take n (vec_items c.args.posts.passes)) long)
           (started.shares ∙ ap (λ n. take n (vec_items c.args.posts.shares)) long)
           (started.kits ∙ ap (λ n. take n (map (λ x. x.kit) (vec_items c.args.crews))) long)

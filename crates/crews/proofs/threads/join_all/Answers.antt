@@ -14,10 +14,10 @@ returns-in-Ok g c =
       len ∙ sym (length-map hs (λ h. h.promise.pass.value)),
       λ i p s k r below.
           at_images (λ h. h.promise.pass.value) (λ h. h.promise.share.value) (λ h. h.promise.kit.value) hs
-          (λ n a b d. HasWorked g.O.Operator.kind_of g.O.Operator.runs_of g.O.Operator.taken a b d (get_or results n r).0 (get_or results n r).1 (get_or results n r).2)
+          (λ n a b d. HasWorked g.O.Operator.kind_of g.O.Operator.runs_of g.O.Operator.refused_of g.O.Operator.taken a b d (get_or results n r).0 (get_or results n r).1 (get_or results n r).2)
           (λ n h b.
           let kept = (c.in-Ok.ensures.each n r (omega arith)).1 in
-          subst (λ x. HasWorked g.O.Operator.kind_of g.O.Operator.runs_of g.O.Operator.taken x.promise.pass.value x.promise.share.value x.promise.kit.value (get_or results n r).0 (get_or results n r).1 (get_or results n r).2)
+          subst (λ x. HasWorked g.O.Operator.kind_of g.O.Operator.runs_of g.O.Operator.refused_of g.O.Operator.taken x.promise.pass.value x.promise.share.value x.promise.kit.value (get_or results n r).0 (get_or results n r).1 (get_or results n r).2)
           (kept.handle_is ∙ ap (λ v. get_or (vec_items v) n kept.handle) same ∙ same_at hs n kept.handle h b) kept.kept)
           i p s k (let l = length-map hs (λ h. h.promise.pass.value) in omega arith),
     )

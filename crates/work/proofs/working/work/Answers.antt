@@ -6,7 +6,7 @@ use Rattle.operators.specs.Kits.{of_kind}
 use Rattle.ruled_dispatch.specs.declared.items.JobOrStop.TheVariants as items
 use Rattle.ruled_dispatch.specs.Lanes.{taken_of, told_of}
 use Rattle.work.specs.declared.logs.Logged.{Logged}
-use Rattle.work.specs.Logs.{jobs_of, reports_of, runs_of, run_of, both_reports}
+use Rattle.work.specs.Logs.{jobs_of, reports_of, runs_of, run_of, refused_in, refused_part, both_reports}
 use Rattle.work.specs.Accounts.{IsEntry}
 use Rattle.work.proofs.Entries.{entry_before, only}
 use Rattle.work.proofs.working.work.Goals as goal
@@ -43,6 +43,11 @@ loop-preserved g c =
           did.runs kind ∙ ap (λ l. l ++ runs_of kind last) (was.ran kind) ∙ append_assoc (g.O.Operator.runs_of (of_kind kit kind)) (runs_of kind old) (runs_of kind last)
           ∙ ap (λ l. g.O.Operator.runs_of (of_kind kit kind) ++ l) (sym (flat_map-append (λ (e : Logged). run_of kind e.job e.begun e.outcome) old last))
           ∙ ap (λ (l : List Logged). g.O.Operator.runs_of (of_kind kit kind) ++ runs_of kind l) (sym grown);
+      refusals = λ kind none.
+          did.refused kind (was.kept kind ∙ none) ∙ ap (λ l. l ++ refused_in kind last) (was.refusals kind none)
+          ∙ append_assoc (g.O.Operator.refused_of (of_kind kit kind)) (refused_in kind old) (refused_in kind last)
+          ∙ ap (λ l. g.O.Operator.refused_of (of_kind kit kind) ++ l) (sym (flat_map-append (λ (e : Logged). refused_part kind e.job e.begun) old last))
+          ∙ ap (λ (l : List Logged). g.O.Operator.refused_of (of_kind kit kind) ++ refused_in kind l) (sym grown);
       kept = λ kind. did.taken kind ∙ was.kept kind;
       entries =
           subst (λ (l : List Logged). All (IsEntry taken_up kit) l) (sym grown)

@@ -6,10 +6,10 @@ use Rattle.script_reader.proofs.ShownLemmas.{put_sound}
 use Rattle.script_reader.proofs.answering.ScriptReaderLines.answered.Goals as goal
 
 pub returns-clause-told : goal.returns-clause-told
-returns-clause-told g c s told ticks line takes h =
+returns-clause-told g c s told line takes h =
     let e = c.end.ensures in
     let p = c.put-put.ensures in
-    answered_tells g.R.Read.remaining g.W.Write.contents g.F.Sources.gives s c.args.self.now c.end.new.self told ticks line c.args.event.now c.args.answer.now
+    answered_tells g.R.Read.remaining g.W.Write.contents g.F.Sources.gives s c.args.self.now c.end.new.self told line c.args.event.now c.args.answer.now
     (record { words = ap (λ w. w.names) (e.words ∙ p.words); input = e.input ∙ p.input; sources = e.sources ∙ p.sources; over = e.over ∙ p.over; drains = e.drains ∙ p.drains })
     (e.status ∙ p.status)
     (λ fine.

@@ -6,9 +6,9 @@ use Rattle.script_reader.proofs.ShownLemmas.{put_sound}
 use Rattle.script_reader.proofs.answering.ScriptReaderLines.no_clock.Goals as goal
 
 pub returns-clause-told : goal.returns-clause-told
-returns-clause-told g c s told ticks h =
+returns-clause-told g c s told h =
     let e = c.end.ensures in
-    untold_tells g.R.Read.remaining g.W.Write.contents g.F.Sources.gives s c.args.self.now c.end.new.self told ticks c.args.fault
+    untold_tells g.R.Read.remaining g.W.Write.contents g.F.Sources.gives s c.args.self.now c.end.new.self told c.args.fault
     (record { words = ap (λ w. w.names) e.words; input = e.input; sources = e.sources; over = e.over; drains = e.drains })
     (search rules)
     (λ fine.

@@ -17,7 +17,6 @@ returns-in-Ok-clause-told g c a was =
     (record {
       exchanges = [];
       took_place = c.restart.ensures.told a;
-      readings = [];
       told = g.met.L.Lines.begins c.args.lines.now;
       given = g.met.C.Clock.begins c.args.clock.now;
     }))
@@ -28,7 +27,6 @@ returns-in-Err-clause-told g c a was = (
   record {
     exchanges = [];
     took_place = behind_unheard [] (vec_items c.restart.new.self.minutes) a (c.restart.ensures.told a);
-    readings = [];
     told = g.met.L.Lines.begins c.args.lines.now;
     given = g.met.C.Clock.begins c.args.clock.now;
   },
