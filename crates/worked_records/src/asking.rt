@@ -2,8 +2,7 @@
 use crate::events::{changing_events, retried_events};
 use crate::files::new_database;
 use crate::playing::play;
-use crate::times::{fill_new, put_counts};
-use crate::{counts, drains, held_back, logs, meetings, refusals, stopping};
+use crate::{drains, meetings, refusals, stopping};
 use std::io;
 use std::sync::Wait;
 use std::thread::Threads;
@@ -17,23 +16,15 @@ pub fn write_line<T: Threads + Wait + Sync>(
     if line.is_empty() || line.starts_with('#') {
         return host.println(line);
     }
-    print!(host; "{line} =>")?;
+    println!(host; "{line} =>")?;
     let (subject, rest) = line.split_once(' ').unwrap_or((line, ""));
     match subject {
-        "rows" | "fill" | "stop" => write_rows(host, subject, rest),
-        "refuse" => write_refusals(rt, host, rest),
-        "fuse" => write_drains(rt, host),
-        _ => write_work(rt, host, subject, rest),
-    }
-}
-
-// Writes what records hold.
-fn write_rows(host: &HostRuntime, subject: &str, rest: &str) -> io::Result<()> {
-    host.println("")?;
-    match subject {
         "rows" => play_new(host),
-        "fill" => write_counts(host, rest),
-        _ => write_stops(host, rest),
+        "stop" => write_stops(host, rest),
+        "refuse" => write_refusals(rt, host, rest),
+        "fuse" => drains::write_answers(rt, host),
+        "meet" => meetings::write_answer(rt, host),
+        _ => host.println("no such question"),
     }
 }
 
@@ -53,46 +44,13 @@ fn play_new(host: &HostRuntime) -> io::Result<()> {
     play(host, alloc, new_database(alloc)?)
 }
 
-// Writes how many rows a round of so many runs and tries writes to a record in memory.
-fn write_counts(host: &HostRuntime, rest: &str) -> io::Result<()> {
-    let (runs, tries) = rest.split_once(' ').unwrap_or((rest, ""));
-    match (runs.parse::<u64>(), tries.parse::<u64>()) {
-        (Ok(runs), Ok(tries)) => put_counts(host, &fill_new(host, runs, tries)?),
-        _ => host.println("no numbers"),
-    }
-}
-
-fn write_drains<T: Threads + Wait + Sync>(rt: &T, host: &HostRuntime) -> io::Result<()> {
-    host.println("")?;
-    drains::write_answers(rt, host)
-}
-
 fn write_refusals<T: Threads + Wait + Sync>(
     rt: &T,
     host: &HostRuntime,
     count: &str,
 ) -> io::Result<()> {
-    host.println("")?;
     match count.parse::<u64>() {
         Ok(count) => refusals::write_answers(rt, host, count),
         Err(_) => host.println("no number"),
     }
-}
-
-// Writes what workers do.
-fn write_work<T: Threads + Wait + Sync>(
-    rt: &T,
-    host: &HostRuntime,
-    subject: &str,
-    rest: &str,
-) -> io::Result<()> {
-    match subject {
-        "log" => logs::write_answer(rt, host, false, rest)?,
-        "busy" => logs::write_answer(rt, host, true, rest)?,
-        "count" => counts::write_answer(rt, host, rest)?,
-        "meet" => meetings::write_answer(rt, host, rest)?,
-        "held" => held_back::write_answer(rt, host, rest)?,
-        _ => host.print(" no such question")?,
-    }
-    host.println("")
 }

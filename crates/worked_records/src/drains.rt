@@ -3,10 +3,10 @@
 use crate::alike::Alike;
 use crate::files::{Failing, Writes, empty_files, is_failing};
 use crate::refusals::{ONE_TASK, run_with};
-use crate::scripts::{Performed, Played, run_over};
+use crate::scripts::{Played, run};
 use crate::states::{Held, states};
 use crate::stopping::held_after;
-use crate::teams::workers;
+use crate::teams::one_worker;
 use std::alloc::Global;
 use std::io;
 use std::sync::Wait;
@@ -18,16 +18,13 @@ const MANY: u64 = 10_000;
 /// Writes what comes of the script where both files fail after 0, 1, 2 .. calls each, up to the first run that meets no failure.
 pub fn write_answers<T: Threads + Wait + Sync>(rt: &T, host: &HostRuntime) -> io::Result<()> {
     let alloc = host.alloc();
-    let Played { work, .. } = run_with(rt, host, Writes::all_pass())?;
-    let Some(Performed { minutes, .. }) = work else {
-        return host.println("not run");
-    };
-    let states = states(alloc, &minutes)?;
+    let Played { accepted, .. } = run_with(rt, host, Writes::all_pass())?;
+    let states = states(alloc, &accepted)?;
     let mut alike: Option<Alike> = None;
     for calls in 0..MANY {
-        let team = workers(alloc, 1)?;
         let files = empty_files(alloc, Failing::Both, calls);
-        let mut played = run_over(rt, host, files, team, ONE_TASK)?;
+        let team = one_worker(host)?;
+        let mut played = run(rt, host, files, team, ONE_TASK)?;
         if !is_failing(&mut played.files) {
             return Alike::put(host, alike.as_ref());
         }
@@ -41,9 +38,9 @@ fn told(alloc: Global, states: &[Held], played: Played) -> io::Result<String> {
     let Played {
         printed,
         files,
-        work,
+        accepted,
     } = played;
-    let accepted = work.map_or(0, |work| work.minutes.len());
+    let accepted = accepted.len();
     let (written, crashed) = held_after(alloc, files)?;
     let written = opened_as(states, accepted, &written);
     let crashed = opened_as(states, accepted, &crashed);

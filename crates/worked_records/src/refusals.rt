@@ -1,8 +1,8 @@
 //! A script over a record of whose log some writes in a row are refused, after so many that are not.
 use crate::alike::Alike;
-use crate::files::{Writes, refused_by};
+use crate::files::{Writes, flaky_files, refused_by};
 use crate::scripts::{Played, run};
-use crate::teams::workers;
+use crate::teams::one_worker;
 use std::io;
 use std::sync::Wait;
 use std::thread::Threads;
@@ -46,6 +46,6 @@ pub fn run_with<T: Threads + Wait + Sync>(
     host: &HostRuntime,
     writes: Writes,
 ) -> io::Result<Played> {
-    let team = workers(host.alloc(), 1)?;
-    run(rt, host, writes, team, ONE_TASK)
+    let team = one_worker(host)?;
+    run(rt, host, flaky_files(host.alloc(), writes), team, ONE_TASK)
 }

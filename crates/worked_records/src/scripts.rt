@@ -1,20 +1,16 @@
-//! A script that is run over a new record whose disk may refuse writes, and what came of it.
+//! A script that is run over a new record in files that may fail, and what came of it.
 ghost use Rattle.std.specs.Prelude.{◌≡◌, ◌≤◌, All, false, length};
 ghost use Rattle.graph_file.specs.declared.operators.Operator.TheVariants as kinds;
 ghost use Rattle.script_runner.specs.TaskOperators.{kind_of};
 ghost use Rattle.script_runner.specs.Teams.{IsWhole};
 
-use crate::callers::Caller;
-use crate::files::{RecordFiles, Writes, flaky_files, open};
-use crate::gates::Waiting;
+use crate::files::{RecordFiles, open};
 use crate::teams::Worker;
 use answer_lines::{Shown, put};
-use crews::Settled;
 use meta_store::Store;
 use sched_core::Event;
 use script_reader::{NoConsole, Script, failure_status};
-use script_runner::{FileSources, SystemClock, TaskOperator, Unopened, run_team};
-use sessions::ConductFault;
+use script_runner::{FileSources, SystemClock, Unopened, run_team};
 use sqlite::{Alter, Connection};
 use std::alloc::Global;
 use std::io::{self, ErrorKind, Write};
@@ -30,42 +26,19 @@ pub struct Played {
     pub printed: String,
     /// The files that it left.
     pub files: RecordFiles,
-    /// The events that were accepted, and what became of the workers, where the script was run.
-    pub work: Option<Performed>,
-}
-
-/// What workers did.
-#[derive(Drop)]
-pub struct Performed {
     /// The events that were accepted.
-    pub minutes: Vec<Event>,
-    /// What became of the workers.
-    pub outcome: Result<Settled<Waiting, TaskOperator<Caller>>, ConductFault>,
+    pub accepted: Vec<Event>,
 }
 
-// How a script ended.
+// How a script ended: its status, where it was run, and the events that were accepted.
 #[derive(Drop)]
 struct End {
     status: Option<u8>,
-    work: Option<Performed>,
+    accepted: Vec<Event>,
 }
 
-/// Runs a script with this team, over a disk that refuses such writes.
+/// Runs a script with this team over these files.
 pub fn run<T: Threads + Wait + Sync>(
-    rt: &T,
-    host: &HostRuntime,
-    writes: Writes,
-    team: Vec<Worker>,
-    script: &str,
-) -> io::Result<Played>
-    requires workers { length team.items ≤ 16 }
-    requires whole { All (λ w. IsWhole (kind_of (λ _. kinds.Command)) w.0.items) team.items }
-{
-    run_over(rt, host, flaky_files(host.alloc(), writes), team, script)
-}
-
-/// The same over these files.
-pub fn run_over<T: Threads + Wait + Sync>(
     rt: &T,
     host: &HostRuntime,
     files: RecordFiles,
@@ -78,11 +51,11 @@ pub fn run_over<T: Threads + Wait + Sync>(
     let alloc = host.alloc();
     let mut printed = Vec::new(alloc);
     let (end, files) = run_on_files(rt, host, files, team, script, &mut printed);
-    let End { status, work } = end?;
+    let End { status, accepted } = end?;
     Ok(Played {
         printed: in_one_line(alloc, printed, status)?,
         files,
-        work,
+        accepted,
     })
 }
 
@@ -103,7 +76,7 @@ fn run_on_files<T: Threads + Wait + Sync>(
             let (conn, end) = run_on_connection(rt, host, conn, team, script, printed);
             (end, conn.into_store().close())
         }
-        Err(files) => (not_run(printed, "not opened"), files),
+        Err(files) => (not_run(host.alloc(), printed, "not opened"), files),
     }
 }
 
@@ -125,7 +98,7 @@ fn run_on_connection<S: Alter + Drop, T: Threads + Wait + Sync>(
             let (record, end) = run_on_record(rt, host, record, team, script, printed);
             (record.release(), end)
         }
-        Err((conn, _)) => (conn, not_run(printed, "no record")),
+        Err((conn, _)) => (conn, not_run(host.alloc(), printed, "no record")),
     }
 }
 
@@ -151,13 +124,9 @@ fn run_on_record<S: Alter + Drop, T: Threads + Wait + Sync>(
     };
     match run_team(rt, alloc, record, LANES, team, script, &mut clock) {
         Ok(ran) => {
-            let work = Performed {
-                minutes: ran.minutes,
-                outcome: ran.outcome,
-            };
             let end = End {
                 status: Some(ran.status),
-                work: Some(work),
+                accepted: ran.minutes,
             };
             (ran.store, Ok(end))
         }
@@ -171,7 +140,7 @@ fn run_on_record<S: Alter + Drop, T: Threads + Wait + Sync>(
             drop(script);
             let end = End {
                 status: Some(failure_status(&fault)),
-                work: None,
+                accepted: Vec::new(alloc),
             };
             let put = put(printed, Shown::Failure(&fault));
             (store, put.map(|()| end))
@@ -180,11 +149,11 @@ fn run_on_record<S: Alter + Drop, T: Threads + Wait + Sync>(
 }
 
 // Prints why the script is not run, which has no status.
-fn not_run(printed: &mut Vec<u8>, why: &str) -> io::Result<End> {
+fn not_run(alloc: Global, printed: &mut Vec<u8>, why: &str) -> io::Result<End> {
     printed.write_all(why.as_bytes())?;
     Ok(End {
         status: None,
-        work: None,
+        accepted: Vec::new(alloc),
     })
 }
 

@@ -23,8 +23,7 @@ pub fn load_changed<W: Write>(
     sql: &str,
     output: &mut W,
 ) -> io::Result<()> {
-    let loaded = load_after(alloc, played, sql).or_else(|_| load_after(alloc, played, sql))?;
-    match loaded {
+    match load_or_again(alloc, played, sql)? {
         Loaded::Sound(schedule) => {
             let runs = schedule.run_count();
             let in_flight = schedule.in_flight();
@@ -32,6 +31,13 @@ pub fn load_changed<W: Write>(
         }
         Loaded::Faulty(fault) => put_fault(&fault, output),
         Loaded::Unchanged => output.write_all(b"refused by SQLite\n"),
+    }
+}
+
+fn load_or_again(alloc: Global, played: &Played, sql: &str) -> Result<Loaded, AllocError> {
+    match load_after(alloc, played, sql) {
+        Err(_) => load_after(alloc, played, sql),
+        loaded => loaded,
     }
 }
 

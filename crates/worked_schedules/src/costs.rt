@@ -101,14 +101,19 @@ fn number(word: Option<String>) -> Option<u64> {
 
 /// Makes a schedule of this size, steps each kind of event of another graph some times, and prints how long that took.
 pub fn write_costs(rt: &HostRuntime, size: Size) -> io::Result<()> {
+    let mut schedule = Schedule::new(rt.alloc(), Limits::full())?;
+    write_costs_in(rt, &mut schedule, size)
+}
+
+// The same in this schedule, which is empty.
+fn write_costs_in(rt: &HostRuntime, schedule: &mut Schedule, size: Size) -> io::Result<()> {
     let alloc = rt.alloc();
-    let mut schedule = Schedule::new(alloc, Limits::full())?;
-    prepare(rt, alloc, &mut schedule, size)?;
-    fill_past(rt, alloc, &mut schedule, size)?;
+    prepare(rt, alloc, schedule, size)?;
+    fill_past(rt, alloc, schedule, size)?;
     let Size { runs, tasks, .. } = size;
     println!(rt; "{runs} runs of {tasks} tasks")?;
     for kind in KINDS {
-        let work = measure(rt, alloc, &mut schedule, kind)?;
+        let work = measure(rt, alloc, schedule, kind)?;
         put(rt, kind.name(), &work)?;
     }
     Ok(())

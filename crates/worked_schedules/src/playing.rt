@@ -5,7 +5,7 @@ use crate::lines::Line;
 use crate::records::{Played, Records};
 use crate::stepping::step;
 use command_words::CommandReader;
-use sched_core::Limits;
+use sched_core::{Event, Limits};
 use script_commands::{CommandFault, ScriptCommand, SourceFault, next_command};
 use script_lines::LineReader;
 use std::alloc::Global;
@@ -16,15 +16,25 @@ use std::str;
 pub fn play<W: Write>(alloc: Global, text: &[u8], output: &mut W) -> io::Result<()> {
     let mut lines = LineReader::new(alloc)?;
     let mut records = Records::new(alloc)?;
+    play_lines(alloc, &mut records, &mut lines, text, output)
+}
+
+fn play_lines<W: Write>(
+    alloc: Global,
+    records: &mut Records,
+    lines: &mut LineReader,
+    text: &[u8],
+    output: &mut W,
+) -> io::Result<()> {
     let mut left = text;
     for _line in 0..text.len() {
         if left.is_empty() {
             break;
         }
-        left = play_line(alloc, &mut records, &mut lines, left, output)?;
+        left = play_line(alloc, records, lines, left, output)?;
     }
     records.begin(alloc, Limits::full())?;
-    let Records { ended, kept, .. } = records;
+    let (ended, kept) = (records.ended, records.kept);
     writeln!(
         output,
         "{kept} of {ended} records are read back as their schedules, to which their events in one list lead too"
@@ -50,10 +60,7 @@ fn play_line<'a, W: Write>(
             echo(line, output)?;
             limit(alloc, records, limits, output)?;
         }
-        Line::Event(event) => {
-            echo(line, output)?;
-            step(alloc, &mut records.played, &event, output)?;
-        }
+        Line::Event(event) => play_event(alloc, &mut records.played, line, &event, output)?,
         Line::Sql(statements) => {
             echo(line, output)?;
             load_changed(alloc, &records.played, statements, output)?;
@@ -76,6 +83,17 @@ fn first_line(text: &[u8]) -> (&[u8], &[u8]) {
 fn put_remark<W: Write>(line: &[u8], output: &mut W) -> io::Result<()> {
     output.write_all(line)?;
     output.write_all(b"\n")
+}
+
+fn play_event<W: Write>(
+    alloc: Global,
+    played: &mut Played,
+    line: &[u8],
+    event: &Event,
+    output: &mut W,
+) -> io::Result<()> {
+    echo(line, output)?;
+    step(alloc, played, event, output)
 }
 
 // Begins a new record within the limits.
@@ -102,21 +120,44 @@ fn play_script<'a, W: Write>(
     text: &'a [u8],
     output: &mut W,
 ) -> io::Result<&'a [u8]> {
-    let mut found = next_request(alloc, lines, text);
-    if lacks_memory(&found) {
-        found = next_request(alloc, lines, text);
-    }
-    let (request, left) = found?;
+    let (request, left) = request_or_again(alloc, lines, text)?;
     let read = text.len().saturating_sub(left.len());
-    echo(&text[..read], output)?;
-    if let Some(request) = request {
-        answer(alloc, played, request, output)?;
-    }
+    play_request(alloc, played, &text[..read], request, output)?;
     Ok(left)
 }
 
-// What a command asks for, and the text after it.
-type Asked<'a> = (Option<Result<ScriptCommand, CommandFault>>, &'a [u8]);
+// Writes the lines of a command, and does it.
+fn play_request<W: Write>(
+    alloc: Global,
+    played: &mut Played,
+    text: &[u8],
+    request: Option<Request>,
+    output: &mut W,
+) -> io::Result<()> {
+    let echoed = echo(text, output);
+    match request {
+        Some(request) if echoed.is_ok() => answer(alloc, played, request, output),
+        _ => echoed,
+    }
+}
+
+fn request_or_again<'a>(
+    alloc: Global,
+    lines: &mut LineReader,
+    text: &'a [u8],
+) -> io::Result<Asked<'a>> {
+    let found = next_request(alloc, lines, text);
+    if lacks_memory(&found) {
+        return next_request(alloc, lines, text);
+    }
+    found
+}
+
+// What a command asks for.
+type Request = Result<ScriptCommand, CommandFault>;
+
+// The same, if there is one, and the text after it.
+type Asked<'a> = (Option<Request>, &'a [u8]);
 
 // Whether memory ran out for the command, or it could not be read.
 fn lacks_memory(found: &io::Result<Asked<'_>>) -> bool {
@@ -126,7 +167,7 @@ fn lacks_memory(found: &io::Result<Asked<'_>>) -> bool {
     }
 }
 
-fn is_lack(request: &Option<Result<ScriptCommand, CommandFault>>) -> bool {
+fn is_lack(request: &Option<Request>) -> bool {
     let Some(Err(fault)) = request else {
         return false;
     };

@@ -21,7 +21,7 @@ impl Played {
     /// A new record, before the first event.
     pub fn new(alloc: Global, limits: Limits) -> Result<Played, AllocError> {
         Ok(Played {
-            director: new_director(alloc, limits).or_else(|_| new_director(alloc, limits))?,
+            director: new_or_again(alloc, limits)?,
             limits,
             events: Vec::new(alloc),
         })
@@ -39,8 +39,9 @@ impl Played {
 
     /// A record of its own that the same events have made.
     pub fn record(&self, alloc: Global) -> Result<Store<MemStore>, AllocError> {
+        let events = copied(alloc, &self.events)?;
         let mut director = new_director(alloc, self.limits)?;
-        match director.run_list(alloc, copied(alloc, &self.events)?) {
+        match director.run_list(alloc, events) {
             Ok(answers) if answers.iter().all(|answer| answer.is_ok()) => Ok(director.close()),
             _ => Err(AllocError),
         }
@@ -58,16 +59,17 @@ impl Played {
         answered
     }
 
-    /// Whether the record is read back as the schedule, and the same events in one list lead to it too.
-    pub fn is_kept(self, alloc: Global) -> io::Result<bool> {
+    /// Whether the record is read back as the schedule, and the same events in one list lead to it too; none if no event was done to it.
+    pub fn is_kept(self, alloc: Global) -> io::Result<Option<bool>> {
         let Played {
             director,
             limits,
             events,
         } = self;
-        let shown = shown(alloc, director.schedule())?;
-        let read = read_back(alloc, director.close(), limits)?;
-        Ok(shown == read && are_led_to(alloc, limits, &events, &shown)?)
+        if events.is_empty() {
+            return Ok(None);
+        }
+        is_kept(alloc, limits, &events, director).map(Some)
     }
 }
 
@@ -94,13 +96,19 @@ impl Records {
     /// Ends the record at hand, where an event was done to it, and begins a new one within these limits.
     pub fn begin(&mut self, alloc: Global, limits: Limits) -> io::Result<()> {
         let last = mem::replace(&mut self.played, Played::new(alloc, limits)?);
-        if !last.events.is_empty() {
+        if let Some(is_kept) = last.is_kept(alloc)? {
             self.ended = self.ended.saturating_add(1);
-            if last.is_kept(alloc)? {
-                self.kept = self.kept.saturating_add(1);
-            }
+            self.kept = self.kept.saturating_add(u64::from(is_kept));
         }
         Ok(())
+    }
+}
+
+// A director with a new record, which is made again where memory ran out.
+fn new_or_again(alloc: Global, limits: Limits) -> Result<Director<MemStore>, AllocError> {
+    match new_director(alloc, limits) {
+        Err(_) => new_director(alloc, limits),
+        made => made,
     }
 }
 
@@ -118,6 +126,37 @@ fn shown(alloc: Global, schedule: &Schedule) -> io::Result<Vec<u8>> {
     }
     put_left(schedule, &mut text)?;
     Ok(text)
+}
+
+// Whether the record that these events made is read back as its schedule, and they lead to it in one list too.
+fn is_kept(
+    alloc: Global,
+    limits: Limits,
+    events: &[Event],
+    director: Director<MemStore>,
+) -> io::Result<bool> {
+    let shown = shown(alloc, director.schedule())?;
+    is_read_and_led_to(alloc, limits, events, director.close(), &shown)
+}
+
+fn is_read_and_led_to(
+    alloc: Global,
+    limits: Limits,
+    events: &[Event],
+    store: Store<MemStore>,
+    shown: &[u8],
+) -> io::Result<bool> {
+    Ok(is_read_as(alloc, store, limits, shown)? && are_led_to(alloc, limits, events, shown)?)
+}
+
+fn is_read_as(
+    alloc: Global,
+    store: Store<MemStore>,
+    limits: Limits,
+    shown: &[u8],
+) -> io::Result<bool> {
+    let read = read_back(alloc, store, limits)?;
+    Ok(read.as_slice() == shown)
 }
 
 // What is shown of the schedule that the record is read as: nothing where it is not read.
@@ -160,20 +199,51 @@ fn are_led_to(alloc: Global, limits: Limits, events: &[Event], shown: &[u8]) -> 
     if listed.accepted.len() == events.len() {
         return Ok(listed.is(shown));
     }
+    Ok(is_of_accepted(alloc, limits, &listed)? && is_listed(alloc, limits, events, shown)?)
+}
+
+// Whether what a list left is what its accepted events lead to.
+fn is_of_accepted(alloc: Global, limits: Limits, listed: &Listed) -> io::Result<bool> {
     let accepted = by_list(alloc, limits, listed.accepted.as_slice())?;
-    Ok(listed.is(accepted.shown.as_slice()) && by_list(alloc, limits, events)?.is(shown))
+    Ok(listed.is(accepted.shown.as_slice()))
+}
+
+fn is_listed(alloc: Global, limits: Limits, events: &[Event], shown: &[u8]) -> io::Result<bool> {
+    let listed = by_list(alloc, limits, events)?;
+    Ok(listed.is(shown))
 }
 
 fn by_list(alloc: Global, limits: Limits, events: &[Event]) -> io::Result<Listed> {
     let mut director = new_director(alloc, limits)?;
-    let accepted = match director.run_list(alloc, copied(alloc, events)?) {
-        Ok(answers) => accepted_of(alloc, events, &answers)?,
-        Err((_, stepped)) => copied(alloc, events.get(..stepped).unwrap_or(events))?,
-    };
+    let accepted = accepted_in(alloc, &mut director, events)?;
+    left_by(alloc, limits, accepted, director)
+}
+
+// Does these events in one list: those that were accepted.
+fn accepted_in(
+    alloc: Global,
+    director: &mut Director<MemStore>,
+    events: &[Event],
+) -> Result<Vec<Event>, AllocError> {
+    match director.run_list(alloc, copied(alloc, events)?) {
+        Ok(answers) => accepted_of(alloc, events, &answers),
+        Err((_, stepped)) => copied(alloc, events.get(..stepped).unwrap_or(events)),
+    }
+}
+
+// What a director leaves, which accepted these events.
+fn left_by(
+    alloc: Global,
+    limits: Limits,
+    accepted: Vec<Event>,
+    director: Director<MemStore>,
+) -> io::Result<Listed> {
+    let shown = shown(alloc, director.schedule())?;
+    let read = read_back(alloc, director.close(), limits)?;
     Ok(Listed {
         accepted,
-        shown: shown(alloc, director.schedule())?,
-        read: read_back(alloc, director.close(), limits)?,
+        shown,
+        read,
     })
 }
 

@@ -15,11 +15,19 @@ pub fn step<W: Write>(
     event: &Event,
     output: &mut W,
 ) -> io::Result<()> {
-    match done_or_again(alloc, played, event) {
-        Ok(answer) => put(output, Shown::Answer(event, &answer))?,
-        Err(fault) => put(output, Shown::Failure(&fault))?,
-    }
+    put_answer(event, done_or_again(alloc, played, event), output)?;
     put_left(played.schedule(), output)
+}
+
+fn put_answer<W: Write>(
+    event: &Event,
+    answered: Result<Answer, Fault>,
+    output: &mut W,
+) -> io::Result<()> {
+    match &answered {
+        Ok(answer) => put(output, Shown::Answer(event, answer)),
+        Err(fault) => put(output, Shown::Failure(fault)),
+    }
 }
 
 fn done_or_again(alloc: Global, played: &mut Played, event: &Event) -> Result<Answer, Fault> {

@@ -1,14 +1,15 @@
 -- How a script is run.
 use Rattle.std.specs.Prelude.{◌≤◌}
 use Rattle.worked_scripts.specs.declared.sections.Kind.{Kind}
-use Rattle.worked_scripts.specs.declared.sections.Kind.TheVariants.{Lanes, Logged, Told, Stops, Long, Tasks, Memory}
+use Rattle.worked_scripts.specs.declared.sections.Kind.TheVariants.{Lanes, Workers, Logged, Told, Stops, Long, Tasks, Memory}
 
--- with no more lanes than there may be
-abbrev pub HasFewLanes : Kind → Type 0
-HasFewLanes (Lanes lanes) = lanes ≤ 64
-HasFewLanes Logged = Unit {0}
-HasFewLanes Told = Unit {0}
-HasFewLanes (Stops part) = Unit {0}
-HasFewLanes (Long count) = Unit {0}
-HasFewLanes (Tasks count) = Unit {0}
-HasFewLanes Memory = Unit {0}
+-- with no more lanes and no more workers than there may be
+abbrev pub IsWithin : Kind → Type 0
+IsWithin (Lanes lanes) = lanes ≤ 64
+IsWithin (Workers workers) = workers ≤ 16
+IsWithin Logged = Unit {0}
+IsWithin Told = Unit {0}
+IsWithin (Stops part) = Unit {0}
+IsWithin (Long count) = Unit {0}
+IsWithin (Tasks count) = Unit {0}
+IsWithin Memory = Unit {0}

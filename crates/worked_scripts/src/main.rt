@@ -1,4 +1,4 @@
-//! Worked scripts: each from a new record in memory, with one worker, with what it prints and its status.
+//! Worked scripts: each from a new record in memory, with what it prints and its status.
 //!
 //! Standard input has headings, `== WORD TITLE`, and below each the lines of a script. Standard output has the same, with `> ` before each line of a script,
 //! and after them what the script prints and its status. So the output reads as one page. The clock of `tick now` gives three moments, 2024-01-02, 2024-01-03 and
@@ -15,11 +15,12 @@
 //! status 0
 //! ```
 //!
-//! WORD is the number of lanes, or says that a script is run in another way. `logs`: with one lane, and a log for each try of a program in the
-//! folder `logs`. `told`: with one lane, and below the answers what a person is told of them, with `! ` before each line. The others are without lanes. `reads`: its reads fail after 0, 1, 2 .. that do not, until a run meets no
-//! such read; `writes`: the same of what it writes, a byte at a time. Runs with the same answers, status and clock of the record share a line. `long-COUNT`: each
-//! `~` of the script and the byte before it stand for so many of that byte. `tasks-COUNT`: the script stands below the load of a graph of so many tasks, each after the one before it.
-//! `memory`: not a script, but what is written where memory ran out.
+//! WORD is the number of lanes, or says that a script is run in another way. `workers-COUNT`: with so many lanes and as many workers; all others have one worker.
+//! `logs`: with one lane, and a log for each try of a program in the folder `logs`. `told`: with one lane, and below the answers what a person is told of them, with
+//! `! ` before each line. The others are without lanes. `reads`: its reads fail after 0, 1, 2 .. that do not, until a run meets no such read; `writes`: the same of
+//! what it writes, a byte at a time. Runs with the same answers, status and clock of the record share a line. `long-COUNT`: each `~` of the script and the byte before
+//! it stand for so many of that byte. `tasks-COUNT`: the script stands below the load of a graph of so many tasks, each after the one before it. `memory`: not a
+//! script, but what is written where memory ran out.
 #![tactic(auto)]
 
 ghost use Rattle.std.specs.Prelude.{◌≤◌};
@@ -36,7 +37,7 @@ mod stopping;
 use failing::Calls;
 use generated::{long, with_chain};
 use lacking::put_lacks;
-use playing::play;
+use playing::{Setting, play};
 use sections::{Kind, Section, next_section};
 use std::fs;
 use std::io::{self, BufWriter, Read, Write};
@@ -87,17 +88,30 @@ fn put_run<T: Threads + Wait + Sync, W: Write>(
 ) -> io::Result<()> {
     let alloc = host.alloc();
     match section.kind() {
-        Kind::Lanes(lanes) => put_played(rt, host, lanes, None, section.script, output),
+        Kind::Lanes(lanes) => {
+            let setting = Setting::with_lanes(lanes);
+            put_played(rt, host, setting, section.script, output)
+        }
+        Kind::Workers(workers) => {
+            let setting = Setting {
+                lanes: workers,
+                workers,
+                logs: None,
+            };
+            put_played(rt, host, setting, section.script, output)
+        }
         Kind::Logged => put_logged(rt, host, section.script, output),
         Kind::Told => put_told(rt, host, section.script, output),
         Kind::Stops(part) => put_stops(rt, host, part, section.script, output),
         Kind::Long(count) => {
             let script = long(alloc, section.script, count)?;
-            put_played(rt, host, 0, None, script.as_slice(), output)
+            let setting = Setting::with_lanes(0);
+            put_played(rt, host, setting, script.as_slice(), output)
         }
         Kind::Tasks(count) => {
             let script = with_chain(alloc, section.script, count)?;
-            put_played(rt, host, 0, None, script.as_slice(), output)
+            let setting = Setting::with_lanes(0);
+            put_played(rt, host, setting, script.as_slice(), output)
         }
         Kind::Memory => put_lacks(output),
     }
@@ -107,14 +121,14 @@ fn put_run<T: Threads + Wait + Sync, W: Write>(
 fn put_played<T: Threads + Wait + Sync, W: Write>(
     rt: &T,
     host: &HostRuntime,
-    lanes: u32,
-    logs: Option<&str>,
+    setting: Setting<'_>,
     script: &[u8],
     output: &mut W,
 ) -> io::Result<()>
-    requires { lanes ≤ 64 }
+    requires lanes { setting.lanes ≤ 64 }
+    requires workers { setting.workers ≤ 16 }
 {
-    let played = play(rt, host, lanes, logs, script, Calls::all())?;
+    let played = play(rt, host, setting, script, Calls::all())?;
     output.write_all(played.printed.as_slice())?;
     writeln!(output, "status {}", played.status)
 }
@@ -126,7 +140,11 @@ fn put_logged<T: Threads + Wait + Sync, W: Write>(
     script: &[u8],
     output: &mut W,
 ) -> io::Result<()> {
-    put_played(rt, host, 1, Some(playing::LOGS), script, output)?;
+    let setting = Setting {
+        logs: Some(playing::LOGS),
+        ..Setting::with_lanes(1)
+    };
+    put_played(rt, host, setting, script, output)?;
     fs::remove_dir_all(host, playing::LOGS)
 }
 
@@ -137,7 +155,7 @@ fn put_told<T: Threads + Wait + Sync, W: Write>(
     script: &[u8],
     output: &mut W,
 ) -> io::Result<()> {
-    put_played(rt, host, 1, None, script, output)?;
+    put_played(rt, host, Setting::with_lanes(1), script, output)?;
     let told = fs::read(host, playing::TOLD)?;
     put_lines(b"! ", told.as_slice(), output)
 }

@@ -1,5 +1,5 @@
-//! A script that is run on a new record in memory, with one worker.
-ghost use Rattle.std.specs.Prelude.{◌≤◌};
+//! A script that is run on a new record in memory.
+ghost use Rattle.std.specs.Prelude.{◌≡◌, ◌≤◌};
 
 use crate::clocks::worked_clock;
 use crate::failing::{Calls, Sink, Source};
@@ -25,6 +25,28 @@ pub const LOGS: &str = "logs";
 /// The file that has what a person is told of the script that was run last.
 pub const TOLD: &str = "told";
 
+/// With how many lanes and workers a script is run, and where its tries have their logs, if they have some.
+#[derive(Clone, Copy)]
+pub struct Setting<'a> {
+    pub lanes: u32,
+    pub workers: u32,
+    pub logs: Option<&'a str>,
+}
+
+impl Setting<'_> {
+    /// One worker, so many lanes and no logs.
+    pub fn with_lanes(lanes: u32) -> Setting<'static>
+        ensures lanes { result.lanes ≡ lanes }
+        ensures workers { result.workers ≡ 1 }
+    {
+        Setting {
+            lanes,
+            workers: 1,
+            logs: None,
+        }
+    }
+}
+
 /// What came of a script.
 #[derive(Drop)]
 pub struct Played {
@@ -42,15 +64,15 @@ pub struct Played {
 pub fn play<T: Threads + Wait + Sync>(
     rt: &T,
     host: &HostRuntime,
-    lanes: u32,
-    logs: Option<&str>,
+    setting: Setting<'_>,
     script: &[u8],
     calls: Calls,
 ) -> io::Result<Played>
-    requires { lanes ≤ 64 }
+    requires lanes { setting.lanes ≤ 64 }
+    requires workers { setting.workers ≤ 16 }
 {
     let alloc = host.alloc();
-    let team = operators_for(*host, alloc, 1, SCRATCH, logs)?;
+    let team = operators_for(*host, alloc, setting.workers, SCRATCH, setting.logs)?;
     let mut clock = worked_clock(alloc)?;
     let source = Source {
         text: script,
@@ -64,7 +86,7 @@ pub fn play<T: Threads + Wait + Sync>(
         console: SentenceConsole::new(*host, alloc, Vec::new(alloc), told),
     };
     let record = new_record(alloc)?;
-    match run_team(rt, alloc, record, lanes, team, script, &mut clock) {
+    match run_team(rt, alloc, record, setting.lanes, team, script, &mut clock) {
         Ok(ran) => Ok(Played {
             printed: ran.output.bytes,
             status: ran.status,

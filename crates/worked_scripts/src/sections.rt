@@ -1,5 +1,5 @@
 //! The sections of a text, each a heading and the lines of a script.
-ghost use Rattle.worked_scripts.specs.Sections.{HasFewLanes};
+ghost use Rattle.worked_scripts.specs.Sections.{IsWithin};
 
 use std::str;
 
@@ -15,6 +15,8 @@ pub struct Section<'a> {
 pub enum Kind {
     /// With so many lanes, of 64 at most.
     Lanes(u32),
+    /// With so many lanes, of 16 at most, and as many workers.
+    Workers(u32),
     /// With one lane, and a log for each try of `command`.
     Logged,
     /// With one lane, and what a person is told below the answers.
@@ -39,7 +41,7 @@ pub enum Part {
 impl Section<'_> {
     /// How the script is run; without lanes where the heading does not say it.
     pub fn kind(&self) -> Kind
-        ensures { HasFewLanes result }
+        ensures { IsWithin result }
     {
         let word = str::from_utf8(self.heading)
             .ok()
@@ -58,8 +60,11 @@ impl Section<'_> {
 
 // The kind of a word that has a number.
 fn counted(word: &str) -> Kind
-    ensures { HasFewLanes result }
+    ensures { IsWithin result }
 {
+    if let Some(count) = word.strip_prefix("workers-") {
+        return Kind::Workers(count.parse::<u32>().unwrap_or(0).min(16));
+    }
     if let Some(count) = word.strip_prefix("long-") {
         return Kind::Long(count.parse::<usize>().unwrap_or(0));
     }

@@ -1,6 +1,6 @@
 //! Scripts whose reads or writes fail, after 0, 1, 2 .. that do not.
 use crate::failing::Calls;
-use crate::playing::{Played, play};
+use crate::playing::{Played, Setting, play};
 use crate::sections::Part;
 use std::alloc::Global;
 use std::io::{self, ErrorKind, Write};
@@ -32,7 +32,8 @@ pub fn put_stops<T: Threads + Wait + Sync, W: Write>(
 ) -> io::Result<()> {
     let mut alike: Option<Alike> = None;
     for count in 0..MANY {
-        let played = play(rt, host, 1, None, script, calls_of(part, count))?;
+        let setting = Setting::with_lanes(1);
+        let played = play(rt, host, setting, script, calls_of(part, count))?;
         let line = line_of(host.alloc(), part, &played)?;
         if played.status != FAILED {
             put_alike(alike.as_ref(), output)?;

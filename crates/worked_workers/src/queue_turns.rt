@@ -59,24 +59,14 @@ fn write_turn<R: Wait + Print>(
 
 // Sends an item, and writes whether it was accepted, or which item came back.
 fn write_sent<R: Wait + Print>(rt: &R, seats: &mut Seats, item: JobOrStop) -> io::Result<()> {
-    match seats.send(rt, item) {
-        Ok(()) => rt.print(" sent"),
-        Err(back) => {
-            rt.print(" back:")?;
-            write_item(rt, &back)
-        }
-    }
+    let back = seats.send(rt, item).err();
+    write_moved(rt, " back:", back.as_ref(), " sent")
 }
 
 // Has a worker take, and writes what it took.
 fn write_taken<R: Wait + Print>(rt: &R, seats: &mut Seats, worker: usize) -> io::Result<()> {
-    match seats.take(rt, worker) {
-        Some(item) => {
-            rt.print(" took:")?;
-            write_item(rt, &item)
-        }
-        None => rt.print(" none"),
-    }
+    let taken = seats.take(rt, worker);
+    write_moved(rt, " took:", taken.as_ref(), " none")
 }
 
 // Has a worker tell, and writes whether the report was accepted, or which one came back.
@@ -104,12 +94,19 @@ fn write_hearing<R: Wait + Print>(rt: &R, seats: &mut Seats) -> io::Result<()> {
     }
 }
 
-fn write_item<R: Print>(rt: &R, item: &JobOrStop) -> io::Result<()> {
+// Writes an item behind this word, or where there is none the other word.
+fn write_moved<R: Print>(
+    rt: &R,
+    word: &str,
+    item: Option<&JobOrStop>,
+    other: &str,
+) -> io::Result<()> {
     match item {
-        JobOrStop::Job(job) => {
+        Some(JobOrStop::Job(job)) => {
             let serial = job.serial;
-            print!(rt; "{serial}")
+            print!(rt; "{word}{serial}")
         }
-        JobOrStop::Stop => rt.print("stop"),
+        Some(JobOrStop::Stop) => print!(rt; "{word}stop"),
+        None => rt.print(other),
     }
 }

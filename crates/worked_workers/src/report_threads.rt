@@ -56,7 +56,7 @@ pub fn run_report_round<R: Threads + Wait + Sync>(
     Ok(ReportRound { heard, left })
 }
 
-// Hears until so many reports have come. Where memory is wanting it is asked again.
+// Hears until so many reports have come.
 fn hear_all<R: Wait>(
     rt: &R,
     alloc: Global,
@@ -71,15 +71,33 @@ fn hear_all<R: Wait>(
 {
     let mut pass = director;
     let mut heard = Vec::new(alloc);
+    hear_until(rt, lanes, &mut pass, &mut heard, total);
+    (heard, pass)
+}
+
+// Adds what is heard to a list that has nothing yet, until it has so many reports. Where memory is wanting it is asked again.
+fn hear_until<R: Wait>(
+    rt: &R,
+    lanes: &Lanes,
+    pass: &mut DirectorPass,
+    heard: &mut Vec<WorkerReport>,
+    total: u64,
+)
+    requires pass { IsDirectorOf lanes.now pass.old }
+    requires nothing { heard.old.items ≡ [] }
+    ensures pass { IsDirectorOf lanes.now pass.new }
+    ensures workers { (n : ℕ) → HasWorkers pass.old n → HasWorkers pass.new n }
+    ensures heard { heard_of pass.new ≡ heard_of pass.old ++ heard.new.items }
+{
     for _ in rt.forever() {
         if heard.len() as u64 >= total {
-            return (heard, pass);
+            return;
         }
         if heard.reserve(1).is_err() {
             thread::yield_now();
             continue;
         }
-        match lanes.hear(rt, &mut pass) {
+        match lanes.hear(rt, pass) {
             None => thread::yield_now(),
             Some(told) => heard.push_reserved(told),
         }

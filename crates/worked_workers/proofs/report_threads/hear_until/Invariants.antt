@@ -1,10 +1,10 @@
 use Rattle.std.proofs.Common.{◌≡◌, ◌++◌, ℕ, vec_items}
 use Rattle.ruled_dispatch.specs.Lanes.{heard_of, HasWorkers, IsDirectorOf}
-use Rattle.worked_workers.proofs.report_threads.hear_all.Given as goal
+use Rattle.worked_workers.proofs.report_threads.hear_until.Given as goal
 
 abbrev pub invariant-loop : goal.invariant-loop
 invariant-loop g l = record {
   pass : IsDirectorOf l.lanes l.pass;
-  workers : (n : ℕ) → HasWorkers l.fn.director n → HasWorkers l.pass n;
-  heard : heard_of l.pass ≡ heard_of l.fn.director ++ vec_items l.heard;
+  workers : (n : ℕ) → HasWorkers l.initial.pass n → HasWorkers l.pass n;
+  heard : heard_of l.pass ≡ heard_of l.initial.pass ++ vec_items l.heard;
 }
