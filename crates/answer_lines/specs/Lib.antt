@@ -13,3 +13,5 @@ pub mod RunFaults
 pub mod Runs
 pub mod Shown
 pub mod Tasks
+pub use Rattle.explain.specs as explain
+pub use Rattle.sessions.specs as sessions

@@ -1,7 +1,7 @@
 -- The rows of a schedule.
 use Rattle.std.specs.Prelude.{ℕ, List}
 use Rattle.sched_model.specs.Schedule.{Schedule}
-use Rattle.sched_core.specs.Views.{all_rows, pool_rows}
+use Rattle.explain.specs.sched_core.Views.{all_rows, pool_rows}
 use Rattle.command_words.specs.declared.commands.Listing.{Listing}
 use Rattle.command_words.specs.declared.commands.Listing.TheVariants.{Dags, Runs, Tasks, Pools}
 use Rattle.answer_lines.specs.Dags.{dags_text}

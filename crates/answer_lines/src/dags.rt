@@ -3,8 +3,8 @@ ghost use Rattle.std.specs.Prelude.{◌≡◌, OnOk};
 ghost use Rattle.std.specs.Io.KnownBytes.{Appends};
 ghost use Rattle.answer_lines.specs.Dags.{dag_line, pause_text};
 
-use sched_core::Schedule;
 use sched_state::LoadedGraph;
+use sessions::Schedule;
 use std::io::{self, Write};
 
 // Writes `DAG PAUSED RUNNING MOST`.

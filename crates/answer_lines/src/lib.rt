@@ -34,8 +34,8 @@ mod runs;
 mod shown;
 mod tasks;
 
-pub use explain::ExplainFault;
+pub use explain::{ExplainFault, explain};
 pub use listing::put_listing;
 pub use reasons::put_reasons;
-pub use sessions::{ClockFault, ConductFault, Fault, StoreFault};
+pub use sessions::{ClockFault, ConductFault, Fault, Line, LineFault, Lines, Schedule, StoreFault};
 pub use shown::{Shown, put};

@@ -7,7 +7,7 @@ ghost use Rattle.answer_lines.specs.Listings.{listing_text};
 ghost use Rattle.answer_lines.specs.Pools.{pool_line, pools_text};
 ghost use Rattle.answer_lines.specs.Runs.{run_line, runs_text};
 ghost use Rattle.answer_lines.specs.Tasks.{task_line, tasks_text};
-ghost use Rattle.sched_core.specs.Views.{all_rows, pool_rows};
+ghost use Rattle.explain.specs.sched_core.Views.{all_rows, pool_rows};
 
 use crate::answers::put_ok;
 use crate::dags::put_dag;
@@ -15,8 +15,8 @@ use crate::pools::put_pool;
 use crate::runs::put_run;
 use crate::tasks::put_task;
 use command_words::Listing;
-use sched_core::Schedule;
 use sched_state::LoadedGraph;
+use sessions::Schedule;
 use std::io::{self, Write};
 
 /// Writes a row for each graph, run, task instance or pool, and `ok`.

@@ -5,7 +5,7 @@ use Rattle.sqlite.specs.State.{State}
 use Rattle.command_words.specs.declared.commands.Command.{Command}
 use Rattle.command_words.specs.declared.commands.Command.TheVariants as says
 use Rattle.command_words.specs.declared.commands.UsageFault.TheVariants.{NotHere}
-use Rattle.answer_lines.specs.CommandFaults.{usage_text}
+use Rattle.script_reader.specs.answer_lines.CommandFaults.{usage_text}
 use Rattle.command_runner.specs.Events.{IsEventDone}
 use Rattle.command_runner.specs.Looks.{IsListingDone, IsQuestionDone}
 use Rattle.command_runner.specs.Writes.{IsWritten}

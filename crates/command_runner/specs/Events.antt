@@ -13,7 +13,7 @@ use Rattle.director.specs.Directors.{DirectorValue, Follows, Keeps, Opens}
 use Rattle.director.specs.Faults.{IsOpenFault}
 use Rattle.director.specs.Lists.{IsOutcome}
 use Rattle.director.specs.declared.faults.Fault.{Fault}
-use Rattle.answer_lines.specs.RecordFaults.{failure_text}
+use Rattle.script_reader.specs.answer_lines.RecordFaults.{failure_text}
 use Rattle.script_reader.specs.Statuses.{failure_status, shown_for, status_of}
 use Rattle.command_runner.specs.Writes.{IsWritten}
 

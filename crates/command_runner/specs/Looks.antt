@@ -5,18 +5,18 @@ use Rattle.sqlite.specs.State.{State, HasCleanDisk, Survives}
 use Rattle.sched_state.specs.Limits.{ceilings}
 use Rattle.sched_events.specs.SettledAndSound.{IsSoundAndSaid}
 use Rattle.sched_model.specs.Schedule.{Schedule}
-use Rattle.meta_store.specs.Loads.{IsLoadFault, ReadsAs}
-use Rattle.meta_store.specs.declared.faults.StoreFault.{StoreFault}
+use Rattle.director.specs.meta_store.Loads.{IsLoadFault, ReadsAs}
+use Rattle.director.specs.meta_store.declared.faults.StoreFault.{StoreFault}
 use Rattle.director.specs.Faults.{IsOfStore}
 use Rattle.director.specs.declared.faults.Fault.{Fault}
 use Rattle.command_words.specs.declared.commands.Listing.{Listing}
 use Rattle.command_words.specs.declared.commands.Question.{Question}
-use Rattle.explain.specs.Reasons.{IsUnexplained, explained}
-use Rattle.explain.specs.declared.reasons.ExplainFault.{ExplainFault}
-use Rattle.explain.specs.declared.reasons.Reason.{Reason}
-use Rattle.answer_lines.specs.Listings.{listing_text}
-use Rattle.answer_lines.specs.Reasons.{explain_fault_text, reasons_text}
-use Rattle.answer_lines.specs.RecordFaults.{failure_text}
+use Rattle.script_reader.specs.answer_lines.explain.Reasons.{IsUnexplained, explained}
+use Rattle.script_reader.specs.answer_lines.explain.declared.reasons.ExplainFault.{ExplainFault}
+use Rattle.script_reader.specs.answer_lines.explain.declared.reasons.Reason.{Reason}
+use Rattle.script_reader.specs.answer_lines.Listings.{listing_text}
+use Rattle.script_reader.specs.answer_lines.Reasons.{explain_fault_text, reasons_text}
+use Rattle.script_reader.specs.answer_lines.RecordFaults.{failure_text}
 use Rattle.script_reader.specs.Statuses.{explain_status, failure_status}
 use Rattle.command_runner.specs.Writes.{IsWritten}
 

@@ -6,11 +6,9 @@ ghost use Rattle.script_reader.specs.Statuses.{shown_for};
 ghost use Rattle.command_runner.specs.Events.{IsEventDone, IsStepDone};
 
 use crate::writing::status_after;
-use answer_lines::{Shown, put};
-use director::Director;
-use meta_store::{Limits, Store};
+use director::{Director, Limits, Store};
 use sched_events::{Answer, Event};
-use script_reader::{Console, failure_status};
+use script_reader::{Console, Shown, failure_status, put};
 use sqlite::Alter;
 use std::alloc::Global;
 use std::io::{self, Write};

@@ -3,12 +3,11 @@ ghost use Rattle.sqlite.specs.Held.{state};
 ghost use Rattle.command_runner.specs.Looks.{IsAnswered, IsListingDone, IsQuestionDone, IsUnread};
 
 use crate::writing::status_after;
-use answer_lines::{Shown, put, put_listing, put_reasons};
 use command_words::{Listing, Question};
-use director::Fault;
-use explain::explain;
-use meta_store::{Limits, Schedule, Store, StoreFault};
-use script_reader::{Console, explain_status, failure_status};
+use director::{Fault, Limits, Schedule, Store, StoreFault};
+use script_reader::{
+    Console, Shown, explain, explain_status, failure_status, put, put_listing, put_reasons,
+};
 use sqlite::Alter;
 use std::alloc::Global;
 use std::io::Write;

@@ -6,7 +6,7 @@ use Rattle.sqlite.specs.Tree.{Trees}
 use Rattle.sqlite.proofs.StateLemmas.{survives_then}
 use Rattle.record_rows.specs.Rows.{Rows}
 use Rattle.record_rules.specs.Reading.{schedule_of}
-use Rattle.record_tables.specs.Holds.{Stores}
+use Rattle.meta_store.specs.record_tables.Holds.{Stores}
 use Rattle.sched_model.specs.Schedule.{Schedule}
 use Rattle.sched_state.specs.Limits.{Bounds}
 use Rattle.sched_events.specs.Outcomes.{IsStepped, IsCause}

@@ -4,7 +4,7 @@ use Rattle.sqlite.specs.declared.error.Error.{Error}
 use Rattle.sqlite.specs.Effect.{Database}
 use Rattle.record_rows.specs.Rows.{Rows}
 use Rattle.record_rules.specs.Reading.{schedule_of}
-use Rattle.record_tables.specs.Holds.{Stores}
+use Rattle.meta_store.specs.record_tables.Holds.{Stores}
 use Rattle.meta_store.specs.Loads.{IsReadAs, IsLoadFault}
 pub use Rattle.meta_store.specs.Schedules.{is_memory}
 pub use Rattle.meta_store.specs.declared.faults.StoreFault.{StoreFault}

@@ -15,4 +15,4 @@ mod stepping;
 pub use directors::Director;
 pub use faults::Fault;
 pub use laws::{a_record_is_opened_as_it_was_left, answered_events_are_stepped};
-pub use meta_store::{Cause, Schedule, StoreFault};
+pub use meta_store::{Cause, Limits, Schedule, Store, StoreFault};

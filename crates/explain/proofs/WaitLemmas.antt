@@ -32,8 +32,8 @@ use Rattle.sched_laws.proofs.InstanceLemmas.{Parts, parts_of}
 use Rattle.sched_laws.proofs.ListLemmas.{pairs_get, all_get}
 use Rattle.sched_laws.proofs.RunLemmas.{pairs_of_run}
 use Rattle.sched_laws.proofs.StageLemmas.{no_decision_at}
-use Rattle.sched_events.specs.Rows.{PoolLine}
-use Rattle.sched_events.specs.SettledAndSound.{IsSettledAndSound}
+use Rattle.sched_core.specs.sched_events.Rows.{PoolLine}
+use Rattle.sched_core.specs.sched_events.SettledAndSound.{IsSettledAndSound}
 use Rattle.sched_core.specs.Views.{pool_row, pool_rows}
 use Rattle.explain.specs.Reasons as reason
 use Rattle.explain.specs.Reasons.{reasons, reasons_if, explained, is_waiting, is_handed_out, is_undecided, rule_waits, upstreams_if}

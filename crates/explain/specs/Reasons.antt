@@ -17,7 +17,7 @@ use Rattle.sched_model.specs.Schedule.{Schedule, is_queued, is_ended}
 use Rattle.sched_model.specs.States.{active_runs, in_flight, previous, state_at}
 use Rattle.sched_model.specs.Settle.{upstream_states}
 use Rattle.sched_model.specs.Handout.{is_ready, last_serial}
-use Rattle.sched_events.specs.Rows.{PoolLine}
+use Rattle.sched_core.specs.sched_events.Rows.{PoolLine}
 use Rattle.sched_core.specs.Views.{pool_rows}
 use Rattle.explain.specs.Subjects.{SubjectValue, state_of_subject, subject_of}
 use Rattle.explain.specs.declared.reasons.Reason.{Reason}

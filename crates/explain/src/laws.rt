@@ -1,11 +1,11 @@
 //! The laws of reasons.
 ghost use Rattle.std.specs.Prelude.{◌≡◌, ◌≢◌, ℕ, List, [], None, Ok, true};
 ghost use Rattle.sched_model.specs.Schedule.{Schedule};
-ghost use Rattle.sched_events.specs.Causes.{refused};
-ghost use Rattle.sched_events.specs.Events.{IsInRange};
-ghost use Rattle.sched_events.specs.Steps.{step};
-ghost use Rattle.sched_events.specs.SettledAndSound.{IsSoundAndSaid, IsSettledAndSound};
-ghost use Rattle.sched_events.specs.declared.events.Event.{Event};
+ghost use Rattle.sched_core.specs.sched_events.Causes.{refused};
+ghost use Rattle.sched_core.specs.sched_events.Events.{IsInRange};
+ghost use Rattle.sched_core.specs.sched_events.Steps.{step};
+ghost use Rattle.sched_core.specs.sched_events.SettledAndSound.{IsSoundAndSaid, IsSettledAndSound};
+ghost use Rattle.sched_core.specs.sched_events.declared.events.Event.{Event};
 ghost use Rattle.explain.specs.Reasons.{is_waiting, reasons, explained};
 ghost use Rattle.explain.specs.Subjects.{SubjectValue, IsSubjectOf, state_of_subject};
 

@@ -1,7 +1,7 @@
 -- No row is taken away by an event: each key of the tables before it is one of those after it.
 use Rattle.std.proofs.Common.{◌≡◌, ◌∙◌, refl, sym, ap, subst, ℕ, zero, suc, ◌+◌, ℤ, pos, int_cmp, int_lt, List, [], ◌∷◌, Bool, true, false, cond, not, ◌&&◌, ◌||◌, map, flat_map, find, slice_get, Option, Some, None, option_and_then, Result, Ok, Err, true≢false}
 use Rattle.std.specs.List.{list_all, list_any, enumerate_from, zip}
-use Rattle.sched_model.specs.Lists.{all_pairs}
+use Rattle.record_rules.specs.sched_model.Lists.{all_pairs}
 use Rattle.std.specs.Ordering.{int_eq, ordering_then}
 use Rattle.std.proofs.lemmas.Bool.{and_from, eqb-true, eq-eqb}
 use Rattle.std.proofs.lemmas.Cmp.{nat_list_cmp_total}
@@ -23,26 +23,26 @@ use Rattle.record_rules.proofs.KeyedLemmas.{itself, run_cmp, instance_cmp}
 use Rattle.record_rules.proofs.ListLemmas.{find_first, any_first, beside}
 use Rattle.record_rules.proofs.MemberLemmas.{Has, all_by, kept_has, has_flat, has_sorted, mapped_at, map_get, found_at}
 use Rattle.record_rules.proofs.NumberLemmas.{less_itself, same_number}
-use Rattle.sched_state.specs.Lists.{same, name_cmp, is_less, insert_by}
-use Rattle.sched_state.specs.declared.graphs.LoadedGraph.{LoadedGraph}
-use Rattle.sched_state.specs.declared.runs.Run.{Run}
-use Rattle.sched_state.proofs.NameLemmas.{same_is, same_itself}
-use Rattle.sched_state.proofs.OrderLemmas.{and_left, and_right}
-use Rattle.sched_model.specs.Changes.{load_graph, with_graph, reloaded, new_graph, pause_graph, resize_pool, new_pool, with_pool}
-use Rattle.sched_model.specs.Clearing.{Selection, pairs_of}
-use Rattle.sched_model.specs.Handout.{hand, hand_one, hand_out, best_offer, serials_left}
-use Rattle.sched_model.specs.NamedRuns.{add_runs, is_for}
-use Rattle.sched_model.specs.Schedule.{Schedule, Pool, graph_among, dag_among, has_pool, has_run_at, has_runs, is_at, graph_before, pool_before}
-use Rattle.sched_model.specs.Settle.{move, move_runs, with_runs, moves_left, settle}
-use Rattle.sched_model.specs.Sound.{IsSound, is_sound_in, is_sound_run}
-use Rattle.sched_model.specs.Tables.{tables, pool_row, dag_row, run_row, instance_row, instance_rows, attempt_row, attempt_rows, serial_before, task_before}
-use Rattle.sched_laws.specs.Tries.{try_in, try_at}
-use Rattle.sched_laws.proofs.GraphLemmas.{find_loaded}
-use Rattle.sched_laws.proofs.ListLemmas.{all_get}
-use Rattle.sched_laws.proofs.LoadLemmas.{dag_found}
-use Rattle.sched_laws.proofs.PauseLemmas.{same_dag_paused}
-use Rattle.sched_laws.proofs.RunLemmas.{pairs_of_run}
-use Rattle.sched_laws.proofs.SettleLemmas.{map_some, and_then_some}
+use Rattle.record_rules.specs.sched_state.Lists.{same, name_cmp, is_less, insert_by}
+use Rattle.record_rules.specs.sched_state.declared.graphs.LoadedGraph.{LoadedGraph}
+use Rattle.record_rules.specs.sched_state.declared.runs.Run.{Run}
+use Rattle.record_rules.proofs.sched_state.NameLemmas.{same_is, same_itself}
+use Rattle.record_rules.proofs.sched_state.OrderLemmas.{and_left, and_right}
+use Rattle.record_rules.specs.sched_model.Changes.{load_graph, with_graph, reloaded, new_graph, pause_graph, resize_pool, new_pool, with_pool}
+use Rattle.record_rules.specs.sched_model.Clearing.{Selection, pairs_of}
+use Rattle.record_rules.specs.sched_model.Handout.{hand, hand_one, hand_out, best_offer, serials_left}
+use Rattle.record_rules.specs.sched_model.NamedRuns.{add_runs, is_for}
+use Rattle.record_rules.specs.sched_model.Schedule.{Schedule, Pool, graph_among, dag_among, has_pool, has_run_at, has_runs, is_at, graph_before, pool_before}
+use Rattle.record_rules.specs.sched_model.Settle.{move, move_runs, with_runs, moves_left, settle}
+use Rattle.record_rules.specs.sched_model.Sound.{IsSound, is_sound_in, is_sound_run}
+use Rattle.record_rules.specs.sched_model.Tables.{tables, pool_row, dag_row, run_row, instance_row, instance_rows, attempt_row, attempt_rows, serial_before, task_before}
+use Rattle.record_rules.specs.sched_laws.Tries.{try_in, try_at}
+use Rattle.record_rules.proofs.sched_laws.GraphLemmas.{find_loaded}
+use Rattle.record_rules.proofs.sched_laws.ListLemmas.{all_get}
+use Rattle.record_rules.proofs.sched_laws.LoadLemmas.{dag_found}
+use Rattle.record_rules.proofs.sched_laws.PauseLemmas.{same_dag_paused}
+use Rattle.record_rules.proofs.sched_laws.RunLemmas.{pairs_of_run}
+use Rattle.record_rules.proofs.sched_laws.SettleLemmas.{map_some, and_then_some}
 use Rattle.sched_events.specs.Causes.{refused, refused_text}
 use Rattle.sched_events.specs.Events.{named_by, set_back_by, set_back, change_by, load_result, IsInRange}
 use Rattle.sched_events.specs.SettledAndSound.{IsSoundAndSaid}

@@ -2,7 +2,7 @@
 use Rattle.std.proofs.Common.{◌≡◌, ◌∙◌, refl, sym, ap, ℕ, zero, suc, ◌+◌, List, [], ◌∷◌, Bool, true, false, cond, ◌||◌, map, find, zip, slice_get, Option, Some, None, true≢false, arith}
 use Rattle.std.specs.List.{list_all, list_any, enumerate_from}
 use Rattle.std.proofs.lemmas.Bool.{and_from}
-use Rattle.sched_state.proofs.OrderLemmas.{and_left, and_right}
+use Rattle.record_rules.proofs.sched_state.OrderLemmas.{and_left, and_right}
 use Rattle.record_rules.specs.Between.{are_tied, keeps_keys}
 use Rattle.record_rules.proofs.MemberLemmas.{Has, all_by}
 

@@ -1,3 +1,5 @@
 pub mod TellLemmas
 pub mod KeyLemmas
 pub mod KeptLemmas
+pub use Rattle.record_rules.proofs.sched_laws as sched_laws
+pub use Rattle.record_rules.proofs as record_rules

@@ -4,9 +4,9 @@ use Rattle.std.specs.Ordering.{int_eq}
 use Rattle.record_rows.specs.Rows.{MetaRow, PoolRow, DagRow, RunRow, InstanceRow, AttemptRow}
 use Rattle.record_rules.specs.Between.{Tells}
 use Rattle.record_rules.proofs.NumberLemmas.{same_number}
-use Rattle.sched_state.specs.Lists.{same}
-use Rattle.sched_state.proofs.NameLemmas.{same_is}
-use Rattle.sched_state.proofs.OrderLemmas.{and_left, and_right}
+use Rattle.record_rules.specs.sched_state.Lists.{same}
+use Rattle.record_rules.proofs.sched_state.NameLemmas.{same_is}
+use Rattle.record_rules.proofs.sched_state.OrderLemmas.{and_left, and_right}
 use Rattle.record_changes.specs.Changes.{same_meta_row, same_pool_row, same_dag_row, same_run_row, same_instance_row, same_if, same_attempt_row}
 
 -- ---- rows by their columns

@@ -4,9 +4,9 @@ use Rattle.std.specs.Ordering.{int_eq}
 use Rattle.record_rows.specs.Rows.{Rows, MetaRow, PoolRow, DagRow, RunRow, InstanceRow, AttemptRow}
 use Rattle.record_rules.specs.Between.{puts, lacked}
 use Rattle.record_rules.specs.Keys.{meta_row_before, pool_row_before, dag_row_before, run_row_before, instance_row_before, attempt_row_before}
-use Rattle.sched_state.specs.Lists.{same}
-use Rattle.sched_model.specs.Schedule.{Schedule}
-use Rattle.sched_model.specs.Tables.{tables}
+use Rattle.record_rules.specs.sched_state.Lists.{same}
+use Rattle.record_rules.specs.sched_model.Schedule.{Schedule}
+use Rattle.record_rules.specs.sched_model.Tables.{tables}
 
 -- ---- two rows are the same in all columns
 abbrev pub same_meta_row : MetaRow → MetaRow → Bool

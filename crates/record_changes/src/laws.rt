@@ -1,7 +1,7 @@
 //! The law of what an event changes.
 ghost use Rattle.std.specs.Prelude.{◌≡◌, None};
-ghost use Rattle.sched_model.specs.Schedule.{Schedule};
-ghost use Rattle.sched_model.specs.Tables.{tables};
+ghost use Rattle.record_rules.specs.sched_model.Schedule.{Schedule};
+ghost use Rattle.record_rules.specs.sched_model.Tables.{tables};
 ghost use Rattle.sched_events.specs.Causes.{refused};
 ghost use Rattle.sched_events.specs.Events.{IsInRange};
 ghost use Rattle.sched_events.specs.SettledAndSound.{IsSoundAndSaid};

@@ -15,7 +15,7 @@ use Rattle.sqlite.specs.Held.{Held}
 use Rattle.sqlite.specs.Schema.{Schema}
 use Rattle.sqlite.specs.State.{HasCleanDisk, Survives}
 use Rattle.sqlite.proofs.Theorems.{next_run}
-use Rattle.meta_store.specs.Stores.{CommitsBy}
+use Rattle.director.specs.meta_store.Stores.{CommitsBy}
 use Rattle.record_files.specs.Crashes.{IsConnection, IsFoundAround, IsOpenedOn, LeavesItself, MayBeLeft}
 
 pub one_database : (a b : Database) → IsDatabase a → IsDatabase b → a.trees ≡ b.trees → a ≡ b

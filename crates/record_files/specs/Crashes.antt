@@ -10,7 +10,7 @@ use Rattle.sqlite.specs.Files.{file_state, IsOpened}
 use Rattle.sqlite.specs.Held.{Held, IsConnected}
 use Rattle.sqlite.specs.Start.{FindsIn}
 use Rattle.sqlite.specs.State.{State}
-use Rattle.meta_store.specs.Stores.{CommitsFrom}
+use Rattle.director.specs.meta_store.Stores.{CommitsFrom}
 
 module _ {D : Type 0} {g : Ghosts D} where
   -- what is true of each connection over files: the invariant of its type

@@ -7,7 +7,7 @@ ghost use Rattle.sqlite.specs.State.{HasCleanDisk, Survives};
 ghost use Rattle.sched_model.specs.Schedule.{Schedule};
 ghost use Rattle.sched_state.specs.Limits.{Bounds};
 ghost use Rattle.sched_events.specs.declared.events.Event.{Event};
-ghost use Rattle.meta_store.specs.Stores.{CommitsBy};
+ghost use Rattle.director.specs.meta_store.Stores.{CommitsBy};
 ghost use Rattle.director.specs.Directors.{RestartsIn, StepsIn};
 ghost use Rattle.record_files.specs.Crashes.{IsConnection, IsFoundAround, IsOpenedOn, LeavesItself, MayBeLeft};
 

@@ -3,8 +3,8 @@ use Rattle.std.proofs.Common.{◌≡◌, refl, sym, pos, int_eq, true, true≢fa
 use Rattle.sqlite.specs.Effect.{Database}
 use Rattle.record_rows.specs.Rows.{Rows, MetaRow}
 use Rattle.sched_state.proofs.OrderLemmas.{and_left, and_right}
-use Rattle.record_rules.specs.Keys.{IsByKey}
-use Rattle.record_rules.proofs.NumberLemmas.{same_number}
+use Rattle.record_tables.specs.record_rules.Keys.{IsByKey}
+use Rattle.record_tables.proofs.record_rules.NumberLemmas.{same_number}
 use Rattle.record_tables.specs.Holds.{Stores}
 use Rattle.record_load.specs.Loads.{is_version_1}
 

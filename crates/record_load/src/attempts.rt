@@ -6,7 +6,7 @@ ghost use Rattle.sqlite.specs.Held.{state};
 ghost use Rattle.sqlite.specs.State.{HasCleanDisk};
 ghost use Rattle.sqlite_rules.specs.Lists.{Has};
 ghost use Rattle.record_rows.specs.Rows.{Rows};
-ghost use Rattle.record_rules.specs.Keys.{attempt_row_before};
+ghost use Rattle.record_tables.specs.record_rules.Keys.{attempt_row_before};
 ghost use Rattle.record_tables.specs.Holds.{Stores, attempt_cells};
 ghost use Rattle.record_tables.specs.Puts.{GoesBy, Stops};
 ghost use Rattle.record_load.specs.Errors.{is_memory};

@@ -2,7 +2,7 @@
 ghost use Rattle.std.specs.Prelude.{◌≡◌, true, IsTrue};
 ghost use Rattle.sqlite.specs.Effect.{Database};
 ghost use Rattle.record_rows.specs.Rows.{Rows};
-ghost use Rattle.record_rules.specs.Keys.{IsByKey};
+ghost use Rattle.record_tables.specs.record_rules.Keys.{IsByKey};
 ghost use Rattle.record_tables.specs.Holds.{Stores};
 ghost use Rattle.record_tables.specs.Schema.{record_schema};
 ghost use Rattle.record_load.specs.Loads.{is_version_1};

@@ -20,8 +20,8 @@ use Rattle.sched_model.specs.Lists.{all_pairs, but_last}
 use Rattle.sched_model.specs.Schedule.{Schedule, graph_among, dag_among}
 use Rattle.sched_model.specs.Sound.{IsSound, AllSay, is_moment, is_sound_in, is_sound_instance, is_sound_run, is_sound_try, earlier, has_end, has_failed, is_failure_if}
 use Rattle.sched_model.specs.States.{is_open, open_of, slots_in, occupied}
-use Rattle.sched_laws.proofs.InstanceLemmas.{Parts, parts_of}
-use Rattle.sched_laws.proofs.ListLemmas.{all_impl}
+use Rattle.record_rules.proofs.sched_laws.InstanceLemmas.{Parts, parts_of}
+use Rattle.record_rules.proofs.sched_laws.ListLemmas.{all_impl}
 use Rattle.record_restoring.specs.Pools.{open_in, open_among}
 use Rattle.record_restoring.proofs.SlotLemmas.{slots_within, IsSmall, found_small}
 

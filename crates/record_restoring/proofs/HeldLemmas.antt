@@ -12,7 +12,7 @@ use Rattle.sched_state.specs.declared.graphs.LoadedGraph.{LoadedGraph}
 use Rattle.sched_state.proofs.OrderLemmas.{and_left, and_right, any_map}
 use Rattle.sched_model.specs.Schedule.{Schedule, Pool, dag_among, has_pool}
 use Rattle.sched_model.specs.Sound.{is_sound_instance, is_sound_graph}
-use Rattle.sched_laws.proofs.ListLemmas.{all_get, all_impl}
+use Rattle.record_rules.proofs.sched_laws.ListLemmas.{all_get, all_impl}
 use Rattle.record_rules.specs.Keys.{IsByKey}
 use Rattle.record_rules.specs.Numbers.{is_between}
 use Rattle.record_rules.specs.Reading.{reads, graphs_of, is_of, tries_in, instance_row_in, instance_in, meta_of, pool_of, schedule_of}

@@ -14,3 +14,4 @@ pub mod CountLemmas
 pub mod BookLemmas
 pub mod PartLemmas
 pub mod ColumnLemmas
+pub use Rattle.record_rules.proofs as record_rules

@@ -8,7 +8,7 @@ use Rattle.std.proofs.lemmas.Option.{slice_get_read}
 use Rattle.sched_state.specs.Lists.{is_less}
 use Rattle.sched_state.proofs.OrderLemmas.{and_left, and_right}
 use Rattle.sched_model.specs.Lists.{rises}
-use Rattle.sched_laws.proofs.RankLemmas.{less_is}
+use Rattle.record_rules.proofs.sched_laws.RankLemmas.{less_is}
 use Rattle.record_rules.proofs.MemberLemmas.{rises_pair}
 use Rattle.std.proofs.lemmas.Cmp.{nat_list_cmp_total}
 use Rattle.record_rows.specs.Rows.{PoolRow, DagRow}

@@ -10,8 +10,8 @@ use Rattle.pool_book.specs.Pools.{Entries, PoolUse, pool_of, occupied_of, resize
 use Rattle.record_rows.specs.Rows.{PoolRow}
 use Rattle.sched_state.specs.Lists.{same, name_cmp, is_less}
 use Rattle.sched_state.proofs.OrderLemmas.{and_left, and_right}
-use Rattle.sched_laws.proofs.ListLemmas.{all_get}
-use Rattle.sched_laws.proofs.RankLemmas.{less_is}
+use Rattle.record_rules.proofs.sched_laws.ListLemmas.{all_get}
+use Rattle.record_rules.proofs.sched_laws.RankLemmas.{less_is}
 use Rattle.sched_model.specs.Lists.{rises}
 use Rattle.sched_model.specs.Schedule.{Pool}
 use Rattle.sched_draft.specs.Books.{pools_in}

@@ -10,7 +10,7 @@ use Rattle.sched_state.specs.Limits.{Bounds}
 use Rattle.sched_state.specs.declared.graphs.LoadedGraph.{LoadedGraph}
 use Rattle.sched_model.specs.Lists.{rises}
 use Rattle.sched_model.specs.Schedule.{graph_before}
-use Rattle.sched_laws.proofs.RunLemmas.{rises_map}
+use Rattle.record_rules.proofs.sched_laws.RunLemmas.{rises_map}
 use Rattle.record_rules.specs.Keys.{IsByKey}
 use Rattle.record_rules.specs.Reading.{reads, graphs_of, meta_of}
 use Rattle.record_rules.specs.Faults.{first_bad, earlier_row, missing, past_limit, in_table, meta_fault, pool_fault, dag_fault, run_fault, instance_fault, attempt_fault, end_fault, record_fault, is_dag_row_right}

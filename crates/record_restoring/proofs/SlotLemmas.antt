@@ -23,7 +23,7 @@ use Rattle.sched_state.specs.declared.graphs.LoadedGraph.{LoadedGraph}
 use Rattle.sched_state.proofs.OrderLemmas.{and_left, and_right}
 use Rattle.sched_model.specs.Schedule.{dag_among, graph_among, no_dag}
 use Rattle.sched_model.specs.Sound.{Says, AllSay}
-use Rattle.sched_laws.proofs.SaidLemmas.{tasks_counted}
+use Rattle.record_rules.proofs.sched_laws.SaidLemmas.{tasks_counted}
 
 abbrev pub slots_within : TaskSpec → Bool
 slots_within t = nat_le t.pool_slots 1000

@@ -10,7 +10,7 @@ use Rattle.pool_book.proofs.PoolLemmas.{pool_of-with}
 use Rattle.record_rows.specs.Rows.{PoolRow}
 use Rattle.sched_state.specs.Lists.{same}
 use Rattle.sched_state.proofs.ElementLemmas.{drop_at}
-use Rattle.sched_laws.proofs.SettleLemmas.{map_some}
+use Rattle.record_rules.proofs.sched_laws.SettleLemmas.{map_some}
 use Rattle.sched_model.specs.States.{is_open, slots_in}
 use Rattle.sched_draft.specs.Books.{pools_in, Takes}
 use Rattle.sched_draft.proofs.BookLemmas.{with_keeps}

@@ -14,7 +14,7 @@ use Rattle.sched_state.proofs.NameLemmas.{same_is}
 use Rattle.sched_state.proofs.OrderLemmas.{and_left, and_right}
 use Rattle.sched_model.specs.Lists.{rises}
 use Rattle.sched_model.specs.Schedule.{dag_among}
-use Rattle.sched_laws.proofs.ListLemmas.{all_get}
+use Rattle.record_rules.proofs.sched_laws.ListLemmas.{all_get}
 use Rattle.dag_check.specs.Graphs.{no_task}
 use Rattle.record_rules.specs.Keys.{IsByKey, attempt_row_before}
 use Rattle.record_rules.specs.Reading.{is_of, is_try_of, tries_in, instance_row_in, no_instance}

@@ -8,3 +8,4 @@ pub mod Tasks
 pub mod Pools
 pub mod Parts
 pub mod Columns
+pub use Rattle.record_rules.specs as record_rules

@@ -3,19 +3,19 @@ use Rattle.std.proofs.Common.{◌≡◌, refl, sym, ap, subst, ◌∙◌, ℕ, L
 use Rattle.std.specs.List.{list_any, enumerate_from}
 use Rattle.std.proofs.lemmas.Bool.{and_from}
 use Rattle.graph_file.specs.declared.task_specs.TaskSpec.{TaskSpec}
-use Rattle.instance_machine.specs.Instances.{InstanceValue}
+use Rattle.sched_laws.specs.instance_machine.Instances.{InstanceValue}
 use Rattle.record_rows.specs.Rows.{RunRow, InstanceRow, AttemptRow, Rows}
-use Rattle.sched_state.specs.Lists.{same}
-use Rattle.sched_state.specs.Limits.{Bounds}
-use Rattle.sched_state.specs.declared.graphs.LoadedGraph.{LoadedGraph}
-use Rattle.sched_state.specs.declared.runs.Run.{Run}
-use Rattle.sched_state.proofs.NameLemmas.{same_itself, same_is}
-use Rattle.sched_state.proofs.OrderLemmas.{and_left, and_right}
+use Rattle.sched_laws.specs.sched_state.Lists.{same}
+use Rattle.sched_laws.specs.sched_state.Limits.{Bounds}
+use Rattle.sched_laws.specs.sched_state.declared.graphs.LoadedGraph.{LoadedGraph}
+use Rattle.sched_laws.specs.sched_state.declared.runs.Run.{Run}
+use Rattle.sched_laws.proofs.sched_state.NameLemmas.{same_itself, same_is}
+use Rattle.sched_laws.proofs.sched_state.OrderLemmas.{and_left, and_right}
 use Rattle.sched_laws.proofs.ListLemmas.{all_get}
-use Rattle.sched_model.specs.Schedule.{Schedule, dag_among}
-use Rattle.sched_model.specs.Clearing.{pairs_of}
-use Rattle.sched_model.specs.Sound.{IsSound}
-use Rattle.sched_model.specs.Tables.{tables, attempt_row, attempt_rows, serial_before}
+use Rattle.sched_laws.specs.sched_model.Schedule.{Schedule, dag_among}
+use Rattle.sched_laws.specs.sched_model.Clearing.{pairs_of}
+use Rattle.sched_laws.specs.sched_model.Sound.{IsSound}
+use Rattle.sched_laws.specs.sched_model.Tables.{tables, attempt_row, attempt_rows, serial_before}
 use Rattle.record_rules.specs.Reading.{Reader, graphs_of, is_of, is_try_of, tries_in, instance_row_in, instance_in, run_of, meta_of, schedule_by}
 use Rattle.record_rules.specs.Keys.{attempt_row_before, IsByKey}
 use Rattle.record_rules.specs.Faults.{is_attempt_row_right, is_instance_row_right, is_run_row_right, is_run_row_of, fault_by}

@@ -5,28 +5,28 @@ use Rattle.std.specs.Ordering.{nat_cmp, ordering_then}
 use Rattle.std.proofs.lemmas.Bool.{and_from, eq-eqb}
 use Rattle.graph_file.specs.declared.task_specs.TaskSpec.{TaskSpec}
 use Rattle.dag_check.specs.Names.{ids_of, repeats}
-use Rattle.trigger_rules.specs.declared.verdicts.Verdict.{Verdict}
-use Rattle.trigger_rules.specs.declared.verdicts.Verdict.TheVariants as verdict
-use Rattle.instance_machine.specs.Instances.{InstanceValue}
-use Rattle.instance_machine.specs.declared.tries.Try.{Try}
-use Rattle.instance_machine.specs.declared.tries.End.{End}
-use Rattle.instance_machine.specs.declared.tries.Outcome.{Outcome}
-use Rattle.instance_machine.specs.declared.tries.Outcome.TheVariants as outcome
+use Rattle.sched_laws.specs.trigger_rules.declared.verdicts.Verdict.{Verdict}
+use Rattle.sched_laws.specs.trigger_rules.declared.verdicts.Verdict.TheVariants as verdict
+use Rattle.sched_laws.specs.instance_machine.Instances.{InstanceValue}
+use Rattle.sched_laws.specs.instance_machine.declared.tries.Try.{Try}
+use Rattle.sched_laws.specs.instance_machine.declared.tries.End.{End}
+use Rattle.sched_laws.specs.instance_machine.declared.tries.Outcome.{Outcome}
+use Rattle.sched_laws.specs.instance_machine.declared.tries.Outcome.TheVariants as outcome
 use Rattle.record_rows.specs.Rows.{DagRow, InstanceRow, AttemptRow}
-use Rattle.sched_state.specs.Lists.{same, name_cmp}
-use Rattle.sched_state.specs.declared.graphs.LoadedGraph.{LoadedGraph}
-use Rattle.sched_state.specs.declared.runs.RunKind.{RunKind}
-use Rattle.sched_state.specs.declared.runs.RunKind.TheVariants as kind
-use Rattle.sched_state.specs.declared.runs.RunPhase.{RunPhase}
-use Rattle.sched_state.specs.declared.runs.RunPhase.TheVariants as phase
-use Rattle.sched_state.specs.declared.runs.Run.{Run}
-use Rattle.sched_state.proofs.NameLemmas.{same_itself}
-use Rattle.sched_state.proofs.OrderLemmas.{and_left, and_right, not_false, less_no_tie}
-use Rattle.sched_model.specs.Lists.{rises}
-use Rattle.sched_model.specs.Schedule.{Schedule, graph_among, dag_among, no_dag, is_at, run_before}
-use Rattle.sched_model.specs.Clearing.{pairs_of}
-use Rattle.sched_model.specs.Sound.{IsSound, is_wait, is_sound_in, is_sound_instance, is_sound_run, is_sound_graph, is_sound_dag, try_before, all_tries_rise}
-use Rattle.sched_model.specs.Tables.{tables, instance_row, attempt_row, run_row, pool_row, dag_row, attempt_rows, instance_rows, sort_by, task_before, serial_before, verdict_code, outcome_code, kind_code, phase_code, flag_code}
+use Rattle.sched_laws.specs.sched_state.Lists.{same, name_cmp}
+use Rattle.sched_laws.specs.sched_state.declared.graphs.LoadedGraph.{LoadedGraph}
+use Rattle.sched_laws.specs.sched_state.declared.runs.RunKind.{RunKind}
+use Rattle.sched_laws.specs.sched_state.declared.runs.RunKind.TheVariants as kind
+use Rattle.sched_laws.specs.sched_state.declared.runs.RunPhase.{RunPhase}
+use Rattle.sched_laws.specs.sched_state.declared.runs.RunPhase.TheVariants as phase
+use Rattle.sched_laws.specs.sched_state.declared.runs.Run.{Run}
+use Rattle.sched_laws.proofs.sched_state.NameLemmas.{same_itself}
+use Rattle.sched_laws.proofs.sched_state.OrderLemmas.{and_left, and_right, not_false, less_no_tie}
+use Rattle.sched_laws.specs.sched_model.Lists.{rises}
+use Rattle.sched_laws.specs.sched_model.Schedule.{Schedule, graph_among, dag_among, no_dag, is_at, run_before}
+use Rattle.sched_laws.specs.sched_model.Clearing.{pairs_of}
+use Rattle.sched_laws.specs.sched_model.Sound.{IsSound, is_wait, is_sound_in, is_sound_instance, is_sound_run, is_sound_graph, is_sound_dag, try_before, all_tries_rise}
+use Rattle.sched_laws.specs.sched_model.Tables.{tables, instance_row, attempt_row, run_row, pool_row, dag_row, attempt_rows, instance_rows, sort_by, task_before, serial_before, verdict_code, outcome_code, kind_code, phase_code, flag_code}
 use Rattle.sched_laws.proofs.ListLemmas.{all_get}
 use Rattle.sched_laws.proofs.RunLemmas.{pairs_of_run}
 use Rattle.sched_laws.proofs.AddLemmas.{run_total, key_ties}

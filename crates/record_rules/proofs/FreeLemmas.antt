@@ -7,14 +7,14 @@ use Rattle.graph_file.specs.declared.task_specs.TaskSpec.{TaskSpec}
 use Rattle.dag_check.specs.Graphs.{Dag, no_task}
 use Rattle.dag_check.specs.Names.{ids_of, repeats, has}
 use Rattle.record_rows.specs.Rows.{DagRow, InstanceRow, Rows}
-use Rattle.sched_state.specs.Lists.{same}
-use Rattle.sched_state.specs.Limits.{Bounds}
-use Rattle.sched_state.specs.declared.graphs.LoadedGraph.{LoadedGraph}
-use Rattle.sched_state.proofs.NameLemmas.{same_itself, same_is}
-use Rattle.sched_state.proofs.OrderLemmas.{and_left, and_right, or_left, or_right, not_false}
-use Rattle.sched_model.specs.Lists.{rises}
-use Rattle.sched_model.specs.Schedule.{Schedule, graph_among, dag_among, no_dag, default_pool, has_pool}
-use Rattle.sched_model.specs.Sound.{is_sound_graph, is_sound_dag, is_sound_instance}
+use Rattle.sched_laws.specs.sched_state.Lists.{same}
+use Rattle.sched_laws.specs.sched_state.Limits.{Bounds}
+use Rattle.sched_laws.specs.sched_state.declared.graphs.LoadedGraph.{LoadedGraph}
+use Rattle.sched_laws.proofs.sched_state.NameLemmas.{same_itself, same_is}
+use Rattle.sched_laws.proofs.sched_state.OrderLemmas.{and_left, and_right, or_left, or_right, not_false}
+use Rattle.sched_laws.specs.sched_model.Lists.{rises}
+use Rattle.sched_laws.specs.sched_model.Schedule.{Schedule, graph_among, dag_among, no_dag, default_pool, has_pool}
+use Rattle.sched_laws.specs.sched_model.Sound.{is_sound_graph, is_sound_dag, is_sound_instance}
 use Rattle.sched_laws.proofs.ListLemmas.{all_impl}
 use Rattle.record_rules.specs.Reading.{Reader, graph_if, graphs_of, is_of, is_try_of, tries_in, instance_row_in, no_instance, instance_in, meta_of}
 use Rattle.record_rules.specs.Keys.{attempt_row_before}

@@ -5,13 +5,13 @@ use Rattle.std.specs.List.{list_all, list_any}
 use Rattle.std.proofs.lemmas.Bool.{and_from, eq-eqb, le-leb, ltb-true, ltb-false, false_from_ne_true}
 use Rattle.std.proofs.lemmas.List.{length-drop, length-map}
 use Rattle.graph_file.specs.declared.task_specs.TaskSpec.{TaskSpec}
-use Rattle.instance_machine.specs.Instances.{InstanceValue}
-use Rattle.instance_machine.specs.declared.tries.Try.{Try}
+use Rattle.sched_laws.specs.instance_machine.Instances.{InstanceValue}
+use Rattle.sched_laws.specs.instance_machine.declared.tries.Try.{Try}
 use Rattle.record_rows.specs.Rows.{InstanceRow, AttemptRow}
-use Rattle.sched_state.proofs.OrderLemmas.{and_left, and_right}
-use Rattle.sched_state.proofs.ElementLemmas.{element_at}
-use Rattle.sched_model.specs.Lists.{rises, but_last}
-use Rattle.sched_model.specs.Sound.{is_sound_try, is_sound_end, is_sound_instance, may_end, has_end, has_failed, is_failure_if, is_run, is_wait, is_empty, try_before}
+use Rattle.sched_laws.proofs.sched_state.OrderLemmas.{and_left, and_right}
+use Rattle.sched_laws.proofs.sched_state.ElementLemmas.{element_at}
+use Rattle.sched_laws.specs.sched_model.Lists.{rises, but_last}
+use Rattle.sched_laws.specs.sched_model.Sound.{is_sound_try, is_sound_end, is_sound_instance, may_end, has_end, has_failed, is_failure_if, is_run, is_wait, is_empty, try_before}
 use Rattle.sched_laws.proofs.ListLemmas.{all_get}
 use Rattle.sched_laws.proofs.RunLemmas.{rises_map}
 use Rattle.sched_laws.proofs.InstanceLemmas.{of_parts}

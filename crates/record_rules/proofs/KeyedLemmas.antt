@@ -6,9 +6,9 @@ use Rattle.std.specs.declared.cmp.Ordering.TheVariants.{Less, Equal, Greater}
 use Rattle.std.specs.Cmp.{IsTotalOrder}
 use Rattle.std.proofs.lemmas.Cmp.{int_cmp_total, nat_list_cmp_total}
 use Rattle.record_rows.specs.Rows.{Rows, MetaRow, PoolRow, DagRow, RunRow, InstanceRow, AttemptRow}
-use Rattle.sched_state.specs.Lists.{name_cmp, is_less}
-use Rattle.sched_state.proofs.OrderLemmas.{then_total, on_total}
-use Rattle.sched_model.specs.Lists.{rises}
+use Rattle.sched_laws.specs.sched_state.Lists.{name_cmp, is_less}
+use Rattle.sched_laws.proofs.sched_state.OrderLemmas.{then_total, on_total}
+use Rattle.sched_laws.specs.sched_model.Lists.{rises}
 use Rattle.sched_laws.proofs.RankLemmas.{less_is}
 use Rattle.record_rules.specs.Keys.{IsByKey, meta_row_before, pool_row_before, dag_row_before, run_row_before, instance_row_before, attempt_row_before}
 use Rattle.record_rules.specs.Between.{puts, lacked, keeps_keys, Tells}

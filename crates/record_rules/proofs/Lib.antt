@@ -15,3 +15,5 @@ pub mod ReaderLemmas
 pub mod SameLemmas
 pub mod AgainLemmas
 pub mod WholeLemmas
+pub use Rattle.sched_laws.proofs as sched_laws
+pub use Rattle.sched_laws.proofs.sched_state as sched_state

@@ -5,13 +5,13 @@ use Rattle.std.specs.List.{list_all, list_any, zip}
 use Rattle.std.proofs.lemmas.Bool.{and_from, false_from_ne_true}
 use Rattle.std.proofs.lemmas.List.Elements.{filter-append}
 use Rattle.graph_file.specs.declared.task_specs.TaskSpec.{TaskSpec}
-use Rattle.instance_machine.specs.Instances.{InstanceValue}
+use Rattle.sched_laws.specs.instance_machine.Instances.{InstanceValue}
 use Rattle.dag_check.specs.Names.{ids_of, repeats, has}
-use Rattle.sched_state.specs.Lists.{same, insert_by}
-use Rattle.sched_state.proofs.NameLemmas.{same_is, same_itself}
-use Rattle.sched_state.proofs.OrderLemmas.{and_left, and_right, or_left, or_right, all_insert}
-use Rattle.sched_model.specs.Lists.{rises, all_pairs}
-use Rattle.sched_model.specs.Tables.{sort_by}
+use Rattle.sched_laws.specs.sched_state.Lists.{same, insert_by}
+use Rattle.sched_laws.proofs.sched_state.NameLemmas.{same_is, same_itself}
+use Rattle.sched_laws.proofs.sched_state.OrderLemmas.{and_left, and_right, or_left, or_right, all_insert}
+use Rattle.sched_laws.specs.sched_model.Lists.{rises, all_pairs}
+use Rattle.sched_laws.specs.sched_model.Tables.{sort_by}
 use Rattle.sched_laws.proofs.ListLemmas.{all_get, all_join}
 use Rattle.record_rules.proofs.NumberLemmas.{less_least, least_not_less, least_more, less_then_least}
 

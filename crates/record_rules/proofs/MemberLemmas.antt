@@ -2,10 +2,10 @@
 use Rattle.std.proofs.Common.{◌≡◌, refl, sym, ap, subst, ◌∙◌, ℕ, zero, suc, ◌<◌, List, [], ◌∷◌, ◌++◌, Bool, true, false, cond, ◌||◌, ◌⊎◌, inl, inr, flat_map, map, filter, Option, Some, None, slice_get, arith, true≢false}
 use Rattle.std.specs.List.{list_all, list_any, zip}
 use Rattle.std.proofs.lemmas.Bool.{and_from}
-use Rattle.sched_state.specs.Lists.{insert_by}
-use Rattle.sched_state.proofs.OrderLemmas.{and_left, and_right}
-use Rattle.sched_model.specs.Lists.{rises}
-use Rattle.sched_model.specs.Tables.{sort_by}
+use Rattle.sched_laws.specs.sched_state.Lists.{insert_by}
+use Rattle.sched_laws.proofs.sched_state.OrderLemmas.{and_left, and_right}
+use Rattle.sched_laws.specs.sched_model.Lists.{rises}
+use Rattle.sched_laws.specs.sched_model.Tables.{sort_by}
 use Rattle.sched_laws.proofs.ListLemmas.{all_get, all_join}
 
 -- ---- members

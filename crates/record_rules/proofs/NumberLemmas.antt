@@ -7,8 +7,8 @@ use Rattle.std.specs.Ordering.{nat_cmp}
 use Rattle.std.specs.declared.cmp.Ordering.TheVariants.{Less, Equal, Greater}
 use Rattle.std.proofs.lemmas.Bool.Decides.{nat_tests}
 use Rattle.moment_core.specs.Moments.{seconds_end}
-use Rattle.sched_state.proofs.OrderLemmas.{and_left, and_right}
-use Rattle.sched_model.specs.Sound.{is_moment, is_moment_if, is_used}
+use Rattle.sched_laws.proofs.sched_state.OrderLemmas.{and_left, and_right}
+use Rattle.sched_laws.specs.sched_model.Sound.{is_moment, is_moment_if, is_used}
 use Rattle.record_rules.specs.Numbers.{is_between, is_moment_column, passes_if, natural}
 
 -- ---- the order

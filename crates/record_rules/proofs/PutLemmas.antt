@@ -2,8 +2,8 @@
 use Rattle.std.proofs.Common.{◌≡◌, refl, sym, ap, subst, ◌∙◌, List, [], ◌∷◌, Bool, true, false, cond, not, ◌&&◌, ◌||◌, filter, true≢false}
 use Rattle.std.specs.List.{list_all, list_any}
 use Rattle.std.proofs.lemmas.Bool.{and_from, false_from_ne_true}
-use Rattle.sched_state.proofs.OrderLemmas.{and_left, and_right, not_false}
-use Rattle.sched_model.specs.Lists.{rises}
+use Rattle.sched_laws.proofs.sched_state.OrderLemmas.{and_left, and_right, not_false}
+use Rattle.sched_laws.specs.sched_model.Lists.{rises}
 use Rattle.sched_laws.proofs.ListLemmas.{all_impl}
 use Rattle.record_rules.specs.Between.{put, puts, lacked, are_tied, keeps_keys}
 

@@ -10,13 +10,13 @@ use Rattle.dag_check.specs.Graphs.{Dag, dag_of}
 use Rattle.dag_check.specs.Faults.{first_fault}
 use Rattle.dag_check.proofs.PlacedLemmas.{graph-of-faultless}
 use Rattle.record_rows.specs.Rows.{DagRow, Rows}
-use Rattle.sched_state.specs.Lists.{same}
-use Rattle.sched_state.specs.Limits.{Bounds}
-use Rattle.sched_state.proofs.NameLemmas.{same_itself}
-use Rattle.sched_state.proofs.OrderLemmas.{and_left, and_right}
-use Rattle.sched_model.specs.Schedule.{Schedule, Pool, empty_schedule}
-use Rattle.sched_model.specs.Changes.{new_graph}
-use Rattle.sched_model.specs.Sound.{is_sound_graph, is_sound_dag, Says, AllSay, IsSound}
+use Rattle.sched_laws.specs.sched_state.Lists.{same}
+use Rattle.sched_laws.specs.sched_state.Limits.{Bounds}
+use Rattle.sched_laws.proofs.sched_state.NameLemmas.{same_itself}
+use Rattle.sched_laws.proofs.sched_state.OrderLemmas.{and_left, and_right}
+use Rattle.sched_laws.specs.sched_model.Schedule.{Schedule, Pool, empty_schedule}
+use Rattle.sched_laws.specs.sched_model.Changes.{new_graph}
+use Rattle.sched_laws.specs.sched_model.Sound.{is_sound_graph, is_sound_dag, Says, AllSay, IsSound}
 use Rattle.sched_laws.proofs.SaidLemmas.{said_sound, tasks_counted, edges_counted}
 use Rattle.record_rules.specs.Reading.{reads, checked, if_faultless, is_within, graph_if}
 use Rattle.record_rules.specs.Keys.{IsByKey}

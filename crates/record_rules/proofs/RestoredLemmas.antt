@@ -8,21 +8,21 @@ use Rattle.std.proofs.lemmas.List.{length-map}
 use Rattle.graph_file.specs.declared.task_specs.TaskSpec.{TaskSpec}
 use Rattle.dag_check.specs.Names.{ids_of, repeats, has}
 use Rattle.dag_check.specs.Orders.{is_in, repeated}
-use Rattle.trigger_rules.specs.States.{is_finished}
-use Rattle.instance_machine.specs.Instances.{InstanceValue}
-use Rattle.instance_machine.specs.States.{state_of}
-use Rattle.instance_machine.specs.declared.tries.Try.{Try}
+use Rattle.sched_laws.specs.trigger_rules.States.{is_finished}
+use Rattle.sched_laws.specs.instance_machine.Instances.{InstanceValue}
+use Rattle.sched_laws.specs.instance_machine.States.{state_of}
+use Rattle.sched_laws.specs.instance_machine.declared.tries.Try.{Try}
 use Rattle.record_rows.specs.Rows.{MetaRow, PoolRow, DagRow, RunRow, AttemptRow, Rows}
-use Rattle.sched_state.specs.Lists.{same, name_cmp, is_less}
-use Rattle.sched_state.specs.Limits.{Bounds}
-use Rattle.sched_state.specs.declared.graphs.LoadedGraph.{LoadedGraph}
-use Rattle.sched_state.specs.declared.runs.Run.{Run}
-use Rattle.sched_state.proofs.NameLemmas.{same_itself, same_is}
-use Rattle.sched_state.proofs.OrderLemmas.{and_left, and_right, or_left, or_right, any_map}
-use Rattle.sched_model.specs.Lists.{rises, all_pairs}
-use Rattle.sched_model.specs.Schedule.{Schedule, Pool, graph_among, dag_among, is_at, is_ended, default_pool, has_pool, pool_before, run_before}
-use Rattle.sched_model.specs.Handout.{last_serial}
-use Rattle.sched_model.specs.Sound.{IsSound, is_sound_in, is_sound_run, is_sound_graph, is_sound_pool, is_used, all_tries_rise, try_before}
+use Rattle.sched_laws.specs.sched_state.Lists.{same, name_cmp, is_less}
+use Rattle.sched_laws.specs.sched_state.Limits.{Bounds}
+use Rattle.sched_laws.specs.sched_state.declared.graphs.LoadedGraph.{LoadedGraph}
+use Rattle.sched_laws.specs.sched_state.declared.runs.Run.{Run}
+use Rattle.sched_laws.proofs.sched_state.NameLemmas.{same_itself, same_is}
+use Rattle.sched_laws.proofs.sched_state.OrderLemmas.{and_left, and_right, or_left, or_right, any_map}
+use Rattle.sched_laws.specs.sched_model.Lists.{rises, all_pairs}
+use Rattle.sched_laws.specs.sched_model.Schedule.{Schedule, Pool, graph_among, dag_among, is_at, is_ended, default_pool, has_pool, pool_before, run_before}
+use Rattle.sched_laws.specs.sched_model.Handout.{last_serial}
+use Rattle.sched_laws.specs.sched_model.Sound.{IsSound, is_sound_in, is_sound_run, is_sound_graph, is_sound_pool, is_used, all_tries_rise, try_before}
 use Rattle.graph_file.specs.Names.{is_name}
 use Rattle.sched_laws.proofs.ListLemmas.{all_get, all_impl, all_under}
 use Rattle.sched_laws.proofs.RunLemmas.{rises_map, serials_in, run_serials, listed, serials_listed}

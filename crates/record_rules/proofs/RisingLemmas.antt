@@ -10,18 +10,18 @@ use Rattle.std.proofs.lemmas.Bool.{and_from, eqb-false}
 use Rattle.graph_file.specs.declared.task_specs.TaskSpec.{TaskSpec}
 use Rattle.dag_check.specs.Names.{ids_of, repeats, has}
 use Rattle.dag_check.specs.Orders.{is_in, repeated}
-use Rattle.instance_machine.specs.Instances.{InstanceValue}
-use Rattle.instance_machine.specs.declared.tries.Try.{Try}
+use Rattle.sched_laws.specs.instance_machine.Instances.{InstanceValue}
+use Rattle.sched_laws.specs.instance_machine.declared.tries.Try.{Try}
 use Rattle.record_rows.specs.Rows.{InstanceRow, AttemptRow}
-use Rattle.sched_state.specs.Lists.{same, name_cmp, is_less, insert_by}
-use Rattle.sched_state.specs.declared.runs.Run.{Run}
-use Rattle.sched_state.proofs.NameLemmas.{same_itself, same_is}
-use Rattle.sched_state.proofs.OrderLemmas.{and_left, and_right, or_left, or_right, not_false, all_insert, any_insert, any_map, on_total}
-use Rattle.sched_model.specs.Clearing.{pairs_of}
-use Rattle.sched_model.specs.Lists.{rises, all_pairs}
-use Rattle.sched_model.specs.Schedule.{Schedule, dag_among, run_before}
-use Rattle.sched_model.specs.Sound.{IsSound, is_sound_run, is_sound_in, serials_of}
-use Rattle.sched_model.specs.Tables.{tables, meta_row, pool_row, dag_row, run_row, instance_row, instance_rows, attempt_row, attempt_rows, sort_by, task_before}
+use Rattle.sched_laws.specs.sched_state.Lists.{same, name_cmp, is_less, insert_by}
+use Rattle.sched_laws.specs.sched_state.declared.runs.Run.{Run}
+use Rattle.sched_laws.proofs.sched_state.NameLemmas.{same_itself, same_is}
+use Rattle.sched_laws.proofs.sched_state.OrderLemmas.{and_left, and_right, or_left, or_right, not_false, all_insert, any_insert, any_map, on_total}
+use Rattle.sched_laws.specs.sched_model.Clearing.{pairs_of}
+use Rattle.sched_laws.specs.sched_model.Lists.{rises, all_pairs}
+use Rattle.sched_laws.specs.sched_model.Schedule.{Schedule, dag_among, run_before}
+use Rattle.sched_laws.specs.sched_model.Sound.{IsSound, is_sound_run, is_sound_in, serials_of}
+use Rattle.sched_laws.specs.sched_model.Tables.{tables, meta_row, pool_row, dag_row, run_row, instance_row, instance_rows, attempt_row, attempt_rows, sort_by, task_before}
 use Rattle.sched_laws.proofs.GraphLemmas.{insert_rises}
 use Rattle.sched_laws.proofs.ListLemmas.{all_get, all_impl}
 use Rattle.sched_laws.proofs.RunLemmas.{pairs_of_run, serials_in, run_serials, serials_listed, map_append, rises_map}

@@ -9,29 +9,29 @@ use Rattle.graph_file.specs.declared.task_specs.TaskSpec.{TaskSpec}
 use Rattle.dag_check.specs.Graphs.{Dag, no_task}
 use Rattle.dag_check.specs.Names.{ids_of, repeats, has}
 use Rattle.dag_check.proofs.FirstLemmas.{faultless}
-use Rattle.trigger_rules.specs.States.{is_finished}
-use Rattle.trigger_rules.specs.declared.verdicts.Verdict.{Verdict}
-use Rattle.trigger_rules.specs.declared.verdicts.Verdict.TheVariants as verdict
-use Rattle.instance_machine.specs.Instances.{InstanceValue}
-use Rattle.instance_machine.specs.States.{state_of}
-use Rattle.instance_machine.specs.declared.tries.Try.{Try}
+use Rattle.sched_laws.specs.trigger_rules.States.{is_finished}
+use Rattle.sched_laws.specs.trigger_rules.declared.verdicts.Verdict.{Verdict}
+use Rattle.sched_laws.specs.trigger_rules.declared.verdicts.Verdict.TheVariants as verdict
+use Rattle.sched_laws.specs.instance_machine.Instances.{InstanceValue}
+use Rattle.sched_laws.specs.instance_machine.States.{state_of}
+use Rattle.sched_laws.specs.instance_machine.declared.tries.Try.{Try}
 use Rattle.record_rows.specs.Rows.{PoolRow, AttemptRow, Rows}
-use Rattle.sched_state.specs.Lists.{same}
-use Rattle.sched_state.specs.Limits.{Bounds}
-use Rattle.sched_state.specs.declared.graphs.LoadedGraph.{LoadedGraph}
-use Rattle.sched_state.specs.declared.runs.RunKind.{RunKind}
-use Rattle.sched_state.specs.declared.runs.RunKind.TheVariants as kind
-use Rattle.sched_state.specs.declared.runs.RunPhase.{RunPhase}
-use Rattle.sched_state.specs.declared.runs.RunPhase.TheVariants as phase
-use Rattle.sched_state.specs.declared.runs.Run.{Run}
-use Rattle.sched_state.proofs.NameLemmas.{same_itself, same_is}
-use Rattle.sched_state.proofs.OrderLemmas.{and_left, and_right, any_map, all_map, or_left, or_right}
-use Rattle.sched_model.specs.Lists.{rises}
-use Rattle.sched_model.specs.Schedule.{Schedule, Pool, graph_among, dag_among, is_at, is_ended, default_pool, has_pool}
-use Rattle.sched_model.specs.Clearing.{pairs_of}
+use Rattle.sched_laws.specs.sched_state.Lists.{same}
+use Rattle.sched_laws.specs.sched_state.Limits.{Bounds}
+use Rattle.sched_laws.specs.sched_state.declared.graphs.LoadedGraph.{LoadedGraph}
+use Rattle.sched_laws.specs.sched_state.declared.runs.RunKind.{RunKind}
+use Rattle.sched_laws.specs.sched_state.declared.runs.RunKind.TheVariants as kind
+use Rattle.sched_laws.specs.sched_state.declared.runs.RunPhase.{RunPhase}
+use Rattle.sched_laws.specs.sched_state.declared.runs.RunPhase.TheVariants as phase
+use Rattle.sched_laws.specs.sched_state.declared.runs.Run.{Run}
+use Rattle.sched_laws.proofs.sched_state.NameLemmas.{same_itself, same_is}
+use Rattle.sched_laws.proofs.sched_state.OrderLemmas.{and_left, and_right, any_map, all_map, or_left, or_right}
+use Rattle.sched_laws.specs.sched_model.Lists.{rises}
+use Rattle.sched_laws.specs.sched_model.Schedule.{Schedule, Pool, graph_among, dag_among, is_at, is_ended, default_pool, has_pool}
+use Rattle.sched_laws.specs.sched_model.Clearing.{pairs_of}
 use Rattle.graph_file.specs.Names.{is_name}
-use Rattle.sched_model.specs.Sound.{IsSound, is_sound_in, is_sound_run, is_sound_graph, is_sound_dag, is_sound_pool, has_pools, is_used, is_moment, is_sound_instance, Says, AllSay, try_before, all_tries_rise}
-use Rattle.sched_model.specs.Tables.{tables, meta_row, instance_row, attempt_row, run_row, pool_row, dag_row, attempt_rows, instance_rows, task_before, serial_before, verdict_code, kind_code, phase_code, flag_code}
+use Rattle.sched_laws.specs.sched_model.Sound.{IsSound, is_sound_in, is_sound_run, is_sound_graph, is_sound_dag, is_sound_pool, has_pools, is_used, is_moment, is_sound_instance, Says, AllSay, try_before, all_tries_rise}
+use Rattle.sched_laws.specs.sched_model.Tables.{tables, meta_row, instance_row, attempt_row, run_row, pool_row, dag_row, attempt_rows, instance_rows, task_before, serial_before, verdict_code, kind_code, phase_code, flag_code}
 use Rattle.sched_laws.proofs.ListLemmas.{all_get, all_front, all_back, all_impl, all_under}
 use Rattle.sched_laws.proofs.RunLemmas.{pairs_of_run, serials_in, run_serials, serials_listed}
 use Rattle.sched_laws.proofs.InstanceLemmas.{parts_of}

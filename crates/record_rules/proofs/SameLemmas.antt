@@ -5,18 +5,18 @@ use Rattle.std.specs.List.{list_all, enumerate_from}
 use Rattle.std.proofs.lemmas.Bool.{and_from}
 use Rattle.graph_file.specs.Names.{is_name}
 use Rattle.graph_file.specs.declared.task_specs.TaskSpec.{TaskSpec}
-use Rattle.instance_machine.specs.declared.tries.End.{End}
+use Rattle.sched_laws.specs.instance_machine.declared.tries.End.{End}
 use Rattle.record_rows.specs.Rows.{MetaRow, PoolRow, DagRow, RunRow, InstanceRow, AttemptRow, Rows}
-use Rattle.sched_state.specs.Lists.{same}
-use Rattle.sched_state.specs.Limits.{Bounds}
-use Rattle.sched_state.specs.declared.graphs.LoadedGraph.{LoadedGraph}
-use Rattle.sched_state.specs.declared.runs.Run.{Run}
-use Rattle.sched_state.proofs.NameLemmas.{same_is}
-use Rattle.sched_state.proofs.OrderLemmas.{and_left, and_right}
-use Rattle.sched_model.specs.Handout.{last_serial}
-use Rattle.sched_model.specs.Lists.{rises}
-use Rattle.sched_model.specs.Schedule.{graph_among}
-use Rattle.sched_model.specs.Tables.{tables, attempt_row, run_row, dag_row, pool_row, meta_row, outcome_code, kind_code, phase_code, flag_code}
+use Rattle.sched_laws.specs.sched_state.Lists.{same}
+use Rattle.sched_laws.specs.sched_state.Limits.{Bounds}
+use Rattle.sched_laws.specs.sched_state.declared.graphs.LoadedGraph.{LoadedGraph}
+use Rattle.sched_laws.specs.sched_state.declared.runs.Run.{Run}
+use Rattle.sched_laws.proofs.sched_state.NameLemmas.{same_is}
+use Rattle.sched_laws.proofs.sched_state.OrderLemmas.{and_left, and_right}
+use Rattle.sched_laws.specs.sched_model.Handout.{last_serial}
+use Rattle.sched_laws.specs.sched_model.Lists.{rises}
+use Rattle.sched_laws.specs.sched_model.Schedule.{graph_among}
+use Rattle.sched_laws.specs.sched_model.Tables.{tables, attempt_row, run_row, dag_row, pool_row, meta_row, outcome_code, kind_code, phase_code, flag_code}
 use Rattle.sched_laws.proofs.ListLemmas.{all_get}
 use Rattle.record_rules.specs.Numbers.{is_between, is_moment_column, passes_if, natural}
 use Rattle.record_rules.specs.Keys.{attempt_row_before, IsByKey}

@@ -10,10 +10,10 @@ use Rattle.std.proofs.lemmas.Map.Text.{is_eq-slice_cmp}
 use Rattle.std.proofs.Math.Nat.{eq-or-lt_of_le}
 use Rattle.std.proofs.lemmas.List.Sorted.{searchable_from_sorted}
 use Rattle.std.proofs.lemmas.Option.{slice_get_within, get_or_from_slice_get}
-use Rattle.sched_state.specs.Lists.{name_cmp, is_less, same}
-use Rattle.sched_state.specs.declared.graphs.LoadedGraph.{LoadedGraph}
-use Rattle.sched_state.proofs.ElementLemmas.{element_at}
-use Rattle.sched_model.specs.Lists.{rises}
+use Rattle.sched_laws.specs.sched_state.Lists.{name_cmp, is_less, same}
+use Rattle.sched_laws.specs.sched_state.declared.graphs.LoadedGraph.{LoadedGraph}
+use Rattle.sched_laws.proofs.sched_state.ElementLemmas.{element_at}
+use Rattle.sched_laws.specs.sched_model.Lists.{rises}
 use Rattle.sched_laws.proofs.RankLemmas.{less_is}
 use Rattle.record_rules.proofs.MemberLemmas.{rises_pair}
 

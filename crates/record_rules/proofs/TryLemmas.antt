@@ -4,19 +4,19 @@ use Rattle.std.specs.List.{list_all, list_any, enumerate_from}
 use Rattle.std.proofs.lemmas.Bool.{and_from, le-leb, ltb-true, ltb-false, leb-false, false_from_ne_true}
 use Rattle.std.proofs.lemmas.List.{length-drop}
 use Rattle.graph_file.specs.declared.task_specs.TaskSpec.{TaskSpec}
-use Rattle.trigger_rules.specs.declared.verdicts.Verdict.{Verdict}
-use Rattle.trigger_rules.specs.declared.verdicts.Verdict.TheVariants as verdict
-use Rattle.instance_machine.specs.Instances.{InstanceValue, recent}
-use Rattle.instance_machine.specs.declared.tries.Try.{Try}
-use Rattle.instance_machine.specs.declared.tries.End.{End}
-use Rattle.instance_machine.specs.declared.tries.Outcome.{Outcome}
-use Rattle.instance_machine.specs.declared.tries.Outcome.TheVariants as outcome
+use Rattle.sched_laws.specs.trigger_rules.declared.verdicts.Verdict.{Verdict}
+use Rattle.sched_laws.specs.trigger_rules.declared.verdicts.Verdict.TheVariants as verdict
+use Rattle.sched_laws.specs.instance_machine.Instances.{InstanceValue, recent}
+use Rattle.sched_laws.specs.instance_machine.declared.tries.Try.{Try}
+use Rattle.sched_laws.specs.instance_machine.declared.tries.End.{End}
+use Rattle.sched_laws.specs.instance_machine.declared.tries.Outcome.{Outcome}
+use Rattle.sched_laws.specs.instance_machine.declared.tries.Outcome.TheVariants as outcome
 use Rattle.record_rows.specs.Rows.{AttemptRow}
-use Rattle.sched_state.specs.declared.runs.Run.{Run}
-use Rattle.sched_state.proofs.OrderLemmas.{and_left, and_right}
-use Rattle.sched_model.specs.Lists.{rises, but_last}
-use Rattle.sched_model.specs.Sound.{is_sound_try, is_sound_end, is_sound_instance, is_moment, is_moment_if, may_end, has_end, has_failed, is_failure_if, is_run, is_empty, is_used, try_before}
-use Rattle.sched_model.specs.Tables.{instance_row, attempt_row, attempt_rows, verdict_code, outcome_code}
+use Rattle.sched_laws.specs.sched_state.declared.runs.Run.{Run}
+use Rattle.sched_laws.proofs.sched_state.OrderLemmas.{and_left, and_right}
+use Rattle.sched_laws.specs.sched_model.Lists.{rises, but_last}
+use Rattle.sched_laws.specs.sched_model.Sound.{is_sound_try, is_sound_end, is_sound_instance, is_moment, is_moment_if, may_end, has_end, has_failed, is_failure_if, is_run, is_empty, is_used, try_before}
+use Rattle.sched_laws.specs.sched_model.Tables.{instance_row, attempt_row, attempt_rows, verdict_code, outcome_code}
 use Rattle.sched_laws.proofs.ListLemmas.{all_get}
 use Rattle.sched_laws.proofs.InstanceLemmas.{Parts, parts_of}
 use Rattle.record_rules.specs.Faults.{is_attempt_of, is_end_row_right, is_turn_row_right, has_later, is_failure_code}

@@ -5,21 +5,21 @@ use Rattle.std.specs.declared.cmp.Ordering.{Ordering}
 use Rattle.std.proofs.lemmas.Map.Text.{is_eq-slice_cmp}
 use Rattle.std.proofs.lemmas.Bool.{and_from}
 use Rattle.graph_file.specs.declared.task_specs.TaskSpec.{TaskSpec}
-use Rattle.instance_machine.specs.Instances.{InstanceValue}
+use Rattle.sched_laws.specs.instance_machine.Instances.{InstanceValue}
 use Rattle.record_rows.specs.Rows.{MetaRow, PoolRow, DagRow, RunRow, InstanceRow, AttemptRow, Rows}
-use Rattle.sched_state.specs.Lists.{same, name_cmp}
-use Rattle.sched_state.specs.Limits.{Bounds}
-use Rattle.sched_state.specs.declared.graphs.LoadedGraph.{LoadedGraph}
-use Rattle.sched_state.specs.declared.runs.Run.{Run}
-use Rattle.sched_state.proofs.NameLemmas.{same_itself, same_is}
-use Rattle.sched_state.proofs.OrderLemmas.{and_left, and_right, tie_then, less_no_tie}
+use Rattle.sched_laws.specs.sched_state.Lists.{same, name_cmp}
+use Rattle.sched_laws.specs.sched_state.Limits.{Bounds}
+use Rattle.sched_laws.specs.sched_state.declared.graphs.LoadedGraph.{LoadedGraph}
+use Rattle.sched_laws.specs.sched_state.declared.runs.Run.{Run}
+use Rattle.sched_laws.proofs.sched_state.NameLemmas.{same_itself, same_is}
+use Rattle.sched_laws.proofs.sched_state.OrderLemmas.{and_left, and_right, tie_then, less_no_tie}
 use Rattle.sched_laws.proofs.GraphLemmas.{tie_flips}
 use Rattle.sched_laws.proofs.ListLemmas.{all_get}
-use Rattle.sched_model.specs.Clearing.{pairs_of}
-use Rattle.sched_model.specs.Lists.{rises}
-use Rattle.sched_model.specs.Schedule.{Schedule, dag_among}
-use Rattle.sched_model.specs.Sound.{IsSound}
-use Rattle.sched_model.specs.Tables.{tables, instance_row, instance_rows, task_before, verdict_code}
+use Rattle.sched_laws.specs.sched_model.Clearing.{pairs_of}
+use Rattle.sched_laws.specs.sched_model.Lists.{rises}
+use Rattle.sched_laws.specs.sched_model.Schedule.{Schedule, dag_among}
+use Rattle.sched_laws.specs.sched_model.Sound.{IsSound}
+use Rattle.sched_laws.specs.sched_model.Tables.{tables, instance_row, instance_rows, task_before, verdict_code}
 use Rattle.record_rules.specs.Numbers.{is_between, natural}
 use Rattle.record_rules.specs.Keys.{IsByKey, instance_row_before}
 use Rattle.record_rules.specs.Reading.{Reader, graphs_of, is_of, tries_in, instance_row_in, no_instance, instance_in, run_of, verdict_of, schedule_by, schedule_of, reads}

@@ -6,16 +6,16 @@ use Rattle.graph_file.specs.Lists.{when, first_some}
 use Rattle.graph_file.specs.Names.{is_name}
 use Rattle.graph_file.specs.declared.task_specs.TaskSpec.{TaskSpec}
 use Rattle.dag_check.specs.Graphs.{Dag, no_task}
-use Rattle.trigger_rules.specs.States.{is_finished}
-use Rattle.instance_machine.specs.States.{state_of}
+use Rattle.sched_laws.specs.trigger_rules.States.{is_finished}
+use Rattle.sched_laws.specs.instance_machine.States.{state_of}
 use Rattle.record_rows.specs.Rows.{Rows, MetaRow, PoolRow, DagRow, RunRow, InstanceRow, AttemptRow}
 use Rattle.record_rows.specs.declared.tables.Table.{Table}
 use Rattle.record_rows.specs.declared.tables.Table.TheVariants as table
-use Rattle.sched_state.specs.Lists.{same}
-use Rattle.sched_state.specs.Limits.{Bounds}
-use Rattle.sched_state.specs.declared.graphs.LoadedGraph.{LoadedGraph}
-use Rattle.sched_model.specs.Schedule.{default_pool, graph_among, dag_among, is_ended}
-use Rattle.sched_model.specs.Handout.{last_serial}
+use Rattle.sched_laws.specs.sched_state.Lists.{same}
+use Rattle.sched_laws.specs.sched_state.Limits.{Bounds}
+use Rattle.sched_laws.specs.sched_state.declared.graphs.LoadedGraph.{LoadedGraph}
+use Rattle.sched_laws.specs.sched_model.Schedule.{default_pool, graph_among, dag_among, is_ended}
+use Rattle.sched_laws.specs.sched_model.Handout.{last_serial}
 use Rattle.record_rules.specs.Numbers.{is_between, is_moment_column, passes_if, natural}
 use Rattle.record_rules.specs.Keys.{attempt_row_before}
 use Rattle.record_rules.specs.Reading.{Reader, reads, graphs_of, phase_of, instance_in, instance_row_in, is_of, tries_in, meta_of}

@@ -2,8 +2,8 @@
 use Rattle.std.specs.Prelude.{◌≡◌, pos, Bool, [], ◌∷◌, IsTrue, int_lt}
 use Rattle.std.specs.Ordering.{int_cmp, ordering_then}
 use Rattle.record_rows.specs.Rows.{Rows, MetaRow, PoolRow, DagRow, RunRow, InstanceRow, AttemptRow}
-use Rattle.sched_state.specs.Lists.{name_cmp, is_less}
-use Rattle.sched_model.specs.Lists.{rises}
+use Rattle.sched_laws.specs.sched_state.Lists.{name_cmp, is_less}
+use Rattle.sched_laws.specs.sched_model.Lists.{rises}
 
 abbrev pub meta_row_before : MetaRow → MetaRow → Bool
 meta_row_before x y = int_lt x.one y.one

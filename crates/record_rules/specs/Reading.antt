@@ -9,23 +9,23 @@ use Rattle.graph_file.specs.declared.graph_specs.GraphSpec.{GraphSpec}
 use Rattle.dag_check.specs.Graphs.{Dag, dag_of}
 use Rattle.dag_check.specs.Faults.{first_fault}
 use Rattle.dag_check.specs.declared.faults.DagFault.{DagFault}
-use Rattle.trigger_rules.specs.declared.verdicts.Verdict.{Verdict}
-use Rattle.trigger_rules.specs.declared.verdicts.Verdict.TheVariants as verdict
-use Rattle.instance_machine.specs.Instances.{InstanceValue}
-use Rattle.instance_machine.specs.declared.tries.Try.{Try}
-use Rattle.instance_machine.specs.declared.tries.End.{End}
-use Rattle.instance_machine.specs.declared.tries.Outcome.{Outcome}
-use Rattle.instance_machine.specs.declared.tries.Outcome.TheVariants as outcome
+use Rattle.sched_laws.specs.trigger_rules.declared.verdicts.Verdict.{Verdict}
+use Rattle.sched_laws.specs.trigger_rules.declared.verdicts.Verdict.TheVariants as verdict
+use Rattle.sched_laws.specs.instance_machine.Instances.{InstanceValue}
+use Rattle.sched_laws.specs.instance_machine.declared.tries.Try.{Try}
+use Rattle.sched_laws.specs.instance_machine.declared.tries.End.{End}
+use Rattle.sched_laws.specs.instance_machine.declared.tries.Outcome.{Outcome}
+use Rattle.sched_laws.specs.instance_machine.declared.tries.Outcome.TheVariants as outcome
 use Rattle.record_rows.specs.Rows.{Rows, MetaRow, PoolRow, DagRow, RunRow, InstanceRow, AttemptRow}
-use Rattle.sched_state.specs.Lists.{same}
-use Rattle.sched_state.specs.Limits.{Bounds}
-use Rattle.sched_state.specs.declared.graphs.LoadedGraph.{LoadedGraph}
-use Rattle.sched_state.specs.declared.runs.RunKind.{RunKind}
-use Rattle.sched_state.specs.declared.runs.RunKind.TheVariants as kind
-use Rattle.sched_state.specs.declared.runs.RunPhase.{RunPhase}
-use Rattle.sched_state.specs.declared.runs.RunPhase.TheVariants as phase
-use Rattle.sched_state.specs.declared.runs.Run.{Run}
-use Rattle.sched_model.specs.Schedule.{Schedule, Pool, dag_among}
+use Rattle.sched_laws.specs.sched_state.Lists.{same}
+use Rattle.sched_laws.specs.sched_state.Limits.{Bounds}
+use Rattle.sched_laws.specs.sched_state.declared.graphs.LoadedGraph.{LoadedGraph}
+use Rattle.sched_laws.specs.sched_state.declared.runs.RunKind.{RunKind}
+use Rattle.sched_laws.specs.sched_state.declared.runs.RunKind.TheVariants as kind
+use Rattle.sched_laws.specs.sched_state.declared.runs.RunPhase.{RunPhase}
+use Rattle.sched_laws.specs.sched_state.declared.runs.RunPhase.TheVariants as phase
+use Rattle.sched_laws.specs.sched_state.declared.runs.Run.{Run}
+use Rattle.sched_laws.specs.sched_model.Schedule.{Schedule, Pool, dag_among}
 use Rattle.record_rules.specs.Numbers.{natural}
 
 -- ---- codes; past the last of them all say the last

@@ -2,10 +2,10 @@
 use Rattle.std.specs.Prelude.{ℕ, pos, negsuc, ◌-ℤ◌, List, [], ◌∷◌, codes, map, drop, Option, Some, None}
 use Rattle.record_rows.specs.Rows.{Rows, MetaRow, PoolRow, DagRow, RunRow, InstanceRow, AttemptRow}
 use Rattle.record_rows.specs.declared.tables.Table.{Table}
-use Rattle.sched_state.specs.declared.graphs.LoadedGraph.{LoadedGraph}
-use Rattle.sched_model.specs.Lists.{at}
-use Rattle.sched_model.specs.Schedule.{Schedule}
-use Rattle.sched_model.specs.Tables.{tables}
+use Rattle.sched_laws.specs.sched_state.declared.graphs.LoadedGraph.{LoadedGraph}
+use Rattle.sched_laws.specs.sched_model.Lists.{at}
+use Rattle.sched_laws.specs.sched_model.Schedule.{Schedule}
+use Rattle.sched_laws.specs.sched_model.Tables.{tables}
 use Rattle.record_rules.specs.Reading.{Reader}
 use Rattle.record_rules.specs.Faults.{fault_by}
 

@@ -3,10 +3,10 @@ ghost use Rattle.std.specs.Prelude.{◌≡◌, ℕ, None, Bool, true, ◌&&◌, 
 ghost use Rattle.graph_file.specs.declared.task_specs.TaskSpec.{TaskSpec};
 ghost use Rattle.dag_check.specs.Graphs.{Dag};
 ghost use Rattle.record_rows.specs.Rows.{Rows, MetaRow, PoolRow, DagRow, RunRow, InstanceRow, AttemptRow};
-ghost use Rattle.sched_state.specs.Limits.{Bounds};
-ghost use Rattle.sched_model.specs.Schedule.{Schedule};
-ghost use Rattle.sched_model.specs.Sound.{IsSound, Says, AllSay};
-ghost use Rattle.sched_model.specs.Tables.{tables};
+ghost use Rattle.sched_laws.specs.sched_state.Limits.{Bounds};
+ghost use Rattle.sched_laws.specs.sched_model.Schedule.{Schedule};
+ghost use Rattle.sched_laws.specs.sched_model.Sound.{IsSound, Says, AllSay};
+ghost use Rattle.sched_laws.specs.sched_model.Tables.{tables};
 ghost use Rattle.record_rules.specs.Keys.{IsByKey, meta_row_before, pool_row_before, dag_row_before, run_row_before, instance_row_before, attempt_row_before};
 ghost use Rattle.record_rules.specs.Faults.{record_fault};
 ghost use Rattle.record_rules.specs.Reading.{is_within, schedule_of};

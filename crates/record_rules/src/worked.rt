@@ -1,8 +1,8 @@
 //! Small records, which the check computes.
 ghost use Rattle.std.specs.Prelude.{◌≡◌, None, Some};
 ghost use Rattle.record_rows.specs.declared.tables.Table.TheVariants as table;
-ghost use Rattle.sched_model.specs.Tables.{tables};
-ghost use Rattle.sched_model.specs.Rows.{backfilled, cleared_once, cleared_from_b, failed_twice};
+ghost use Rattle.sched_laws.specs.sched_model.Tables.{tables};
+ghost use Rattle.sched_laws.specs.sched_model.Rows.{backfilled, cleared_once, cleared_from_b, failed_twice};
 ghost use Rattle.record_rules.specs.Worked.{fault_of, lanes_past, before_1970, no_default, negative_size, paused_twice, another_id, late_start, no_kind, one_instance_less, unknown_task, since_past, numbers_exchanged, open_before_a_later, success_before_a_later, other_slots, ended_too_early};
 
 /// The tables of the worked schedules have no fault.

@@ -1,7 +1,7 @@
 -- Lists of rows that are put one after another.
 use Rattle.std.proofs.Common.{◌≡◌, ap, List, ◌++◌}
 use Rattle.record_rows.specs.Rows.{Rows, MetaRow, PoolRow, DagRow, RunRow, InstanceRow, AttemptRow}
-use Rattle.record_rules.specs.Keys.{meta_row_before, pool_row_before, dag_row_before, run_row_before, instance_row_before, attempt_row_before}
+use Rattle.record_changes.specs.record_rules.Keys.{meta_row_before, pool_row_before, dag_row_before, run_row_before, instance_row_before, attempt_row_before}
 use Rattle.record_tables.specs.Puts.{put_metas, put_pools, put_dags, put_runs, put_instances, put_attempts}
 use Rattle.record_tables.proofs.OrderLemmas.{puts_more}
 

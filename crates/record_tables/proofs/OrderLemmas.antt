@@ -15,12 +15,12 @@ use Rattle.std.proofs.lemmas.Map.Text.{is_eq-slice_cmp}
 use Rattle.record_rows.specs.Rows.{MetaRow, PoolRow, DagRow, RunRow, InstanceRow, AttemptRow}
 use Rattle.sched_state.specs.Lists.{name_cmp, is_less}
 use Rattle.sched_state.proofs.OrderLemmas.{and_left, and_right, on_total}
-use Rattle.sched_model.specs.Lists.{rises}
-use Rattle.sched_laws.proofs.ListLemmas.{all_impl}
-use Rattle.record_rules.specs.Keys.{meta_row_before, pool_row_before, dag_row_before, run_row_before, instance_row_before, attempt_row_before}
-use Rattle.record_rules.specs.Between.{put, puts, are_tied}
-use Rattle.record_rules.proofs.NumberLemmas.{less_itself, less_more, less_alike}
-use Rattle.record_rules.proofs.KeyedLemmas.{itself, run_cmp, instance_cmp}
+use Rattle.record_changes.specs.sched_model.Lists.{rises}
+use Rattle.record_changes.proofs.sched_laws.ListLemmas.{all_impl}
+use Rattle.record_changes.specs.record_rules.Keys.{meta_row_before, pool_row_before, dag_row_before, run_row_before, instance_row_before, attempt_row_before}
+use Rattle.record_changes.specs.record_rules.Between.{put, puts, are_tied}
+use Rattle.record_changes.proofs.record_rules.NumberLemmas.{less_itself, less_more, less_alike}
+use Rattle.record_changes.proofs.record_rules.KeyedLemmas.{itself, run_cmp, instance_cmp}
 
 -- an order of rows by key
 pub record IsOrdered {X : Type 0} (before : X → X → Bool) : Type 0 where

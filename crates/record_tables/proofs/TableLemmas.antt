@@ -18,7 +18,7 @@ use Rattle.sqlite.specs.Rows.{stamped}
 use Rattle.sqlite.specs.State.{State, ExecutesInside}
 use Rattle.sqlite.proofs.Callers.{statement_of, runs_as}
 use Rattle.record_rows.specs.Rows.{Rows, MetaRow, PoolRow, DagRow, RunRow, InstanceRow, AttemptRow}
-use Rattle.record_rules.specs.Keys.{meta_row_before, pool_row_before, dag_row_before, run_row_before, instance_row_before, attempt_row_before}
+use Rattle.record_changes.specs.record_rules.Keys.{meta_row_before, pool_row_before, dag_row_before, run_row_before, instance_row_before, attempt_row_before}
 use Rattle.record_tables.specs.Schema.{meta_table, pool_table, dag_table, run_table, instance_table, attempt_table, record_schema}
 use Rattle.record_tables.specs.Holds.{Shows, Stores, meta_cells, pool_cells, dag_cells, run_cells, instance_cells, attempt_cells}
 use Rattle.record_tables.specs.Puts as spec

@@ -1,8 +1,8 @@
 -- Which rows of a list another lacks, where a key stands once.
 use Rattle.std.proofs.Common.{◌≡◌, refl, sym, ap, ◌∙◌, ℕ, zero, suc, List, [], ◌∷◌, ◌++◌, Bool, true, false, true≢false, not, ◌||◌, cond, filter, Option, None, Some, slice_get}
 use Rattle.std.specs.List.{list_any}
-use Rattle.record_rules.specs.Between.{lacked, Tells}
-use Rattle.record_rules.proofs.MemberLemmas.{found_at}
+use Rattle.record_changes.specs.record_rules.Between.{lacked, Tells}
+use Rattle.record_changes.proofs.record_rules.MemberLemmas.{found_at}
 use Rattle.record_changes.proofs.KeyLemmas.{any_get}
 
 -- no member passes

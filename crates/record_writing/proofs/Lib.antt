@@ -9,3 +9,4 @@ pub mod PoolLemmas
 pub mod WholeLemmas
 pub mod KeptLemmas
 pub mod TouchedLemmas
+pub use Rattle.record_changes.proofs as record_changes

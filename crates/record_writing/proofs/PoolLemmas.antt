@@ -13,9 +13,9 @@ use Rattle.sched_draft.specs.Books.{pools_in}
 use Rattle.sched_model.specs.Lists.{rises}
 use Rattle.sched_model.specs.Schedule.{Pool, pool_before}
 use Rattle.sched_model.specs.Tables.{pool_row}
-use Rattle.record_rules.proofs.NumberLemmas.{same_naturals}
+use Rattle.record_changes.proofs.record_rules.NumberLemmas.{same_naturals}
 use Rattle.record_changes.specs.Changes.{same_pool_row}
-use Rattle.record_rules.proofs.SearchLemmas.{eq_is}
+use Rattle.record_changes.proofs.record_rules.SearchLemmas.{eq_is}
 
 -- a pool of this size is there
 abbrev pub is_size : ℕ → Option ℕ → Bool

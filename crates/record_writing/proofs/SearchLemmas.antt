@@ -14,10 +14,10 @@ use Rattle.sched_state.proofs.OrderLemmas.{and_left, and_right, any_map, eq_flip
 use Rattle.sched_model.specs.Lists.{rises}
 use Rattle.sched_model.specs.Schedule.{graph_before, graph_among, run_before, is_at}
 use Rattle.sched_model.specs.Tables.{dag_row, run_row, flag_code}
-use Rattle.sched_laws.proofs.AddLemmas.{run_total, key_ties}
-use Rattle.record_rules.specs.Numbers.{natural}
-use Rattle.record_rules.proofs.NumberLemmas.{same_number}
-use Rattle.record_rules.proofs.SearchLemmas.{unfound, one_place, graph_id, graph_key}
+use Rattle.record_changes.proofs.sched_laws.AddLemmas.{run_total, key_ties}
+use Rattle.record_changes.specs.record_rules.Numbers.{natural}
+use Rattle.record_changes.proofs.record_rules.NumberLemmas.{same_number}
+use Rattle.record_changes.proofs.record_rules.SearchLemmas.{unfound, one_place, graph_id, graph_key}
 use Rattle.record_changes.specs.Changes.{same_dag_row, same_run_row}
 use Rattle.record_changes.proofs.KeyLemmas.{found_by}
 use Rattle.record_writing.proofs.LackedLemmas.{any_one, no_any}

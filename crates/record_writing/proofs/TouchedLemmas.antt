@@ -7,18 +7,18 @@ use Rattle.std.proofs.lemmas.List.{length-map}
 use Rattle.std.proofs.lemmas.List.Concat.{flat_map_single}
 use Rattle.dag_check.specs.Graphs.{Dag}
 use Rattle.record_rows.specs.Rows.{RunRow, InstanceRow, AttemptRow}
-use Rattle.run_lists.specs.Marks.{Mark, Kept, Changed, Added, now_of, runs_of, base_of, is_touched, touched_from}
-use Rattle.run_lists.specs.Overlays.{AreAllTouched}
-use Rattle.run_lists.proofs.LawLemmas.{flat_over}
-use Rattle.run_lists.proofs.PickLemmas.{picked, picked_over}
+use Rattle.sched_draft.specs.run_lists.Marks.{Mark, Kept, Changed, Added, now_of, runs_of, base_of, is_touched, touched_from}
+use Rattle.sched_draft.specs.run_lists.Overlays.{AreAllTouched}
+use Rattle.sched_draft.proofs.run_lists.LawLemmas.{flat_over}
+use Rattle.sched_draft.proofs.run_lists.PickLemmas.{picked, picked_over}
 use Rattle.sched_draft.specs.Drafts.{SameDags}
 use Rattle.sched_state.specs.declared.runs.Run.{Run}
 use Rattle.sched_model.specs.Lists.{rises}
 use Rattle.sched_model.specs.Schedule.{Schedule}
 use Rattle.sched_model.specs.Tables.{tables, run_row, instance_row, instance_rows, attempt_rows, serial_before, sort_by, task_before}
-use Rattle.record_rules.specs.Between.{lacked}
-use Rattle.record_rules.proofs.ListLemmas.{append_none}
-use Rattle.record_rules.proofs.MemberLemmas.{has_cases}
+use Rattle.record_changes.specs.record_rules.Between.{lacked}
+use Rattle.record_changes.proofs.record_rules.ListLemmas.{append_none}
+use Rattle.record_changes.proofs.record_rules.MemberLemmas.{has_cases}
 use Rattle.record_changes.specs.Changes.{same_run_row, same_instance_row, same_attempt_row}
 use Rattle.record_writing.specs.Places.{put_each}
 use Rattle.record_writing.proofs.CollectLemmas.{from_place, put_joined}

@@ -3,7 +3,7 @@ ghost use Rattle.std.specs.Prelude.{◌≡◌, ◌&&◌, [], ◌∷◌, true, ma
 ghost use Rattle.std.specs.List.{list_any};
 ghost use Rattle.std.specs.Ordering.{int_eq};
 ghost use Rattle.sched_state.specs.Lists.{same};
-ghost use Rattle.record_rules.specs.Between.{lacked};
+ghost use Rattle.record_changes.specs.record_rules.Between.{lacked};
 ghost use Rattle.record_changes.specs.Changes.{same_dag_row};
 ghost use Rattle.sched_model.specs.Lists.{rises};
 ghost use Rattle.sched_model.specs.Schedule.{graph_before};

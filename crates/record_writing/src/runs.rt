@@ -1,9 +1,9 @@
 //! The rows of runs that a record lacks.
 ghost use Rattle.std.specs.Prelude.{◌≡◌, true, map, Some, slice_get, IfOk};
 ghost use Rattle.std.specs.List.{list_any};
-ghost use Rattle.record_rules.specs.Between.{lacked};
+ghost use Rattle.record_changes.specs.record_rules.Between.{lacked};
 ghost use Rattle.record_changes.specs.Changes.{same_run_row};
-ghost use Rattle.run_lists.specs.Overlays.{AreAllTouched};
+ghost use Rattle.sched_draft.specs.run_lists.Overlays.{AreAllTouched};
 ghost use Rattle.sched_model.specs.Lists.{rises};
 ghost use Rattle.sched_model.specs.Schedule.{run_before};
 ghost use Rattle.sched_model.specs.Tables.{run_row};

@@ -8,3 +8,4 @@ pub mod Past
 pub mod Positions
 pub mod Rooms
 pub mod Touched
+pub use Rattle.sched_model.specs as sched_model

@@ -13,14 +13,14 @@ use Rattle.sched_model.specs.Schedule.{graph_before, graph_among}
 use Rattle.sched_model.specs.Tables.{dag_row, flag_code}
 use Rattle.sched_laws.proofs.GraphLemmas.{reloaded_other, flip_same}
 use Rattle.sched_laws.proofs.LoadLemmas.{before_apart, reloaded_named}
-use Rattle.record_rules.specs.Between.{lacked}
-use Rattle.record_rules.proofs.ListLemmas.{once_rising}
-use Rattle.record_rules.proofs.MemberLemmas.{map_get}
-use Rattle.record_rules.proofs.NumberLemmas.{number_itself}
-use Rattle.record_changes.specs.Changes.{same_dag_row}
-use Rattle.record_changes.proofs.KeyLemmas.{any_get, found_by}
+use Rattle.record_restoring.specs.record_rules.Between.{lacked}
+use Rattle.record_restoring.proofs.record_rules.ListLemmas.{once_rising}
+use Rattle.record_restoring.proofs.record_rules.MemberLemmas.{map_get}
+use Rattle.record_restoring.proofs.record_rules.NumberLemmas.{number_itself}
+use Rattle.record_writing.specs.record_changes.Changes.{same_dag_row}
+use Rattle.record_writing.proofs.record_changes.KeyLemmas.{any_get, found_by}
 use Rattle.record_writing.proofs.CollectLemmas.{lacked_there}
-use Rattle.record_rules.proofs.SearchLemmas.{unfound}
+use Rattle.record_restoring.proofs.record_rules.SearchLemmas.{unfound}
 
 pub row_itself : (x : DagRow) → same_dag_row x x ≡ true
 row_itself x = and_from _ _ (same_itself x.dag_id) (and_from _ _ (same_itself x.body) (number_itself x.paused))

@@ -23,3 +23,4 @@ pub mod LoseLemmas
 pub mod ReportLemmas
 pub mod RoomLemmas
 pub mod EndedLemmas
+pub use Rattle.sched_events.proofs as sched_events

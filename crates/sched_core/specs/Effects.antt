@@ -8,7 +8,7 @@ use Rattle.sched_draft.specs.Books.{pools_in}
 use Rattle.sched_handout.specs.Weighing.{WeighTasks}
 use Rattle.sched_handout.specs.declared.occupied.Occupied.{Occupied}
 use Rattle.record_rows.specs.Rows.{Rows}
-use Rattle.record_changes.specs.Changes.{rows_between}
+use Rattle.record_writing.specs.record_changes.Changes.{rows_between}
 use Rattle.sched_core.specs.Books.{IsHeldWith}
 use Rattle.sched_core.specs.Inside.{IsLast}
 use Rattle.sched_core.specs.declared.changes.Effect.{Effect}

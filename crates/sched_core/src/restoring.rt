@@ -4,8 +4,8 @@ ghost use Rattle.sched_creation.specs.Dates.{HaveDates};
 ghost use Rattle.sched_model.specs.Lists.{rises};
 ghost use Rattle.sched_model.specs.Schedule.{run_before};
 ghost use Rattle.sched_model.specs.Tables.{tables};
-ghost use Rattle.record_rules.specs.Reading.{schedule_of};
-ghost use Rattle.record_rules.specs.Faults.{record_fault};
+ghost use Rattle.record_restoring.specs.record_rules.Reading.{schedule_of};
+ghost use Rattle.record_restoring.specs.record_rules.Faults.{record_fault};
 ghost use Rattle.record_restoring.specs.Results.{IsFault};
 
 use crate::schedules::Schedule;

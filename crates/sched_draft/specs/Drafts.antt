@@ -3,7 +3,7 @@ use Rattle.std.specs.Prelude.{◌≡◌, ℕ, List, true, Some, slice_get}
 use Rattle.dag_check.specs.Orders.{is_in}
 use Rattle.sched_state.specs.declared.graphs.LoadedGraph.{LoadedGraph}
 use Rattle.sched_state.specs.declared.runs.Run.{Run}
-use Rattle.sched_model.specs.Schedule.{Schedule, dag_among}
+use Rattle.run_lists.specs.sched_model.Schedule.{Schedule, dag_among}
 
 -- the schedule that is there, the one that is made of it, and the positions of the runs that were changed or added, which may be changed
 pub record DraftValue : Type 0 where

@@ -20,7 +20,7 @@ pub struct Base<'a> {
 }
 
 impl<'a> Model for Base<'a> {
-    ghost use Rattle.sched_model.specs.Schedule.{Schedule};
+    ghost use Rattle.run_lists.specs.sched_model.Schedule.{Schedule};
     ghost use Rattle.sched_draft.specs.Books.{pools_in};
 
     ghost Value = { Schedule };

@@ -16,11 +16,11 @@ use Rattle.sched_state.specs.declared.graphs.LoadedGraph.{LoadedGraph}
 use Rattle.sched_state.specs.declared.runs.Run.{Run}
 use Rattle.sched_state.proofs.NameLemmas.{same_is}
 use Rattle.sched_state.proofs.OrderLemmas.{and_left, and_right, or_left, or_right}
-use Rattle.sched_model.specs.Schedule.{Schedule, graph_among, graph_named, has_pool, has_runs, has_run_at}
-use Rattle.sched_model.specs.Changes.{load_graph, set_now}
-use Rattle.sched_model.specs.Causes.{has_too_many_graphs, is_full_with, is_unknown_graph}
-use Rattle.sched_model.specs.NamedRuns.{NamedRun, is_for, named_by_tick, named_by_hand}
-use Rattle.sched_model.specs.Sound.{IsSound, Says, AllSay, is_sound_run, is_new, are_new}
+use Rattle.sched_laws.specs.sched_model.Schedule.{Schedule, graph_among, graph_named, has_pool, has_runs, has_run_at}
+use Rattle.sched_laws.specs.sched_model.Changes.{load_graph, set_now}
+use Rattle.sched_laws.specs.sched_model.Causes.{has_too_many_graphs, is_full_with, is_unknown_graph}
+use Rattle.sched_laws.specs.sched_model.NamedRuns.{NamedRun, is_for, named_by_tick, named_by_hand}
+use Rattle.sched_laws.specs.sched_model.Sound.{IsSound, Says, AllSay, is_sound_run, is_new, are_new}
 use Rattle.sched_laws.proofs.ByHandLemmas.{by_hand_new}
 use Rattle.sched_laws.proofs.GraphLemmas.{load_sound, pause_sound}
 use Rattle.sched_laws.proofs.LoadLemmas.{load_again}

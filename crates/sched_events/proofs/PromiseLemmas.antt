@@ -14,14 +14,14 @@ use Rattle.instance_machine.specs.Reports.{reported_try, lost_try}
 use Rattle.instance_machine.specs.declared.tries.Try.{Try}
 use Rattle.sched_state.specs.Limits.{Bounds}
 use Rattle.sched_state.specs.declared.jobs.Job.{Job}
-use Rattle.sched_model.specs.Changes.{load_graph}
-use Rattle.sched_model.specs.Clearing.{Selection, clear}
-use Rattle.sched_model.specs.Handout.{hand_out}
-use Rattle.sched_model.specs.Jobs.{handed}
-use Rattle.sched_model.specs.NamedRuns.{NamedRun, add_runs}
-use Rattle.sched_model.specs.Schedule.{Schedule, empty_schedule}
-use Rattle.sched_model.specs.Settle.{settle}
-use Rattle.sched_model.specs.Sound.{IsSound, are_new}
+use Rattle.sched_laws.specs.sched_model.Changes.{load_graph}
+use Rattle.sched_laws.specs.sched_model.Clearing.{Selection, clear}
+use Rattle.sched_laws.specs.sched_model.Handout.{hand_out}
+use Rattle.sched_laws.specs.sched_model.Jobs.{handed}
+use Rattle.sched_laws.specs.sched_model.NamedRuns.{NamedRun, add_runs}
+use Rattle.sched_laws.specs.sched_model.Schedule.{Schedule, empty_schedule}
+use Rattle.sched_laws.specs.sched_model.Settle.{settle}
+use Rattle.sched_laws.specs.sched_model.Sound.{IsSound, are_new}
 use Rattle.sched_laws.specs.Offered.{HandsOut}
 use Rattle.sched_laws.specs.Runs.{runs_named}
 use Rattle.sched_laws.specs.Tries.{GoesOn, try_at}

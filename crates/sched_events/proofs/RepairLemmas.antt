@@ -6,11 +6,11 @@ use Rattle.graph_file.specs.declared.task_specs.TaskSpec.{TaskSpec}
 use Rattle.instance_machine.specs.Instances.{InstanceValue}
 use Rattle.sched_state.specs.declared.clearings.Clearing.{Clearing}
 use Rattle.sched_state.specs.declared.runs.Run.{Run}
-use Rattle.sched_model.specs.Schedule.{Schedule, graph_named, has_run_at}
-use Rattle.sched_model.specs.Causes.{is_unknown_graph, is_unknown_task, is_bad_span, is_full_with, least_in_flight}
-use Rattle.sched_model.specs.Clearing.{Selection, clear, clear_if, clear_run, named_in, named_pairs}
-use Rattle.sched_model.specs.NamedRuns.{NamedRun, is_for, named_by_backfill}
-use Rattle.sched_model.specs.Sound.{IsSound, AllSay, is_moment, is_new, are_new}
+use Rattle.sched_laws.specs.sched_model.Schedule.{Schedule, graph_named, has_run_at}
+use Rattle.sched_laws.specs.sched_model.Causes.{is_unknown_graph, is_unknown_task, is_bad_span, is_full_with, least_in_flight}
+use Rattle.sched_laws.specs.sched_model.Clearing.{Selection, clear, clear_if, clear_run, named_in, named_pairs}
+use Rattle.sched_laws.specs.sched_model.NamedRuns.{NamedRun, is_for, named_by_backfill}
+use Rattle.sched_laws.specs.sched_model.Sound.{IsSound, AllSay, is_moment, is_new, are_new}
 use Rattle.sched_laws.proofs.ByHandLemmas.{backfill_new}
 use Rattle.sched_laws.proofs.ClearLemmas.{clear_sound}
 use Rattle.sched_laws.proofs.KeyLemmas.{clear_keys}

@@ -12,13 +12,13 @@ use Rattle.sched_state.specs.Lists.{same, repeat}
 use Rattle.sched_state.specs.declared.clearings.Clearing.{Clearing}
 use Rattle.sched_state.specs.declared.graphs.LoadedGraph.{LoadedGraph}
 use Rattle.instance_machine.specs.Reports.{reported_try, lost_try}
-use Rattle.sched_model.specs.Schedule.{Schedule, graph_named, has_pool, has_run_at, size_of}
-use Rattle.sched_model.specs.Settle.{move, move_runs, with_runs, moves_left, settle}
-use Rattle.sched_model.specs.Handout.{hand, hand_one, best_offer, serials_left, hand_out}
-use Rattle.sched_model.specs.NamedRuns.{NamedRun, is_for, named_by_backfill, spanned, add_runs}
-use Rattle.sched_model.specs.Clearing.{cleared_by, clear, named_pairs}
-use Rattle.sched_model.specs.Changes.{load_graph, set_paused, resize}
-use Rattle.sched_model.specs.Sound.{IsSound, Says, AllSay}
+use Rattle.sched_laws.specs.sched_model.Schedule.{Schedule, graph_named, has_pool, has_run_at, size_of}
+use Rattle.sched_laws.specs.sched_model.Settle.{move, move_runs, with_runs, moves_left, settle}
+use Rattle.sched_laws.specs.sched_model.Handout.{hand, hand_one, best_offer, serials_left, hand_out}
+use Rattle.sched_laws.specs.sched_model.NamedRuns.{NamedRun, is_for, named_by_backfill, spanned, add_runs}
+use Rattle.sched_laws.specs.sched_model.Clearing.{cleared_by, clear, named_pairs}
+use Rattle.sched_laws.specs.sched_model.Changes.{load_graph, set_paused, resize}
+use Rattle.sched_laws.specs.sched_model.Sound.{IsSound, Says, AllSay}
 use Rattle.sched_laws.proofs.SettleLemmas.{settle_ends, settle_still, map_some}
 use Rattle.sched_laws.proofs.HandLemmas.{out_still}
 use Rattle.sched_laws.proofs.HandOutLemmas.{hand_ends, hand_still}

@@ -11,10 +11,10 @@ use Rattle.pool_book.specs.declared.pools.PoolFault.TheVariants.{TooManyPools}
 use Rattle.sched_state.specs.Limits.{Bounds}
 use Rattle.sched_state.specs.Lists.{same}
 use Rattle.sched_state.specs.declared.graphs.LoadedGraph.{LoadedGraph}
-use Rattle.sched_model.specs.Schedule.{Schedule, graph_named, has_pool, has_runs, has_run_at}
-use Rattle.sched_model.specs.NamedRuns.{named_by_tick, named_by_hand, named_by_backfill}
-use Rattle.sched_model.specs.Sound.{is_empty}
-use Rattle.sched_model.specs.Causes.{is_not_in_flight, is_out_of_turn, is_unknown_graph, is_unknown_task, is_bad_span, least_in_flight, has_too_many_graphs, has_too_many_pools, has_too_many_lanes, is_full_with}
+use Rattle.sched_laws.specs.sched_model.Schedule.{Schedule, graph_named, has_pool, has_runs, has_run_at}
+use Rattle.sched_laws.specs.sched_model.NamedRuns.{named_by_tick, named_by_hand, named_by_backfill}
+use Rattle.sched_laws.specs.sched_model.Sound.{is_empty}
+use Rattle.sched_laws.specs.sched_model.Causes.{is_not_in_flight, is_out_of_turn, is_unknown_graph, is_unknown_task, is_bad_span, least_in_flight, has_too_many_graphs, has_too_many_pools, has_too_many_lanes, is_full_with}
 use Rattle.sched_events.specs.Events.{set_back_by}
 use Rattle.sched_events.specs.declared.events.Event.{Event}
 use Rattle.sched_events.specs.declared.events.Event.TheVariants.{Load, Tick, Trigger, Backfill, Clear, Pause, Unpause, Resize, Report, Restart}

@@ -5,11 +5,11 @@ use Rattle.graph_file.specs.declared.faults.GraphFault.{GraphFault}
 use Rattle.graph_file.specs.declared.graph_specs.GraphSpec.{GraphSpec}
 use Rattle.dag_check.specs.Graphs.{dag_of}
 use Rattle.dag_check.specs.Faults.{first_fault}
-use Rattle.sched_model.specs.Schedule.{Schedule}
-use Rattle.sched_model.specs.NamedRuns.{NamedRun, named_by_tick, named_by_hand, named_by_backfill, present_in, leaves_more}
-use Rattle.sched_model.specs.Clearing.{Selection, cleared_by, reset_by, clear, count_cleared}
-use Rattle.sched_model.specs.Changes.{load_graph, set_now, set_paused, new_pool, resize, report, restart}
-use Rattle.sched_model.specs.Sound.{is_moment, is_sound_pool}
+use Rattle.sched_laws.specs.sched_model.Schedule.{Schedule}
+use Rattle.sched_laws.specs.sched_model.NamedRuns.{NamedRun, named_by_tick, named_by_hand, named_by_backfill, present_in, leaves_more}
+use Rattle.sched_laws.specs.sched_model.Clearing.{Selection, cleared_by, reset_by, clear, count_cleared}
+use Rattle.sched_laws.specs.sched_model.Changes.{load_graph, set_now, set_paused, new_pool, resize, report, restart}
+use Rattle.sched_laws.specs.sched_model.Sound.{is_moment, is_sound_pool}
 use Rattle.sched_events.specs.declared.events.Event.{Event}
 use Rattle.sched_events.specs.declared.events.Event.TheVariants.{Load, Tick, Trigger, Backfill, Clear, Pause, Unpause, Resize, Report, Restart}
 

@@ -9,7 +9,7 @@ use Rattle.pool_book.specs.declared.pools.PoolFault.{PoolFault}
 use Rattle.pool_book.specs.declared.pools.PoolFault.TheVariants as pool
 use Rattle.run_planner.specs.declared.by_hand.PlanFault.{PlanFault}
 use Rattle.run_planner.specs.declared.by_hand.PlanFault.TheVariants as plan
-use Rattle.sched_model.specs.Schedule.{Schedule}
+use Rattle.sched_laws.specs.sched_model.Schedule.{Schedule}
 use Rattle.sched_events.specs.Causes.{refused}
 use Rattle.sched_events.specs.Events.{IsInRange}
 use Rattle.sched_events.specs.Steps.{step, answer_to}

@@ -3,11 +3,11 @@ use Rattle.std.specs.Prelude.{◌≡◌, ℕ, ◌-◌, ◌<◌, ◌++◌, List, 
 use Rattle.std.specs.List.{range_with_len}
 use Rattle.std.specs.List.Sorted.{IsPermutation}
 use Rattle.sched_state.specs.declared.jobs.Job.{Job}
-use Rattle.sched_model.specs.Schedule.{Schedule}
-use Rattle.sched_model.specs.NamedRuns.{add_runs}
-use Rattle.sched_model.specs.Settle.{move, settle, Settles}
-use Rattle.sched_model.specs.Handout.{hand_one}
-use Rattle.sched_model.specs.Sound.{serials_of}
+use Rattle.sched_laws.specs.sched_model.Schedule.{Schedule}
+use Rattle.sched_laws.specs.sched_model.NamedRuns.{add_runs}
+use Rattle.sched_laws.specs.sched_model.Settle.{move, settle, Settles}
+use Rattle.sched_laws.specs.sched_model.Handout.{hand_one}
+use Rattle.sched_laws.specs.sched_model.Sound.{serials_of}
 use Rattle.sched_laws.specs.Offered.{HandsOut}
 use Rattle.sched_laws.specs.Runs.{runs_named}
 use Rattle.sched_laws.specs.Tries.{GoesOn, try_at}

@@ -1,9 +1,9 @@
 -- What is true of each schedule that is held.
 use Rattle.std.specs.Prelude.{◌≡◌, None}
-use Rattle.sched_model.specs.Schedule.{Schedule}
-use Rattle.sched_model.specs.Settle.{move}
-use Rattle.sched_model.specs.Handout.{hand_one}
-use Rattle.sched_model.specs.Sound.{IsSound, AllSay}
+use Rattle.sched_laws.specs.sched_model.Schedule.{Schedule}
+use Rattle.sched_laws.specs.sched_model.Settle.{move}
+use Rattle.sched_laws.specs.sched_model.Handout.{hand_one}
+use Rattle.sched_laws.specs.sched_model.Sound.{IsSound, AllSay}
 
 -- it is sound, and its graphs are what their texts say: so much is asked of a record that is read
 pub record IsSoundAndSaid (a : Schedule) : Type 0 where

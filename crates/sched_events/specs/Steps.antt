@@ -1,10 +1,10 @@
 -- The step that an accepted event makes, and its answer.
 use Rattle.std.specs.Prelude.{◌≡◌, List, [], ◌∷◌, ◌++◌, map, flat_map, None, Some}
 use Rattle.sched_state.specs.declared.jobs.Job.{Job}
-use Rattle.sched_model.specs.Schedule.{Schedule}
-use Rattle.sched_model.specs.NamedRuns.{NamedRun}
-use Rattle.sched_model.specs.Changes.{advance}
-use Rattle.sched_model.specs.Jobs.{handed}
+use Rattle.sched_laws.specs.sched_model.Schedule.{Schedule}
+use Rattle.sched_laws.specs.sched_model.NamedRuns.{NamedRun}
+use Rattle.sched_laws.specs.sched_model.Changes.{advance}
+use Rattle.sched_laws.specs.sched_model.Jobs.{handed}
 use Rattle.sched_events.specs.Events.{named_by, leaves_more_by, set_back_by, count_in, change_by, IsInRange}
 use Rattle.sched_events.specs.Causes.{refused}
 use Rattle.sched_events.specs.declared.answers.RunId.{RunId}

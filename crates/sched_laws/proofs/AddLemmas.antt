@@ -11,14 +11,14 @@ use Rattle.std.proofs.lemmas.Bool.{le-leb, ltb-false, and_from, or_from}
 use Rattle.std.proofs.lemmas.List.Sorted.{IsPermutation-refl, IsPermutation-trans, IsPermutation-middle, IsPermutation-cons}
 use Rattle.graph_file.specs.declared.task_specs.TaskSpec.{TaskSpec}
 use Rattle.dag_check.specs.Orders.{repeated}
-use Rattle.instance_machine.specs.Instances.{new_instance}
-use Rattle.sched_state.specs.Lists.{same, name_cmp, insert_by}
-use Rattle.sched_state.specs.declared.runs.RunPhase.TheVariants as phase
-use Rattle.sched_state.proofs.OrderLemmas.{and_left, and_right, not_false, then_total, on_total, nat_tie, tie_then, all_insert, any_insert}
-use Rattle.sched_state.proofs.NameLemmas.{or_assoc}
+use Rattle.sched_model.specs.instance_machine.Instances.{new_instance}
+use Rattle.sched_model.specs.sched_state.Lists.{same, name_cmp, insert_by}
+use Rattle.sched_model.specs.sched_state.declared.runs.RunPhase.TheVariants as phase
+use Rattle.sched_model.proofs.sched_state.OrderLemmas.{and_left, and_right, not_false, then_total, on_total, nat_tie, tie_then, all_insert, any_insert}
+use Rattle.sched_model.proofs.sched_state.NameLemmas.{or_assoc}
 use Rattle.sched_model.specs.Lists.{all_pairs, rises}
 use Rattle.sched_model.specs.Schedule.{Schedule, dag_among, graph_named, has_run_at, is_at, run_before}
-use Rattle.sched_state.specs.declared.runs.Run.{Run}
+use Rattle.sched_model.specs.sched_state.declared.runs.Run.{Run}
 use Rattle.sched_model.specs.NamedRuns.{NamedRun, is_for, queued_run, insert_runs, add_runs}
 use Rattle.sched_model.specs.Causes.{is_full_with}
 use Rattle.sched_model.specs.Sound.{IsSound, is_sound_in, is_sound_instance, is_sound_run, is_new, are_new, is_used, tries_rise, all_tries_rise, serials_of}

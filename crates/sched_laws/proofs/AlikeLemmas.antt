@@ -4,14 +4,14 @@ use Rattle.std.proofs.Common.{◌≡◌, refl, ap, ◌∙◌, ℕ, ◌+◌, List
 use Rattle.std.specs.List.{list_any, zip, enumerate_from}
 use Rattle.graph_file.specs.declared.task_specs.TaskSpec.{TaskSpec}
 use Rattle.dag_check.specs.Graphs.{Dag, ups}
-use Rattle.trigger_rules.specs.Rules.{rule_verdict}
-use Rattle.trigger_rules.specs.declared.verdicts.Verdict.{Verdict}
-use Rattle.priority_weights.specs.Weights.{effective_weight}
-use Rattle.instance_machine.specs.Instances.{InstanceValue}
-use Rattle.instance_machine.specs.States.{state_of}
-use Rattle.instance_machine.specs.declared.tries.Try.{Try}
-use Rattle.sched_state.specs.declared.graphs.LoadedGraph.{LoadedGraph}
-use Rattle.sched_state.specs.declared.runs.Run.{Run}
+use Rattle.sched_model.specs.trigger_rules.Rules.{rule_verdict}
+use Rattle.sched_model.specs.trigger_rules.declared.verdicts.Verdict.{Verdict}
+use Rattle.sched_model.specs.priority_weights.Weights.{effective_weight}
+use Rattle.sched_model.specs.instance_machine.Instances.{InstanceValue}
+use Rattle.sched_model.specs.instance_machine.States.{state_of}
+use Rattle.sched_model.specs.instance_machine.declared.tries.Try.{Try}
+use Rattle.sched_model.specs.sched_state.declared.graphs.LoadedGraph.{LoadedGraph}
+use Rattle.sched_model.specs.sched_state.declared.runs.Run.{Run}
 use Rattle.sched_model.specs.Lists.{zip_with, best_by}
 use Rattle.sched_model.specs.Schedule.{Schedule, size_of, dag_among, no_dag, is_running, is_queued}
 use Rattle.sched_model.specs.States.{open_of, slots_in}

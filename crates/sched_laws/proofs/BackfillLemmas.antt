@@ -2,12 +2,12 @@
 use Rattle.std.proofs.Common.{◌≡◌, ◌∙◌, refl, sym, ap, ℕ, List, [], ◌∷◌, Bool, true, false, not, cond, filter, map, ◌&&◌, ◌||◌, ◌==◌}
 use Rattle.std.specs.List.{list_any}
 use Rattle.std.proofs.lemmas.Bool.{eqb-true}
-use Rattle.cron_timetable.specs.declared.timetables.Interval.{Interval}
-use Rattle.run_planner.specs.Due.{without_runs}
-use Rattle.run_planner.specs.Index.{has_date}
-use Rattle.run_planner.specs.Spans.{starts, with_runs}
-use Rattle.sched_state.proofs.NameLemmas.{same_itself}
-use Rattle.sched_state.specs.declared.runs.RunKind.TheVariants.{Backfill}
+use Rattle.sched_model.specs.cron_timetable.declared.timetables.Interval.{Interval}
+use Rattle.sched_model.specs.run_planner.Due.{without_runs}
+use Rattle.sched_model.specs.run_planner.Index.{has_date}
+use Rattle.sched_model.specs.run_planner.Spans.{starts, with_runs}
+use Rattle.sched_model.proofs.sched_state.NameLemmas.{same_itself}
+use Rattle.sched_model.specs.sched_state.declared.runs.RunKind.TheVariants.{Backfill}
 use Rattle.sched_model.specs.Changes.{advance}
 use Rattle.sched_model.specs.NamedRuns.{is_for, run_from, named_by_backfill, present_in, spanned}
 use Rattle.sched_model.specs.Schedule.{Schedule, dates_of, has_run_at}

@@ -4,19 +4,19 @@ use Rattle.std.specs.List.{list_all, list_any, range_with_len, zip}
 use Rattle.graph_file.specs.Lists.{when, first_some}
 use Rattle.graph_file.specs.declared.task_specs.TaskSpec.{TaskSpec}
 use Rattle.dag_check.specs.Graphs.{Dag, ups}
-use Rattle.trigger_rules.specs.Rules.{rule_verdict}
-use Rattle.trigger_rules.specs.States.{is_finished, is_bad}
-use Rattle.trigger_rules.specs.declared.verdicts.Verdict.{Verdict}
-use Rattle.instance_machine.specs.Instances.{InstanceValue}
-use Rattle.instance_machine.specs.States.{state_of}
-use Rattle.instance_machine.specs.declared.tries.Try.{Try}
-use Rattle.sched_state.specs.declared.jobs.Job.{Job}
-use Rattle.sched_state.specs.Lists.{same, change_from, repeat}
-use Rattle.sched_state.specs.declared.graphs.LoadedGraph.{LoadedGraph}
-use Rattle.sched_state.specs.declared.runs.Run.{Run}
-use Rattle.sched_state.specs.declared.runs.RunPhase.TheVariants as phase
-use Rattle.sched_state.proofs.OrderLemmas.{any_map}
-use Rattle.sched_state.proofs.RepeatLemmas.{repeat_done, repeat_more}
+use Rattle.sched_model.specs.trigger_rules.Rules.{rule_verdict}
+use Rattle.sched_model.specs.trigger_rules.States.{is_finished, is_bad}
+use Rattle.sched_model.specs.trigger_rules.declared.verdicts.Verdict.{Verdict}
+use Rattle.sched_model.specs.instance_machine.Instances.{InstanceValue}
+use Rattle.sched_model.specs.instance_machine.States.{state_of}
+use Rattle.sched_model.specs.instance_machine.declared.tries.Try.{Try}
+use Rattle.sched_model.specs.sched_state.declared.jobs.Job.{Job}
+use Rattle.sched_model.specs.sched_state.Lists.{same, change_from, repeat}
+use Rattle.sched_model.specs.sched_state.declared.graphs.LoadedGraph.{LoadedGraph}
+use Rattle.sched_model.specs.sched_state.declared.runs.Run.{Run}
+use Rattle.sched_model.specs.sched_state.declared.runs.RunPhase.TheVariants as phase
+use Rattle.sched_model.proofs.sched_state.OrderLemmas.{any_map}
+use Rattle.sched_model.proofs.sched_state.RepeatLemmas.{repeat_done, repeat_more}
 use Rattle.sched_model.specs.Lists.{zip_with, map_places}
 use Rattle.sched_model.specs.Schedule.{Schedule, graph_among, dag_among, no_dag, has_runs, is_running, is_queued, tasks_of}
 use Rattle.sched_model.specs.States.{active_runs}

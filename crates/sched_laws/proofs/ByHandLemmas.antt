@@ -3,16 +3,16 @@ use Rattle.std.proofs.Common.{◌≡◌, ◌∙◌, refl, sym, ap, ℕ, ◌<◌,
 use Rattle.std.specs.List.{list_all}
 use Rattle.std.proofs.lemmas.Bool.{ltb-true, and_from}
 use Rattle.moment_core.specs.Moments.{seconds_end}
-use Rattle.cron_timetable.specs.declared.timetables.Interval.{Interval}
-use Rattle.cron_timetable.specs.declared.timetables.Timetable.{Timetable}
-use Rattle.cron_timetable.specs.declared.timetables.Timetable.TheVariants.{Cron, Trigger, Once, Never}
-use Rattle.run_planner.specs.ByHand.{manual_intervals}
-use Rattle.run_planner.specs.Due.{due_intervals, last_alone, starts_rise, without_runs}
-use Rattle.run_planner.specs.Index.{has_date}
-use Rattle.run_planner.specs.Spans.{timetable_span}
-use Rattle.run_planner.proofs.RiseLemmas.{all_filtered, filter_starts, due_rise}
-use Rattle.sched_state.specs.declared.runs.RunKind.TheVariants.{Backfill}
-use Rattle.sched_state.proofs.OrderLemmas.{and_left, and_right}
+use Rattle.sched_model.specs.cron_timetable.declared.timetables.Interval.{Interval}
+use Rattle.sched_model.specs.cron_timetable.declared.timetables.Timetable.{Timetable}
+use Rattle.sched_model.specs.cron_timetable.declared.timetables.Timetable.TheVariants.{Cron, Trigger, Once, Never}
+use Rattle.sched_model.specs.run_planner.ByHand.{manual_intervals}
+use Rattle.sched_model.specs.run_planner.Due.{due_intervals, last_alone, starts_rise, without_runs}
+use Rattle.sched_model.specs.run_planner.Index.{has_date}
+use Rattle.sched_model.specs.run_planner.Spans.{timetable_span}
+use Rattle.sched_model.proofs.run_planner.RiseLemmas.{all_filtered, filter_starts, due_rise}
+use Rattle.sched_model.specs.sched_state.declared.runs.RunKind.TheVariants.{Backfill}
+use Rattle.sched_model.proofs.sched_state.OrderLemmas.{and_left, and_right}
 use Rattle.sched_model.specs.NamedRuns.{manual_run, named_by_hand, named_by_backfill, spanned}
 use Rattle.sched_model.specs.Schedule.{Schedule, dag_named, graph_named, dates_of, has_run_at}
 use Rattle.sched_model.specs.Sound.{IsSound, is_moment, are_new}

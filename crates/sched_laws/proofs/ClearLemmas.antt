@@ -2,15 +2,15 @@
 use Rattle.std.proofs.Common.{◌≡◌, refl, sym, ap, ◌∙◌, ℕ, ◌+◌, List, [], ◌∷◌, Bool, true, false, cond, ◌&&◌, filter, flat_map, map, Option, Some, None, true≢false, is_some, is_none, zip}
 use Rattle.std.specs.List.{list_all, enumerate_from}
 use Rattle.graph_file.specs.declared.task_specs.TaskSpec.{TaskSpec}
-use Rattle.instance_machine.specs.Instances.{InstanceValue}
-use Rattle.instance_machine.specs.declared.tries.Try.{Try}
-use Rattle.instance_machine.specs.declared.tries.End.{End}
-use Rattle.sched_state.specs.declared.runs.RunPhase.{RunPhase}
-use Rattle.sched_state.specs.declared.runs.RunPhase.TheVariants as phase
-use Rattle.sched_state.proofs.OrderLemmas.{and_left, and_right}
+use Rattle.sched_model.specs.instance_machine.Instances.{InstanceValue}
+use Rattle.sched_model.specs.instance_machine.declared.tries.Try.{Try}
+use Rattle.sched_model.specs.instance_machine.declared.tries.End.{End}
+use Rattle.sched_model.specs.sched_state.declared.runs.RunPhase.{RunPhase}
+use Rattle.sched_model.specs.sched_state.declared.runs.RunPhase.TheVariants as phase
+use Rattle.sched_model.proofs.sched_state.OrderLemmas.{and_left, and_right}
 use Rattle.sched_model.specs.Lists.{all_pairs, map_places, best_by}
 use Rattle.sched_model.specs.Schedule.{Schedule, dag_among, is_ended}
-use Rattle.sched_state.specs.declared.runs.Run.{Run}
+use Rattle.sched_model.specs.sched_state.declared.runs.Run.{Run}
 use Rattle.sched_model.specs.States.{is_open}
 use Rattle.sched_model.specs.Clearing.{Selection, cleared, clear_pair, pairs_of, named_in, requeued, clear_if, clear_run, clear, named_pairs}
 use Rattle.sched_model.specs.Causes.{open_serials, least_in_flight}

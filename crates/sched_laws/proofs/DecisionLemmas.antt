@@ -9,18 +9,18 @@ use Rattle.std.specs.Ordering.{nat_cmp, is_eq}
 use Rattle.std.specs.declared.cmp.Ordering.{Ordering}
 use Rattle.std.specs.declared.cmp.Ordering.TheVariants.{Less, Equal, Greater}
 use Rattle.std.proofs.lemmas.Map.Text.{is_eq-slice_cmp}
-use Rattle.trigger_rules.specs.declared.verdicts.Verdict.{Verdict}
+use Rattle.sched_model.specs.trigger_rules.declared.verdicts.Verdict.{Verdict}
 use Rattle.sched_laws.proofs.ListLemmas.{change_here}
 use Rattle.sched_laws.proofs.RankLemmas.{not_itself, not_both}
-use Rattle.sched_state.specs.Lists.{same, change_from, first_change, is_less, name_cmp}
+use Rattle.sched_model.specs.sched_state.Lists.{same, change_from, first_change, is_less, name_cmp}
 use Rattle.sched_model.specs.Lists.{at, map_places, rises}
 use Rattle.dag_check.specs.Orders.{is_in}
 use Rattle.std.specs.Ordering.{ordering_then}
-use Rattle.instance_machine.specs.Instances.{InstanceValue}
+use Rattle.sched_model.specs.instance_machine.Instances.{InstanceValue}
 use Rattle.sched_model.specs.Schedule.{Schedule, tasks_of, is_running, run_before, dag_among, dag_named, graph_among, no_dag}
-use Rattle.sched_state.specs.declared.runs.Run.{Run}
-use Rattle.sched_state.specs.declared.graphs.LoadedGraph.{LoadedGraph}
-use Rattle.instance_machine.specs.declared.tries.Try.{Try}
+use Rattle.sched_model.specs.sched_state.declared.runs.Run.{Run}
+use Rattle.sched_model.specs.sched_state.declared.graphs.LoadedGraph.{LoadedGraph}
+use Rattle.sched_model.specs.instance_machine.declared.tries.Try.{Try}
 use Rattle.sched_model.specs.Settle.{decide_task, decide_instance, decide_run, moves_left, moves_left_of}
 use Rattle.sched_model.specs.Handout.{in_instance}
 use Rattle.sched_model.specs.Sound.{is_sound_row}
@@ -28,9 +28,9 @@ use Rattle.sched_laws.specs.Stages.{IsOrdered, leads_down}
 use Rattle.sched_laws.specs.Sweep.{decide_one, decide_all, decision_in, decision, change_at, put, last_place, previous_at, is_place, looks, looks_in, looks_from, Before, IsClean, Covers, NoneBefore, is_position, without, marked, touched}
 use Rattle.sched_model.specs.States.{is_earlier}
 use Rattle.sched_laws.proofs.SettleLemmas.{decide_run_falls, and_then_some, map_some}
-use Rattle.sched_state.proofs.RepeatLemmas.{Falls, repeat_done, repeat_turn, change_falls}
+use Rattle.sched_model.proofs.sched_state.RepeatLemmas.{Falls, repeat_done, repeat_turn, change_falls}
 use Rattle.sched_laws.proofs.LookLemmas.{get_at, unlooked}
-use Rattle.sched_state.proofs.OrderLemmas.{and_left, and_right}
+use Rattle.sched_model.proofs.sched_state.OrderLemmas.{and_left, and_right}
 
 -- ---- the first change
 

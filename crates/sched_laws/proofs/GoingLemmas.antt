@@ -3,18 +3,18 @@ use Rattle.std.proofs.Common.{◌≡◌, ◌∙◌, refl, sym, ap, subst, ℕ, z
 use Rattle.std.specs.List.{list_any}
 use Rattle.std.proofs.lemmas.Bool.{eqb-true}
 use Rattle.std.proofs.lemmas.Option.{slice_get-map}
-use Rattle.instance_machine.specs.Instances.{InstanceValue, map_tries}
-use Rattle.instance_machine.specs.Reports.{report_try, reported_try, lost_if, lost_try}
-use Rattle.instance_machine.specs.declared.tries.Try.{Try}
-use Rattle.instance_machine.specs.declared.tries.End.{End}
-use Rattle.instance_machine.specs.declared.tries.Stage.{Stage}
-use Rattle.instance_machine.specs.declared.tries.Stage.TheVariants.{Started, Ended}
-use Rattle.instance_machine.specs.declared.tries.Outcome.TheVariants.{Success, Failed, Skipped, Lost}
-use Rattle.sched_state.specs.Lists.{same, insert_by, repeat}
-use Rattle.sched_state.specs.declared.runs.Run.{Run}
-use Rattle.sched_state.proofs.NameLemmas.{same_is}
-use Rattle.sched_state.proofs.OrderLemmas.{and_left, and_right, not_false}
-use Rattle.sched_state.proofs.RepeatLemmas.{repeat_done, repeat_more}
+use Rattle.sched_model.specs.instance_machine.Instances.{InstanceValue, map_tries}
+use Rattle.sched_model.specs.instance_machine.Reports.{report_try, reported_try, lost_if, lost_try}
+use Rattle.sched_model.specs.instance_machine.declared.tries.Try.{Try}
+use Rattle.sched_model.specs.instance_machine.declared.tries.End.{End}
+use Rattle.sched_model.specs.instance_machine.declared.tries.Stage.{Stage}
+use Rattle.sched_model.specs.instance_machine.declared.tries.Stage.TheVariants.{Started, Ended}
+use Rattle.sched_model.specs.instance_machine.declared.tries.Outcome.TheVariants.{Success, Failed, Skipped, Lost}
+use Rattle.sched_model.specs.sched_state.Lists.{same, insert_by, repeat}
+use Rattle.sched_model.specs.sched_state.declared.runs.Run.{Run}
+use Rattle.sched_model.proofs.sched_state.NameLemmas.{same_is}
+use Rattle.sched_model.proofs.sched_state.OrderLemmas.{and_left, and_right, not_false}
+use Rattle.sched_model.proofs.sched_state.RepeatLemmas.{repeat_done, repeat_more}
 use Rattle.sched_model.specs.Changes.{advance, map_tries_of, map_all_tries}
 use Rattle.sched_model.specs.Clearing.{Selection, clear, clear_run}
 use Rattle.sched_model.specs.Handout.{new_try, with_try, in_instance, hand, hand_one, best_offer, serials_left}

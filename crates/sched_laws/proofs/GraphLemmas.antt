@@ -11,13 +11,13 @@ use Rattle.std.proofs.lemmas.Map.Text.{is_eq-slice_cmp}
 use Rattle.std.proofs.lemmas.Bool.{le-leb, and_from, false_from_ne_true}
 use Rattle.std.proofs.lemmas.List.{length-map}
 use Rattle.dag_check.specs.Graphs.{Dag}
-use Rattle.sched_state.specs.Lists.{same, name_cmp, is_less, insert_by}
-use Rattle.sched_state.specs.declared.graphs.LoadedGraph.{LoadedGraph}
-use Rattle.sched_state.proofs.OrderLemmas.{and_left, and_right, or_left, or_right, eq_flips, on_total, all_insert, map_keeps}
-use Rattle.sched_state.proofs.NameLemmas.{same_is, find_any, same_itself}
+use Rattle.sched_model.specs.sched_state.Lists.{same, name_cmp, is_less, insert_by}
+use Rattle.sched_model.specs.sched_state.declared.graphs.LoadedGraph.{LoadedGraph}
+use Rattle.sched_model.proofs.sched_state.OrderLemmas.{and_left, and_right, or_left, or_right, eq_flips, on_total, all_insert, map_keeps}
+use Rattle.sched_model.proofs.sched_state.NameLemmas.{same_is, find_any, same_itself}
 use Rattle.sched_model.specs.Lists.{all_pairs, rises}
 use Rattle.sched_model.specs.Schedule.{Schedule, graph_among, dag_among, no_dag, has_runs, graph_before}
-use Rattle.sched_state.specs.declared.runs.Run.{Run}
+use Rattle.sched_model.specs.sched_state.declared.runs.Run.{Run}
 use Rattle.sched_model.specs.Changes.{reloaded, new_graph, with_graph, load_graph, pause_graph, set_paused}
 use Rattle.sched_model.specs.Causes.{has_too_many_graphs}
 use Rattle.sched_model.specs.Sound.{IsSound, is_sound_graph, is_sound_dag, has_pools, is_sound_run, is_sound_in, is_moment}

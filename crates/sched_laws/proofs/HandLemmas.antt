@@ -4,18 +4,18 @@ use Rattle.std.proofs.lemmas.Bool.{ltb-true, false_from_ne_true, or_cases}
 use Rattle.std.specs.List.{zip}
 use Rattle.std.proofs.lemmas.List.Sums.{sum_by-append}
 use Rattle.std.proofs.lemmas.List.{length-append}
-use Rattle.trigger_rules.specs.declared.states.State.{State}
-use Rattle.trigger_rules.specs.declared.states.State.TheVariants as state
-use Rattle.sched_state.specs.Lists.{same, repeat}
+use Rattle.sched_model.specs.trigger_rules.declared.states.State.{State}
+use Rattle.sched_model.specs.trigger_rules.declared.states.State.TheVariants as state
+use Rattle.sched_model.specs.sched_state.Lists.{same, repeat}
 use Rattle.sched_model.specs.Lists.{at, zip_with}
-use Rattle.instance_machine.specs.Instances.{last_of, InstanceValue, recent}
+use Rattle.sched_model.specs.instance_machine.Instances.{last_of, InstanceValue, recent}
 use Rattle.graph_file.specs.declared.task_specs.TaskSpec.{TaskSpec}
 use Rattle.sched_model.specs.Schedule.{Schedule, tasks_of, size_of}
-use Rattle.sched_state.specs.declared.runs.Run.{Run}
-use Rattle.sched_state.specs.declared.graphs.LoadedGraph.{LoadedGraph}
-use Rattle.instance_machine.specs.declared.tries.Try.{Try}
+use Rattle.sched_model.specs.sched_state.declared.runs.Run.{Run}
+use Rattle.sched_model.specs.sched_state.declared.graphs.LoadedGraph.{LoadedGraph}
+use Rattle.sched_model.specs.instance_machine.declared.tries.Try.{Try}
 use Rattle.sched_model.specs.States.{is_open, open_of, open_tries, occupied, in_flight, slots_in}
-use Rattle.instance_machine.specs.States.{state_of, state_by, is_up_for_retry, retry_at, retry_of}
+use Rattle.sched_model.specs.instance_machine.States.{state_of, state_by, is_up_for_retry, retry_at, retry_of}
 use Rattle.sched_model.specs.Handout.{Offer, fits, rank, ranks_before, new_try, with_try, in_instance, hand, hand_one, hand_out, best_offer, offers, serials_left, last_serial, has_come, is_scheduled, is_ready}
 use Rattle.sched_model.specs.Settle.{move, is_undecided}
 use Rattle.sched_laws.specs.Seen.{seen, sight_of, sights, tasks_among}
@@ -24,9 +24,9 @@ use Rattle.sched_laws.proofs.SeenLemmas.{still_seen}
 use Rattle.sched_laws.proofs.OfferLemmas.{eligible, offered, in_filter, into_filter}
 use Rattle.sched_laws.proofs.RankLemmas.{best_in, best_none, best_first, rank_total}
 use Rattle.sched_laws.proofs.HandOutLemmas.{hand_falls}
-use Rattle.sched_state.proofs.RepeatLemmas.{repeat_done, repeat_more}
+use Rattle.sched_model.proofs.sched_state.RepeatLemmas.{repeat_done, repeat_more}
 use Rattle.sched_laws.proofs.SettleLemmas.{map_some}
-use Rattle.sched_state.proofs.OrderLemmas.{and_left, and_right}
+use Rattle.sched_model.proofs.sched_state.OrderLemmas.{and_left, and_right}
 use Rattle.graph_file.proofs.ListLemmas.{mapped_none}
 
 -- ---- lists

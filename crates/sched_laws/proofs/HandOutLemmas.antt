@@ -3,9 +3,9 @@ use Rattle.std.proofs.Common.{◌≡◌, refl, subst, ◌<◌, ◌≤◌, List, 
 use Rattle.sched_model.specs.Lists.{best_by, better}
 use Rattle.sched_model.specs.Schedule.{Schedule}
 use Rattle.sched_model.specs.Handout.{offers, fits, ranks_before, best_offer, hand, hand_one, hand_out, serials_left, last_serial}
-use Rattle.sched_state.proofs.RepeatLemmas.{Falls, repeat_done, repeat_ends, repeat_turn}
+use Rattle.sched_model.proofs.sched_state.RepeatLemmas.{Falls, repeat_done, repeat_ends, repeat_turn}
 use Rattle.sched_laws.proofs.SettleLemmas.{map_some}
-use Rattle.sched_state.proofs.OrderLemmas.{and_right}
+use Rattle.sched_model.proofs.sched_state.OrderLemmas.{and_right}
 
 -- the best of a filtered list passes the test
 best_passes : {X : Type 0} (before : X → X → Bool) (p : X → Bool) (xs : List X) (x : X) → best_by before (filter p xs) ≡ Some x → p x ≡ true

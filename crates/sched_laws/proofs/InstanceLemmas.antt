@@ -5,20 +5,20 @@ use Rattle.std.proofs.lemmas.Bool.{le-leb, eq-eqb, and_from, or_left, or_right}
 use Rattle.std.proofs.lemmas.List.{length-append, length-map, take-append-le, drop-append-le, take-map, drop-map}
 use Rattle.std.proofs.Math.Seq.{take-length, drop-length}
 use Rattle.graph_file.specs.declared.task_specs.TaskSpec.{TaskSpec}
-use Rattle.trigger_rules.specs.States.{is_finished}
-use Rattle.trigger_rules.specs.declared.states.State.TheVariants as state
-use Rattle.trigger_rules.specs.declared.verdicts.Verdict.{Verdict}
-use Rattle.trigger_rules.specs.declared.verdicts.Verdict.TheVariants as verdict
-use Rattle.instance_machine.specs.Instances.{InstanceValue, recent, last_of}
-use Rattle.instance_machine.specs.States.{state_of, state_by, state_of_end, state_of_verdict, ended_as, is_up_for_retry}
-use Rattle.instance_machine.specs.declared.tries.Try.{Try}
-use Rattle.instance_machine.specs.declared.tries.End.{End}
-use Rattle.instance_machine.specs.declared.tries.Outcome.{Outcome}
-use Rattle.instance_machine.specs.declared.tries.Outcome.TheVariants as outcome
-use Rattle.sched_state.proofs.OrderLemmas.{and_left, and_right}
+use Rattle.sched_model.specs.trigger_rules.States.{is_finished}
+use Rattle.sched_model.specs.trigger_rules.declared.states.State.TheVariants as state
+use Rattle.sched_model.specs.trigger_rules.declared.verdicts.Verdict.{Verdict}
+use Rattle.sched_model.specs.trigger_rules.declared.verdicts.Verdict.TheVariants as verdict
+use Rattle.sched_model.specs.instance_machine.Instances.{InstanceValue, recent, last_of}
+use Rattle.sched_model.specs.instance_machine.States.{state_of, state_by, state_of_end, state_of_verdict, ended_as, is_up_for_retry}
+use Rattle.sched_model.specs.instance_machine.declared.tries.Try.{Try}
+use Rattle.sched_model.specs.instance_machine.declared.tries.End.{End}
+use Rattle.sched_model.specs.instance_machine.declared.tries.Outcome.{Outcome}
+use Rattle.sched_model.specs.instance_machine.declared.tries.Outcome.TheVariants as outcome
+use Rattle.sched_model.proofs.sched_state.OrderLemmas.{and_left, and_right}
 use Rattle.sched_model.specs.Lists.{but_last}
 use Rattle.sched_model.specs.Handout.{is_ready, is_scheduled, new_try, with_try}
-use Rattle.instance_machine.specs.Instances.{map_tries}
+use Rattle.sched_model.specs.instance_machine.Instances.{map_tries}
 use Rattle.sched_model.specs.Clearing.{cleared}
 use Rattle.sched_model.specs.Sound.{is_sound_try, is_sound_instance, has_end, has_failed, is_failure, is_failure_if, is_run, is_wait, is_empty, earlier}
 use Rattle.sched_laws.proofs.ListLemmas.{all_impl, all_under, all_join, but_last_snoc, but_last_map, last_split, last_none}

@@ -6,14 +6,14 @@ use Rattle.std.specs.List.{list_any, list_all}
 use Rattle.std.specs.List.Sorted.{IsPermutation}
 use Rattle.std.proofs.lemmas.Bool.{eq-eqb, and_from}
 use Rattle.dag_check.specs.Orders.{is_in, repeated}
-use Rattle.instance_machine.specs.declared.tries.Try.{Try}
-use Rattle.sched_state.specs.Lists.{same, repeat, name_cmp}
-use Rattle.sched_state.proofs.OrderLemmas.{and_left, and_right, or_left, or_right, not_false, any_map, map_keeps, less_no_tie}
-use Rattle.sched_state.proofs.RepeatLemmas.{repeat_done, repeat_more}
-use Rattle.sched_state.proofs.NameLemmas.{same_itself}
+use Rattle.sched_model.specs.instance_machine.declared.tries.Try.{Try}
+use Rattle.sched_model.specs.sched_state.Lists.{same, repeat, name_cmp}
+use Rattle.sched_model.proofs.sched_state.OrderLemmas.{and_left, and_right, or_left, or_right, not_false, any_map, map_keeps, less_no_tie}
+use Rattle.sched_model.proofs.sched_state.RepeatLemmas.{repeat_done, repeat_more}
+use Rattle.sched_model.proofs.sched_state.NameLemmas.{same_itself}
 use Rattle.sched_model.specs.Lists.{rises}
 use Rattle.sched_model.specs.Schedule.{Schedule, has_run_at, is_at, run_before}
-use Rattle.sched_state.specs.declared.runs.Run.{Run}
+use Rattle.sched_model.specs.sched_state.declared.runs.Run.{Run}
 use Rattle.sched_model.specs.Settle.{move, move_runs, with_runs, settle, moves_left}
 use Rattle.sched_model.specs.Handout.{hand, hand_one, best_offer, serials_left, in_instance, with_try, new_try}
 use Rattle.sched_model.specs.NamedRuns.{NamedRun, is_for, add_runs}

@@ -37,3 +37,4 @@ pub mod ByHandLemmas
 pub mod GoingLemmas
 pub mod SerialLemmas
 pub mod RuleLemmas
+pub use Rattle.sched_model.proofs.sched_state as sched_state

@@ -1,9 +1,9 @@
 -- Lists: pairs that pass, the last element, and what a change of one element keeps.
 use Rattle.std.proofs.Common.{◌≡◌, refl, sym, ap, subst, ◌∙◌, ℕ, zero, suc, ◌+◌, ◌-◌, ◌<◌, List, [], ◌∷◌, ◌++◌, Bool, true, flat_map, map, length, Option, Some, None, option_map, slice_get, arith, true≢false}
 use Rattle.std.specs.List.{list_all}
-use Rattle.instance_machine.specs.Instances.{last_of}
-use Rattle.sched_state.specs.Lists.{change_from}
-use Rattle.sched_state.proofs.OrderLemmas.{and_left, and_right}
+use Rattle.sched_model.specs.instance_machine.Instances.{last_of}
+use Rattle.sched_model.specs.sched_state.Lists.{change_from}
+use Rattle.sched_model.proofs.sched_state.OrderLemmas.{and_left, and_right}
 use Rattle.sched_model.specs.Lists.{at, all_pairs, but_last}
 use Rattle.std.proofs.lemmas.Bool.{and_from}
 

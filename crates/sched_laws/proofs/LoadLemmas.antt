@@ -6,14 +6,14 @@ use Rattle.graph_file.specs.declared.faults.GraphFault.{GraphFault}
 use Rattle.graph_file.specs.declared.graph_specs.GraphSpec.{GraphSpec}
 use Rattle.graph_file.specs.declared.task_specs.TaskSpec.{TaskSpec}
 use Rattle.dag_check.specs.Graphs.{Dag, dag_of}
-use Rattle.instance_machine.specs.declared.tries.Try.{Try}
-use Rattle.sched_state.specs.Lists.{same, name_cmp, insert_by}
-use Rattle.sched_state.specs.declared.graphs.LoadedGraph.{LoadedGraph}
-use Rattle.sched_state.proofs.OrderLemmas.{and_left, and_right, or_left, or_right, less_no_tie}
-use Rattle.sched_state.proofs.NameLemmas.{same_is}
+use Rattle.sched_model.specs.instance_machine.declared.tries.Try.{Try}
+use Rattle.sched_model.specs.sched_state.Lists.{same, name_cmp, insert_by}
+use Rattle.sched_model.specs.sched_state.declared.graphs.LoadedGraph.{LoadedGraph}
+use Rattle.sched_model.proofs.sched_state.OrderLemmas.{and_left, and_right, or_left, or_right, less_no_tie}
+use Rattle.sched_model.proofs.sched_state.NameLemmas.{same_is}
 use Rattle.sched_model.specs.Lists.{rises}
 use Rattle.sched_model.specs.Schedule.{Schedule, graph_among, graph_named, dag_among, no_dag, has_runs, graph_before}
-use Rattle.sched_state.specs.declared.runs.Run.{Run}
+use Rattle.sched_model.specs.sched_state.declared.runs.Run.{Run}
 use Rattle.sched_model.specs.States.{open_tries}
 use Rattle.sched_model.specs.Settle.{move}
 use Rattle.sched_model.specs.Handout.{Offer, offers, offers_in, best_offer, hand, hand_one}

@@ -3,23 +3,23 @@ use Rattle.sched_laws.proofs.SeenLemmas.{map_else}
 use Rattle.dag_check.specs.Graphs.{ups}
 use Rattle.std.proofs.Common.{◌≡◌, refl, sym, ap, subst, ◌∙◌, ℕ, zero, suc, ◌+◌, List, [], ◌∷◌, Bool, true, false, cond, not, ◌&&◌, ◌||◌, ◌⊎◌, inl, inr, map, Option, Some, None, option_map, option_and_then, unwrap_or, slice_get, arith, true≢false, nat_eq}
 use Rattle.std.proofs.lemmas.Bool.{eqb-true, eq-eqb, eqb-false, false_from_ne_true}
-use Rattle.trigger_rules.specs.declared.verdicts.Verdict.{Verdict}
-use Rattle.trigger_rules.specs.declared.states.State.TheVariants as state
+use Rattle.sched_model.specs.trigger_rules.declared.verdicts.Verdict.{Verdict}
+use Rattle.sched_model.specs.trigger_rules.declared.states.State.TheVariants as state
 use Rattle.sched_model.specs.Lists.{at, zip_with, last_passing, or_else}
-use Rattle.instance_machine.specs.Instances.{InstanceValue}
+use Rattle.sched_model.specs.instance_machine.Instances.{InstanceValue}
 use Rattle.dag_check.specs.Orders.{is_in}
 use Rattle.graph_file.specs.Lists.{when}
 use Rattle.graph_file.specs.declared.task_specs.TaskSpec.{TaskSpec}
-use Rattle.trigger_rules.specs.Rules.{rule_verdict}
+use Rattle.sched_model.specs.trigger_rules.Rules.{rule_verdict}
 use Rattle.sched_model.specs.Schedule.{Schedule, tasks_of, is_running, dag_named}
-use Rattle.sched_state.specs.declared.runs.Run.{Run}
-use Rattle.instance_machine.specs.declared.tries.Try.{Try}
-use Rattle.instance_machine.specs.States.{state_of, opens_gate}
+use Rattle.sched_model.specs.sched_state.declared.runs.Run.{Run}
+use Rattle.sched_model.specs.instance_machine.declared.tries.Try.{Try}
+use Rattle.sched_model.specs.instance_machine.States.{state_of, opens_gate}
 use Rattle.sched_model.specs.States.{state_at, past_is_open, previous, is_earlier}
 use Rattle.sched_model.specs.Settle.{decides, decide_task, decide_instance, upstream_states, decided_verdict}
 use Rattle.sched_model.specs.Handout.{in_instance}
 use Rattle.sched_laws.specs.Sweep.{decision_in, decision, change_at, last_place, previous_at, is_place, looks, looks_in, looks_from}
-use Rattle.sched_state.proofs.OrderLemmas.{or_left, or_right}
+use Rattle.sched_model.proofs.sched_state.OrderLemmas.{or_left, or_right}
 
 -- ---- lists
 

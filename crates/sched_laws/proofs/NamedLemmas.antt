@@ -3,23 +3,23 @@ use Rattle.std.proofs.Common.{◌≡◌, refl, sym, ap, ◌∙◌, ℕ, ◌<◌,
 use Rattle.std.specs.List.{list_any, list_all, Contains}
 use Rattle.std.proofs.lemmas.Bool.{ltb-true, lt-ltb, le-leb, eqb-true, and_from, false_from_ne_true, or_right}
 use Rattle.moment_core.specs.Moments.{seconds_end}
-use Rattle.cron_timetable.specs.declared.timetables.Interval.{Interval}
-use Rattle.cron_timetable.specs.declared.timetables.Timetable.{Timetable}
+use Rattle.sched_model.specs.cron_timetable.declared.timetables.Interval.{Interval}
+use Rattle.sched_model.specs.cron_timetable.declared.timetables.Timetable.{Timetable}
 use Rattle.graph_file.specs.declared.graph_specs.GraphSpec.{GraphSpec}
-use Rattle.run_planner.specs.Index.{has_date}
-use Rattle.run_planner.specs.Due.{wanted_intervals, starts_rise, considered, due_intervals, last_alone}
-use Rattle.run_planner.proofs.RiseLemmas.{all_filtered, all_take, take_starts, wanted_rise}
-use Rattle.run_planner.proofs.MemberLemmas.{contains_head, contains_tail}
-use Rattle.run_planner.proofs.DueLemmas.{due_members, in_order}
-use Rattle.sched_state.specs.Lists.{same}
-use Rattle.sched_state.specs.declared.graphs.LoadedGraph.{LoadedGraph}
-use Rattle.sched_state.specs.declared.runs.RunKind.{RunKind}
-use Rattle.sched_state.specs.declared.runs.RunKind.TheVariants.{Scheduled}
-use Rattle.sched_state.proofs.OrderLemmas.{and_left, and_right, not_false}
-use Rattle.sched_state.proofs.NameLemmas.{same_itself, find_any, or_assoc}
+use Rattle.sched_model.specs.run_planner.Index.{has_date}
+use Rattle.sched_model.specs.run_planner.Due.{wanted_intervals, starts_rise, considered, due_intervals, last_alone}
+use Rattle.sched_model.proofs.run_planner.RiseLemmas.{all_filtered, all_take, take_starts, wanted_rise}
+use Rattle.sched_model.proofs.run_planner.MemberLemmas.{contains_head, contains_tail}
+use Rattle.sched_model.proofs.run_planner.DueLemmas.{due_members, in_order}
+use Rattle.sched_model.specs.sched_state.Lists.{same}
+use Rattle.sched_model.specs.sched_state.declared.graphs.LoadedGraph.{LoadedGraph}
+use Rattle.sched_model.specs.sched_state.declared.runs.RunKind.{RunKind}
+use Rattle.sched_model.specs.sched_state.declared.runs.RunKind.TheVariants.{Scheduled}
+use Rattle.sched_model.proofs.sched_state.OrderLemmas.{and_left, and_right, not_false}
+use Rattle.sched_model.proofs.sched_state.NameLemmas.{same_itself, find_any, or_assoc}
 use Rattle.sched_model.specs.Lists.{rises}
 use Rattle.sched_model.specs.Schedule.{Schedule, graph_among, graph_named, graph_before, dates_of, has_run_at, is_at}
-use Rattle.sched_state.specs.declared.runs.Run.{Run}
+use Rattle.sched_model.specs.sched_state.declared.runs.Run.{Run}
 use Rattle.sched_model.specs.NamedRuns.{NamedRun, is_for, run_from, runs_per_tick, wanted_by, named_of, named_by_tick}
 use Rattle.sched_model.specs.Sound.{IsSound, is_moment, is_new, are_new}
 use Rattle.sched_laws.proofs.ListLemmas.{all_impl}

@@ -1,18 +1,18 @@
 -- A new run enables no decision in the runs that are there.
 use Rattle.std.proofs.Common.{◌≡◌, refl, sym, ap, ◌∙◌, ℕ, zero, suc, List, [], ◌∷◌, Bool, true, false, not, ◌||◌, ◌⊎◌, inl, inr, replicate, length, Option, Some, None, option_map, option_and_then, unwrap_or, slice_get, true≢false}
-use Rattle.trigger_rules.specs.declared.verdicts.Verdict.{Verdict}
-use Rattle.trigger_rules.specs.declared.verdicts.Verdict.TheVariants as verdict
-use Rattle.trigger_rules.specs.declared.states.State.TheVariants as state
-use Rattle.sched_state.specs.Lists.{insert_by}
+use Rattle.sched_model.specs.trigger_rules.declared.verdicts.Verdict.{Verdict}
+use Rattle.sched_model.specs.trigger_rules.declared.verdicts.Verdict.TheVariants as verdict
+use Rattle.sched_model.specs.trigger_rules.declared.states.State.TheVariants as state
+use Rattle.sched_model.specs.sched_state.Lists.{insert_by}
 use Rattle.sched_model.specs.Lists.{zip_with, last_passing, or_else}
 use Rattle.graph_file.specs.Lists.{when}
 use Rattle.graph_file.specs.declared.task_specs.TaskSpec.{TaskSpec}
-use Rattle.trigger_rules.specs.Rules.{rule_verdict}
-use Rattle.instance_machine.specs.Instances.{InstanceValue, new_instance}
+use Rattle.sched_model.specs.trigger_rules.Rules.{rule_verdict}
+use Rattle.sched_model.specs.instance_machine.Instances.{InstanceValue, new_instance}
 use Rattle.sched_model.specs.Schedule.{Schedule, tasks_of, is_running, run_before, dag_named}
-use Rattle.sched_state.specs.declared.runs.Run.{Run}
-use Rattle.instance_machine.specs.declared.tries.Try.{Try}
-use Rattle.instance_machine.specs.States.{state_of, opens_gate}
+use Rattle.sched_model.specs.sched_state.declared.runs.Run.{Run}
+use Rattle.sched_model.specs.instance_machine.declared.tries.Try.{Try}
+use Rattle.sched_model.specs.instance_machine.States.{state_of, opens_gate}
 use Rattle.sched_model.specs.States.{state_at, past_is_open, previous, is_earlier}
 use Rattle.sched_model.specs.Settle.{decides, decide_task, decide_instance, upstream_states, decided_verdict}
 use Rattle.sched_model.specs.NamedRuns.{NamedRun, queued_run, add_runs}

@@ -4,17 +4,17 @@ use Rattle.std.specs.List.{zip}
 use Rattle.std.proofs.lemmas.List.Sums.{sum_by-append}
 use Rattle.std.proofs.lemmas.List.Elements.{filter-append}
 use Rattle.graph_file.specs.declared.task_specs.TaskSpec.{TaskSpec}
-use Rattle.instance_machine.specs.Instances.{InstanceValue, new_instance, map_tries}
-use Rattle.instance_machine.specs.Reports.{lost_try, lost_if, reported_try, report_try, if_open, after}
-use Rattle.instance_machine.specs.declared.tries.Stage.{Stage}
-use Rattle.instance_machine.specs.declared.tries.Stage.TheVariants.{Started, Ended}
-use Rattle.instance_machine.specs.declared.tries.Outcome.TheVariants.{Success, Failed, Skipped, Lost}
-use Rattle.instance_machine.specs.declared.tries.Try.{Try}
-use Rattle.instance_machine.specs.declared.tries.End.{End}
-use Rattle.sched_state.specs.Lists.{same, insert_by}
-use Rattle.sched_state.specs.declared.graphs.LoadedGraph.{LoadedGraph}
-use Rattle.sched_state.specs.declared.runs.Run.{Run}
-use Rattle.sched_state.specs.declared.runs.RunPhase.{RunPhase}
+use Rattle.sched_model.specs.instance_machine.Instances.{InstanceValue, new_instance, map_tries}
+use Rattle.sched_model.specs.instance_machine.Reports.{lost_try, lost_if, reported_try, report_try, if_open, after}
+use Rattle.sched_model.specs.instance_machine.declared.tries.Stage.{Stage}
+use Rattle.sched_model.specs.instance_machine.declared.tries.Stage.TheVariants.{Started, Ended}
+use Rattle.sched_model.specs.instance_machine.declared.tries.Outcome.TheVariants.{Success, Failed, Skipped, Lost}
+use Rattle.sched_model.specs.instance_machine.declared.tries.Try.{Try}
+use Rattle.sched_model.specs.instance_machine.declared.tries.End.{End}
+use Rattle.sched_model.specs.sched_state.Lists.{same, insert_by}
+use Rattle.sched_model.specs.sched_state.declared.graphs.LoadedGraph.{LoadedGraph}
+use Rattle.sched_model.specs.sched_state.declared.runs.Run.{Run}
+use Rattle.sched_model.specs.sched_state.declared.runs.RunPhase.{RunPhase}
 use Rattle.sched_model.specs.Schedule.{Schedule, dag_among, tasks_of, run_before}
 use Rattle.sched_model.specs.States.{is_open, open_of, open_tries, slots_in, occupied}
 use Rattle.sched_model.specs.Clearing.{Selection, cleared, clear_pair, clear_if, clear_run, clear, named_in}

@@ -5,7 +5,7 @@ use Rattle.sched_model.specs.Schedule.{Schedule, tasks_of, is_running, is_paused
 use Rattle.sched_model.specs.Handout.{Offer, offer_of, offers, offers_in, offers_at, is_ready}
 use Rattle.sched_laws.specs.Offered.{IsEligible}
 pub use Rattle.sched_laws.specs.Passing.{In}
-use Rattle.sched_state.proofs.OrderLemmas.{and_left, and_right}
+use Rattle.sched_model.proofs.sched_state.OrderLemmas.{and_left, and_right}
 use Rattle.indexmap.proofs.ReorderLemmas.{slice_get-zip_some}
 use Rattle.std.proofs.lemmas.Bool.{not-true, and_from, not_from_false}
 

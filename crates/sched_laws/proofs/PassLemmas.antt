@@ -7,14 +7,14 @@ use Rattle.std.proofs.Common.{◌≡◌, refl, sym, ap, subst, ◌∙◌, ℕ, z
 use Rattle.std.specs.List.{list_all}
 use Rattle.std.proofs.lemmas.Bool.{ltb-true, lt-ltb, le-leb, eqb-true, eq-eqb, and_from, false_from_ne_true}
 use Rattle.std.proofs.lemmas.List.{length-append}
-use Rattle.trigger_rules.specs.declared.states.State.TheVariants as state
+use Rattle.sched_model.specs.trigger_rules.declared.states.State.TheVariants as state
 use Rattle.sched_model.specs.Lists.{at}
 use Rattle.graph_file.specs.declared.task_specs.TaskSpec.{TaskSpec}
-use Rattle.instance_machine.specs.Instances.{InstanceValue, last_of, recent}
+use Rattle.sched_model.specs.instance_machine.Instances.{InstanceValue, last_of, recent}
 use Rattle.sched_model.specs.Schedule.{Schedule, tasks_of, is_running, is_paused, size_of, dag_among}
-use Rattle.sched_state.specs.declared.runs.Run.{Run}
-use Rattle.instance_machine.specs.declared.tries.Try.{Try}
-use Rattle.instance_machine.specs.States.{state_of, is_up_for_retry, retry_of}
+use Rattle.sched_model.specs.sched_state.declared.runs.Run.{Run}
+use Rattle.sched_model.specs.instance_machine.declared.tries.Try.{Try}
+use Rattle.sched_model.specs.instance_machine.States.{state_of, is_up_for_retry, retry_of}
 use Rattle.sched_model.specs.States.{occupied, in_flight}
 use Rattle.sched_model.specs.Handout.{Offer, offer_of, offers, is_ready, fits, ranks_before, new_try, with_try, in_instance, hand, hand_out, best_offer, last_serial, is_scheduled, has_come}
 use Rattle.sched_laws.specs.Offered.{IsEligible, slots_of}
@@ -24,7 +24,7 @@ use Rattle.sched_laws.proofs.RankLemmas.{rank_total, not_itself, best_none}
 use Rattle.sched_laws.proofs.HandOutLemmas.{hand_still, hand_moved}
 use Rattle.sched_laws.proofs.HandLemmas.{hand_occupied, hand_in_flight, best_next, last_snoc}
 use Rattle.sched_laws.proofs.LookLemmas.{get_at, get_apart}
-use Rattle.sched_state.proofs.OrderLemmas.{and_left, and_right}
+use Rattle.sched_model.proofs.sched_state.OrderLemmas.{and_left, and_right}
 use Rattle.sched_laws.proofs.DecisionLemmas.{by_bool}
 
 -- what fits after a hand-out fitted before it

@@ -3,12 +3,12 @@ use Rattle.std.proofs.Common.{◌≡◌, refl, sym, ap, ◌∙◌, ℕ, ◌+◌,
 use Rattle.std.specs.List.{list_any, list_all, enumerate_from}
 use Rattle.std.proofs.lemmas.List.Folds.{list_any-append}
 use Rattle.graph_file.specs.declared.task_specs.TaskSpec.{TaskSpec}
-use Rattle.instance_machine.specs.declared.tries.Try.{Try}
-use Rattle.sched_state.specs.Lists.{same}
-use Rattle.sched_state.specs.declared.graphs.LoadedGraph.{LoadedGraph}
-use Rattle.sched_state.specs.declared.runs.Run.{Run}
-use Rattle.sched_state.proofs.OrderLemmas.{and_left, and_right, or_left, or_right}
-use Rattle.sched_state.proofs.NameLemmas.{same_is}
+use Rattle.sched_model.specs.instance_machine.declared.tries.Try.{Try}
+use Rattle.sched_model.specs.sched_state.Lists.{same}
+use Rattle.sched_model.specs.sched_state.declared.graphs.LoadedGraph.{LoadedGraph}
+use Rattle.sched_model.specs.sched_state.declared.runs.Run.{Run}
+use Rattle.sched_model.proofs.sched_state.OrderLemmas.{and_left, and_right, or_left, or_right}
+use Rattle.sched_model.proofs.sched_state.NameLemmas.{same_is}
 use Rattle.sched_model.specs.Lists.{rises, best_by}
 use Rattle.sched_model.specs.Schedule.{Schedule, graph_among, graph_named, dag_among, no_dag, is_running, graph_before}
 use Rattle.sched_model.specs.States.{open_tries}

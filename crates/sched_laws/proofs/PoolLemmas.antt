@@ -9,9 +9,9 @@ use Rattle.std.proofs.lemmas.Bool.{le-leb, leb-false, and_from, or_right as or_t
 use Rattle.std.proofs.lemmas.List.{length-map}
 use Rattle.graph_file.specs.Names.{is_name}
 use Rattle.graph_file.specs.declared.task_specs.TaskSpec.{TaskSpec}
-use Rattle.sched_state.specs.Lists.{same, name_cmp, is_less, insert_by}
-use Rattle.sched_state.specs.declared.graphs.LoadedGraph.{LoadedGraph}
-use Rattle.sched_state.proofs.OrderLemmas.{and_left, and_right, on_total, all_insert, any_insert, any_map, map_keeps, or_left, or_right}
+use Rattle.sched_model.specs.sched_state.Lists.{same, name_cmp, is_less, insert_by}
+use Rattle.sched_model.specs.sched_state.declared.graphs.LoadedGraph.{LoadedGraph}
+use Rattle.sched_model.proofs.sched_state.OrderLemmas.{and_left, and_right, on_total, all_insert, any_insert, any_map, map_keeps, or_left, or_right}
 use Rattle.sched_model.specs.Lists.{rises}
 use Rattle.sched_model.specs.Schedule.{Schedule, Pool, has_pool, pool_before, default_pool}
 use Rattle.sched_model.specs.Changes.{resize_pool, new_pool, with_pool, resize}

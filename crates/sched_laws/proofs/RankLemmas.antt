@@ -5,11 +5,11 @@ use Rattle.std.specs.Ordering.{ordering_reverse}
 use Rattle.std.specs.declared.cmp.Ordering.{Ordering}
 use Rattle.std.specs.declared.cmp.Ordering.TheVariants.{Less, Equal, Greater}
 use Rattle.std.proofs.lemmas.Cmp.{nat_cmp_total, nat_list_cmp_total, tied_itself, back_total}
-use Rattle.sched_state.specs.Lists.{is_less}
+use Rattle.sched_model.specs.sched_state.Lists.{is_less}
 use Rattle.sched_model.specs.Lists.{best_by, better}
 use Rattle.sched_model.specs.Handout.{Offer, rank}
 use Rattle.sched_laws.proofs.OfferLemmas.{In}
-use Rattle.sched_state.proofs.OrderLemmas.{then_total, on_total}
+use Rattle.sched_model.proofs.sched_state.OrderLemmas.{then_total, on_total}
 
 pub rank_total : IsTotalOrder rank
 rank_total =

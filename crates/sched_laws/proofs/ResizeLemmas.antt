@@ -3,9 +3,9 @@ use Rattle.std.proofs.Common.{◌≡◌, ◌∙◌, refl, sym, ap, ℕ, ◌+◌,
 use Rattle.std.specs.List.{list_all, list_any}
 use Rattle.std.proofs.lemmas.Bool.{le-leb, and_from, false_from_ne_true}
 use Rattle.std.proofs.lemmas.Map.Text.{is_eq-slice_cmp}
-use Rattle.sched_state.specs.Lists.{same, name_cmp, insert_by}
-use Rattle.sched_state.proofs.NameLemmas.{same_is, same_itself}
-use Rattle.sched_state.proofs.OrderLemmas.{and_left, and_right, or_left, or_right, any_insert, any_map, less_no_tie}
+use Rattle.sched_model.specs.sched_state.Lists.{same, name_cmp, insert_by}
+use Rattle.sched_model.proofs.sched_state.NameLemmas.{same_is, same_itself}
+use Rattle.sched_model.proofs.sched_state.OrderLemmas.{and_left, and_right, or_left, or_right, any_insert, any_map, less_no_tie}
 use Rattle.sched_model.specs.Changes.{resize_pool, new_pool, with_pool, resize}
 use Rattle.sched_model.specs.Handout.{Offer, fits, best_offer, hand, hand_one, last_serial}
 use Rattle.sched_model.specs.Lists.{rises}

@@ -8,13 +8,13 @@ use Rattle.std.proofs.lemmas.List.{length-append, length-take-le, take-append-dr
 use Rattle.std.proofs.lemmas.List.Folds.{list_all-append, list_all-map}
 use Rattle.moment_core.specs.Moments.{seconds_end}
 use Rattle.graph_file.specs.declared.task_specs.TaskSpec.{TaskSpec}
-use Rattle.trigger_rules.specs.States.{is_finished}
-use Rattle.instance_machine.specs.Instances.{InstanceValue, recent}
-use Rattle.instance_machine.specs.States.{state_of}
-use Rattle.instance_machine.specs.declared.tries.Try.{Try}
-use Rattle.sched_state.specs.declared.graphs.LoadedGraph.{LoadedGraph}
-use Rattle.sched_state.specs.declared.runs.Run.{Run}
-use Rattle.sched_state.proofs.OrderLemmas.{and_left, and_right}
+use Rattle.sched_model.specs.trigger_rules.States.{is_finished}
+use Rattle.sched_model.specs.instance_machine.Instances.{InstanceValue, recent}
+use Rattle.sched_model.specs.instance_machine.States.{state_of}
+use Rattle.sched_model.specs.instance_machine.declared.tries.Try.{Try}
+use Rattle.sched_model.specs.sched_state.declared.graphs.LoadedGraph.{LoadedGraph}
+use Rattle.sched_model.specs.sched_state.declared.runs.Run.{Run}
+use Rattle.sched_model.proofs.sched_state.OrderLemmas.{and_left, and_right}
 use Rattle.sched_model.specs.Causes.{tries_of}
 use Rattle.sched_model.specs.Handout.{last_serial}
 use Rattle.sched_model.specs.Lists.{all_pairs, but_last}

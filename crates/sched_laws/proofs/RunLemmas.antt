@@ -5,20 +5,20 @@ use Rattle.std.specs.Ordering.{nat_cmp, ordering_then}
 use Rattle.std.specs.declared.cmp.Ordering.{Ordering}
 use Rattle.graph_file.specs.Lists.{first_some}
 use Rattle.graph_file.specs.declared.task_specs.TaskSpec.{TaskSpec}
-use Rattle.trigger_rules.specs.States.{is_finished}
-use Rattle.trigger_rules.specs.declared.verdicts.Verdict.{Verdict}
-use Rattle.trigger_rules.specs.declared.verdicts.Verdict.TheVariants as verdict
-use Rattle.instance_machine.specs.Instances.{InstanceValue}
-use Rattle.instance_machine.specs.States.{state_of}
-use Rattle.instance_machine.specs.declared.tries.Try.{Try}
-use Rattle.sched_state.specs.Lists.{name_cmp, is_less, change_from, first_change}
-use Rattle.sched_state.specs.declared.graphs.LoadedGraph.{LoadedGraph}
-use Rattle.sched_state.specs.declared.runs.RunPhase.{RunPhase}
-use Rattle.sched_state.specs.declared.runs.RunPhase.TheVariants as phase
-use Rattle.sched_state.proofs.OrderLemmas.{and_left, and_right, all_map}
+use Rattle.sched_model.specs.trigger_rules.States.{is_finished}
+use Rattle.sched_model.specs.trigger_rules.declared.verdicts.Verdict.{Verdict}
+use Rattle.sched_model.specs.trigger_rules.declared.verdicts.Verdict.TheVariants as verdict
+use Rattle.sched_model.specs.instance_machine.Instances.{InstanceValue}
+use Rattle.sched_model.specs.instance_machine.States.{state_of}
+use Rattle.sched_model.specs.instance_machine.declared.tries.Try.{Try}
+use Rattle.sched_model.specs.sched_state.Lists.{name_cmp, is_less, change_from, first_change}
+use Rattle.sched_model.specs.sched_state.declared.graphs.LoadedGraph.{LoadedGraph}
+use Rattle.sched_model.specs.sched_state.declared.runs.RunPhase.{RunPhase}
+use Rattle.sched_model.specs.sched_state.declared.runs.RunPhase.TheVariants as phase
+use Rattle.sched_model.proofs.sched_state.OrderLemmas.{and_left, and_right, all_map}
 use Rattle.sched_model.specs.Lists.{all_pairs, zip_with, rises}
 use Rattle.sched_model.specs.Schedule.{Schedule, graph_among, dag_among, tasks_of, is_running, is_ended}
-use Rattle.sched_state.specs.declared.runs.Run.{Run}
+use Rattle.sched_model.specs.sched_state.declared.runs.Run.{Run}
 use Rattle.sched_model.specs.Settle.{decides, decided_verdict, decide_task, decide_instance, decide_run, has_bad_leaf, finish_run, start_run, move_runs}
 use Rattle.sched_model.specs.Sound.{is_sound_instance, is_sound_in, is_sound_run, is_moment, is_wait, tries_rise, all_tries_rise, serials_of}
 use Rattle.sched_model.specs.NamedRuns.{NamedRun}

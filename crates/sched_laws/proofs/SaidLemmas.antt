@@ -12,9 +12,9 @@ use Rattle.dag_check.specs.Graphs.{Dag, IsGraphOf, dag_of, task_at, no_task, pla
 use Rattle.dag_check.proofs.LawLemmas.{at-place}
 use Rattle.dag_check.proofs.NameLemmas.{length-map', repeated-push}
 use Rattle.dag_check.proofs.PlainLemmas.{in-map, all-below, double-same, once-in, placed-down}
-use Rattle.sched_state.specs.Lists.{same}
-use Rattle.sched_state.proofs.OrderLemmas.{and_left, and_right}
-use Rattle.sched_state.proofs.NameLemmas.{same_is, same_itself}
+use Rattle.sched_model.specs.sched_state.Lists.{same}
+use Rattle.sched_model.proofs.sched_state.OrderLemmas.{and_left, and_right}
+use Rattle.sched_model.proofs.sched_state.NameLemmas.{same_is, same_itself}
 use Rattle.sched_model.specs.Lists.{map_places}
 use Rattle.sched_model.specs.Schedule.{Schedule, has_pool}
 use Rattle.sched_model.specs.Changes.{new_graph}

@@ -1,31 +1,31 @@
 -- Whether a move is possible, by what is seen of the schedule.
 use Rattle.dag_check.specs.Graphs.{ups}
-use Rattle.instance_machine.specs.States.{opens_gate}
+use Rattle.sched_model.specs.instance_machine.States.{opens_gate}
 use Rattle.sched_model.specs.Lists.{last_passing, or_else}
 use Rattle.std.proofs.Common.{◌≡◌, refl, sym, ap, ◌∙◌, ℕ, ◌+◌, List, [], ◌∷◌, Bool, true, false, cond, not, ◌&&◌, ◌||◌, map, Option, Some, None, option_map, option_and_then, unwrap_or, slice_get, is_some, is_none, count_by, nat_lt}
 use Rattle.std.specs.List.{list_any, fold}
 use Rattle.std.proofs.lemmas.Option.{slice_get-map}
-use Rattle.trigger_rules.specs.declared.verdicts.Verdict.{Verdict}
-use Rattle.sched_state.specs.declared.runs.RunPhase.{RunPhase}
+use Rattle.sched_model.specs.trigger_rules.declared.verdicts.Verdict.{Verdict}
+use Rattle.sched_model.specs.sched_state.declared.runs.RunPhase.{RunPhase}
 use Rattle.graph_file.specs.declared.rules.Rule.{Rule}
 use Rattle.graph_file.specs.declared.rules.Rule.TheVariants.{AllSuccess, AllFailed, AllDone, AllSkipped, OneFailed, OneSuccess, OneDone, NoneFailed, NoneFailedMinOneSuccess, NoneSkipped, Always}
-use Rattle.trigger_rules.specs.declared.states.State.{State}
-use Rattle.trigger_rules.specs.declared.states.State.TheVariants as state
-use Rattle.sched_state.specs.Lists.{same, change_from, first_change}
-use Rattle.instance_machine.specs.Instances.{InstanceValue}
+use Rattle.sched_model.specs.trigger_rules.declared.states.State.{State}
+use Rattle.sched_model.specs.trigger_rules.declared.states.State.TheVariants as state
+use Rattle.sched_model.specs.sched_state.Lists.{same, change_from, first_change}
+use Rattle.sched_model.specs.instance_machine.Instances.{InstanceValue}
 use Rattle.graph_file.specs.Lists.{when, first_some}
 use Rattle.graph_file.specs.declared.task_specs.TaskSpec.{TaskSpec}
-use Rattle.trigger_rules.specs.Rules.{rule_verdict, row_of}
-use Rattle.trigger_rules.specs.States.{is_finished, is_bad, is_success, is_skipped, is_failed}
+use Rattle.sched_model.specs.trigger_rules.Rules.{rule_verdict, row_of}
+use Rattle.sched_model.specs.trigger_rules.States.{is_finished, is_bad, is_success, is_skipped, is_failed}
 use Rattle.sched_model.specs.Settle.{decides, decide_task, decide_instance, decide_run, finish_run, start_run, move_runs, move, upstream_states, is_undecided, decided_verdict}
 use Rattle.sched_model.specs.Schedule.{Schedule, is_running, is_queued, tasks_of, is_paused, max_active_runs_of, dag_named}
-use Rattle.sched_state.specs.declared.runs.Run.{Run}
-use Rattle.instance_machine.specs.declared.tries.Try.{Try}
-use Rattle.sched_state.specs.declared.graphs.LoadedGraph.{LoadedGraph}
+use Rattle.sched_model.specs.sched_state.declared.runs.Run.{Run}
+use Rattle.sched_model.specs.instance_machine.declared.tries.Try.{Try}
+use Rattle.sched_model.specs.sched_state.declared.graphs.LoadedGraph.{LoadedGraph}
 use Rattle.sched_model.specs.States.{states, state_at, past_is_open, previous, is_earlier}
 use Rattle.sched_laws.specs.Seen.{seen, Sight, sight_of, sights, seen_at, seen_before, seen_past, seen_verdict, has_verdict, any_from, can_decide, can_decide_in, can_finish, can_move, can_start_seen, is_seen_earlier}
 use Rattle.sched_laws.proofs.ListLemmas.{change_here}
-use Rattle.sched_state.proofs.OrderLemmas.{all_map, any_map}
+use Rattle.sched_model.proofs.sched_state.OrderLemmas.{all_map, any_map}
 
 -- ---- lists
 

@@ -4,13 +4,13 @@ use Rattle.std.specs.List.{list_all, enumerate_from, range_with_len}
 use Rattle.std.proofs.lemmas.Bool.{eq-eqb, eqb-true, ltb-true, ltb-false}
 use Rattle.graph_file.specs.declared.task_specs.TaskSpec.{TaskSpec}
 use Rattle.dag_check.specs.Orders.{is_in, repeated}
-use Rattle.instance_machine.specs.Instances.{InstanceValue}
-use Rattle.instance_machine.specs.declared.tries.Try.{Try}
-use Rattle.sched_state.specs.Lists.{repeat}
-use Rattle.sched_state.specs.declared.jobs.Job.{Job}
-use Rattle.sched_state.specs.declared.runs.Run.{Run}
-use Rattle.sched_state.proofs.OrderLemmas.{and_left, and_right, or_left, or_right, not_false}
-use Rattle.sched_state.proofs.RepeatLemmas.{repeat_done, repeat_more}
+use Rattle.sched_model.specs.instance_machine.Instances.{InstanceValue}
+use Rattle.sched_model.specs.instance_machine.declared.tries.Try.{Try}
+use Rattle.sched_model.specs.sched_state.Lists.{repeat}
+use Rattle.sched_model.specs.sched_state.declared.jobs.Job.{Job}
+use Rattle.sched_model.specs.sched_state.declared.runs.Run.{Run}
+use Rattle.sched_model.proofs.sched_state.OrderLemmas.{and_left, and_right, or_left, or_right, not_false}
+use Rattle.sched_model.proofs.sched_state.RepeatLemmas.{repeat_done, repeat_more}
 use Rattle.sched_model.specs.Changes.{advance}
 use Rattle.sched_model.specs.Clearing.{pairs_of}
 use Rattle.sched_model.specs.Handout.{Offer, hand, hand_one, hand_out, best_offer, serials_left}

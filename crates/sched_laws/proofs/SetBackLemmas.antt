@@ -4,11 +4,11 @@ use Rattle.std.specs.List.{zip, enumerate_from}
 use Rattle.std.proofs.lemmas.Bool.{le-leb}
 use Rattle.std.proofs.lemmas.Option.{slice_get-map}
 use Rattle.graph_file.specs.declared.task_specs.TaskSpec.{TaskSpec}
-use Rattle.instance_machine.specs.Instances.{InstanceValue, recent, last_of}
-use Rattle.instance_machine.specs.States.{state_of, state_by, has_retry}
-use Rattle.trigger_rules.specs.declared.states.State.TheVariants as state
-use Rattle.instance_machine.specs.declared.tries.Try.{Try}
-use Rattle.sched_state.specs.declared.runs.Run.{Run}
+use Rattle.sched_model.specs.instance_machine.Instances.{InstanceValue, recent, last_of}
+use Rattle.sched_model.specs.instance_machine.States.{state_of, state_by, has_retry}
+use Rattle.sched_model.specs.trigger_rules.declared.states.State.TheVariants as state
+use Rattle.sched_model.specs.instance_machine.declared.tries.Try.{Try}
+use Rattle.sched_model.specs.sched_state.declared.runs.Run.{Run}
 use Rattle.sched_model.specs.Lists.{map_places}
 use Rattle.sched_model.specs.Schedule.{Schedule, tasks_of}
 use Rattle.sched_model.specs.Clearing.{Selection, cleared, clear_pair, pairs_of, named_in, requeued, with_cleared, clear_if, clear_run, clear}

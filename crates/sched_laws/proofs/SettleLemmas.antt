@@ -1,17 +1,17 @@
 -- Settling ends, and a move made first changes nothing.
 use Rattle.std.proofs.Common.{◌≡◌, refl, sym, subst, ◌∙◌, ℕ, zero, suc, ◌+◌, ◌<◌, ◌≤◌, List, [], ◌∷◌, Bool, true, false, cond, Option, Some, None, option_map, option_and_then, sum_by, slice_get, arith, true≢false}
-use Rattle.trigger_rules.specs.declared.verdicts.Verdict.{Verdict}
-use Rattle.sched_state.specs.declared.runs.RunPhase.{RunPhase}
-use Rattle.sched_state.specs.declared.runs.RunPhase.TheVariants as phase
+use Rattle.sched_model.specs.trigger_rules.declared.verdicts.Verdict.{Verdict}
+use Rattle.sched_model.specs.sched_state.declared.runs.RunPhase.{RunPhase}
+use Rattle.sched_model.specs.sched_state.declared.runs.RunPhase.TheVariants as phase
 use Rattle.graph_file.specs.Lists.{when, first_some}
-use Rattle.sched_state.specs.Lists.{change_from, first_change, repeat}
-use Rattle.instance_machine.specs.Instances.{InstanceValue}
+use Rattle.sched_model.specs.sched_state.Lists.{change_from, first_change, repeat}
+use Rattle.sched_model.specs.instance_machine.Instances.{InstanceValue}
 use Rattle.sched_model.specs.Schedule.{Schedule, tasks_of, is_running, is_queued}
-use Rattle.sched_state.specs.declared.runs.Run.{Run}
-use Rattle.instance_machine.specs.declared.tries.Try.{Try}
+use Rattle.sched_model.specs.sched_state.declared.runs.Run.{Run}
+use Rattle.sched_model.specs.instance_machine.declared.tries.Try.{Try}
 use Rattle.sched_model.specs.Settle.{decide_task, decide_instance, decide_run, finish_run, start_run, move_runs, move, settle, Settles, still, moved, moves_left, moves_left_of, decisions_left, has_bad_leaf, moves_left_in}
-use Rattle.sched_state.proofs.RepeatLemmas.{Falls, repeat_done, repeat_ends, repeat_enough, repeat_more, repeat_turn, change_falls}
-use Rattle.sched_state.proofs.OrderLemmas.{and_left}
+use Rattle.sched_model.proofs.sched_state.RepeatLemmas.{Falls, repeat_done, repeat_ends, repeat_enough, repeat_more, repeat_turn, change_falls}
+use Rattle.sched_model.proofs.sched_state.OrderLemmas.{and_left}
 
 pub map_some : {A B : Type 0} (f : A → B) (o : Option A) (y : B) → option_map f o ≡ Some y → (x : A) × (o ≡ Some x) × (f x ≡ y)
 map_some f None y e = cc

@@ -4,14 +4,14 @@ use Rattle.std.specs.List.{list_all, zip}
 use Rattle.std.proofs.lemmas.List.Sums.{sum_by-append}
 use Rattle.std.proofs.lemmas.Bool.{false_from_ne_true}
 use Rattle.graph_file.specs.declared.task_specs.TaskSpec.{TaskSpec}
-use Rattle.instance_machine.specs.Instances.{InstanceValue}
-use Rattle.instance_machine.specs.declared.tries.Try.{Try}
-use Rattle.trigger_rules.specs.declared.verdicts.Verdict.{Verdict}
-use Rattle.sched_state.specs.Lists.{same, change_from, first_change}
-use Rattle.sched_state.specs.declared.graphs.LoadedGraph.{LoadedGraph}
-use Rattle.sched_state.specs.declared.runs.Run.{Run}
-use Rattle.sched_state.proofs.NameLemmas.{same_is}
-use Rattle.sched_state.proofs.OrderLemmas.{and_left, and_right}
+use Rattle.sched_model.specs.instance_machine.Instances.{InstanceValue}
+use Rattle.sched_model.specs.instance_machine.declared.tries.Try.{Try}
+use Rattle.sched_model.specs.trigger_rules.declared.verdicts.Verdict.{Verdict}
+use Rattle.sched_model.specs.sched_state.Lists.{same, change_from, first_change}
+use Rattle.sched_model.specs.sched_state.declared.graphs.LoadedGraph.{LoadedGraph}
+use Rattle.sched_model.specs.sched_state.declared.runs.Run.{Run}
+use Rattle.sched_model.proofs.sched_state.NameLemmas.{same_is}
+use Rattle.sched_model.proofs.sched_state.OrderLemmas.{and_left, and_right}
 use Rattle.sched_model.specs.Handout.{Offer, hand, hand_out}
 use Rattle.sched_model.specs.Schedule.{Schedule, graph_among, dag_among, no_dag, tasks_of, has_pool, size_of, is_running}
 use Rattle.sched_model.specs.Settle.{decide_task, decide_instance, decide_run, decided_verdict, finish_run, start_run, move_runs, move, with_runs, settle, Settles, still, moved}

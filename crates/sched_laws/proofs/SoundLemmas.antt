@@ -6,24 +6,24 @@ use Rattle.std.proofs.lemmas.Bool.{le-leb, lt-ltb, ltb-true, ltb-false, eqb-true
 use Rattle.std.proofs.lemmas.List.{length-map, append_assoc, append-nil}
 use Rattle.graph_file.specs.declared.task_specs.TaskSpec.{TaskSpec}
 use Rattle.dag_check.specs.Orders.{is_in, repeated}
-use Rattle.instance_machine.specs.Instances.{InstanceValue}
-use Rattle.trigger_rules.specs.States.{is_finished}
-use Rattle.instance_machine.specs.States.{state_of}
-use Rattle.instance_machine.specs.declared.tries.Try.{Try}
-use Rattle.instance_machine.specs.declared.tries.Stage.{Stage}
-use Rattle.sched_state.specs.Lists.{repeat}
-use Rattle.sched_state.specs.declared.graphs.LoadedGraph.{LoadedGraph}
-use Rattle.sched_state.specs.declared.runs.RunPhase.{RunPhase}
-use Rattle.sched_state.proofs.OrderLemmas.{and_left, and_right, or_left, or_right, not_false, map_keeps}
-use Rattle.sched_state.proofs.RepeatLemmas.{repeat_done, repeat_more}
+use Rattle.sched_model.specs.instance_machine.Instances.{InstanceValue}
+use Rattle.sched_model.specs.trigger_rules.States.{is_finished}
+use Rattle.sched_model.specs.instance_machine.States.{state_of}
+use Rattle.sched_model.specs.instance_machine.declared.tries.Try.{Try}
+use Rattle.sched_model.specs.instance_machine.declared.tries.Stage.{Stage}
+use Rattle.sched_model.specs.sched_state.Lists.{repeat}
+use Rattle.sched_model.specs.sched_state.declared.graphs.LoadedGraph.{LoadedGraph}
+use Rattle.sched_model.specs.sched_state.declared.runs.RunPhase.{RunPhase}
+use Rattle.sched_model.proofs.sched_state.OrderLemmas.{and_left, and_right, or_left, or_right, not_false, map_keeps}
+use Rattle.sched_model.proofs.sched_state.RepeatLemmas.{repeat_done, repeat_more}
 use Rattle.sched_model.specs.Lists.{at, rises}
 use Rattle.sched_model.specs.Schedule.{Schedule, dag_among, is_ended, size_of}
-use Rattle.sched_state.specs.declared.runs.Run.{Run}
+use Rattle.sched_model.specs.sched_state.declared.runs.Run.{Run}
 use Rattle.sched_model.specs.Settle.{move, move_runs, with_runs, settle, moves_left}
 use Rattle.sched_model.specs.Handout.{Offer, new_try, with_try, in_instance, hand, hand_one, hand_out, best_offer, fits, serials_left, last_serial}
 use Rattle.sched_model.specs.Changes.{map_tries_of, map_all_tries, report, restart, set_now}
-use Rattle.instance_machine.specs.Instances.{map_tries}
-use Rattle.instance_machine.specs.Reports.{reported_try, lost_try}
+use Rattle.sched_model.specs.instance_machine.Instances.{map_tries}
+use Rattle.sched_model.specs.instance_machine.Reports.{reported_try, lost_try}
 use Rattle.sched_model.specs.Causes.{has_too_many_lanes}
 use Rattle.sched_model.specs.Sound.{IsSound, is_sound_in, is_sound_run, is_sound_instance, is_used, is_moment, tries_rise, all_tries_rise, serials_of}
 use Rattle.sched_laws.specs.Offered.{IsEligible}

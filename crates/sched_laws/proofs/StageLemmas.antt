@@ -1,28 +1,28 @@
 -- The stages of settling.
-use Rattle.instance_machine.specs.States.{opens_gate}
+use Rattle.sched_model.specs.instance_machine.States.{opens_gate}
 use Rattle.std.proofs.Common.{◌≡◌, refl, sym, ap, subst, ◌∙◌, ℕ, zero, suc, ◌+◌, ◌<◌, ◌≤◌, List, [], ◌∷◌, Bool, true, false, cond, not, ◌&&◌, ◌||◌, inr, map, Option, Some, None, option_map, option_and_then, unwrap_or, slice_get, arith, true≢false, nat_eq, nat_lt}
 use Rattle.std.specs.List.{list_all, fold}
 use Rattle.std.specs.Ordering.{is_eq}
 use Rattle.std.proofs.lemmas.Cmp.{nat_list_cmp_total, tied_itself}
 use Rattle.std.proofs.lemmas.Map.Text.{is_eq-slice_cmp}
 use Rattle.std.proofs.lemmas.Bool.{eqb-true, or_left, or_right}
-use Rattle.sched_state.specs.declared.runs.RunPhase.{RunPhase}
-use Rattle.sched_state.specs.declared.runs.RunPhase.TheVariants as phase
+use Rattle.sched_model.specs.sched_state.declared.runs.RunPhase.{RunPhase}
+use Rattle.sched_model.specs.sched_state.declared.runs.RunPhase.TheVariants as phase
 use Rattle.sched_model.specs.Handout.{in_instance}
-use Rattle.sched_state.specs.Lists.{same, change_from, first_change, repeat}
+use Rattle.sched_model.specs.sched_state.Lists.{same, change_from, first_change, repeat}
 use Rattle.sched_model.specs.Lists.{at}
 use Rattle.graph_file.specs.Lists.{when, first_some}
-use Rattle.instance_machine.specs.Instances.{InstanceValue}
+use Rattle.sched_model.specs.instance_machine.Instances.{InstanceValue}
 use Rattle.sched_model.specs.Schedule.{Schedule, is_running, is_queued, is_paused, max_active_runs_of}
-use Rattle.sched_state.specs.declared.runs.Run.{Run}
+use Rattle.sched_model.specs.sched_state.declared.runs.Run.{Run}
 use Rattle.sched_model.specs.States.{states, active_runs, previous, state_at, is_earlier}
-use Rattle.trigger_rules.specs.States.{is_finished}
+use Rattle.sched_model.specs.trigger_rules.States.{is_finished}
 use Rattle.sched_model.specs.Settle.{decide_instance, decide_run, finish_run, start_run, move, settle, moves_left, has_bad_leaf}
 use Rattle.sched_laws.specs.Sweep.{decide_one, decide_all, decision_in, decision, change_at, sweep}
 use Rattle.sched_laws.specs.Stages.{finish_one, start_one, ended_run, finish_every, in_phase, phase_at, AllEnded, Started, CoversEnds, CoversStarts, also_run, IsOrdered}
 use Rattle.sched_laws.specs.Stages.{also_graph}
 use Rattle.sched_laws.proofs.SettleLemmas.{settle_still, settle_moved, move_falls, map_some, when_some}
-use Rattle.sched_state.proofs.RepeatLemmas.{repeat_done, repeat_more, repeat_ends}
+use Rattle.sched_model.proofs.sched_state.RepeatLemmas.{repeat_done, repeat_more, repeat_ends}
 use Rattle.sched_laws.proofs.ListLemmas.{change_keeps, change_here}
 use Rattle.sched_laws.proofs.LookLemmas.{get_at, get_apart, in_same, given_run, decide_same, same_given, gated_same, same_last}
 use Rattle.sched_laws.proofs.DecisionLemmas.{decided, no_decision, at_known, guarded_run, by_decision, by_bool, one_falls}

@@ -9,17 +9,17 @@ use Rattle.sched_laws.proofs.RunLemmas.{key, key_before, rises_map}
 use Rattle.sched_laws.proofs.HandLemmas.{map_at}
 use Rattle.dag_check.specs.Names.{repeats}
 use Rattle.sched_model.specs.Lists.{at, rises}
-use Rattle.instance_machine.specs.Instances.{InstanceValue}
+use Rattle.sched_model.specs.instance_machine.Instances.{InstanceValue}
 use Rattle.sched_model.specs.Schedule.{Schedule, is_running}
-use Rattle.sched_state.specs.declared.runs.Run.{Run}
-use Rattle.sched_state.specs.declared.graphs.LoadedGraph.{LoadedGraph}
+use Rattle.sched_model.specs.sched_state.declared.runs.Run.{Run}
+use Rattle.sched_model.specs.sched_state.declared.graphs.LoadedGraph.{LoadedGraph}
 use Rattle.sched_model.specs.Settle.{decide_instance}
 use Rattle.sched_model.specs.Handout.{in_instance}
 use Rattle.sched_model.specs.Sound.{IsSound, is_sound_graph, is_sound_dag}
 use Rattle.sched_laws.specs.Stages.{IsOrdered, leads_down}
 use Rattle.sched_laws.specs.Sweep.{decide_all, decision_in, decision, put, decide_at, looks, Before, IsClean, sweep_places, sweep_runs, sweep}
 use Rattle.sched_laws.proofs.LookLemmas.{unlooked}
-use Rattle.sched_state.proofs.OrderLemmas.{and_left, and_right}
+use Rattle.sched_model.proofs.sched_state.OrderLemmas.{and_left, and_right}
 use Rattle.sched_laws.proofs.DecisionLemmas.{first_then_all, none_then_all, none_guard, decided_once, by_bool, looks_later, at_same}
 
 -- ---- one sweep

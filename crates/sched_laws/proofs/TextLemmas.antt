@@ -1,8 +1,8 @@
 -- Each graph stays what its text says.
 use Rattle.std.proofs.Common.{List, [], ◌∷◌, ℕ, Bool, true, false, cond, Some, None, map}
 use Rattle.dag_check.specs.Graphs.{Dag}
-use Rattle.sched_state.specs.Lists.{same, insert_by}
-use Rattle.sched_state.specs.declared.graphs.LoadedGraph.{LoadedGraph}
+use Rattle.sched_model.specs.sched_state.Lists.{same, insert_by}
+use Rattle.sched_model.specs.sched_state.declared.graphs.LoadedGraph.{LoadedGraph}
 use Rattle.sched_model.specs.Schedule.{Schedule, graph_among, graph_before}
 use Rattle.sched_model.specs.Changes.{reloaded, new_graph, load_graph, pause_graph, set_paused}
 use Rattle.sched_model.specs.Sound.{Says, AllSay}

@@ -1,14 +1,14 @@
 -- Reports and restarts change open tries alone, and leave a sound try sound.
 use Rattle.std.proofs.Common.{◌≡◌, refl, sym, ℕ, Bool, true, false, ◌==◌, if◌then◌else◌, Option, Some, None, unwrap_or, true≢false}
-use Rattle.instance_machine.specs.Reports.{report_try}
-use Rattle.instance_machine.specs.declared.tries.Try.{Try}
-use Rattle.instance_machine.specs.declared.tries.End.{End}
-use Rattle.instance_machine.specs.declared.tries.Stage.{Stage}
-use Rattle.instance_machine.specs.declared.tries.Stage.TheVariants.{Started, Ended}
-use Rattle.instance_machine.specs.declared.tries.Outcome.{Outcome}
-use Rattle.instance_machine.specs.declared.tries.Outcome.TheVariants as outcome
-use Rattle.sched_state.proofs.OrderLemmas.{and_left, and_right}
-use Rattle.instance_machine.specs.Reports.{reported_try, lost_if, lost_try}
+use Rattle.sched_model.specs.instance_machine.Reports.{report_try}
+use Rattle.sched_model.specs.instance_machine.declared.tries.Try.{Try}
+use Rattle.sched_model.specs.instance_machine.declared.tries.End.{End}
+use Rattle.sched_model.specs.instance_machine.declared.tries.Stage.{Stage}
+use Rattle.sched_model.specs.instance_machine.declared.tries.Stage.TheVariants.{Started, Ended}
+use Rattle.sched_model.specs.instance_machine.declared.tries.Outcome.{Outcome}
+use Rattle.sched_model.specs.instance_machine.declared.tries.Outcome.TheVariants as outcome
+use Rattle.sched_model.proofs.sched_state.OrderLemmas.{and_left, and_right}
+use Rattle.sched_model.specs.instance_machine.Reports.{reported_try, lost_if, lost_try}
 use Rattle.sched_model.specs.Sound.{is_sound_try, is_sound_end, is_moment, has_end}
 use Rattle.sched_laws.proofs.InstanceLemmas.{IsQuiet}
 use Rattle.std.proofs.lemmas.Bool.{and_from}

@@ -8,9 +8,9 @@ use Rattle.dag_check.specs.Orders.{is_in, repeated}
 use Rattle.dag_check.specs.Names.{ids_of, repeats}
 use Rattle.dag_check.specs.Graphs.{Dag, IsDag, ups}
 use Rattle.dag_check.proofs.LawLemmas.{all-in}
-use Rattle.sched_state.specs.Lists.{same}
-use Rattle.sched_state.specs.declared.graphs.LoadedGraph.{LoadedGraph}
-use Rattle.sched_state.proofs.OrderLemmas.{and_left, and_right, not_false}
+use Rattle.sched_model.specs.sched_state.Lists.{same}
+use Rattle.sched_model.specs.sched_state.declared.graphs.LoadedGraph.{LoadedGraph}
+use Rattle.sched_model.proofs.sched_state.OrderLemmas.{and_left, and_right, not_false}
 use Rattle.sched_model.specs.Lists.{map_places}
 use Rattle.sched_model.specs.Schedule.{Schedule, graph_among, dag_among, dag_named, no_dag}
 use Rattle.sched_model.specs.Sound.{IsSound, is_sound_row, is_sound_dag, is_sound_graph}

@@ -1,10 +1,10 @@
 -- What it is to be handed out: eligible, fitting, and no other that fits before it in rank.
 use Rattle.std.specs.Prelude.{◌≡◌, ℕ, ◌<◌, ◌≤◌, cond, true, false, Some, slice_get, List}
-use Rattle.sched_state.specs.Lists.{same}
+use Rattle.sched_model.specs.sched_state.Lists.{same}
 use Rattle.graph_file.specs.declared.task_specs.TaskSpec.{TaskSpec}
-use Rattle.instance_machine.specs.Instances.{InstanceValue}
+use Rattle.sched_model.specs.instance_machine.Instances.{InstanceValue}
 use Rattle.sched_model.specs.Schedule.{Schedule, tasks_of, is_running, is_paused, size_of}
-use Rattle.sched_state.specs.declared.runs.Run.{Run}
+use Rattle.sched_model.specs.sched_state.declared.runs.Run.{Run}
 use Rattle.sched_model.specs.States.{occupied, in_flight}
 use Rattle.sched_model.specs.Handout.{Offer, offer_of, is_ready, fits, ranks_before, hand, last_serial}
 

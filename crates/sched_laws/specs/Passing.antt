@@ -1,8 +1,8 @@
 -- Hand-out as one pass over the eligible in the order of their ranks.
 use Rattle.std.specs.Prelude.{◌≡◌, ℕ, ◌≤◌, ◌⊎◌, true, false, List, [], ◌∷◌, length, Some, slice_get}
-use Rattle.instance_machine.specs.Instances.{InstanceValue}
+use Rattle.sched_model.specs.instance_machine.Instances.{InstanceValue}
 use Rattle.sched_model.specs.Schedule.{Schedule}
-use Rattle.sched_state.specs.declared.runs.Run.{Run}
+use Rattle.sched_model.specs.sched_state.declared.runs.Run.{Run}
 use Rattle.sched_laws.specs.Offered.{IsEligible}
 use Rattle.sched_model.specs.Handout.{Offer, fits, ranks_before, hand}
 use Rattle.sched_model.specs.Lists.{rises}

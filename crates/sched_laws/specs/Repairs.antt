@@ -1,8 +1,8 @@
 -- What is looked at after repairs of past days.
 use Rattle.std.specs.Prelude.{ℕ, Option, option_and_then, slice_get}
-use Rattle.instance_machine.specs.Instances.{InstanceValue}
+use Rattle.sched_model.specs.instance_machine.Instances.{InstanceValue}
 use Rattle.sched_model.specs.Schedule.{Schedule}
-use Rattle.sched_state.specs.declared.runs.Run.{Run}
+use Rattle.sched_model.specs.sched_state.declared.runs.Run.{Run}
 
 -- the instance at a place of the run at a position
 abbrev pub instance_at : Schedule → ℕ → ℕ → Option InstanceValue

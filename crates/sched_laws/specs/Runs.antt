@@ -1,6 +1,6 @@
 -- Runs without what becomes of them.
 use Rattle.std.specs.Prelude.{List, map}
-use Rattle.sched_state.specs.declared.runs.Run.{Run}
+use Rattle.sched_model.specs.sched_state.declared.runs.Run.{Run}
 use Rattle.sched_model.specs.NamedRuns.{NamedRun}
 use Rattle.sched_model.specs.Schedule.{Schedule}
 

@@ -3,18 +3,18 @@ use Rattle.std.specs.Prelude.{ℕ, ◌+◌, Bool, false, not, ◌&&◌, ◌||◌
 use Rattle.std.specs.List.{list_any, list_all}
 use Rattle.graph_file.specs.declared.task_specs.TaskSpec.{TaskSpec}
 use Rattle.dag_check.specs.Graphs.{ups}
-use Rattle.trigger_rules.specs.States.{is_finished}
-use Rattle.trigger_rules.specs.Rules.{rule_verdict}
-use Rattle.trigger_rules.specs.declared.verdicts.Verdict.{Verdict}
-use Rattle.trigger_rules.specs.declared.states.State.{State}
-use Rattle.trigger_rules.specs.declared.states.State.TheVariants as state
-use Rattle.instance_machine.specs.States.{state_of, opens_gate}
-use Rattle.sched_state.specs.Lists.{same}
-use Rattle.sched_state.specs.declared.graphs.LoadedGraph.{LoadedGraph}
-use Rattle.sched_state.specs.declared.runs.RunPhase.{RunPhase}
+use Rattle.sched_model.specs.trigger_rules.States.{is_finished}
+use Rattle.sched_model.specs.trigger_rules.Rules.{rule_verdict}
+use Rattle.sched_model.specs.trigger_rules.declared.verdicts.Verdict.{Verdict}
+use Rattle.sched_model.specs.trigger_rules.declared.states.State.{State}
+use Rattle.sched_model.specs.trigger_rules.declared.states.State.TheVariants as state
+use Rattle.sched_model.specs.instance_machine.States.{state_of, opens_gate}
+use Rattle.sched_model.specs.sched_state.Lists.{same}
+use Rattle.sched_model.specs.sched_state.declared.graphs.LoadedGraph.{LoadedGraph}
+use Rattle.sched_model.specs.sched_state.declared.runs.RunPhase.{RunPhase}
 use Rattle.sched_model.specs.Lists.{zip_with, last_passing}
 use Rattle.sched_model.specs.Schedule.{Schedule, graph_among, dag_among, is_running, is_queued}
-use Rattle.sched_state.specs.declared.runs.Run.{Run}
+use Rattle.sched_model.specs.sched_state.declared.runs.Run.{Run}
 use Rattle.sched_model.specs.Settle.{decides, is_undecided}
 
 -- an end, and none for each state that is not one

@@ -3,13 +3,13 @@ use Rattle.sched_model.specs.Sound.{is_sound_row}
 use Rattle.dag_check.specs.Graphs.{Dag}
 use Rattle.std.specs.Prelude.{◌≡◌, ◌<◌, ◌||◌, Bool, true, nat_eq, slice_get, ℕ, map, Option, Some, None, option_map, unwrap_or, List}
 use Rattle.std.specs.List.{list_all}
-use Rattle.sched_state.specs.declared.runs.RunPhase.{RunPhase}
-use Rattle.sched_state.specs.declared.runs.RunPhase.TheVariants as phase
-use Rattle.sched_state.specs.Lists.{same, first_change}
+use Rattle.sched_model.specs.sched_state.declared.runs.RunPhase.{RunPhase}
+use Rattle.sched_model.specs.sched_state.declared.runs.RunPhase.TheVariants as phase
+use Rattle.sched_model.specs.sched_state.Lists.{same, first_change}
 use Rattle.sched_model.specs.Lists.{at, rises, map_places}
 use Rattle.sched_model.specs.Schedule.{Schedule, run_before}
-use Rattle.sched_state.specs.declared.runs.Run.{Run}
-use Rattle.sched_state.specs.declared.graphs.LoadedGraph.{LoadedGraph}
+use Rattle.sched_model.specs.sched_state.declared.runs.Run.{Run}
+use Rattle.sched_model.specs.sched_state.declared.graphs.LoadedGraph.{LoadedGraph}
 use Rattle.sched_model.specs.Settle.{settle, finish_run, start_run, with_runs}
 use Rattle.sched_laws.specs.Sweep.{decide_one, Covers}
 

@@ -2,13 +2,13 @@
 use Rattle.dag_check.specs.Graphs.{ups}
 use Rattle.sched_model.specs.States.{is_earlier}
 use Rattle.std.specs.Prelude.{◌≡◌, ℕ, ◌+◌, ◌<◌, ◌⊎◌, zero, suc, Bool, true, false, not, ◌&&◌, ◌||◌, cond, List, [], ◌∷◌, length, Option, Some, None, option_map, option_and_then, slice_get, nat_eq}
-use Rattle.sched_state.specs.Lists.{first_change, repeat}
+use Rattle.sched_model.specs.sched_state.Lists.{first_change, repeat}
 use Rattle.sched_model.specs.Lists.{at}
 use Rattle.dag_check.specs.Orders.{is_in}
 use Rattle.graph_file.specs.declared.task_specs.TaskSpec.{TaskSpec}
-use Rattle.instance_machine.specs.Instances.{InstanceValue}
+use Rattle.sched_model.specs.instance_machine.Instances.{InstanceValue}
 use Rattle.sched_model.specs.Schedule.{Schedule, tasks_of, is_running, dag_named}
-use Rattle.sched_state.specs.declared.runs.Run.{Run}
+use Rattle.sched_model.specs.sched_state.declared.runs.Run.{Run}
 use Rattle.sched_model.specs.Settle.{decide_instance, decide_run, moves_left, with_runs}
 use Rattle.sched_model.specs.Handout.{in_instance}
 

@@ -1,9 +1,9 @@
 -- What becomes of the tries that are there.
 use Rattle.std.specs.Prelude.{◌≡◌, ℕ, List, Option, Some, find, option_and_then, slice_get}
-use Rattle.instance_machine.specs.Instances.{InstanceValue}
-use Rattle.instance_machine.specs.declared.tries.Try.{Try}
-use Rattle.instance_machine.specs.declared.tries.End.{End}
-use Rattle.sched_state.specs.declared.runs.Run.{Run}
+use Rattle.sched_model.specs.instance_machine.Instances.{InstanceValue}
+use Rattle.sched_model.specs.instance_machine.declared.tries.Try.{Try}
+use Rattle.sched_model.specs.instance_machine.declared.tries.End.{End}
+use Rattle.sched_model.specs.sched_state.declared.runs.Run.{Run}
 use Rattle.sched_model.specs.Schedule.{Schedule, is_at}
 
 -- a try stays, perhaps begun or ended by now: its serial and its slots are the same, and so are its start and its end once they are there

@@ -1,8 +1,8 @@
 //! Laws of backfills: which runs they name (Airflow 2, "DAG Runs": backfill).
 ghost use Rattle.std.specs.Prelude.{◌≡◌, ℕ, ◌&&◌, ◌||◌, not, List};
 ghost use Rattle.std.specs.List.{list_any};
-ghost use Rattle.run_planner.specs.Index.{has_date};
-ghost use Rattle.run_planner.specs.Spans.{starts};
+ghost use Rattle.sched_model.specs.run_planner.Index.{has_date};
+ghost use Rattle.sched_model.specs.run_planner.Spans.{starts};
 ghost use Rattle.sched_model.specs.Changes.{advance};
 ghost use Rattle.sched_model.specs.NamedRuns.{is_for, named_by_backfill, present_in, spanned};
 ghost use Rattle.sched_model.specs.Schedule.{Schedule, has_run_at};

@@ -2,12 +2,12 @@
 //! tasks).
 ghost use Rattle.std.specs.Prelude.{◌≡◌, ℕ, [], None, Some, true, false, slice_get, option_and_then, option_map};
 ghost use Rattle.graph_file.specs.declared.task_specs.TaskSpec.{TaskSpec};
-ghost use Rattle.instance_machine.specs.Instances.{InstanceValue, recent};
-ghost use Rattle.instance_machine.specs.States.{state_of, has_retry};
+ghost use Rattle.sched_model.specs.instance_machine.Instances.{InstanceValue, recent};
+ghost use Rattle.sched_model.specs.instance_machine.States.{state_of, has_retry};
 ghost use Rattle.sched_model.specs.Clearing.{Selection, cleared, requeued, clear};
 ghost use Rattle.sched_model.specs.Schedule.{Schedule, tasks_of};
-ghost use Rattle.sched_state.specs.declared.runs.Run.{Run};
-ghost use Rattle.trigger_rules.specs.declared.states.State.TheVariants as state;
+ghost use Rattle.sched_model.specs.sched_state.declared.runs.Run.{Run};
+ghost use Rattle.sched_model.specs.trigger_rules.declared.states.State.TheVariants as state;
 ghost use Rattle.sched_laws.specs.Repairs.{instance_at};
 
 /// A clear touches the instances that it names and no other.

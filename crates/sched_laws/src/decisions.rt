@@ -1,9 +1,9 @@
 //! Laws of decisions: what they look at, and in which order they may be made.
 ghost use Rattle.std.specs.Prelude.{◌≡◌, ℕ, Bool, ◌&&◌, ◌==◌, cond, List, map, None, Some, true, false};
 ghost use Rattle.dag_check.specs.Graphs.{ups};
-ghost use Rattle.instance_machine.specs.Instances.{InstanceValue};
+ghost use Rattle.sched_model.specs.instance_machine.Instances.{InstanceValue};
 ghost use Rattle.sched_model.specs.Schedule.{Schedule, dag_named};
-ghost use Rattle.sched_state.specs.declared.runs.Run.{Run};
+ghost use Rattle.sched_model.specs.sched_state.declared.runs.Run.{Run};
 ghost use Rattle.sched_model.specs.States.{state_at};
 ghost use Rattle.sched_model.specs.Settle.{upstream_states};
 ghost use Rattle.sched_model.specs.Handout.{in_instance};

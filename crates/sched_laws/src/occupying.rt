@@ -2,11 +2,11 @@
 ghost use Rattle.std.specs.Prelude.{◌≡◌, ℕ, ◌+◌, ◌≤◌, Bool, not, List, [], filter, sum_by, true, false};
 ghost use Rattle.dag_check.specs.Graphs.{Dag};
 ghost use Rattle.graph_file.specs.declared.task_specs.TaskSpec.{TaskSpec};
-ghost use Rattle.instance_machine.specs.Instances.{InstanceValue};
-ghost use Rattle.instance_machine.specs.Reports.{reported_try};
-ghost use Rattle.instance_machine.specs.declared.tries.Stage.{Stage};
-ghost use Rattle.instance_machine.specs.declared.tries.Try.{Try};
-ghost use Rattle.sched_state.specs.declared.runs.RunPhase.{RunPhase};
+ghost use Rattle.sched_model.specs.instance_machine.Instances.{InstanceValue};
+ghost use Rattle.sched_model.specs.instance_machine.Reports.{reported_try};
+ghost use Rattle.sched_model.specs.instance_machine.declared.tries.Stage.{Stage};
+ghost use Rattle.sched_model.specs.instance_machine.declared.tries.Try.{Try};
+ghost use Rattle.sched_model.specs.sched_state.declared.runs.RunPhase.{RunPhase};
 ghost use Rattle.sched_model.specs.Changes.{load_graph, set_now, set_paused, resize, report, restart};
 ghost use Rattle.sched_model.specs.Clearing.{Selection, clear};
 ghost use Rattle.sched_model.specs.Handout.{in_instance, hand_out};

@@ -1,6 +1,6 @@
 //! Laws of pausing: what a pause leaves possible, and when it changes nothing.
 ghost use Rattle.std.specs.Prelude.{◌≡◌, ℕ, List, Bool, true, None, Some};
-ghost use Rattle.sched_state.specs.declared.graphs.LoadedGraph.{LoadedGraph};
+ghost use Rattle.sched_model.specs.sched_state.declared.graphs.LoadedGraph.{LoadedGraph};
 ghost use Rattle.sched_model.specs.Schedule.{Schedule, graph_named};
 ghost use Rattle.sched_model.specs.Settle.{move};
 ghost use Rattle.sched_model.specs.Handout.{hand_one};

@@ -1,6 +1,6 @@
 //! Laws of pools that get another size: what it leaves as it is, and what it lets out.
 ghost use Rattle.std.specs.Prelude.{◌≡◌, ℕ, ◌+◌, ◌<◌, ◌≤◌, ◌||◌, cond, List, true, false, None};
-ghost use Rattle.sched_state.specs.Lists.{same};
+ghost use Rattle.sched_model.specs.sched_state.Lists.{same};
 ghost use Rattle.sched_model.specs.Changes.{resize};
 ghost use Rattle.sched_model.specs.Handout.{Offer, fits, hand_one};
 ghost use Rattle.sched_model.specs.Schedule.{Schedule, has_pool, size_of};

@@ -1,6 +1,6 @@
 //! Laws of settling.
 ghost use Rattle.std.specs.Prelude.{◌≡◌, ℕ, ◌≤◌, None, Some};
-ghost use Rattle.sched_state.specs.Lists.{repeat};
+ghost use Rattle.sched_model.specs.sched_state.Lists.{repeat};
 ghost use Rattle.sched_model.specs.Schedule.{Schedule};
 ghost use Rattle.sched_model.specs.Settle.{move, moves_left, settle, Settles};
 ghost use Rattle.sched_laws.specs.Seen.{sights};

@@ -2,9 +2,9 @@
 ghost use Rattle.std.specs.Prelude.{◌≡◌, ℕ, Bool, ◌<◌, ◌++◌, List, None, Some, IsTrue, true, false, slice_get};
 ghost use Rattle.std.specs.List.Sorted.{IsPermutation};
 ghost use Rattle.dag_check.specs.Graphs.{Dag};
-ghost use Rattle.instance_machine.specs.declared.tries.Stage.{Stage};
+ghost use Rattle.sched_model.specs.instance_machine.declared.tries.Stage.{Stage};
 ghost use Rattle.sched_model.specs.Schedule.{Schedule, has_runs};
-ghost use Rattle.sched_state.specs.declared.runs.Run.{Run};
+ghost use Rattle.sched_model.specs.sched_state.declared.runs.Run.{Run};
 ghost use Rattle.sched_model.specs.Settle.{settle};
 ghost use Rattle.sched_model.specs.Handout.{hand_out};
 ghost use Rattle.sched_model.specs.NamedRuns.{NamedRun, add_runs};

@@ -1,9 +1,9 @@
 //! Laws of the stages of settling: decisions, ends, starts.
 ghost use Rattle.std.specs.Prelude.{◌≡◌, ℕ, Bool, ◌==◌, List, None, Some, false, slice_get};
-ghost use Rattle.instance_machine.specs.Instances.{InstanceValue};
-ghost use Rattle.sched_state.specs.declared.runs.RunPhase.{RunPhase};
+ghost use Rattle.sched_model.specs.instance_machine.Instances.{InstanceValue};
+ghost use Rattle.sched_model.specs.sched_state.declared.runs.RunPhase.{RunPhase};
 ghost use Rattle.sched_model.specs.Schedule.{Schedule, is_running};
-ghost use Rattle.sched_state.specs.declared.runs.Run.{Run};
+ghost use Rattle.sched_model.specs.sched_state.declared.runs.Run.{Run};
 ghost use Rattle.sched_model.specs.Settle.{settle, finish_run, start_run};
 ghost use Rattle.sched_model.specs.Sound.{IsSound};
 ghost use Rattle.sched_laws.specs.Sweep.{decide_one, decide_all, decision, change_at, sweep};

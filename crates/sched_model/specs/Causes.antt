@@ -1,10 +1,10 @@
 -- Why an event may be refused, each cause by itself: this project's own profile. Their order comes with the events.
 use Rattle.std.specs.Prelude.{ℕ, ◌+◌, Bool, false, not, ◌&&◌, ◌==◌, List, length, map, flat_map, find, filter, Option, Some, None, option_and_then, is_none, nat_lt, nat_le}
-use Rattle.instance_machine.specs.Instances.{InstanceValue}
-use Rattle.instance_machine.specs.Reports.{report_try}
-use Rattle.graph_file.specs.declared.task_specs.TaskSpec.{TaskSpec}
-use Rattle.instance_machine.specs.declared.tries.Try.{Try}
-use Rattle.instance_machine.specs.declared.tries.Stage.{Stage}
+use Rattle.sched_state.specs.instance_machine.Instances.{InstanceValue}
+use Rattle.sched_state.specs.instance_machine.Reports.{report_try}
+use Rattle.sched_state.specs.graph_file.declared.task_specs.TaskSpec.{TaskSpec}
+use Rattle.sched_state.specs.instance_machine.declared.tries.Try.{Try}
+use Rattle.sched_state.specs.instance_machine.declared.tries.Stage.{Stage}
 use Rattle.sched_model.specs.Lists.{least}
 use Rattle.sched_model.specs.Schedule.{Schedule, dag_named, graph_named, has_pool}
 use Rattle.sched_state.specs.declared.runs.Run.{Run}

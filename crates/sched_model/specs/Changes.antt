@@ -1,10 +1,10 @@
 -- The own changes of events, but for clearings; and what follows every change.
 use Rattle.std.specs.Prelude.{ℕ, Bool, true, false, if◌then◌else◌, List, map, Some, None}
-use Rattle.dag_check.specs.Graphs.{Dag}
-use Rattle.instance_machine.specs.Instances.{map_tries}
-use Rattle.instance_machine.specs.Reports.{reported_try, lost_try}
-use Rattle.instance_machine.specs.declared.tries.Try.{Try}
-use Rattle.instance_machine.specs.declared.tries.Stage.{Stage}
+use Rattle.sched_state.specs.dag_check.Graphs.{Dag}
+use Rattle.sched_state.specs.instance_machine.Instances.{map_tries}
+use Rattle.sched_state.specs.instance_machine.Reports.{reported_try, lost_try}
+use Rattle.sched_state.specs.instance_machine.declared.tries.Try.{Try}
+use Rattle.sched_state.specs.instance_machine.declared.tries.Stage.{Stage}
 use Rattle.sched_state.specs.Lists.{same, insert_by}
 use Rattle.sched_state.specs.declared.graphs.LoadedGraph.{LoadedGraph}
 use Rattle.sched_model.specs.Schedule.{Schedule, Pool, graph_among, has_pool, graph_before, pool_before}

@@ -1,17 +1,17 @@
 -- Clearing: named instances are set back to none, their tries are kept. Airflow 2, 'DAG Runs' (re-run tasks) and 'Tasks'.
 use Rattle.std.specs.Prelude.{ℕ, Bool, true, false, not, ◌&&◌, ◌||◌, ◌==◌, cond, List, [], ◌∷◌, length, map, filter, flat_map, count_by, Option, Some, None, nat_le}
 use Rattle.std.specs.List.{zip, enumerate_from, position_from}
-use Rattle.graph_file.specs.declared.task_specs.TaskSpec.{TaskSpec}
-use Rattle.dag_check.specs.Graphs.{Dag}
-use Rattle.dag_check.specs.Orders.{is_in}
-use Rattle.dag_check.specs.Reach.{reach_of}
-use Rattle.dag_check.specs.declared.graphs.Direction.TheVariants as to
+use Rattle.sched_state.specs.graph_file.declared.task_specs.TaskSpec.{TaskSpec}
+use Rattle.sched_state.specs.dag_check.Graphs.{Dag}
+use Rattle.sched_state.specs.dag_check.Orders.{is_in}
+use Rattle.sched_state.specs.dag_check.Reach.{reach_of}
+use Rattle.sched_state.specs.dag_check.declared.graphs.Direction.TheVariants as to
 use Rattle.run_planner.specs.Index.{has_date}
-use Rattle.trigger_rules.specs.States.{is_bad}
-use Rattle.trigger_rules.specs.declared.states.State.{State}
-use Rattle.trigger_rules.specs.declared.states.State.TheVariants as state
-use Rattle.instance_machine.specs.Instances.{InstanceValue}
-use Rattle.instance_machine.specs.States.{state_of}
+use Rattle.sched_state.specs.trigger_rules.States.{is_bad}
+use Rattle.sched_state.specs.trigger_rules.declared.states.State.{State}
+use Rattle.sched_state.specs.trigger_rules.declared.states.State.TheVariants as state
+use Rattle.sched_state.specs.instance_machine.Instances.{InstanceValue}
+use Rattle.sched_state.specs.instance_machine.States.{state_of}
 use Rattle.sched_state.specs.Lists.{same}
 use Rattle.sched_state.specs.declared.clearings.Clearing.{Clearing}
 use Rattle.sched_state.specs.declared.runs.RunPhase.{RunPhase}

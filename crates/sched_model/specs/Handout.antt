@@ -2,13 +2,13 @@
 use Rattle.std.specs.Prelude.{ℕ, ◌+◌, ◌-◌, ◌^◌, Bool, true, false, not, ◌&&◌, ◌||◌, List, [], ◌∷◌, ◌++◌, filter, flat_map, Option, Some, None, option_map, nat_lt, nat_le}
 use Rattle.std.specs.List.{zip, enumerate_from}
 use Rattle.std.specs.declared.cmp.Ordering.{Ordering}
-use Rattle.graph_file.specs.declared.task_specs.TaskSpec.{TaskSpec}
+use Rattle.sched_state.specs.graph_file.declared.task_specs.TaskSpec.{TaskSpec}
 use Rattle.priority_weights.specs.Weights.{effective_weight}
-use Rattle.trigger_rules.specs.declared.states.State.{State}
-use Rattle.trigger_rules.specs.declared.states.State.TheVariants as state
-use Rattle.instance_machine.specs.Instances.{InstanceValue}
-use Rattle.instance_machine.specs.States.{state_of, retry_at}
-use Rattle.instance_machine.specs.declared.tries.Try.{Try}
+use Rattle.sched_state.specs.trigger_rules.declared.states.State.{State}
+use Rattle.sched_state.specs.trigger_rules.declared.states.State.TheVariants as state
+use Rattle.sched_state.specs.instance_machine.Instances.{InstanceValue}
+use Rattle.sched_state.specs.instance_machine.States.{state_of, retry_at}
+use Rattle.sched_state.specs.instance_machine.declared.tries.Try.{Try}
 use Rattle.pool_book.specs.Ranks.{RankParts, rank_cmp}
 use Rattle.sched_state.specs.Lists.{is_less, repeat}
 use Rattle.sched_model.specs.Lists.{at, best_by}

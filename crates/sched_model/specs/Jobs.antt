@@ -1,9 +1,9 @@
 -- What is told of a try that is handed out.
 use Rattle.std.specs.Prelude.{ℕ, ◌-◌, ◌==◌, List, map, filter, flat_map}
 use Rattle.std.specs.List.{enumerate_from, range_with_len}
-use Rattle.graph_file.specs.declared.task_specs.TaskSpec.{TaskSpec}
-use Rattle.instance_machine.specs.Instances.{InstanceValue}
-use Rattle.instance_machine.specs.declared.tries.Try.{Try}
+use Rattle.sched_state.specs.graph_file.declared.task_specs.TaskSpec.{TaskSpec}
+use Rattle.sched_state.specs.instance_machine.Instances.{InstanceValue}
+use Rattle.sched_state.specs.instance_machine.declared.tries.Try.{Try}
 use Rattle.sched_state.specs.declared.jobs.Job.{Job}
 use Rattle.sched_model.specs.Schedule.{Schedule}
 use Rattle.sched_state.specs.declared.runs.Run.{Run}

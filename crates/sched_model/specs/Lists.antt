@@ -1,7 +1,7 @@
 -- Words on lists that the abstract schedule adds to those of `sched_state`.
 use Rattle.std.specs.Prelude.{ℕ, zero, suc, ◌+◌, Bool, true, false, cond, ◌&&◌, List, [], ◌∷◌, Option, Some, None, nat_lt}
 use Rattle.std.specs.List.{list_all}
-use Rattle.graph_file.specs.Lists.{when}
+use Rattle.sched_state.specs.graph_file.Lists.{when}
 
 -- the element at a place is changed
 abbrev pub at : {X : Type 0} → (X → X) → ℕ → List X → List X

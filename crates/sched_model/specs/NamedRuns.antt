@@ -1,11 +1,11 @@
 -- The runs that a tick, a trigger by hand and a backfill name, and how named runs are added. Airflow 2, 'DAG Runs'.
 use Rattle.std.specs.Prelude.{ℕ, Bool, true, false, ◌&&◌, ◌==◌, List, [], ◌∷◌, length, take, map, replicate, nat_lt}
 use Rattle.std.specs.List.{list_any, flat_map}
-use Rattle.cron_timetable.specs.declared.timetables.Interval.{Interval}
+use Rattle.sched_state.specs.cron_timetable.declared.timetables.Interval.{Interval}
 use Rattle.run_planner.specs.Due.{wanted_intervals, without_runs}
 use Rattle.run_planner.specs.ByHand.{manual_intervals}
 use Rattle.run_planner.specs.Spans.{span_intervals, with_runs, starts}
-use Rattle.instance_machine.specs.Instances.{new_instance}
+use Rattle.sched_state.specs.instance_machine.Instances.{new_instance}
 use Rattle.sched_state.specs.Lists.{same, insert_by}
 use Rattle.sched_state.specs.declared.graphs.LoadedGraph.{LoadedGraph}
 use Rattle.sched_state.specs.declared.runs.RunKind.{RunKind}

@@ -1,14 +1,14 @@
 -- Worked schedules, for the check to compute: graphs, and what events make of them.
 use Rattle.std.specs.Prelude.{ℕ, ◌+◌, Bool, true, false, List, [], ◌∷◌, map, codes, Option, Some, None}
-use Rattle.graph_file.specs.declared.task_specs.TaskSpec.{TaskSpec}
-use Rattle.graph_file.specs.declared.rules.Rule.{Rule}
-use Rattle.graph_file.specs.declared.rules.Rule.TheVariants as rule
-use Rattle.cron_timetable.specs.declared.timetables.Timetable.TheVariants.{Never}
-use Rattle.dag_check.specs.Graphs.{no_task}
-use Rattle.trigger_rules.specs.declared.states.State.{State}
-use Rattle.instance_machine.specs.declared.tries.Stage.TheVariants.{Started, Ended}
-use Rattle.instance_machine.specs.declared.tries.Outcome.{Outcome}
-use Rattle.instance_machine.specs.declared.tries.Outcome.TheVariants as outcome
+use Rattle.sched_state.specs.graph_file.declared.task_specs.TaskSpec.{TaskSpec}
+use Rattle.sched_state.specs.graph_file.declared.rules.Rule.{Rule}
+use Rattle.sched_state.specs.graph_file.declared.rules.Rule.TheVariants as rule
+use Rattle.sched_state.specs.cron_timetable.declared.timetables.Timetable.TheVariants.{Never}
+use Rattle.sched_state.specs.dag_check.Graphs.{no_task}
+use Rattle.sched_state.specs.trigger_rules.declared.states.State.{State}
+use Rattle.sched_state.specs.instance_machine.declared.tries.Stage.TheVariants.{Started, Ended}
+use Rattle.sched_state.specs.instance_machine.declared.tries.Outcome.{Outcome}
+use Rattle.sched_state.specs.instance_machine.declared.tries.Outcome.TheVariants as outcome
 use Rattle.sched_state.specs.Limits.{ceilings}
 use Rattle.sched_state.specs.declared.graphs.LoadedGraph.{LoadedGraph}
 use Rattle.sched_state.specs.declared.runs.RunKind.{RunKind}

@@ -2,9 +2,9 @@
 use Rattle.std.specs.Prelude.{ℕ, Bool, true, false, ◌&&◌, ◌==◌, List, [], ◌∷◌, map, filter, find, codes, Option, None, option_map, unwrap_or}
 use Rattle.std.specs.List.{list_any}
 use Rattle.std.specs.Ordering.{nat_cmp, ordering_then}
-use Rattle.cron_timetable.specs.declared.timetables.Timetable.TheVariants.{Never}
-use Rattle.graph_file.specs.declared.task_specs.TaskSpec.{TaskSpec}
-use Rattle.dag_check.specs.Graphs.{Dag}
+use Rattle.sched_state.specs.cron_timetable.declared.timetables.Timetable.TheVariants.{Never}
+use Rattle.sched_state.specs.graph_file.declared.task_specs.TaskSpec.{TaskSpec}
+use Rattle.sched_state.specs.dag_check.Graphs.{Dag}
 use Rattle.sched_state.specs.Lists.{same, name_cmp, is_less}
 use Rattle.sched_state.specs.Limits.{Bounds}
 use Rattle.sched_state.specs.declared.graphs.LoadedGraph.{LoadedGraph}

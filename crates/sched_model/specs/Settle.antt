@@ -1,15 +1,15 @@
 -- Settling: the first possible move is made, until none is possible.
 use Rattle.std.specs.Prelude.{◌≡◌, ℕ, ◌+◌, Bool, true, false, not, ◌&&◌, ◌==◌, cond, List, [], ◌∷◌, length, map, sum_by, Option, Some, None, option_map, option_and_then, slice_get, nat_lt, is_none}
 use Rattle.std.specs.List.{list_any, list_all}
-use Rattle.graph_file.specs.Lists.{when, first_some}
-use Rattle.graph_file.specs.declared.task_specs.TaskSpec.{TaskSpec}
-use Rattle.dag_check.specs.Graphs.{Dag, ups, downs}
-use Rattle.trigger_rules.specs.States.{is_finished, is_bad}
-use Rattle.trigger_rules.specs.Rules.{rule_verdict}
-use Rattle.trigger_rules.specs.declared.states.State.{State}
-use Rattle.trigger_rules.specs.declared.verdicts.Verdict.{Verdict}
-use Rattle.trigger_rules.specs.declared.verdicts.Verdict.TheVariants as verdict
-use Rattle.instance_machine.specs.Instances.{InstanceValue}
+use Rattle.sched_state.specs.graph_file.Lists.{when, first_some}
+use Rattle.sched_state.specs.graph_file.declared.task_specs.TaskSpec.{TaskSpec}
+use Rattle.sched_state.specs.dag_check.Graphs.{Dag, ups, downs}
+use Rattle.sched_state.specs.trigger_rules.States.{is_finished, is_bad}
+use Rattle.sched_state.specs.trigger_rules.Rules.{rule_verdict}
+use Rattle.sched_state.specs.trigger_rules.declared.states.State.{State}
+use Rattle.sched_state.specs.trigger_rules.declared.verdicts.Verdict.{Verdict}
+use Rattle.sched_state.specs.trigger_rules.declared.verdicts.Verdict.TheVariants as verdict
+use Rattle.sched_state.specs.instance_machine.Instances.{InstanceValue}
 use Rattle.sched_state.specs.Lists.{change_from, first_change, repeat}
 use Rattle.sched_state.specs.declared.runs.RunPhase.{RunPhase}
 use Rattle.sched_state.specs.declared.runs.RunPhase.TheVariants as phase

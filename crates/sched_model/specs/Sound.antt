@@ -2,22 +2,22 @@
 -- without it. A record that is read must pass these tests, and that each graph is what its text says.
 use Rattle.std.specs.Prelude.{◌≡◌, ℕ, ◌+◌, Bool, true, false, not, ◌&&◌, ◌||◌, ◌==◌, List, [], ◌∷◌, length, map, take, Option, Some, None, IsTrue, is_some, nat_le, nat_lt, sum_by, Ok}
 use Rattle.std.specs.List.{list_all, list_any}
-use Rattle.moment_core.specs.Moments.{seconds_end}
-use Rattle.graph_file.specs.Graphs.{graph_of}
-use Rattle.graph_file.specs.Names.{is_name}
-use Rattle.graph_file.specs.declared.task_specs.TaskSpec.{TaskSpec}
-use Rattle.dag_check.specs.Graphs.{Dag, IsGraphOf}
-use Rattle.dag_check.specs.Names.{ids_of, repeats}
-use Rattle.dag_check.specs.Orders.{repeated}
-use Rattle.trigger_rules.specs.States.{is_finished}
-use Rattle.trigger_rules.specs.declared.verdicts.Verdict.{Verdict}
-use Rattle.trigger_rules.specs.declared.verdicts.Verdict.TheVariants as verdict
-use Rattle.instance_machine.specs.Instances.{InstanceValue, recent}
-use Rattle.instance_machine.specs.States.{state_of}
-use Rattle.instance_machine.specs.declared.tries.Try.{Try}
-use Rattle.instance_machine.specs.declared.tries.End.{End}
-use Rattle.instance_machine.specs.declared.tries.Outcome.{Outcome}
-use Rattle.instance_machine.specs.declared.tries.Outcome.TheVariants as outcome
+use Rattle.sched_state.specs.moment_core.Moments.{seconds_end}
+use Rattle.sched_state.specs.graph_file.Graphs.{graph_of}
+use Rattle.sched_state.specs.graph_file.Names.{is_name}
+use Rattle.sched_state.specs.graph_file.declared.task_specs.TaskSpec.{TaskSpec}
+use Rattle.sched_state.specs.dag_check.Graphs.{Dag, IsGraphOf}
+use Rattle.sched_state.specs.dag_check.Names.{ids_of, repeats}
+use Rattle.sched_state.specs.dag_check.Orders.{repeated}
+use Rattle.sched_state.specs.trigger_rules.States.{is_finished}
+use Rattle.sched_state.specs.trigger_rules.declared.verdicts.Verdict.{Verdict}
+use Rattle.sched_state.specs.trigger_rules.declared.verdicts.Verdict.TheVariants as verdict
+use Rattle.sched_state.specs.instance_machine.Instances.{InstanceValue, recent}
+use Rattle.sched_state.specs.instance_machine.States.{state_of}
+use Rattle.sched_state.specs.instance_machine.declared.tries.Try.{Try}
+use Rattle.sched_state.specs.instance_machine.declared.tries.End.{End}
+use Rattle.sched_state.specs.instance_machine.declared.tries.Outcome.{Outcome}
+use Rattle.sched_state.specs.instance_machine.declared.tries.Outcome.TheVariants as outcome
 use Rattle.sched_state.specs.declared.graphs.LoadedGraph.{LoadedGraph}
 use Rattle.sched_state.specs.declared.runs.RunPhase.{RunPhase}
 use Rattle.sched_model.specs.Lists.{rises, map_places, all_pairs, but_last}

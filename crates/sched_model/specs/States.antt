@@ -1,12 +1,12 @@
 -- What is recomputed from a schedule: the states of instances, what came before a run, and the slots that are taken.
 use Rattle.std.specs.Prelude.{ℕ, Bool, not, ◌&&◌, ◌||◌, cond, List, length, map, filter, flat_map, sum_by, count_by, Option, option_map, unwrap_or, slice_get, nat_lt, is_none}
 use Rattle.std.specs.List.{zip}
-use Rattle.graph_file.specs.declared.task_specs.TaskSpec.{TaskSpec}
-use Rattle.trigger_rules.specs.declared.states.State.{State}
-use Rattle.trigger_rules.specs.declared.states.State.TheVariants as state
-use Rattle.instance_machine.specs.Instances.{InstanceValue}
-use Rattle.instance_machine.specs.States.{state_of, opens_gate}
-use Rattle.instance_machine.specs.declared.tries.Try.{Try}
+use Rattle.sched_state.specs.graph_file.declared.task_specs.TaskSpec.{TaskSpec}
+use Rattle.sched_state.specs.trigger_rules.declared.states.State.{State}
+use Rattle.sched_state.specs.trigger_rules.declared.states.State.TheVariants as state
+use Rattle.sched_state.specs.instance_machine.Instances.{InstanceValue}
+use Rattle.sched_state.specs.instance_machine.States.{state_of, opens_gate}
+use Rattle.sched_state.specs.instance_machine.declared.tries.Try.{Try}
 use Rattle.sched_state.specs.Lists.{same}
 use Rattle.sched_model.specs.Lists.{zip_with, last_passing}
 use Rattle.sched_model.specs.Schedule.{Schedule, tasks_of, is_running}

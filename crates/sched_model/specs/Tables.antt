@@ -1,14 +1,14 @@
 -- The rows of the record's tables that a schedule has, each table by its key: this project's own profile.
 use Rattle.std.specs.Prelude.{ℕ, pos, Bool, true, false, List, [], ◌∷◌, map, flat_map, Option, Some, None, option_map, int_lt}
 use Rattle.std.specs.List.{enumerate_from}
-use Rattle.graph_file.specs.declared.task_specs.TaskSpec.{TaskSpec}
-use Rattle.trigger_rules.specs.declared.verdicts.Verdict.{Verdict}
-use Rattle.trigger_rules.specs.declared.verdicts.Verdict.TheVariants as verdict
-use Rattle.instance_machine.specs.Instances.{InstanceValue}
-use Rattle.instance_machine.specs.declared.tries.Try.{Try}
-use Rattle.instance_machine.specs.declared.tries.End.{End}
-use Rattle.instance_machine.specs.declared.tries.Outcome.{Outcome}
-use Rattle.instance_machine.specs.declared.tries.Outcome.TheVariants as outcome
+use Rattle.sched_state.specs.graph_file.declared.task_specs.TaskSpec.{TaskSpec}
+use Rattle.sched_state.specs.trigger_rules.declared.verdicts.Verdict.{Verdict}
+use Rattle.sched_state.specs.trigger_rules.declared.verdicts.Verdict.TheVariants as verdict
+use Rattle.sched_state.specs.instance_machine.Instances.{InstanceValue}
+use Rattle.sched_state.specs.instance_machine.declared.tries.Try.{Try}
+use Rattle.sched_state.specs.instance_machine.declared.tries.End.{End}
+use Rattle.sched_state.specs.instance_machine.declared.tries.Outcome.{Outcome}
+use Rattle.sched_state.specs.instance_machine.declared.tries.Outcome.TheVariants as outcome
 use Rattle.sched_state.specs.Lists.{name_cmp, is_less, insert_by}
 use Rattle.sched_state.specs.declared.graphs.LoadedGraph.{LoadedGraph}
 use Rattle.sched_state.specs.declared.runs.RunKind.{RunKind}

@@ -1,8 +1,8 @@
 //! Worked schedules, computed by the check.
 ghost use Rattle.std.specs.Prelude.{◌≡◌, pos, [], ◌∷◌, codes, map, true, false, Some, None};
-ghost use Rattle.trigger_rules.specs.declared.states.State.TheVariants as state;
-ghost use Rattle.instance_machine.specs.declared.tries.Stage.TheVariants.{Started, Ended};
-ghost use Rattle.instance_machine.specs.declared.tries.Outcome.TheVariants as outcome;
+ghost use Rattle.sched_state.specs.trigger_rules.declared.states.State.TheVariants as state;
+ghost use Rattle.sched_state.specs.instance_machine.declared.tries.Stage.TheVariants.{Started, Ended};
+ghost use Rattle.sched_state.specs.instance_machine.declared.tries.Outcome.TheVariants as outcome;
 ghost use Rattle.sched_state.specs.declared.runs.RunPhase.TheVariants as phase;
 ghost use Rattle.sched_model.specs.Causes.{is_not_in_flight, is_out_of_turn, least_in_flight};
 ghost use Rattle.sched_model.specs.Clearing.{cleared_by, count_cleared};

@@ -12,12 +12,12 @@ use Rattle.script_commands.specs.Commands.{Request, IsNext, IsFirst, IsGiven, co
 use Rattle.word_app.specs.App.{Texts}
 use Rattle.script_commands.specs.declared.commands.ScriptCommand.TheVariants.{Step, LoadFile, TickNow, Drain, List as ListRows, Explain}
 use Rattle.script_commands.specs.declared.commands.SourceFault.{SourceFault}
-use Rattle.sessions.specs.Exchanges.{heard_where, looks, Asked, Exchange, Looked, Heard, Told}
-use Rattle.sessions.specs.Lines.{before_answer, Takes}
-use Rattle.sessions.specs.declared.clocks.ClockFault.{ClockFault}
-use Rattle.sessions.specs.declared.line_reading.Line.{Line}
-use Rattle.sessions.specs.declared.line_reading.Line.TheVariants as Says
-use Rattle.sessions.specs.Faults.{Fault}
+use Rattle.answer_lines.specs.sessions.Exchanges.{heard_where, looks, Asked, Exchange, Looked, Heard, Told}
+use Rattle.answer_lines.specs.sessions.Lines.{before_answer, Takes}
+use Rattle.answer_lines.specs.sessions.declared.clocks.ClockFault.{ClockFault}
+use Rattle.answer_lines.specs.sessions.declared.line_reading.Line.{Line}
+use Rattle.answer_lines.specs.sessions.declared.line_reading.Line.TheVariants as Says
+use Rattle.answer_lines.specs.sessions.Faults.{Fault}
 use Rattle.answer_lines.specs.RunFaults.{clock_text}
 use Rattle.answer_lines.specs.Shown.{shown_text}
 use Rattle.answer_lines.specs.declared.shown.Shown.TheVariants.{Done as ShowsDone}

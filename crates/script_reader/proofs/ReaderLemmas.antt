@@ -3,15 +3,15 @@ use Rattle.std.proofs.Common.{◌≡◌, ◌∙◌, ℕ, max, Bool, true, false,
 use Rattle.std.specs.Io.KnownBytes.{Appends}
 use Rattle.sched_events.specs.declared.answers.Answer.{Answer}
 use Rattle.sched_events.specs.declared.events.Event.{Event}
-use Rattle.sessions.specs.Faults.{Fault}
+use Rattle.answer_lines.specs.sessions.Faults.{Fault}
 use Rattle.word_app.specs.App.{Texts}
 use Rattle.sched_model.specs.Schedule.{Schedule}
-use Rattle.sessions.specs.Exchanges.{heard_where, looks, Asked, Exchange, Heard, Told}
-use Rattle.sessions.specs.Lines.{before_answer, opened_by, reads_drain, Takes}
-use Rattle.sessions.specs.declared.clocks.ClockFault.{ClockFault}
-use Rattle.sessions.specs.declared.line_reading.Line.{Line}
-use Rattle.sessions.specs.declared.line_reading.Line.TheVariants as Says
-use Rattle.sessions.specs.declared.line_reading.LineFault.{LineFault}
+use Rattle.answer_lines.specs.sessions.Exchanges.{heard_where, looks, Asked, Exchange, Heard, Told}
+use Rattle.answer_lines.specs.sessions.Lines.{before_answer, opened_by, reads_drain, Takes}
+use Rattle.answer_lines.specs.sessions.declared.clocks.ClockFault.{ClockFault}
+use Rattle.answer_lines.specs.sessions.declared.line_reading.Line.{Line}
+use Rattle.answer_lines.specs.sessions.declared.line_reading.Line.TheVariants as Says
+use Rattle.answer_lines.specs.sessions.declared.line_reading.LineFault.{LineFault}
 use Rattle.answer_lines.specs.RunFaults.{clock_text}
 use Rattle.script_reader.specs.Commands.{is_end, line_of}
 use Rattle.script_reader.specs.Done.{FileAnswer, HasDone, waiting}

@@ -6,8 +6,8 @@ use Rattle.sched_events.specs.declared.events.Event.{Event}
 use Rattle.sched_events.specs.declared.events.Event.TheVariants.{Load, Tick}
 use Rattle.sched_events.specs.declared.refusals.Refusal.{Refusal}
 use Rattle.sched_events.specs.declared.refusals.Refusal.TheVariants as refusal
-use Rattle.sessions.specs.Faults.{Fault}
-use Rattle.sessions.specs.Faults.failed
+use Rattle.answer_lines.specs.sessions.Faults.{Fault}
+use Rattle.answer_lines.specs.sessions.Faults.failed
 use Rattle.command_words.specs.declared.commands.UsageFault.{UsageFault}
 use Rattle.command_words.specs.declared.commands.UsageFault.TheVariants as usage
 use Rattle.script_commands.specs.Commands.{Request, IsGiven}
@@ -15,10 +15,10 @@ use Rattle.script_commands.specs.declared.commands.CommandFault.{CommandFault}
 use Rattle.script_commands.specs.declared.commands.CommandFault.TheVariants.{Usage, Source}
 use Rattle.script_commands.specs.declared.commands.SourceFault.TheVariants as source
 use Rattle.script_commands.specs.declared.commands.ScriptCommand.TheVariants.{Step, LoadFile, TickNow, Drain, List as ListRows, Explain}
-use Rattle.sessions.specs.Exchanges.{looks, told_in, Exchange}
+use Rattle.answer_lines.specs.sessions.Exchanges.{looks, told_in, Exchange}
 use Rattle.answer_lines.specs.CommandFaults.{source_text}
-use Rattle.sessions.specs.declared.faults.ConductFault.{ConductFault}
-use Rattle.sessions.specs.declared.faults.ConductFault.TheVariants as ends
+use Rattle.answer_lines.specs.sessions.declared.faults.ConductFault.{ConductFault}
+use Rattle.answer_lines.specs.sessions.declared.faults.ConductFault.TheVariants as ends
 use Rattle.script_reader.specs.Ends.{status_at}
 use Rattle.script_reader.specs.Statuses.{command_status, failure_status, refusal_status, usage_status}
 use Rattle.script_reader.specs.Done.{FileAnswer, Done, IsAnswered, IsDone, IsPerhaps, MayBeDone, greatest_status, is_whole}

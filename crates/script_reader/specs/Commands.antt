@@ -7,8 +7,8 @@ use Rattle.script_commands.specs.Commands.{Request}
 use Rattle.script_commands.specs.declared.commands.ScriptCommand.TheVariants.{Step, LoadFile, TickNow, Drain}
 use Rattle.script_commands.specs.declared.commands.SourceFault.{SourceFault}
 use Rattle.script_reader.specs.Done.{FileAnswer, IsAnswered}
-use Rattle.sessions.specs.declared.line_reading.Line.{Line}
-use Rattle.sessions.specs.declared.line_reading.Line.TheVariants as Says
+use Rattle.answer_lines.specs.sessions.declared.line_reading.Line.{Line}
+use Rattle.answer_lines.specs.sessions.declared.line_reading.Line.TheVariants as Says
 
 -- from one state of sources to another they answered so, beyond what they had answered before
 abbrev pub AnswersMore : {F : Type 0} → (F → List FileAnswer → F → Type 0) → List FileAnswer → F → F → Type 0

@@ -7,19 +7,19 @@ use Rattle.sched_model.specs.States.{in_flight}
 use Rattle.sched_events.specs.declared.answers.Answer.{Answer}
 use Rattle.sched_events.specs.declared.events.Event.{Event}
 use Rattle.sched_events.specs.declared.events.Event.TheVariants.{Load, Tick}
-use Rattle.explain.specs.Reasons.{IsUnexplained, explained}
-use Rattle.explain.specs.declared.reasons.ExplainFault.{ExplainFault}
-use Rattle.explain.specs.declared.reasons.Reason.{Reason}
+use Rattle.answer_lines.specs.explain.Reasons.{IsUnexplained, explained}
+use Rattle.answer_lines.specs.explain.declared.reasons.ExplainFault.{ExplainFault}
+use Rattle.answer_lines.specs.explain.declared.reasons.Reason.{Reason}
 use Rattle.word_app.specs.App.{Texts}
 use Rattle.script_commands.specs.Commands.{Request, commands_in}
 use Rattle.script_commands.specs.declared.commands.ScriptCommand.TheVariants.{Step, LoadFile, TickNow, Drain, List as ListRows, Explain}
 use Rattle.script_commands.specs.declared.commands.SourceFault.{SourceFault}
 use Rattle.script_commands.specs.declared.commands.SourceFault.TheVariants.{Memory as NoMemory}
-use Rattle.sessions.specs.Exchanges.{looks, told_in, Asked, Exchange, Heard, Told}
-use Rattle.sessions.specs.Faults.{Fault}
-use Rattle.sessions.specs.declared.clocks.ClockFault.{ClockFault}
-use Rattle.sessions.specs.declared.line_reading.Line.{Line}
-use Rattle.sessions.specs.declared.line_reading.Line.TheVariants as Says
+use Rattle.answer_lines.specs.sessions.Exchanges.{looks, told_in, Asked, Exchange, Heard, Told}
+use Rattle.answer_lines.specs.sessions.Faults.{Fault}
+use Rattle.answer_lines.specs.sessions.declared.clocks.ClockFault.{ClockFault}
+use Rattle.answer_lines.specs.sessions.declared.line_reading.Line.{Line}
+use Rattle.answer_lines.specs.sessions.declared.line_reading.Line.TheVariants as Says
 use Rattle.answer_lines.specs.CommandFaults.{command_fault_text, source_text}
 use Rattle.answer_lines.specs.Listings.{listing_text}
 use Rattle.answer_lines.specs.Reasons.{explain_fault_text, reasons_text}

@@ -1,7 +1,7 @@
 -- The end of a script that was run.
 use Rattle.std.specs.Prelude.{◌≡◌, ◌⊎◌, ℕ, max, Result, Ok, Err}
-use Rattle.sessions.specs.declared.faults.ConductFault.{ConductFault}
-use Rattle.sessions.specs.declared.faults.ConductFault.TheVariants.{StoreThrice}
+use Rattle.answer_lines.specs.sessions.declared.faults.ConductFault.{ConductFault}
+use Rattle.answer_lines.specs.sessions.declared.faults.ConductFault.TheVariants.{StoreThrice}
 pub use Rattle.answer_lines.specs.RunFaults.{end_text}
 
 -- the status of a run that ended with a fault: 3 where it is of the record, 4 for any other and where its line was not written

@@ -4,3 +4,4 @@ pub mod Ends
 pub mod Readers
 pub mod Shown
 pub mod Statuses
+pub use Rattle.answer_lines.specs as answer_lines

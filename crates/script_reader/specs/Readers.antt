@@ -2,8 +2,8 @@
 use Rattle.std.specs.Prelude.{◌≡◌, ℕ, Bool, true, false, ◌&&◌, not, is_some, refl, List, [], Option, None}
 use Rattle.std.proofs.Common.{true≢false, sym}
 use Rattle.std.specs.Io.KnownBytes.{Appends}
-use Rattle.sessions.specs.Exchanges.{Exchange}
-use Rattle.sessions.specs.declared.line_reading.Line.{Line}
+use Rattle.answer_lines.specs.sessions.Exchanges.{Exchange}
+use Rattle.answer_lines.specs.sessions.declared.line_reading.Line.{Line}
 use Rattle.script_reader.specs.Done.{FileAnswer, HasDone, begun, not_both, waiting}
 use Rattle.script_reader.specs.Shown.{nothing_written}
 use Rattle.script_reader.specs.declared.reader.ScriptReader.{ScriptReader}

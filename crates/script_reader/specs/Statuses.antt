@@ -7,13 +7,13 @@ use Rattle.script_commands.specs.declared.commands.CommandFault.{CommandFault}
 use Rattle.script_commands.specs.declared.commands.CommandFault.TheVariants.{Usage, Source}
 use Rattle.command_words.specs.declared.commands.UsageFault.{UsageFault}
 use Rattle.command_words.specs.declared.commands.UsageFault.TheVariants as usage
-use Rattle.explain.specs.declared.reasons.ExplainFault.{ExplainFault}
-use Rattle.explain.specs.declared.reasons.ExplainFault.TheVariants as unexplained
+use Rattle.answer_lines.specs.explain.declared.reasons.ExplainFault.{ExplainFault}
+use Rattle.answer_lines.specs.explain.declared.reasons.ExplainFault.TheVariants as unexplained
 use Rattle.sched_events.specs.declared.events.Event.{Event}
 use Rattle.answer_lines.specs.Answers.{answer_text}
 use Rattle.answer_lines.specs.RecordFaults.{failure_text}
-use Rattle.sessions.specs.Faults.{Fault}
-use Rattle.sessions.specs.Faults.failed
+use Rattle.answer_lines.specs.sessions.Faults.{Fault}
+use Rattle.answer_lines.specs.sessions.Faults.failed
 
 -- the status of a refusal: 1, and 4 for want of memory
 abbrev pub refusal_status : Refusal → ℕ

@@ -8,9 +8,8 @@ use crate::console::{Console, Spot};
 use crate::reader::ScriptReader;
 use crate::sources::Sources;
 use crate::statuses::failure_status;
-use answer_lines::{Shown, put};
+use answer_lines::{ClockFault, Fault, Line, LineFault, Lines, Schedule, Shown, put};
 use sched_events::{Answer, Event};
-use sessions::{ClockFault, Fault, Line, LineFault, Lines, Schedule};
 use std::io::{self, ErrorKind, Read, Write};
 
 impl<R: Read + Drop, W: Write + Drop, F: Sources, P: Console> ScriptReader<R, W, F, P> {

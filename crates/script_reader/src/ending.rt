@@ -7,8 +7,7 @@ ghost use Rattle.script_reader.specs.Ends.{IsEndStatus, end_text};
 use crate::console::Console;
 use crate::reader::ScriptReader;
 use crate::sources::Sources;
-use answer_lines::{Shown, put};
-use sessions::{ConductFault, Schedule};
+use answer_lines::{ConductFault, Schedule, Shown, put};
 use std::io::{self, Read, Write};
 
 impl<R: Read + Drop, W: Write + Drop, F: Sources, P: Console> ScriptReader<R, W, F, P> {

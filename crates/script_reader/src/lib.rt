@@ -22,10 +22,12 @@ mod scripts;
 mod sources;
 mod statuses;
 
-pub use answer_lines::{ClockFault, ConductFault, ExplainFault, Fault, Shown, StoreFault};
+pub use answer_lines::{
+    ClockFault, ConductFault, ExplainFault, Fault, Schedule, Shown, StoreFault, explain, put,
+    put_listing, put_reasons,
+};
 pub use console::{Console, NoConsole, Spot};
 pub use reader::ScriptReader;
 pub use scripts::Script;
-pub use sessions::Schedule;
 pub use sources::Sources;
 pub use statuses::{command_status, explain_status, failure_status};

@@ -8,8 +8,8 @@ ghost use Rattle.script_commands.specs.declared.commands.ScriptCommand.TheVarian
 ghost use Rattle.answer_lines.specs.CommandFaults.{command_fault_text};
 ghost use Rattle.command_words.specs.Lines.{IsListed};
 ghost use Rattle.word_app.specs.App.{Texts};
-ghost use Rattle.sessions.specs.Exchanges.{heard_where, looks, Exchange};
-ghost use Rattle.sessions.specs.Lines.{may_be_read, reads_drain};
+ghost use Rattle.answer_lines.specs.sessions.Exchanges.{heard_where, looks, Exchange};
+ghost use Rattle.answer_lines.specs.sessions.Lines.{may_be_read, reads_drain};
 ghost use Rattle.script_reader.specs.Commands.{AnswersMore, Does, is_end, line_of};
 ghost use Rattle.script_reader.specs.Done.{FileAnswer, HasDone, waiting};
 ghost use Rattle.script_reader.specs.Shown.{AnswersDrain};
@@ -19,14 +19,12 @@ use crate::console::{Console, Spot};
 use crate::scripts::Script;
 use crate::sources::Sources;
 use crate::statuses::{command_status, explain_status};
-use answer_lines::{Shown, put, put_listing, put_reasons};
+use answer_lines::{Line, LineFault, Schedule, Shown, explain, put, put_listing, put_reasons};
 use command_words::{CommandReader, FilePath, Question};
-use explain::explain;
 use sched_events::Event;
 use sched_state::GraphText;
 use script_commands::{CommandFault, ScriptCommand, next_command};
 use script_lines::LineReader;
-use sessions::{Line, LineFault, Schedule};
 use std::alloc::{AllocError, Global};
 use std::io::{self, ErrorKind, Read, Write};
 

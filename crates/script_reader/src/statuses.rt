@@ -2,11 +2,10 @@
 ghost use Rattle.std.specs.Prelude.{◌≡◌};
 ghost use Rattle.script_reader.specs.Statuses as spec;
 
+use answer_lines::{ExplainFault, Fault};
 use command_words::UsageFault;
-use explain::ExplainFault;
 use sched_events::Refusal;
 use script_commands::CommandFault;
-use sessions::Fault;
 
 /// The status of an event that is not stepped, or a record that is not opened: 1 where it is refused, 3 for a fault of the record, 4 for want
 /// of memory.

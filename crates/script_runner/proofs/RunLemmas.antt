@@ -15,15 +15,15 @@ use Rattle.sched_events.specs.declared.events.Event.{Event}
 use Rattle.word_app.specs.App.{Texts}
 use Rattle.script_commands.specs.Commands.{Request}
 use Rattle.command_words.specs.Lines.{IsListed}
-use Rattle.director.specs.Directors.{DirectorValue, Keeps, Opens, RestartsIn}
+use Rattle.conduct.specs.sessions.director.Directors.{DirectorValue, Keeps, Opens, RestartsIn}
 use Rattle.minutes.specs.Minutes.{BeginWithRestart}
-use Rattle.sessions.specs.Exchanges.{Exchange, Heard, readings_in, told_in, TookPlaceBehind}
-use Rattle.sessions.specs.Readings.{Reading}
-use Rattle.sessions.proofs.ExchangeLemmas.{behind_are_answered, told_of_each}
-use Rattle.sessions.specs.declared.faults.ConductFault.{ConductFault}
-use Rattle.sessions.specs.declared.faults.ConductFault.TheVariants as fault
-use Rattle.sessions.specs.declared.line_reading.Line.{Line}
-use Rattle.sessions.specs.declared.line_reading.LineFault.{LineFault}
+use Rattle.conduct.specs.sessions.Exchanges.{Exchange, Heard, readings_in, told_in, TookPlaceBehind}
+use Rattle.conduct.specs.sessions.Readings.{Reading}
+use Rattle.conduct.proofs.sessions.ExchangeLemmas.{behind_are_answered, told_of_each}
+use Rattle.conduct.specs.sessions.declared.faults.ConductFault.{ConductFault}
+use Rattle.conduct.specs.sessions.declared.faults.ConductFault.TheVariants as fault
+use Rattle.conduct.specs.sessions.declared.line_reading.Line.{Line}
+use Rattle.conduct.specs.sessions.declared.line_reading.LineFault.{LineFault}
 use Rattle.conduct.specs.Faults.{EndsRun, came_to_its_end, is_unstarted}
 use Rattle.conduct.specs.Run.{IsConducted}
 use Rattle.conduct.specs.declared.conducting.Conducted.{Conducted}
@@ -32,7 +32,7 @@ use Rattle.script_reader.specs.Ends.{IsEndStatus, end_text}
 use Rattle.script_reader.proofs.DoneLemmas.{kept_open}
 use Rattle.script_reader.proofs.ShownLemmas.{appends_then}
 use Rattle.script_reader.proofs.StatusLemmas.{all_whole}
-use Rattle.sessions.specs.Told.{AreTold}
+use Rattle.conduct.specs.sessions.Told.{AreTold}
 use Rattle.crews.specs.declared.settling.Settled.{Settled}
 use Rattle.script_reader.specs.Readers.{Tells}
 use Rattle.script_reader.specs.declared.reader.ScriptReader.{ScriptReader}

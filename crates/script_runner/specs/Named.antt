@@ -6,11 +6,11 @@ use Rattle.sched_events.specs.declared.events.Event.{Event}
 use Rattle.script_commands.specs.Commands.{Request, commands_in}
 use Rattle.sched_model.specs.Schedule.{Schedule}
 use Rattle.minutes.specs.Minutes.{answered}
-use Rattle.sessions.specs.Exchanges.{readings_in, told_in, Heard, TookPlaceBehind}
-use Rattle.sessions.specs.Readings.{Reading}
-use Rattle.sessions.specs.declared.faults.ConductFault.{ConductFault}
-use Rattle.sessions.specs.declared.faults.ConductFault.TheVariants.{ReadFault, Memory}
-use Rattle.sessions.specs.declared.line_reading.Line.{Line}
+use Rattle.conduct.specs.sessions.Exchanges.{readings_in, told_in, Heard, TookPlaceBehind}
+use Rattle.conduct.specs.sessions.Readings.{Reading}
+use Rattle.conduct.specs.sessions.declared.faults.ConductFault.{ConductFault}
+use Rattle.conduct.specs.sessions.declared.faults.ConductFault.TheVariants.{ReadFault, Memory}
+use Rattle.conduct.specs.sessions.declared.line_reading.Line.{Line}
 use Rattle.conduct.specs.Faults.{came_to_its_end}
 use Rattle.script_reader.specs.Done.{FileAnswer, Done, IsDone, IsUndone, greatest_status, is_whole}
 use Rattle.script_reader.specs.Ends.{IsEndStatus, end_text}

@@ -14,11 +14,11 @@ use Rattle.sched_events.specs.SettledAndSound.{IsSoundAndSaid}
 use Rattle.sched_events.specs.Steps.{steps, handed_along, AreAccepted}
 use Rattle.sched_events.specs.declared.answers.Answer.{Answer}
 use Rattle.sched_events.specs.declared.events.Event.{Event}
-use Rattle.director.specs.Directors.{Keeps, Opens}
+use Rattle.conduct.specs.sessions.director.Directors.{Keeps, Opens}
 use Rattle.minutes.specs.Minutes.{BeginWithRestart}
-use Rattle.sessions.specs.Readings.{Reading}
-use Rattle.sessions.specs.declared.faults.ConductFault.{ConductFault}
-use Rattle.sessions.specs.declared.line_reading.LineFault.{LineFault}
+use Rattle.conduct.specs.sessions.Readings.{Reading}
+use Rattle.conduct.specs.sessions.declared.faults.ConductFault.{ConductFault}
+use Rattle.conduct.specs.sessions.declared.line_reading.LineFault.{LineFault}
 use Rattle.crews.specs.Settled.{AreAccounts}
 use Rattle.crews.specs.declared.settling.Settled.{Settled}
 use Rattle.conduct.specs.Ends.{EachStandsInALog, EachToldItsOwn, HaveWorkedFor}

@@ -9,8 +9,8 @@ use Rattle.operators.specs.Kits.{of_kind, each_once, IsKit}
 use Rattle.operators.specs.declared.kits.Kit.{Kit}
 use Rattle.crews.specs.declared.settling.Settled.{Settled}
 use Rattle.sched_events.specs.declared.events.Event.{Event}
-use Rattle.sessions.specs.Readings.{Reading}
-use Rattle.sessions.specs.declared.faults.ConductFault.{ConductFault}
+use Rattle.conduct.specs.sessions.Readings.{Reading}
+use Rattle.conduct.specs.sessions.declared.faults.ConductFault.{ConductFault}
 use Rattle.script_reader.specs.Done.{FileAnswer}
 use Rattle.script_runner.specs.Runs.{IsRun}
 

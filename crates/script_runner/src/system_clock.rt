@@ -2,10 +2,10 @@
 ghost use Rattle.std.specs.Prelude.{◌≡◌, ◌≤◌, ◌/◌, IfErr, IfOk};
 ghost use Rattle.std.specs.Time.{system_time_nanos};
 ghost use Rattle.moment_core.specs.Moments.{seconds_end};
-ghost use Rattle.sessions.specs.declared.clocks.ClockFault.TheVariants.{OutOfRange};
+ghost use Rattle.conduct.specs.sessions.declared.clocks.ClockFault.TheVariants.{OutOfRange};
 
+use conduct::{Clock, ClockFault};
 use moment_core::Moment;
-use sessions::{Clock, ClockFault};
 use std::io::{self, ErrorKind};
 use std::rt;
 use std::time::SystemTime;

@@ -5,15 +5,13 @@ ghost use Rattle.sqlite.specs.Held.{state};
 ghost use Rattle.sqlite.specs.State.{HasCleanDisk};
 ghost use Rattle.operators.specs.Kits.{IsKit};
 ghost use Rattle.sched_state.specs.Limits.{ceilings};
-ghost use Rattle.director.specs.Faults.{IsOpenFault};
+ghost use Rattle.conduct.specs.sessions.director.Faults.{IsOpenFault};
 ghost use Rattle.script_runner.specs.Teams.{AreKitsOf, IsTeamRun, IsWhole};
 
 use crate::running::{Ran, RunOptions, Unopened, run_on};
-use director::Fault;
-use meta_store::Store;
+use conduct::{Clock, Fault, Store};
 use operators::{Kit, Operator};
 use script_reader::{Console, Script, Sources};
-use sessions::Clock;
 use sqlite::Alter;
 use std::alloc::{AllocError, Global};
 use std::io::{BufRead, Write};

@@ -4,3 +4,4 @@ pub mod Lines
 pub mod Told
 pub mod Faults
 pub mod Runs
+pub use Rattle.director.specs as director

@@ -23,7 +23,7 @@ mod state;
 mod stepping;
 
 pub use clocks::{Clock, ClockFault};
-pub use director::{Director, Fault, Schedule, StoreFault};
+pub use director::{Director, Fault, Limits, Schedule, Store, StoreFault};
 pub use faults::ConductFault;
 pub use laws::what_took_place_is_of_the_minutes;
 pub use line_reading::{Line, LineFault, Lines};

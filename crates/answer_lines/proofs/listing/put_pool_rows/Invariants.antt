@@ -2,7 +2,7 @@ use Rattle.std.proofs.Common.{ℕ, List, Option}
 use Rattle.std.specs.Io.KnownBytes.{Appends}
 use Rattle.std.specs.List.{flat_map}
 use Rattle.answer_lines.specs.Pools.{pool_line}
-use Rattle.sched_core.specs.Views.{pool_rows}
+use Rattle.explain.specs.sched_core.Views.{pool_rows}
 use Rattle.answer_lines.proofs.listing.put_pool_rows.Given as goal
 
 -- who appends the lines of the rows that are left has appended all

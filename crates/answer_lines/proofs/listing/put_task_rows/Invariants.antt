@@ -2,7 +2,7 @@ use Rattle.std.proofs.Common.{ℕ, List, Option}
 use Rattle.std.specs.Io.KnownBytes.{Appends}
 use Rattle.std.specs.List.{flat_map}
 use Rattle.answer_lines.specs.Tasks.{task_line}
-use Rattle.sched_core.specs.Views.{all_rows}
+use Rattle.explain.specs.sched_core.Views.{all_rows}
 use Rattle.answer_lines.proofs.listing.put_task_rows.Given as goal
 
 -- who appends the lines of the rows that are left has appended all

@@ -1,6 +1,6 @@
 use Rattle.std.proofs.Common.{◌≡◌, find}
 use Rattle.sched_state.specs.Lists.{same}
-use Rattle.sched_events.specs.Rows.{PoolLine}
+use Rattle.sched_core.specs.sched_events.Rows.{PoolLine}
 use Rattle.sched_core.specs.Views.{pool_rows}
 use Rattle.explain.proofs.handout_reasons.pool_of.Given as goal
 

@@ -1,5 +1,5 @@
-use Rattle.sched_events.proofs.StepLemmas.{step_kept}
-use Rattle.sched_events.specs.Steps.{step}
+use Rattle.sched_core.proofs.sched_events.StepLemmas.{step_kept}
+use Rattle.sched_core.specs.sched_events.Steps.{step}
 use Rattle.explain.proofs.WaitLemmas.{explained_has}
 use Rattle.explain.proofs.laws.each_instance_has_a_reason.Goals as goal
 

@@ -2,7 +2,7 @@ use Rattle.std.proofs.Common.{◌≡◌, refl, List}
 use Rattle.record_rows.specs.Rows.{Rows, MetaRow, PoolRow, DagRow, RunRow, InstanceRow, AttemptRow}
 use Rattle.record_rules.proofs.KeyedLemmas.{metas_put, pools_put, dags_put, runs_put, instances_put, attempts_put}
 use Rattle.record_rules.proofs.RisingLemmas.{tables_by_key}
-use Rattle.sched_model.specs.Tables.{tables}
+use Rattle.record_rules.specs.sched_model.Tables.{tables}
 use Rattle.sched_events.specs.Steps.{step}
 use Rattle.sched_events.proofs.StepLemmas.{step_kept}
 use Rattle.record_changes.specs.Changes.{same_meta_row, same_pool_row, same_dag_row, same_run_row, same_instance_row, same_attempt_row}

@@ -3,7 +3,7 @@ use Rattle.std.proofs.lemmas.Option.{get_or_from_slice_get}
 use Rattle.graph_file.specs.declared.task_specs.TaskSpec.{TaskSpec}
 use Rattle.dag_check.specs.Graphs.{Dag, no_task}
 use Rattle.sched_state.proofs.ElementLemmas.{element_at}
-use Rattle.sched_laws.proofs.ListLemmas.{all_get}
+use Rattle.record_rules.proofs.sched_laws.ListLemmas.{all_get}
 use Rattle.record_restoring.specs.Tasks.{has_row_of}
 use Rattle.record_restoring.proofs.run_making.read_instances.Goals as goal
 

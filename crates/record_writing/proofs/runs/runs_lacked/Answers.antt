@@ -1,7 +1,7 @@
 use Rattle.std.proofs.Common.{ap, ◌∙◌, ℕ, List, flat_map, slice_index_or}
 use Rattle.std.proofs.lemmas.List.{take_all}
 use Rattle.std.proofs.lemmas.Option.{slice_get-get_or}
-use Rattle.run_lists.proofs.PickLemmas.{picked}
+use Rattle.sched_draft.proofs.run_lists.PickLemmas.{picked}
 use Rattle.sched_state.specs.declared.runs.Run.{Run}
 use Rattle.record_writing.proofs.TouchedLemmas.{touched_within, run_lacked, runs_by_touched}
 use Rattle.record_writing.proofs.runs.runs_lacked.Goals as goal

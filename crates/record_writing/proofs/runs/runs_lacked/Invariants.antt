@@ -1,5 +1,5 @@
 use Rattle.std.proofs.Common.{◌≡◌, take, flat_map}
-use Rattle.run_lists.proofs.PickLemmas.{picked}
+use Rattle.sched_draft.proofs.run_lists.PickLemmas.{picked}
 use Rattle.record_writing.proofs.TouchedLemmas.{run_lacked}
 use Rattle.record_writing.proofs.runs.runs_lacked.Given as goal
 

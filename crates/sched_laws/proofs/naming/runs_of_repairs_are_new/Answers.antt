@@ -1,5 +1,5 @@
 use Rattle.std.proofs.Common.{◌≡◌, true, false, is_some, is_none, Option, Some, None, refl}
-use Rattle.sched_state.specs.declared.graphs.LoadedGraph.{LoadedGraph}
+use Rattle.sched_model.specs.sched_state.declared.graphs.LoadedGraph.{LoadedGraph}
 use Rattle.sched_model.specs.Schedule.{graph_named}
 use Rattle.sched_laws.proofs.ByHandLemmas.{by_hand_new, backfill_new}
 use Rattle.sched_laws.proofs.naming.runs_of_repairs_are_new.Goals as goal

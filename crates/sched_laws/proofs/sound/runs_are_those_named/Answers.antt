@@ -1,5 +1,5 @@
 use Rattle.std.proofs.Common.{refl}
-use Rattle.instance_machine.specs.Reports.{reported_try, lost_try}
+use Rattle.sched_model.specs.instance_machine.Reports.{reported_try, lost_try}
 use Rattle.sched_laws.proofs.KeyLemmas.{advance_names, tries_names, clear_names}
 use Rattle.sched_laws.proofs.sound.runs_are_those_named.Goals as goal
 

@@ -1,7 +1,7 @@
 use Rattle.std.proofs.Common.{◌≡◌, ◌∙◌, ◌-◌, sym, ap, subst, ℕ, List, flat_map, true, Some}
 use Rattle.std.specs.Global.{Vec}
 use Rattle.std.specs.List.{range_with_len}
-use Rattle.record_changes.specs.Changes.{rows_between}
+use Rattle.record_writing.specs.record_changes.Changes.{rows_between}
 use Rattle.run_lists.specs.Edits.{AreEditsOf, edited}
 use Rattle.sched_model.specs.Schedule.{Schedule}
 use Rattle.sched_model.specs.Settle.{settle}

@@ -1,8 +1,8 @@
 use Rattle.std.proofs.Common.{◌≡◌, ◌∙◌, sym, ap, subst, List, map}
 use Rattle.std.proofs.lemmas.Result.{IfOk-weaker}
 use Rattle.record_rows.specs.Rows.{Rows, DagRow}
-use Rattle.record_rules.specs.Between.{lacked}
-use Rattle.record_changes.specs.Changes.{rows_between, same_dag_row}
+use Rattle.record_restoring.specs.record_rules.Between.{lacked}
+use Rattle.record_writing.specs.record_changes.Changes.{rows_between, same_dag_row}
 use Rattle.sched_draft.specs.Drafts.{SameDags}
 use Rattle.sched_state.specs.declared.graphs.LoadedGraph.{LoadedGraph}
 use Rattle.sched_model.specs.Schedule.{Schedule}

@@ -1,7 +1,7 @@
 use Rattle.std.proofs.Common.{rules, ◌+◌, ◌++◌, List, false, Some, None, Ok, Err, refl, sym, ap, subst, ◌∙◌}
 use Rattle.std.specs.declared.io.Error.{Error}
 use Rattle.std.specs.Io.KnownBytes.{Appends}
-use Rattle.sessions.specs.Exchanges.{heard_where, looks, Exchange}
+use Rattle.answer_lines.specs.sessions.Exchanges.{heard_where, looks, Exchange}
 use Rattle.script_reader.specs.Done.{HasDone}
 use Rattle.script_reader.proofs.DoneLemmas.{as_ok, broken, broken_off, drain_answered, drain_broken, flushed, left_line, left_none, next_at, next_named, one_look_more, over, unanswered}
 use Rattle.script_reader.proofs.reader.ScriptReader.read_line.Goals as goal

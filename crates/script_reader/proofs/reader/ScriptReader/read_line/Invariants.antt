@@ -1,6 +1,6 @@
 use Rattle.std.proofs.Common.{◌≡◌, ◌++◌, ℕ, List, Bool, false, Option, None}
 use Rattle.word_app.specs.App.{Texts}
-use Rattle.sessions.specs.Exchanges.{heard_where, looks, Exchange}
+use Rattle.answer_lines.specs.sessions.Exchanges.{heard_where, looks, Exchange}
 use Rattle.std.specs.Io.KnownBytes.{Appends}
 use Rattle.script_reader.specs.Done.{HasDone, waiting}
 use Rattle.script_reader.proofs.reader.ScriptReader.read_line.Given as goal
