@@ -22,15 +22,30 @@ pub fn write_answers<T: Threads + Wait + Sync>(rt: &T, host: &HostRuntime) -> io
     let states = states(alloc, &accepted)?;
     let mut alike: Option<Alike> = None;
     for calls in 0..MANY {
-        let files = empty_files(alloc, Failing::Both, calls);
-        let team = one_worker(host)?;
-        let mut played = run(rt, host, files, team, ONE_TASK)?;
-        if !is_failing(&mut played.files) {
-            return Alike::put(host, alike.as_ref());
+        if !is_stopped(rt, host, &states, calls, &mut alike)? {
+            break;
         }
-        Alike::add(host, &mut alike, calls, told(alloc, &states, played)?)?;
     }
-    Ok(())
+    Alike::put(host, alike.as_ref())
+}
+
+// Whether a run met a failure after so many calls. Those that did are written once a run prints something else.
+fn is_stopped<T: Threads + Wait + Sync>(
+    rt: &T,
+    host: &HostRuntime,
+    states: &[Held],
+    calls: u64,
+    alike: &mut Option<Alike>,
+) -> io::Result<bool> {
+    let alloc = host.alloc();
+    let team = one_worker(host)?;
+    let files = empty_files(alloc, Failing::Both, calls);
+    let mut played = run(rt, host, files, team, ONE_TASK)?;
+    if !is_failing(&mut played.files) {
+        return Ok(false);
+    }
+    Alike::add(host, alike, calls, told(alloc, states, played)?)?;
+    Ok(true)
 }
 
 // What a run printed and left.

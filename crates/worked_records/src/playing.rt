@@ -5,7 +5,7 @@ use crate::events::{name_of, worked_events};
 use crate::printed::print_rows;
 use director::{Director, Fault};
 use meta_store::{Store, StoreFault};
-use sched_core::{Event, Limits};
+use sched_core::{Answer, Change, Event, Limits, Refusal};
 use sqlite::{Alter, Connection};
 use std::alloc::Global;
 use std::io;
@@ -37,17 +37,32 @@ fn step_all<S: Alter + Drop, R: Print>(
     let events = worked_events(alloc)?;
     match Director::open(alloc, store, 0, Limits::full()) {
         Ok(mut director) => {
-            for event in &events {
-                println!(rt; "> {}", name_of(event))?;
-                step(rt, alloc, &mut director, event)?;
-            }
-            Ok(director.close())
+            let stepped = step_events(rt, alloc, &mut director, &events);
+            after(stepped, director.close())
         }
-        Err((store, _)) => {
-            rt.println("not opened")?;
-            Ok(store)
-        }
+        Err((store, _)) => after(rt.println("not opened"), store),
     }
+}
+
+// The record, if what was printed was printed.
+fn after<S: Alter + Drop>(printed: io::Result<()>, store: Store<S>) -> io::Result<Store<S>> {
+    match printed {
+        Ok(()) => Ok(store),
+        Err(error) => Err(error),
+    }
+}
+
+fn step_events<S: Alter + Drop, R: Print>(
+    rt: &R,
+    alloc: Global,
+    director: &mut Director<S>,
+    events: &[Event],
+) -> io::Result<()> {
+    for event in events {
+        println!(rt; "> {}", name_of(event))?;
+        step(rt, alloc, director, event)?;
+    }
+    Ok(())
 }
 
 // Prints the rows that an event writes, and steps it, unless it is refused.
@@ -57,11 +72,19 @@ fn step<S: Alter + Drop, R: Print>(
     director: &mut Director<S>,
     event: &Event,
 ) -> io::Result<()> {
-    match director.schedule().plan(alloc, event) {
-        Ok(change) => print_rows(rt, change.rows())?,
-        Err(refusal) => println!(rt; "refused {refusal:?}")?,
+    print_plan(rt, director.schedule().plan(alloc, event))?;
+    print_fault(rt, director.step(alloc, event))
+}
+
+fn print_plan<R: Print>(rt: &R, planned: Result<Change, Refusal>) -> io::Result<()> {
+    match &planned {
+        Ok(change) => print_rows(rt, change.rows()),
+        Err(refusal) => println!(rt; "refused {refusal:?}"),
     }
-    match director.step(alloc, event) {
+}
+
+fn print_fault<R: Print>(rt: &R, answered: Result<Answer, Fault>) -> io::Result<()> {
+    match &answered {
         Ok(_) | Err(Fault::Refused(_)) => Ok(()),
         Err(fault) => println!(rt; "{fault:?}"),
     }

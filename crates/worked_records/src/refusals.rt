@@ -30,14 +30,33 @@ pub fn write_answers<T: Threads + Wait + Sync>(
 ) -> io::Result<()> {
     let mut alike: Option<Alike> = None;
     for passes in 0..MANY {
-        let Played { printed, files, .. } = run_with(rt, host, Writes { passes, refusals })?;
-        if refused_by(&files) == 0 {
-            Alike::put(host, alike.as_ref())?;
-            return println!(host; "  never: {printed}");
+        if !is_refused(rt, host, Writes { passes, refusals }, &mut alike)? {
+            break;
         }
-        Alike::add(host, &mut alike, passes, printed)?;
     }
     Ok(())
+}
+
+// Whether a run met a refusal. Those that did are written once a run prints something else.
+fn is_refused<T: Threads + Wait + Sync>(
+    rt: &T,
+    host: &HostRuntime,
+    writes: Writes,
+    alike: &mut Option<Alike>,
+) -> io::Result<bool> {
+    let Played { printed, files, .. } = run_with(rt, host, writes)?;
+    let is_refused = refused_by(&files) > 0;
+    if is_refused {
+        Alike::add(host, alike, writes.passes, printed)?;
+    } else {
+        put_last(host, alike.as_ref(), &printed)?;
+    }
+    Ok(is_refused)
+}
+
+fn put_last(host: &HostRuntime, alike: Option<&Alike>, printed: &str) -> io::Result<()> {
+    Alike::put(host, alike)?;
+    println!(host; "  never: {printed}")
 }
 
 /// What comes of the script with one worker on such a disk.

@@ -21,7 +21,11 @@ pub fn write_answers<R: Print>(rt: &R, alloc: Global, events: &[Event]) -> io::R
     let names = step_names(alloc, events)?;
     let mut steps = vec![in alloc; Left::none(); names.len()]?;
     stop_steps(alloc, events, &mut steps)?;
-    for (name, left) in names.iter().zip(&steps) {
+    put_steps(rt, &names, &steps)
+}
+
+fn put_steps<R: Print>(rt: &R, names: &[&str], steps: &[Left]) -> io::Result<()> {
+    for (name, left) in names.iter().zip(steps) {
         print!(rt; "{name}: as written ")?;
         put_tally(rt, left.written)?;
         rt.print("; after a crash ")?;
