@@ -2,12 +2,16 @@
 ghost use Rattle.std.specs.Prelude.{◌≡◌, length, true, false, refl, is_ok, OnOk};
 ghost use Rattle.sqlite_disk.specs.Disk.{Cut, CountsFault, Holds, Torn};
 ghost use Rattle.sqlite_disk.specs.Refusal.{finds_no_room};
+ghost use Rattle.sqlite.specs.Files.{file_state};
+ghost use Rattle.sqlite.specs.State.{HasCleanDisk};
 
+use sqlite::{Connection, FileStore};
 use sqlite_disk::{Disk, Tally, digest_of};
 use std::alloc::{AllocError, Global};
 use std::io::{self, ErrorKind};
 
-/// The bytes of a file of which nothing outlives the program, so that a sync has nothing to do.
+/// The bytes of a file of which nothing outlives the program, so that a sync has nothing to do. Its bytes are read as they were written, always, so a record in
+/// such files meets the premise of all that is promised of records (`memory_is_clean`).
 #[derive(Drop)]
 pub struct Volatile {
     bytes: Vec<u8>,
@@ -133,3 +137,8 @@ fn overwrite(file: &mut Vec<u8>, at: usize, bytes: &[u8]) -> Result<(), AllocErr
     file[at..end].copy_from_slice(bytes);
     Ok(())
 }
+
+/// What was written to files in memory is given back, at each moment: the premise of what is promised of a record (`HasCleanDisk`).
+pub fn memory_is_clean(conn: &Connection<FileStore<Volatile>>)
+    ensures { HasCleanDisk (file_state conn.now) }
+{}

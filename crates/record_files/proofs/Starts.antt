@@ -1,14 +1,16 @@
 -- What an opening finds of what a crash left.
-use Rattle.std.proofs.Common.{◌≡◌, ◌⊎◌, ap, ◌∙◌, subst, sym, inl, inr, IsTrue}
+use Rattle.std.proofs.Common.{◌≡◌, ◌⊎◌, false, ap, ◌∙◌, subst, sym, inl, inr, IsTrue}
 use Rattle.std.proofs.Math.Logic.{∥∥₁_map}
 use Rattle.sqlite_catalog.specs.Listing.{Lists}
 use Rattle.sqlite_catalog.proofs.ReadLemmas.{lists_once}
 use Rattle.sqlite_disk.specs.declared.Disk.{Ghosts}
 use Rattle.sqlite_store.specs.declared.store.FileStore.{FileStore}
 use Rattle.sqlite_store.specs.FileStore.{recovers}
+use Rattle.sqlite_store.specs.Laws.{settled_at}
 use Rattle.sqlite_trees.specs.Objects.{catalog_tree}
 use Rattle.sqlite_trees.specs.Tree.{Trees}
 use Rattle.sqlite_wal.specs.Recovery.{Image}
+use Rattle.sqlite_wal.proofs.LogLemmas.{SeenMayStay}
 use Rattle.sqlite.specs.Effect.{Database, IsDatabase}
 use Rattle.sqlite.specs.Files.{file_state}
 use Rattle.sqlite.specs.Held.{Held}
@@ -16,12 +18,17 @@ use Rattle.sqlite.specs.Schema.{Schema}
 use Rattle.sqlite.specs.State.{HasCleanDisk, Survives}
 use Rattle.sqlite.proofs.Theorems.{next_run}
 use Rattle.director.specs.meta_store.Stores.{CommitsBy}
-use Rattle.record_files.specs.Crashes.{IsConnection, IsFoundAround, IsOpenedOn, LeavesItself, MayBeLeft}
+use Rattle.record_files.specs.Crashes.{IsConnection, IsFoundAround, IsOpenedOn, MayBeLeft}
 
 pub one_database : (a b : Database) → IsDatabase a → IsDatabase b → a.trees ≡ b.trees → a ≡ b
 one_database a b p q same =
     let schemas : a.schema ≡ b.schema = lists_once (a.trees catalog_tree) a.schema b.schema p.lists (subst (λ (t : Trees). Lists (t catalog_tree) b.schema) (sym same) q.lists) in
     ap (λ (s : Schema). let r : Database = record { schema = s; trees = a.trees } in r) schemas ∙ ap (λ (t : Trees). let r : Database = record { schema = b.schema; trees = t } in r) same
+
+-- outside of a transaction a crash leaves nothing but what is there
+leaves_itself : {D : Type 0} {g : Ghosts D} → SeenMayStay g → (h : Held (FileStore D g)) → IsConnection h → IsTrue (file_state h).is_open → h.in_transaction ≡ false → (trees : Trees) → (file_state h).may_leave trees
+    → trees ≡ (file_state h).now.trees
+leaves_itself stays h is is_open outside trees may = settled_at h.store stays trees is_open may ∙ sym (is.settled is_open outside).0
 
 module _ {D E : Type 0} {g : Ghosts D} {k : Ghosts E} where
   -- the trees that are found are among those that may be left
@@ -35,19 +42,19 @@ module _ {D E : Type 0} {g : Ghosts D} {k : Ghosts E} where
       → (file_state found).now.trees ≡ (file_state before).now.trees → (file_state found).now ≡ (file_state before).now
   same_now before found left is is_open opened same = one_database (file_state found).now (file_state before).now (opened.0.1 opened.0.0.is_open).0 (is.serves is_open).sound same
 
-  pub found_itself : (before : Held (FileStore D g)) (found : Held (FileStore E k)) (left : Image) → IsConnection before → HasCleanDisk (file_state before)
-      → IsTrue (file_state before).is_open → LeavesItself (file_state before) → MayBeLeft before left → IsOpenedOn left found → ∥ (file_state found).now ≡ (file_state before).now ∥₁
-  found_itself before found left is clean is_open only may opened =
-      ∥∥₁_map (found_trees before found left is clean may opened) (λ r. same_now before found left is is_open opened (only _ r))
+  pub found_itself : SeenMayStay g → (before : Held (FileStore D g)) (found : Held (FileStore E k)) (left : Image) → IsConnection before → HasCleanDisk (file_state before)
+      → IsTrue (file_state before).is_open → before.in_transaction ≡ false → MayBeLeft before left → IsOpenedOn left found → ∥ (file_state found).now ≡ (file_state before).now ∥₁
+  found_itself stays before found left is clean is_open outside may opened =
+      ∥∥₁_map (found_trees before found left is clean may opened) (λ r. same_now before found left is is_open opened (leaves_itself stays before is is_open outside _ r))
 
   -- trees that a crash in a transaction may leave are those of before, or of what it makes
-  around : (R : Database → Database → Type 0) (old : Held (FileStore D g)) (found : Held (FileStore E k)) (left : Image) → IsConnection old → IsTrue (file_state old).is_open → LeavesItself (file_state old)
+  around : SeenMayStay g → (R : Database → Database → Type 0) (old : Held (FileStore D g)) (found : Held (FileStore E k)) (left : Image) → IsConnection old → IsTrue (file_state old).is_open → old.in_transaction ≡ false
       → IsOpenedOn left found → (file_state old).may_leave (file_state found).now.trees ⊎ CommitsBy R (file_state old) (file_state found).now.trees → IsFoundAround R (file_state old).now (file_state found).now
-  around R old found left was is_open only opened (inl before) = inl (same_now old found left was is_open opened (only _ before))
-  around R old found left was is_open only opened (inr made) = inr made.1
+  around stays R old found left was is_open outside opened (inl before) = inl (same_now old found left was is_open opened (leaves_itself stays old was is_open outside _ before))
+  around stays R old found left was is_open outside opened (inr made) = inr made.1
 
-  pub found_around : (R : Database → Database → Type 0) (old new : Held (FileStore D g)) (found : Held (FileStore E k)) (left : Image) → IsConnection old → IsTrue (file_state old).is_open
-      → LeavesItself (file_state old) → IsConnection new → HasCleanDisk (file_state new) → Survives (file_state old) (file_state new) (CommitsBy R (file_state old))
+  pub found_around : SeenMayStay g → (R : Database → Database → Type 0) (old new : Held (FileStore D g)) (found : Held (FileStore E k)) (left : Image) → IsConnection old → IsTrue (file_state old).is_open
+      → old.in_transaction ≡ false → IsConnection new → HasCleanDisk (file_state new) → Survives (file_state old) (file_state new) (CommitsBy R (file_state old))
       → MayBeLeft new left → IsOpenedOn left found → ∥ IsFoundAround R (file_state old).now (file_state found).now ∥₁
-  found_around R old new found left was is_open only is clean survives may opened =
-      ∥∥₁_map (found_trees new found left is clean may opened) (λ r. around R old found left was is_open only opened (survives.crash clean _ r))
+  found_around stays R old new found left was is_open outside is clean survives may opened =
+      ∥∥₁_map (found_trees new found left is clean may opened) (λ r. around stays R old found left was is_open outside opened (survives.crash clean _ r))

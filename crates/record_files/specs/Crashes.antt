@@ -3,13 +3,11 @@ use Rattle.std.specs.Prelude.{◌≡◌, ◌⊎◌}
 use Rattle.sqlite_disk.specs.declared.Disk.{Ghosts}
 use Rattle.sqlite_store.specs.declared.store.FileStore.{FileStore}
 use Rattle.sqlite_store.specs.FileStore.{recovers, state, view}
-use Rattle.sqlite_trees.specs.Tree.{Trees}
 use Rattle.sqlite_wal.specs.Recovery.{Image}
 use Rattle.sqlite.specs.Effect.{Database}
 use Rattle.sqlite.specs.Files.{file_state, IsOpened}
 use Rattle.sqlite.specs.Held.{Held, IsConnected}
 use Rattle.sqlite.specs.Start.{FindsIn}
-use Rattle.sqlite.specs.State.{State}
 use Rattle.director.specs.meta_store.Stores.{CommitsFrom}
 
 module _ {D : Type 0} {g : Ghosts D} where
@@ -24,10 +22,6 @@ module _ {D : Type 0} {g : Ghosts D} where
   -- it was opened on files that were left so
   abbrev pub IsOpenedOn : Image → Held (FileStore D g) → Type 0
   IsOpenedOn left h = IsOpened h × FindsIn left (file_state h)
-
--- a crash leaves nothing but what is there
-abbrev pub LeavesItself : State → Type 0
-LeavesItself s = (trees : Trees) → s.may_leave trees → trees ≡ s.now.trees
 
 -- a database is found as it was before a transaction that changes it by this relation, or with the trees of one that the transaction makes of it
 abbrev pub IsFoundAround : (Database → Database → Type 0) → Database → Database → Type 0

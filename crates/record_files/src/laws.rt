@@ -1,5 +1,5 @@
 //! What the next start finds.
-ghost use Rattle.std.specs.Prelude.{◌≡◌, ℕ, IsTrue};
+ghost use Rattle.std.specs.Prelude.{◌≡◌, ℕ, false, IsTrue};
 ghost use Rattle.sqlite_wal.specs.Recovery.{Image};
 ghost use Rattle.sqlite.specs.Effect.{Database, IsDatabase};
 ghost use Rattle.sqlite.specs.Files.{file_state};
@@ -7,9 +7,9 @@ ghost use Rattle.sqlite.specs.State.{HasCleanDisk, Survives};
 ghost use Rattle.sched_model.specs.Schedule.{Schedule};
 ghost use Rattle.sched_state.specs.Limits.{Bounds};
 ghost use Rattle.sched_events.specs.declared.events.Event.{Event};
-ghost use Rattle.director.specs.meta_store.Stores.{CommitsBy};
+ghost use Rattle.director.specs.meta_store.Stores.{Begins, CommitsBy};
 ghost use Rattle.director.specs.Directors.{RestartsIn, StepsIn};
-ghost use Rattle.record_files.specs.Crashes.{IsConnection, IsFoundAround, IsOpenedOn, LeavesItself, MayBeLeft};
+ghost use Rattle.record_files.specs.Crashes.{IsConnection, IsFoundAround, IsOpenedOn, MayBeLeft};
 
 use sqlite::{Connection, FileStore};
 use sqlite_disk::Disk;
@@ -19,32 +19,38 @@ pub fn a_database_is_its_trees()
     ensures { (a b : Database) → IsDatabase a → IsDatabase b → a.trees ≡ b.trees → a ≡ b }
 {}
 
-/// Between two events, where a crash leaves nothing but what is there (`only` of `Director::step` and of `open`), the next start finds just this database.
+/// Where a crash comes while no transaction is open, the next start finds just the database that was there.
 pub fn the_next_start_finds_what_is_there<D: Disk, E: Disk>(
     before: &Connection<FileStore<D>>,
     found: &Connection<FileStore<E>>,
 )
     ensures { (left : Image) → IsConnection before.now → HasCleanDisk (file_state before.now)
-        → IsTrue (file_state before.now).is_open → LeavesItself (file_state before.now)
+        → IsTrue (file_state before.now).is_open → before.now.in_transaction ≡ false
         → MayBeLeft before.now left → IsOpenedOn left found.now
         → ∥ (file_state found.now).now ≡ (file_state before.now).now ∥₁ }
 {}
 
-/// After a crash in an event or an opening (`crash` of `Director::step` and of `open`), the next start finds the database before it, or the trees of one
-/// that it makes: one that stores the schedule after the event, or after the restart, if the one before stored that before.
+/// After a crash in an event, in an opening or in the making of a record (`crash` of `Director::step`, of `open` and of `Store::create`), the next start finds
+/// the database before it, or the trees of one that it makes: one that stores the schedule after the event, or after the restart, if the one before stored
+/// that before; or that of a new record.
 pub fn the_next_start_finds_before_or_after<D: Disk, E: Disk>(
     old: &Connection<FileStore<D>>,
     new: &Connection<FileStore<D>>,
     found: &Connection<FileStore<E>>,
 )
     ensures event { (a : Schedule) (e : Event) (left : Image) → IsConnection old.now → IsTrue (file_state old.now).is_open
-        → LeavesItself (file_state old.now) → IsConnection new.now → HasCleanDisk (file_state new.now)
+        → old.now.in_transaction ≡ false → IsConnection new.now → HasCleanDisk (file_state new.now)
         → Survives (file_state old.now) (file_state new.now) (CommitsBy (StepsIn e a) (file_state old.now))
         → MayBeLeft new.now left → IsOpenedOn left found.now
         → ∥ IsFoundAround (StepsIn e a) (file_state old.now).now (file_state found.now).now ∥₁ }
     ensures opening { (limits : Bounds) (lanes : ℕ) (left : Image) → IsConnection old.now → IsTrue (file_state old.now).is_open
-        → LeavesItself (file_state old.now) → IsConnection new.now → HasCleanDisk (file_state new.now)
+        → old.now.in_transaction ≡ false → IsConnection new.now → HasCleanDisk (file_state new.now)
         → Survives (file_state old.now) (file_state new.now) (CommitsBy (RestartsIn limits lanes) (file_state old.now))
         → MayBeLeft new.now left → IsOpenedOn left found.now
         → ∥ IsFoundAround (RestartsIn limits lanes) (file_state old.now).now (file_state found.now).now ∥₁ }
+    ensures making { (left : Image) → IsConnection old.now → IsTrue (file_state old.now).is_open
+        → old.now.in_transaction ≡ false → IsConnection new.now → HasCleanDisk (file_state new.now)
+        → Survives (file_state old.now) (file_state new.now) (CommitsBy Begins (file_state old.now))
+        → MayBeLeft new.now left → IsOpenedOn left found.now
+        → ∥ IsFoundAround Begins (file_state old.now).now (file_state found.now).now ∥₁ }
 {}

@@ -106,7 +106,12 @@ impl<R: Read + Drop, W: Write + Drop, F: Sources, P: Console> Lines for ScriptRe
         }
     }
 
-    fn answered(&mut self, event: &Event, answer: &Result<Answer, Fault>) -> Result<(), LineFault> {
+    fn answered(
+        &mut self,
+        _schedule: &Schedule,
+        event: &Event,
+        answer: &Result<Answer, Fault>,
+    ) -> Result<(), LineFault> {
         let put = self.put(event, answer);
         self.end(put)
     }

@@ -1,4 +1,5 @@
 pub mod Named
 pub mod Runs
+pub mod SystemFaults
 pub mod TaskOperators
 pub mod Teams

@@ -1,4 +1,10 @@
 //! Files by their paths.
+ghost use Rattle.std.specs.Prelude.{◌≡◌, ◌<◌, ◌≤◌, IfErr, IfOk, IsOk, length, string_bytes};
+ghost use Rattle.std.specs.Str.{IsUtf8};
+ghost use Rattle.std.specs.IoError.{error_kind};
+ghost use Rattle.script_commands.specs.declared.commands.SourceFault.TheVariants.{NotText, TooLong};
+ghost use Rattle.script_runner.specs.SystemFaults.{file_fault};
+
 use graph_file::TEXT_LIMIT;
 use script_commands::SourceFault;
 use script_reader::Sources;
@@ -28,11 +34,35 @@ impl<R: Files + Drop> Sources for FileSources<R> {
 
     fn text(&mut self, path: &str) -> Result<String, SourceFault> {
         match read_file(&self.rt, self.alloc, path) {
-            Ok(bytes) if bytes.len() > TEXT_LIMIT => Err(SourceFault::TooLong),
-            Ok(bytes) => String::from_utf8(bytes).map_err(|_| SourceFault::NotText),
-            Err(error) if error.kind() == ErrorKind::OutOfMemory => Err(SourceFault::Memory),
-            Err(_) => Err(SourceFault::Unreadable),
+            Ok(bytes) => text_of(bytes),
+            Err(error) => Err(fault_of(&error)),
         }
+    }
+}
+
+// The text of a file that has these bytes, if it is one.
+fn text_of(bytes: Vec<u8>) -> Result<String, SourceFault>
+    ensures text { IfOk result (λ text. (string_bytes text ≡ bytes.items) × (length bytes.items ≤ 1_048_576)) }
+    ensures taken { length bytes.items ≤ 1_048_576 → IsUtf8 bytes.items → IsOk result }
+    ensures long { 1_048_576 < length bytes.items → result ≡ Err TooLong }
+    ensures fault { length bytes.items ≤ 1_048_576 → IfErr result (λ f. f ≡ NotText) }
+{
+    if bytes.len() > TEXT_LIMIT {
+        return Err(SourceFault::TooLong);
+    }
+    match String::from_utf8(bytes) {
+        Ok(text) => Ok(text),
+        Err(_) => Err(SourceFault::NotText),
+    }
+}
+
+// Why the system gave no bytes.
+fn fault_of(error: &io::Error) -> SourceFault
+    ensures { result ≡ file_fault (error_kind error.now) }
+{
+    match error.kind() {
+        ErrorKind::OutOfMemory => SourceFault::Memory,
+        _ => SourceFault::Unreadable,
     }
 }
 

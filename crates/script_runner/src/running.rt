@@ -33,7 +33,7 @@ pub struct RunOptions {
 pub struct Ran<S: Alter, G: Gate, O: Operator, F: Sources, W: Write + Drop> {
     /// The record.
     pub store: Store<S>,
-    /// How it went: the greatest status of the answers and of the end. 0 where all was accepted, 1 where an event was refused, 2 where a line is no command,
+    /// How it went: the greatest status of the answers and of the end. 0 where all was accepted, 1 where an event was refused or a question has no answer, 2 where a line is no command,
     /// 3 for a fault of the record, 4 for any other.
     pub status: u8,
     /// The events that were accepted, in their order, from the restart on.

@@ -1,8 +1,10 @@
 //! The system's clock.
 ghost use Rattle.std.specs.Prelude.{◌≡◌, ◌≤◌, ◌/◌, IfErr, IfOk};
 ghost use Rattle.std.specs.Time.{system_time_nanos};
+ghost use Rattle.std.specs.IoError.{error_kind};
 ghost use Rattle.moment_core.specs.Moments.{seconds_end};
 ghost use Rattle.conduct.specs.sessions.declared.clocks.ClockFault.TheVariants.{OutOfRange};
+ghost use Rattle.script_runner.specs.SystemFaults.{clock_fault};
 
 use conduct::{Clock, ClockFault};
 use moment_core::Moment;
@@ -51,7 +53,9 @@ fn moment_of(now: SystemTime) -> Result<Moment, ClockFault>
 }
 
 // Why the clock gave no reading. A time before 1970, or past the end of the clock, is invalid data to the standard library.
-fn fault_of(error: &io::Error) -> ClockFault {
+fn fault_of(error: &io::Error) -> ClockFault
+    ensures { result ≡ clock_fault (error_kind error.now) }
+{
     match error.kind() {
         ErrorKind::OutOfMemory => ClockFault::Memory,
         ErrorKind::InvalidData => ClockFault::OutOfRange,

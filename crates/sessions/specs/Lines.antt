@@ -1,7 +1,11 @@
 -- What waits once a line is read, and what takes place before its answer.
 use Rattle.std.specs.Prelude.{◌≡◌, ℕ, Bool, true, false, List, [], ◌∷◌, Option, Some, None, Result, Ok, Err}
+use Rattle.sched_events.specs.declared.answers.Answer.{Answer}
 use Rattle.sched_events.specs.declared.events.Event.{Event}
 use Rattle.sched_events.specs.declared.events.Event.TheVariants.{Tick}
+use Rattle.sched_model.specs.Schedule.{Schedule}
+use Rattle.director.specs.Lists.{IsOutcome}
+use Rattle.director.specs.declared.faults.Fault.{Fault}
 use Rattle.minutes.specs.Minutes.{is_of_line}
 use Rattle.sessions.specs.Exchanges.{Asked, Exchange, Heard}
 use Rattle.sessions.specs.declared.line_reading.Line.{Line}
@@ -50,6 +54,11 @@ before_answer (Says.Event x) e = []
 before_answer Says.TickNow (Tick moment) = Heard ∷ Asked (Ok moment) ∷ []
 before_answer Says.TickNow e = []
 before_answer Says.Drain e = []
+
+-- This is what came of an event, and the schedule after it stands so: the event was stepped, with this answer, or this stands against it, and the schedule is
+-- as it was.
+abbrev pub CameOf : Event → Result Answer Fault → Schedule → Type 0
+CameOf e result b = (a : Schedule) × IsOutcome a e result b
 
 -- from one state of lines to another there was no exchange more, and what waits is the same
 abbrev pub TellsOn : {L : Type 0} → (L → List Exchange → Option Line → L → Type 0) → L → L → Type 0

@@ -5,7 +5,7 @@ ghost use Rattle.sched_events.specs.declared.events.Event.{Event};
 ghost use Rattle.sched_model.specs.States.{in_flight};
 ghost use Rattle.director.specs.declared.faults.Fault.{Fault};
 ghost use Rattle.sessions.specs.Exchanges.{heard_where, looks, Asked, Exchange, Heard, Told};
-ghost use Rattle.sessions.specs.Lines.{before_answer, may_be_read, opened_by, reads_drain, Takes, TellsOn};
+ghost use Rattle.sessions.specs.Lines.{before_answer, CameOf, may_be_read, opened_by, reads_drain, Takes, TellsOn};
 ghost use Rattle.sessions.specs.declared.clocks.ClockFault.{ClockFault};
 ghost use Rattle.sessions.specs.declared.line_reading.Line.{Line};
 ghost use Rattle.sessions.specs.declared.line_reading.Line.TheVariants as Says;
@@ -74,10 +74,17 @@ pub trait Lines: Drop {
             (λ line. may_be_read line ≡ true)) }
         ensures drains { drains self.new ≡ reads_drain result };
 
-    /// Tells the line that waits that its event was accepted, with the answer, or why not. It counts as told even where that fails. For a line that says
-    /// to tick now reports were heard before, and then the clock was asked, which gave the moment of the tick.
-    fn answered(&mut self, event: &Event, answer: &Result<Answer, Fault>) -> Result<(), LineFault>
-        requires { failed self.old ≡ None }
+    /// Tells the line that waits that its event was accepted, with the answer, or why not. It counts as told even where that fails. The schedule stands so
+    /// after the event: one that is told as accepted was stepped before, and so is in the record. For a line that says to tick now reports were heard
+    /// before, and then the clock was asked, which gave the moment of the tick.
+    fn answered(
+        &mut self,
+        schedule: &Schedule,
+        event: &Event,
+        answer: &Result<Answer, Fault>,
+    ) -> Result<(), LineFault>
+        requires sound { failed self.old ≡ None }
+        requires stepped { CameOf event.now answer.now schedule.now.content }
         ensures told { (s : Self) (exchanges : List Exchange) (line : Line)
             → Takes line event.now → tells s exchanges (Some line) self.old
             → tells s (exchanges ++ (before_answer line event.now ++ Told event.now answer.now ∷ [])) None self.new }

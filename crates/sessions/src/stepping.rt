@@ -117,7 +117,7 @@ impl<S: Alter> Session<S> {
         ensures drains { L.drains lines.new ≡ L.drains lines.old }
     {
         let result = self.try_step(alloc, &event);
-        let told = lines.answered(&event, &result);
+        let told = lines.answered(self.director.schedule(), &event, &result);
         match result {
             Ok(answer) => self.accept(rt, lanes, event, answer),
             Err(_fault) => {}

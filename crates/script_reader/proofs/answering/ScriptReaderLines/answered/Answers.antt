@@ -15,4 +15,4 @@ returns-clause-told g c s told line takes h =
     (λ fine.
     subst (λ o. Appends (g.W.Write.contents c.args.self.now.output) (g.W.Write.contents o) (shown_for c.args.event.now c.args.answer.now)) (sym e.output)
     (put_sound (Appends (g.W.Write.contents c.args.self.now.output) (g.W.Write.contents c.put-put.new.self.output) (shown_for c.args.event.now c.args.answer.now)) c.put-put.result c.end.result c.put-put.new.self.failed c.end.new.self.failed e.ended e.failed p.shown fine))
-    c.requires takes h
+    c.requires.sound takes h

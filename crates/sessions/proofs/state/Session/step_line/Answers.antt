@@ -1,4 +1,7 @@
+use Rattle.std.proofs.Common.{subst, sym}
 use Rattle.sqlite.specs.Held.{state}
+use Rattle.director.specs.Directors.{ScheduleValue}
+use Rattle.director.specs.Lists.{IsOutcome}
 use Rattle.minutes.proofs.GrowthLemmas.{begun_more}
 use Rattle.sessions.specs.Lines.{before_answer}
 use Rattle.sessions.proofs.LineLemmas.{fault_told, line_later, line_reports, line_told}
@@ -29,4 +32,10 @@ returns-in-Err-clause-told g c a lane_count l exchanges line was takes took told
   c.try_step-result.result,
   fault_told a c.args.self.now c.try_step-result.new.self c.args.event c.try_step-result.result c.in-Err._fault c.try_step-result.new.self.director.schedule.content exchanges (before_answer line c.args.event) c.requires.begun was.stepped c.try_step-result.ensures.outcome c.in-Err.is c.try_step-result.ensures.minutes took,
   c.answered-told.ensures.told l exchanges line takes told,
+)
+
+pub answered-told-requires-clause-stepped : goal.answered-told-requires-clause-stepped
+answered-told-requires-clause-stepped g c = (
+  c.args.self.now.director.schedule.content,
+  subst (λ (b : ScheduleValue). IsOutcome c.args.self.now.director.schedule.content c.args.event c.try_step-result.result b.content) (sym c.schedule.ensures) c.try_step-result.ensures.outcome,
 )
