@@ -1,4 +1,4 @@
-//! One writer for all that is printed.
+//! One writer for all that is printed but the rows of `list` and of `explain`.
 ghost use Rattle.std.specs.Prelude.{OnOk};
 ghost use Rattle.std.specs.Io.KnownBytes.{Appends};
 ghost use Rattle.answer_lines.specs.Shown.{shown_text};

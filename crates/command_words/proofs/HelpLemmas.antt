@@ -1,5 +1,5 @@
--- Where clap answers words by help, help is the only kind that it may answer by.
-use Rattle.std.proofs.Common.{◌≡◌, ◌+◌, ◌==◌, ◌&&◌, ◌||◌, ◌≢◌, ℕ, zero, suc, Bool, true, false, not, List, [], ◌∷◌, Option, Some, None, is_some, refl, ap, sym, subst, find, inl, inr, length, min}
+-- Where clap answers words by help or by the version, that is the only kind that it may answer by.
+use Rattle.std.proofs.Common.{◌≡◌, ◌∙◌, ◌+◌, ◌==◌, ◌&&◌, ◌||◌, ◌≢◌, ℕ, zero, suc, Bool, true, false, true≢false, not, List, [], ◌∷◌, Option, Some, None, is_some, refl, ap, sym, find, inl, inr, length, min}
 use Rattle.std.specs.Prelude.{if◌then◌else◌, nat_lt, codes, drop, encode_utf8, slice_get}
 use Rattle.std.specs.List.{list_all, list_any}
 use Rattle.std.specs.Option.{option_map_or}
@@ -24,15 +24,15 @@ use Rattle.word_app.specs.App.{Texts, dagsched}
 use Rattle.command_words.specs.Lines.{asks_for_help, is_help, shows_help}
 use Rattle.command_words.proofs.AppLemmas.{no_help_command, no_help_commands}
 
--- help is among the kinds only where it is all of them
+-- a kind that shows help or the version is among the kinds only where it is all of them
 abbrev IsClear : Kinds → Type 0
-IsClear ks = IsAmong kind.DisplayHelp ks → ks ≡ kind.DisplayHelp ∷ []
+IsClear ks = (k : ErrorKind) → shows_help k ≡ true → IsAmong k ks → ks ≡ k ∷ []
 
 nothing : IsClear []
-nothing h = absurd h
+nothing k shows h = absurd h
 
-alone : (k : ErrorKind) → IsClear (k ∷ [])
-alone k h = elim h [ inl is ↦ ap (λ x. x ∷ []) (sym is) | inr among ↦ absurd among ]
+alone : (x : ErrorKind) → IsClear (x ∷ [])
+alone x k shows h = elim h [ inl is ↦ ap (λ x. x ∷ []) (sym is) | inr among ↦ absurd among ]
 
 then_clear : (a b : Kinds) → IsClear a → IsClear b → IsClear (or_else a b)
 then_clear [] b here next = next
@@ -161,7 +161,10 @@ stray_clear : (s : Shape) → IsClear (stray_fault s)
 stray_clear s = if_clear s.is_leaf (kind.UnknownArgument ∷ []) (kind.UnknownArgument ∷ kind.InvalidSubcommand ∷ []) (alone kind.UnknownArgument) two
   where
     two : IsClear (kind.UnknownArgument ∷ kind.InvalidSubcommand ∷ [])
-    two h = elim h [ inl is ↦ cc | inr more ↦ elim more [ inl is ↦ cc | inr among ↦ absurd among ] ]
+    two k shows h = elim h [
+      | inl is ↦ absurd (true≢false (sym shows ∙ ap shows_help is))
+      | inr more ↦ elim more [ inl is ↦ absurd (true≢false (sym shows ∙ ap shows_help is)) | inr among ↦ absurd among ]
+    ]
 
 step_clear : (s : Shape) (position : ℕ) (h : Held) (met : Step) → IsClear (step_fault s position h met)
 step_clear s position h value = go (arg_by_index s.rules position)
@@ -251,16 +254,16 @@ fault_clear names words =
 
 -- ---- an error that comes from among the kinds
 
-not_help : (k : ErrorKind) → k ≢ kind.DisplayHelp → shows_help k ≡ false
-not_help kind.DisplayHelp other = absurd (other refl)
-not_help _ other = refl
-
 among_help : (ks : Kinds) (k : ErrorKind) → IsClear ks → IsAmong k ks → shows_help k ≡ is_help ks
 among_help [] k clear among = absurd among
 among_help (x ∷ []) k clear among = elim among [ inl is ↦ ap shows_help is | inr none ↦ absurd none ]
-among_help (x ∷ y ∷ ks) k clear among = not_help k (λ is.
-    let all : x ∷ y ∷ ks ≡ kind.DisplayHelp ∷ [] = clear (subst (λ k. IsAmong k (x ∷ y ∷ ks)) is among) in
-    cc)
+among_help (x ∷ y ∷ ks) k clear among = go (shows_help k) refl
+  where
+    go : (shows : Bool) → shows_help k ≡ shows → shows_help k ≡ false
+    go false e = e
+    go true e =
+        let all : x ∷ y ∷ ks ≡ k ∷ [] = clear k e among in
+        cc
 
 pub asked : (names : Texts) (words : List Text) (e : Error) → HasKind (fault_of (dagsched names) words) e → kind_of e ≢ kind.OutOfMemory
     → shows_help (kind_of e) ≡ asks_for_help names words

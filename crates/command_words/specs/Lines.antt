@@ -3,7 +3,7 @@ use Rattle.std.specs.Prelude.{◌≡◌, ◌≢◌, Bool, true, false, List, [],
 use Rattle.clap.specs.Words.{Row, Text, first_of, matches_of, subcommand_of, fault_of}
 use Rattle.clap.specs.Kinds.{Kinds}
 use Rattle.clap.specs.declared.error.kind.ErrorKind.{ErrorKind}
-use Rattle.clap.specs.declared.error.kind.ErrorKind.TheVariants.{DisplayHelp, OutOfMemory}
+use Rattle.clap.specs.declared.error.kind.ErrorKind.TheVariants.{DisplayHelp, DisplayVersion, OutOfMemory}
 use Rattle.word_app.specs.App.{Texts, dagsched}
 use Rattle.command_words.specs.declared.commands.UsageFault.{UsageFault}
 use Rattle.command_words.specs.declared.commands.UsageFault.TheVariants.{Words, Memory}
@@ -55,16 +55,17 @@ is_faulty (kind ∷ kinds) = true
 abbrev pub is_refused : Texts → List Text → Bool
 is_refused names words = is_faulty (fault_of (dagsched names) words)
 
--- an error of this kind has the help as its text
+-- an error of this kind has the help, or the version, as its text
 abbrev pub shows_help : ErrorKind → Bool
 shows_help DisplayHelp = true
+shows_help DisplayVersion = true
 shows_help _ = false
 
--- clap answers by help, and by nothing else
+-- clap answers by help or by the version, and by nothing else
 abbrev pub is_help : Kinds → Bool
 is_help (kind ∷ []) = shows_help kind
 is_help _ = false
 
--- clap answers the words by help: they ask for it, and clap finds no fault before it comes to the word that does
+-- clap answers the words by help or by the version: they ask for it, and clap finds no fault before it comes to the word that does
 abbrev pub asks_for_help : Texts → List Text → Bool
 asks_for_help names words = is_help (fault_of (dagsched names) words)

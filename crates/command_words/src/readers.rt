@@ -68,8 +68,8 @@ pub fn refusal_text(alloc: Global, words: &[String]) -> Result<Option<String>, A
     refusal_by(alloc, listed(), words)
 }
 
-/// clap's text where it answers the words by help, as `--help` and `-h` ask for it, with a newline at its end; `None` exactly where it does not. An
-/// `Err` says that memory ran out.
+/// clap's text where it answers the words by help or by the version, as `--help`, `-h`, `--version` and `-V` ask for it, with a newline at its end;
+/// `None` exactly where it does not. An `Err` says that memory ran out.
 pub fn help_text(alloc: Global, words: &[String]) -> Result<Option<String>, AllocError>
     ensures { (names : Texts) × IsListed names × IfOk result (λ text. is_some text ≡ asks_for_help names (map string_bytes words.now)) }
 {
@@ -116,7 +116,7 @@ fn shown(alloc: Global, error: &Error) -> Result<Option<String>, AllocError>
     }
 }
 
-// clap's text for the words, where it answers them by help.
+// clap's text for the words, where it answers them by help or by the version.
 fn help_by(alloc: Global, names: &[&str], words: &[String]) -> Result<Option<String>, AllocError>
     ensures { IfOk result (λ text. is_some text ≡ asks_for_help names.entry (map string_bytes words.now)) }
 {
@@ -126,13 +126,13 @@ fn help_by(alloc: Global, names: &[&str], words: &[String]) -> Result<Option<Str
     }
 }
 
-// The text of an error that shows help.
+// The text of an error that shows help or the version.
 fn help_in(alloc: Global, error: &Error) -> Result<Option<String>, AllocError>
     ensures { IfOk result (λ text. (is_some text ≡ spec.shows_help (kind_of error.now)) × (kind_of error.now ≢ ErrorKind.OutOfMemory)) }
 {
     match error.kind() {
         ErrorKind::OutOfMemory => Err(AllocError),
-        ErrorKind::DisplayHelp => {
+        ErrorKind::DisplayHelp | ErrorKind::DisplayVersion => {
             let text = format!(in alloc; "{error}")?;
             Ok(Some(text))
         }

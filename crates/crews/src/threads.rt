@@ -123,11 +123,11 @@ fn start<
         share: Snapshot::of(&share),
         kit: Snapshot::of(&crew.kit),
     };
-    let job = move || -> Worked<L, G, O>
+    let body = move || -> Worked<L, G, O>
         requires { IsWorkerOf lanes.now pass × IsKit O.kind_of crew.kit }
         ensures { HasWorked O.kind_of O.runs_of O.refused_of O.taken pass share crew.kit result.0 result.1 result.2 }
     { work(rt, alloc, lanes, desk, pass, share, crew) };
-    match scope.spawn_with(promise, job) {
+    match scope.spawn_with(promise, body) {
         Ok(handle) => Some(handle),
         Err(_) => None,
     }

@@ -19,8 +19,9 @@ mod volatile;
 
 use crate::records::{in_file, in_memory};
 use crate::scripts::has_logs;
-use crate::usage::{put_refusal, put_usage};
+use crate::usage::{put_refusal, put_unreadable, put_usage};
 use command_words::{Command, CommandLine, UsageFault, read_command};
+use std::alloc::{AllocError, Global};
 use std::env;
 use std::io::{self, ErrorKind};
 use std::process::ExitCode;
@@ -48,10 +49,7 @@ fn out_of_memory(rt: &HostRuntime) -> u8 {
 fn run_words<T: Threads + Wait + Sync>(threads: &T, rt: &HostRuntime) -> io::Result<u8> {
     let words = match own_words(rt) {
         Ok(words) => words,
-        // a word that is not UTF-8
-        Err(error) if error.kind() == ErrorKind::InvalidData => {
-            return put_usage(rt, UsageFault::Words, &[]);
-        }
+        Err(error) if error.kind() == ErrorKind::InvalidData => return put_unreadable(rt),
         Err(error) => return Err(error),
     };
     match read_command(rt.alloc(), words.as_slice()) {
@@ -62,11 +60,26 @@ fn run_words<T: Threads + Wait + Sync>(threads: &T, rt: &HostRuntime) -> io::Res
     }
 }
 
-// The words after the program's name.
+// The words after the program's name. Those of `help COMMAND` are given as `COMMAND --help`.
 fn own_words(rt: &HostRuntime) -> io::Result<Vec<String>> {
     let mut words = env::args(rt)?;
     let _program = words.next();
-    Ok(words.collect::<Vec<String>>(rt.alloc())?)
+    let words = words.collect::<Vec<String>>(rt.alloc())?;
+    if matches!(words.as_slice(), [first, ..] if first.as_str() == "help") {
+        Ok(help_of(rt.alloc(), words.as_slice())?)
+    } else {
+        Ok(words)
+    }
+}
+
+// The words that ask for the help of the command behind the first word.
+fn help_of(alloc: Global, words: &[String]) -> Result<Vec<String>, AllocError> {
+    let mut asked = Vec::new(alloc);
+    for word in words.iter().skip(1) {
+        asked.push(String::from_str(alloc, word.as_str())?)?;
+    }
+    asked.push(String::from_str(alloc, "--help")?)?;
+    Ok(asked)
 }
 
 // Does the command, if it has its place here.

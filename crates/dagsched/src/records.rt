@@ -2,7 +2,7 @@
 ghost use Rattle.std.specs.Prelude.{◌≡◌, false, IfOk};
 
 use crate::scripts::run_script;
-use crate::telling::{tell_fault, tell_made, tell_unkept, tell_unopened};
+use crate::telling::{tell_fault, tell_made, tell_unanswered, tell_unkept, tell_unopened};
 use crate::volatile::Volatile;
 use answer_lines::{Shown, put};
 use command_runner::run_command;
@@ -145,7 +145,10 @@ fn run_single<S: Alter + Drop>(
     let _ = rt.stderr().write_all(console.into_output().as_slice());
     match flushed {
         Ok(()) => Ok((store, status)),
-        Err(_) => Ok((store, 4)),
+        Err(error) => {
+            tell_unanswered(rt, &error);
+            Ok((store, 4))
+        }
     }
 }
 

@@ -14,6 +14,9 @@ use std::io::{self, BufReader, BufWriter, ErrorKind};
 use std::sync::Wait;
 use std::thread::Threads;
 
+// How many workers there are where nobody asks for a number.
+const DEFAULT_WORKERS: u32 = 2;
+
 /// Runs the script of standard input, and gives the record back, with the status.
 pub fn run_script<S: Alter + Drop, T: Threads + Wait + Sync>(
     threads: &T,
@@ -25,6 +28,7 @@ pub fn run_script<S: Alter + Drop, T: Threads + Wait + Sync>(
     let alloc = rt.alloc();
     let scratch = options.scratch.as_str();
     let logs = options.logs.as_ref().map(FilePath::as_str);
+    tell_lanes(rt, options);
     make_scratch(rt, scratch);
     let _held = hold(rt, scratch);
     let team = operators_for(*rt, alloc, options.workers.get(), scratch, logs)?;
@@ -68,6 +72,19 @@ pub fn has_logs(rt: &HostRuntime, command: &Command) -> io::Result<bool> {
             Ok(false)
         }
         None => Ok(true),
+    }
+}
+
+// Tells that there are fewer lanes than the workers that were asked for, so that some of these never work.
+fn tell_lanes(rt: &HostRuntime, options: &ScriptOptions) {
+    let (workers, lanes) = (options.workers.get(), options.lanes.get());
+    if lanes == 0 || workers <= lanes || workers <= DEFAULT_WORKERS {
+        return;
+    }
+    if let Ok(text) = format!(in rt.alloc();
+        "dagsched: no more than {lanes} of the {workers} workers work at once: --lanes {workers} lets all of them"
+    ) {
+        tell(rt, text.as_str());
     }
 }
 

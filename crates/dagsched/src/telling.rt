@@ -5,7 +5,7 @@ use fault_sentences::{Asked, note_of, one_line};
 use sqlite::{Error, ErrorCode};
 use std::alloc::AllocError;
 use std::fs;
-use std::io::ErrorKind;
+use std::io::{self, ErrorKind};
 
 /// Tells a person this. Where memory runs out for it, it is dropped.
 pub fn tell(rt: &HostRuntime, text: &str) {
@@ -101,6 +101,15 @@ fn unmade_text(rt: &HostRuntime, path: &str) -> Result<String, AllocError> {
 pub fn tell_made(rt: &HostRuntime, path: &str) {
     if let Ok(text) = format!(in rt.alloc();
         "dagsched: {path} was not there, so a new record was made"
+    ) {
+        tell(rt, text.as_str());
+    }
+}
+
+/// Tells that the answer to a command could not be written.
+pub fn tell_unanswered(rt: &HostRuntime, error: &io::Error) {
+    if let Ok(text) = format!(in rt.alloc();
+        "dagsched: the answer could not be written, so look whether the command was done: {error}"
     ) {
         tell(rt, text.as_str());
     }

@@ -16,6 +16,14 @@ pub fn put_refusal(rt: &HostRuntime, words: &[String]) -> io::Result<u8> {
     }
 }
 
+/// Says on standard error that a word is not UTF-8; the status.
+pub fn put_unreadable(rt: &HostRuntime) -> io::Result<u8> {
+    let fault_line = CommandFault::Usage(UsageFault::Words);
+    put(&mut rt.stderr(), Shown::NoCommand(fault_line))?;
+    tell(rt, "dagsched: a word is not UTF-8");
+    Ok(2)
+}
+
 /// Says on standard error why the words are no command, and how to use the program where clap refuses them; the status.
 pub fn put_usage(rt: &HostRuntime, fault: UsageFault, words: &[String]) -> io::Result<u8> {
     let fault_line = CommandFault::Usage(fault);

@@ -8,13 +8,24 @@ const WAITING: &str = "here it is upstream, in the task that waits";
 
 const COMMENT: &str = "dagsched has none: what follows a # is a comment";
 
+const UPSTREAM: &str = "here it is upstream";
+
+const SENSOR: &str =
+    "dagsched has no sensors: a task that fails until what it waits for is there, with retries";
+
+const SAME_DELAY: &str = "dagsched has none: retry_delay is always the same";
+
+const POOL: &str = "dagsched has none: a pool of its own limits the graph's tasks";
+
+const SHELL: &str = "dagsched has none: argv = [\"sh\", \"-c\", \"cd DIR && X=1 ./load\"] does it";
+
 const LATE: &str = "dagsched has none: look at list runs";
 
 const ALARM: &str =
     "dagsched has none: a task with trigger_rule = \"one_failed\" may tell somebody";
 
 // Pairs of a word and what stands for it here.
-static WORDS: [(&str, &str); 29] = [
+static WORDS: [(&str, &str); 51] = [
     ("schedule_interval", "here it is schedule"),
     (
         "default_args",
@@ -26,6 +37,19 @@ static WORDS: [(&str, &str); 29] = [
     ("python_callable", PYTHON),
     ("PythonOperator", PYTHON),
     ("EmptyOperator", "here it is noop"),
+    ("DummyOperator", "here it is noop"),
+    ("FileSensor", SENSOR),
+    ("ExternalTaskSensor", SENSOR),
+    ("cmd", BASH),
+    ("command", BASH),
+    ("script", BASH),
+    ("cwd", SHELL),
+    ("env", SHELL),
+    ("depends_on", UPSTREAM),
+    ("depends", UPSTREAM),
+    ("needs", UPSTREAM),
+    ("after", UPSTREAM),
+    ("downstream", "here each task names its upstream"),
     ("upstream_task_ids", WAITING),
     ("task_dependencies", WAITING),
     (
@@ -34,20 +58,24 @@ static WORDS: [(&str, &str); 29] = [
     ),
     ("dagrun_timeout", LATE),
     ("sla", LATE),
+    ("email", ALARM),
     ("email_on_failure", ALARM),
+    ("email_on_retry", ALARM),
     ("on_failure_callback", ALARM),
     (
-        "max_retry_delay",
-        "dagsched has none: retry_delay is always the same",
+        "on_success_callback",
+        "dagsched has none: a last task may tell somebody",
     ),
+    ("max_retry_delay", SAME_DELAY),
+    ("retry_exponential_backoff", SAME_DELAY),
     (
         "wait_for_downstream",
         "dagsched has none: depends_on_past in all tasks comes near to it",
     ),
-    (
-        "max_active_tasks",
-        "dagsched has none: a pool of its own limits the graph's tasks",
-    ),
+    ("max_active_tasks", POOL),
+    ("max_active_tis_per_dag", POOL),
+    ("concurrency", POOL),
+    ("queue", POOL),
     (
         "is_paused_upon_creation",
         "here it is the command pause DAG after the load",
@@ -57,6 +85,11 @@ static WORDS: [(&str, &str); 29] = [
         "params",
         "dagsched has none: what a program needs stands in its argv",
     ),
+    (
+        "user_defined_macros",
+        "dagsched has none: a program finds its dates in its environment",
+    ),
+    ("description", COMMENT),
     ("tags", COMMENT),
     ("doc_md", COMMENT),
     ("owner", COMMENT),

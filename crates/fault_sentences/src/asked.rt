@@ -1,4 +1,4 @@
-//! What a command was.
+//! A command as a person wrote it: a line of a script, or the program's own words.
 use std::alloc::{AllocError, Global};
 
 /// A command as a person wrote it.

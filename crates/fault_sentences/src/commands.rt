@@ -68,6 +68,12 @@ fn words_sentence(alloc: Global, asked: Asked<'_>) -> Result<Option<String>, All
     }
     let parts = asked.words(alloc)?;
     let hint = hint_of(asked, parts.as_slice());
+    if let (true, ["help" | "?" | "quit" | "exit", ..]) = (asked.is_in_script(), parts.as_slice()) {
+        return told(
+            alloc,
+            "the commands are load, tick, drain, list, explain, trigger, backfill, clear, pause, unpause and resize; a script ends where its input does, on a terminal by Ctrl-D",
+        );
+    }
     if !asked.is_in_script() {
         // there the program prints clap's whole text
         return match hint {
@@ -108,6 +114,7 @@ fn push_said(text: &mut String, line: &str) -> Result<(), AllocError> {
     if line.is_empty()
         || line.starts_with("Usage: dagsched [OPTIONS]")
         || line.starts_with("For more information")
+        || line.starts_with("tip: to pass '")
     {
         return Ok(());
     }
@@ -137,7 +144,10 @@ fn hint_of(asked: Asked<'_>, words: &[&str]) -> Option<&'static str> {
     } else if has_quote(line) {
         Some("there are no quotes and no escapes, and a path is one word")
     } else if words.iter().skip(1).any(|word| *word == "--record") {
-        Some("--record stands first: dagsched --record PATH COMMAND")
+        match words.first() {
+            Some(first) if first.starts_with("--record") => Some("--record stands once"),
+            _ => Some("--record stands first: dagsched --record PATH COMMAND"),
+        }
     } else {
         None
     }

@@ -3,7 +3,7 @@ use crate::asked::Asked;
 use crate::lines::one_line;
 use crate::notes::{Note, note_of, unreadable_note};
 use crate::totals::Totals;
-use crate::tries::{ended_since, first_in_flight, lost_at_restart};
+use crate::tries::{Told, Untold, ended_since, lost_at_restart};
 use sched_events::Event;
 use script_commands::{CommandFault, SourceFault};
 use script_reader::{Console, Schedule, Shown, Spot};
@@ -32,9 +32,8 @@ pub struct SentenceConsole<R: Clock + Files + Drop, W: Write + Drop> {
     written: Option<Instant>,
     // What is to be told of the command that was read last, with the number of its line.
     note: Option<(Option<u64>, Note)>,
-    // The first serial of the tries of which nothing was told; none before the first command.
-    next_serial: Option<u64>,
-    has_waited: bool,
+    // The tries whose ends are still to be told; none before the first command.
+    untold: Option<Untold>,
 }
 
 impl<R: Clock + Files + Drop, W: Write + IsTerminal + Drop> SentenceConsole<R, W> {
@@ -68,8 +67,7 @@ impl<R: Clock + Files + Drop, W: Write + Drop> SentenceConsole<R, W> {
             is_terminal,
             written: None,
             note: None,
-            next_serial: None,
-            has_waited: false,
+            untold: None,
         }
     }
 
@@ -168,26 +166,30 @@ impl<R: Clock + Files + Drop, W: Write + Drop> SentenceConsole<R, W> {
         self.output.write_all(line.as_bytes())
     }
 
-    // Says what became of tries: at first of those that the restart has lost, and after each wait of those that ended since, among them those that the
-    // restart has handed out.
+    // Says what became of tries: at first of those that the restart has lost, and then of those that have ended since.
     fn put_tries(&mut self, schedule: &Schedule) -> io::Result<()> {
-        let (said, next) = match self.next_serial {
-            None => (
-                lost_at_restart(self.alloc, schedule)?,
-                first_in_flight(schedule),
-            ),
-            Some(serial) if self.has_waited => (
-                ended_since(self.alloc, schedule, serial)?,
-                schedule.next_serial(),
-            ),
-            Some(_) => return Ok(()),
+        let Some(Told { text, untold }) = self.told_at(schedule)? else {
+            return Ok(());
         };
-        self.has_waited = false;
-        self.next_serial = Some(next);
-        match said {
+        self.untold = Some(untold);
+        match text {
             Some(text) => self.put_sentence(None, text.as_str()),
             None => Ok(()),
         }
+    }
+
+    // What is to be told of tries at this schedule, if some have ended.
+    fn told_at(&self, schedule: &Schedule) -> Result<Option<Told>, AllocError> {
+        match &self.untold {
+            None => Ok(Some(lost_at_restart(self.alloc, schedule)?)),
+            Some(untold) => ended_since(self.alloc, schedule, untold, self.has_logs()),
+        }
+    }
+
+    // Whether the program was asked to keep logs.
+    fn has_logs(&self) -> bool {
+        let mut words = self.words.as_slice().iter();
+        words.any(|word| word.as_str().starts_with("--logs"))
     }
 }
 
@@ -202,7 +204,6 @@ fn is_unreadable(shown: Shown<'_>) -> bool {
 impl<R: Clock + Files + Drop, W: Write + Drop> Console for SentenceConsole<R, W> {
     // A terminal that takes no line changes nothing else.
     fn waits(&mut self, schedule: &Schedule) {
-        self.has_waited = true;
         if !self.is_terminal {
             return;
         }

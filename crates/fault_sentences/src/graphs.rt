@@ -58,7 +58,21 @@ fn toml_sentence(
         .count();
     let file = file_text(alloc, asked, Some(newlines.saturating_add(1)))?;
     let said = error.message();
-    Ok(Some(format!(in alloc; "{file}this is no TOML: {said}")?))
+    let hint = python_hint(text.lines().nth(newlines).unwrap_or(""));
+    Ok(Some(format!(in alloc; "{file}this is no TOML: {said}{hint}")?))
+}
+
+// What is said of a line whose value is a word of Python.
+fn python_hint(line: &str) -> &'static str {
+    let value = match line.split_once('=') {
+        Some((_, value)) => value.trim(),
+        None => "",
+    };
+    match value {
+        "None" => "; a text stands in quotes: \"None\"",
+        "True" | "False" => "; a flag is true or false, without a capital",
+        _ => "",
+    }
 }
 
 // What is said of a fault at a place, of a text that is this table.

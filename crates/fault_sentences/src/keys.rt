@@ -90,7 +90,7 @@ fn is_key_of(place: Place, name: &str) -> bool {
 }
 
 // Which of these words was probably meant.
-fn hint_of(alloc: Global, word: &str, words: &[&str]) -> Result<String, AllocError> {
+pub(crate) fn hint_of(alloc: Global, word: &str, words: &[&str]) -> Result<String, AllocError> {
     match nearest(alloc, word, words)? {
         Some(meant) => format!(in alloc; "; did you mean \"{meant}\"?"),
         None => Ok(String::new(alloc)),

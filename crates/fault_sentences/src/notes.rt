@@ -3,11 +3,12 @@ use crate::asked::Asked;
 use crate::commands::command_sentence;
 use crate::graphs::load_note;
 use crate::idle::{Idle, idle_note};
-use crate::records::{clock_sentence, end_sentence, store_sentence};
-use crate::refusals::{refusal_note, unexplained_sentence};
+use crate::keys::hint_of;
+use crate::records::{clock_sentence, end_sentence, store_sentence, told};
+use crate::refusals::{refusal_note, unexplained_note};
 use graph_file::Name;
 use moment_core::Moment;
-use sched_events::Event;
+use sched_events::{Answer, Event};
 use sched_state::LoadedGraph;
 use script_reader::{Fault, Schedule, Shown};
 use std::alloc::{AllocError, Global};
@@ -32,6 +33,8 @@ pub enum Rest {
     Try(u64),
     /// The first task of this graph that needs more slots than its pool has.
     Slots(Name),
+    /// Which graph was probably meant by this word.
+    Near(String),
     /// Why a command changed nothing.
     Idle(Idle),
 }
@@ -45,12 +48,24 @@ pub fn note_of(
 ) -> Result<Option<Note>, AllocError> {
     match shown {
         Shown::Answer(Event::Load(text), _) => load_note(alloc, text.as_str()),
+        Shown::Answer(Event::Trigger(_), answer) => alone(trigger_sentence(alloc, answer)?),
         Shown::Answer(done, answer) => idle_note(alloc, done, answer),
         Shown::Failure(fault) => failure_note(alloc, asked, event, fault),
         Shown::NoCommand(fault) => alone(command_sentence(alloc, asked, fault)?),
         Shown::NoMoment(fault) => alone(clock_sentence(alloc, fault)?),
         Shown::EndedBy(fault) => alone(end_sentence(alloc, fault)?),
-        Shown::Unexplained(fault) => alone(unexplained_sentence(alloc, asked, fault)?),
+        Shown::Unexplained(fault) => unexplained_note(alloc, asked, fault),
+        _ => Ok(None),
+    }
+}
+
+// That a run by hand has the date at which the clock of a new record stands, which is probably not meant.
+fn trigger_sentence(alloc: Global, answer: &Answer) -> Result<Option<String>, AllocError> {
+    match answer.made.as_slice().first() {
+        Some(made) if made.logical.secs() == 0 => told(
+            alloc,
+            "the clock of this record was never moved, so the run is of 1970: say tick now before trigger",
+        ),
         _ => Ok(None),
     }
 }
@@ -97,7 +112,7 @@ impl Note {
     ) -> Result<Option<String>, AllocError> {
         let mut sentence = String::from_str(alloc, self.text.as_str())?;
         if let Some(schedule) = schedule {
-            self.push_rest(&mut sentence, schedule)?;
+            self.push_rest(alloc, &mut sentence, schedule)?;
         }
         if sentence.is_empty() {
             Ok(None)
@@ -107,7 +122,12 @@ impl Note {
     }
 
     // Adds what this schedule says beside it.
-    fn push_rest(&self, sentence: &mut String, schedule: &Schedule) -> Result<(), AllocError> {
+    fn push_rest(
+        &self,
+        alloc: Global,
+        sentence: &mut String,
+        schedule: &Schedule,
+    ) -> Result<(), AllocError> {
         match &self.rest {
             Rest::Nothing => Ok(()),
             Rest::Clock => push_clock(sentence, schedule),
@@ -116,8 +136,30 @@ impl Note {
                 Some(graph) => push_slots(sentence, schedule, graph),
                 None => Ok(()),
             },
+            Rest::Near(word) => push_near(alloc, sentence, schedule, word.as_str()),
             Rest::Idle(idle) => idle.push_why(sentence, schedule),
         }
+    }
+}
+
+// Adds which graph was probably meant by a word, or how those that there are are shown.
+fn push_near(
+    alloc: Global,
+    sentence: &mut String,
+    schedule: &Schedule,
+    word: &str,
+) -> Result<(), AllocError> {
+    let mut names = Vec::new(alloc);
+    for graph in schedule.graphs() {
+        names.push(graph.dag.spec().dag_id.as_str())?;
+    }
+    let hint = hint_of(alloc, word, names.as_slice())?;
+    if names.is_empty() {
+        sentence.push_str("; the record has none yet")
+    } else if hint.is_empty() {
+        sentence.push_str("; list dags shows those it has")
+    } else {
+        sentence.push_str(hint.as_str())
     }
 }
 

@@ -16,21 +16,30 @@ pub fn refusal_note(
     refusal: &Refusal,
 ) -> Result<Option<Note>, AllocError> {
     match sentence_of(alloc, asked, event, refusal)? {
-        Some(text) => Ok(Some(Note {
-            text,
-            rest: rest_of(refusal),
-        })),
+        Some(text) => {
+            let rest = rest_of(alloc, event, refusal)?;
+            Ok(Some(Note { text, rest }))
+        }
         None => Ok(None),
     }
 }
 
 // What the schedule says beside it.
-fn rest_of(refusal: &Refusal) -> Rest {
-    match refusal {
-        Refusal::RunExists | Refusal::NoInterval => Rest::Clock,
-        Refusal::InFlight(serial) => Rest::Try(*serial),
-        _ => Rest::Nothing,
+fn rest_of(alloc: Global, event: Option<&Event>, refusal: &Refusal) -> Result<Rest, AllocError> {
+    match (refusal, event) {
+        (Refusal::RunExists | Refusal::NoInterval, _) => Ok(Rest::Clock),
+        (Refusal::InFlight(serial), _) => Ok(Rest::Try(*serial)),
+        (Refusal::UnknownGraph, Some(event)) => match graph_of(event) {
+            Some(graph) => near(alloc, graph.as_str()),
+            None => Ok(Rest::Nothing),
+        },
+        _ => Ok(Rest::Nothing),
     }
+}
+
+// Which graph was probably meant by a word.
+fn near(alloc: Global, word: &str) -> Result<Rest, AllocError> {
+    Ok(Rest::Near(String::from_str(alloc, word)?))
 }
 
 fn sentence_of(
@@ -109,24 +118,29 @@ fn missing(alloc: Global, name: Option<&Name>, kind: &str) -> Result<Option<Stri
     }
 }
 
-// Why a question has no answer. Its words are `explain DAG LOGICAL TASK`.
-pub fn unexplained_sentence(
+// What is to be told of a question that has no answer. Its words are `explain DAG LOGICAL TASK`.
+pub fn unexplained_note(
     alloc: Global,
     asked: Asked<'_>,
     fault: ExplainFault,
-) -> Result<Option<String>, AllocError> {
+) -> Result<Option<Note>, AllocError> {
     let values = asked.values(alloc)?;
     let [_, graph, logical, task, ..] = values.as_slice() else {
         return Ok(None);
     };
-    match fault {
-        ExplainFault::UnknownGraph => Ok(Some(format!(in alloc; "there is no graph \"{graph}\"")?)),
-        ExplainFault::UnknownRun => Ok(Some(format!(in alloc;
+    let text = match fault {
+        ExplainFault::UnknownGraph => format!(in alloc; "there is no graph \"{graph}\"")?,
+        ExplainFault::UnknownRun => format!(in alloc;
             "the graph \"{graph}\" has no run of the date {logical}: {DATES_HINT}"
-        )?)),
+        )?,
         ExplainFault::UnknownTask => {
-            Ok(Some(format!(in alloc; "the graph \"{graph}\" has no task \"{task}\"")?))
+            format!(in alloc; "the graph \"{graph}\" has no task \"{task}\"")?
         }
-        ExplainFault::Memory => Ok(None),
-    }
+        ExplainFault::Memory => return Ok(None),
+    };
+    let rest = match fault {
+        ExplainFault::UnknownGraph => near(alloc, graph)?,
+        _ => Rest::Nothing,
+    };
+    Ok(Some(Note { text, rest }))
 }

@@ -1,5 +1,5 @@
 //! Sentences on what became of tries.
-use graph_file::TaskSpec;
+use graph_file::{Operator, TaskSpec};
 use instance_machine::{End, Instance, Outcome, Try};
 use moment_core::Moment;
 use sched_state::{LoadedGraph, Run};
@@ -10,60 +10,77 @@ use trigger_rules::State;
 // How many task instances are named.
 const MOST_NAMES: usize = 3;
 
-/// Which task instances have failed, were lost or wait for a retry, of those whose last try has this serial or a later one; `None` where none has.
-/// It goes over all task instances once.
+/// Which tries had no end when a schedule was looked at, so that their ends are still to be told.
+#[derive(Debug, Drop)]
+pub struct Untold {
+    // The serials of those that were handed out, as many as there are lanes at most.
+    in_flight: Vec<u64>,
+    // That of the next one.
+    next_serial: u64,
+}
+
+impl Untold {
+    // Whether a try with this serial is one of them.
+    fn has(&self, serial: u64) -> bool {
+        self.next_serial <= serial || self.in_flight.as_slice().iter().any(|it| *it == serial)
+    }
+
+    // Whether all of them are without an end at this schedule too.
+    fn is_unchanged(&self, schedule: &Schedule) -> bool {
+        let before = ended_of(self.next_serial, self.in_flight.len());
+        before == ended_of(schedule.next_serial(), schedule.in_flight())
+    }
+}
+
+// How many tries have ended, where this is the next serial and so many are in flight.
+fn ended_of(next_serial: u64, in_flight: usize) -> u64 {
+    next_serial.saturating_sub(in_flight as u64)
+}
+
+/// What is told of tries at a schedule: a sentence, if there is something to tell, and what is still to be told.
+#[derive(Debug, Drop)]
+pub struct Told {
+    pub text: Option<String>,
+    pub untold: Untold,
+}
+
+/// Which task instances have failed, were lost or wait for a retry, of those whose last try has ended since; `None` where none has ended. Where one has, it goes
+/// over all task instances once.
 pub fn ended_since(
     alloc: Global,
     schedule: &Schedule,
-    serial: u64,
-) -> Result<Option<String>, AllocError> {
-    tallied(alloc, schedule, &Which::From(serial))
+    untold: &Untold,
+    has_logs: bool,
+) -> Result<Option<Told>, AllocError> {
+    if untold.is_unchanged(schedule) {
+        return Ok(None);
+    }
+    let told = tallied(alloc, schedule, &Which::EndedOf(untold), has_logs)?;
+    Ok(Some(told))
 }
 
 /// Which task instances the restart has lost: those that have a try that was lost at the moment at which the clock stands, whatever became of them since. It goes
 /// over all tries once.
-pub fn lost_at_restart(alloc: Global, schedule: &Schedule) -> Result<Option<String>, AllocError> {
-    tallied(alloc, schedule, &Which::LostAt(schedule.now().secs()))
-}
-
-/// The least serial of the tries that have no end, or that of the next try where there are none. It goes over all task instances once.
-pub fn first_in_flight(schedule: &Schedule) -> u64 {
-    let mut first = schedule.next_serial();
-    for run in schedule.runs() {
-        first = first_in_run(run, first);
-    }
-    first
-}
-
-// The least of this serial and those of the run's tries that have no end.
-fn first_in_run(run: &Run, first: u64) -> u64 {
-    let mut first = first;
-    for instance in run.instances.as_slice() {
-        if let Some(last) = instance.tries().last() {
-            if last.ended.is_none() {
-                first = first.min(last.serial);
-            }
-        }
-    }
-    first
+pub fn lost_at_restart(alloc: Global, schedule: &Schedule) -> Result<Told, AllocError> {
+    tallied(alloc, schedule, &Which::LostAt(schedule.now().secs()), true)
 }
 
 // Which tries are told of.
-#[derive(Drop)]
-enum Which {
-    // The last ones, from this serial on.
-    From(u64),
+#[derive(Clone, Copy)]
+enum Which<'a> {
+    // The last ones of instances, where they have ended and were without an end before.
+    EndedOf(&'a Untold),
     // Those that were lost in this second.
     LostAt(u64),
 }
 
-impl Which {
+impl Which<'_> {
     // The first try of an instance that is told of.
     fn try_of<'a>(&self, instance: &'a Instance) -> Option<&'a Try> {
         match self {
-            Which::From(serial) => {
+            Which::EndedOf(untold) => {
                 let last = instance.tries().last()?;
-                if *serial <= last.serial {
+                if last.ended.is_some() && untold.has(last.serial) {
                     Some(last)
                 } else {
                     None
@@ -96,15 +113,23 @@ fn is_lost(one: &Try) -> bool {
 fn tallied(
     alloc: Global,
     schedule: &Schedule,
-    which: &Which,
-) -> Result<Option<String>, AllocError> {
+    which: &Which<'_>,
+    has_logs: bool,
+) -> Result<Told, AllocError> {
     let mut tally = Tally::new(alloc);
     for run in schedule.runs() {
         if let Some(graph) = schedule.graph_of(&run.graph) {
             tally.add_run(graph, run, which)?;
         }
     }
-    tally.sentence(alloc)
+    let text = tally.sentence(alloc, has_logs)?;
+    let Tally { in_flight, .. } = tally;
+    let next_serial = schedule.next_serial();
+    let untold = Untold {
+        in_flight,
+        next_serial,
+    };
+    Ok(Told { text, untold })
 }
 
 // How many task instances ended how, with the first of them by name.
@@ -118,6 +143,10 @@ struct Tally {
     // The first that failed or were lost.
     names: String,
     named: usize,
+    // Whether one that failed has a program.
+    has_program: bool,
+    // The serials of the tries without an end.
+    in_flight: Vec<u64>,
 }
 
 impl Tally {
@@ -129,16 +158,35 @@ impl Tally {
             retry_at: u64::MAX,
             names: String::new(alloc),
             named: 0,
+            has_program: false,
+            in_flight: Vec::new(alloc),
         }
     }
 
-    fn add_run(&mut self, graph: &LoadedGraph, run: &Run, which: &Which) -> Result<(), AllocError> {
+    fn add_run(
+        &mut self,
+        graph: &LoadedGraph,
+        run: &Run,
+        which: &Which<'_>,
+    ) -> Result<(), AllocError> {
         for (place, instance) in run.instances.as_slice().iter().enumerate() {
             if place < graph.dag.len() {
+                self.note(instance)?;
                 self.add(run, graph.dag.task(place), instance, which)?;
             }
         }
         Ok(())
+    }
+
+    // Notes the instance's last try where it has no end.
+    fn note(&mut self, instance: &Instance) -> Result<(), AllocError> {
+        match instance.tries().last() {
+            Some(last) if last.ended.is_none() => {
+                self.in_flight.push(last.serial)?;
+                Ok(())
+            }
+            _ => Ok(()),
+        }
     }
 
     fn add(
@@ -146,7 +194,7 @@ impl Tally {
         run: &Run,
         task: &TaskSpec,
         instance: &Instance,
-        which: &Which,
+        which: &Which<'_>,
     ) -> Result<(), AllocError> {
         let Some(told) = which.try_of(instance) else {
             return Ok(());
@@ -162,6 +210,7 @@ impl Tally {
             self.add_name(run, task)
         } else if state == State::Failed {
             self.failed = self.failed.saturating_add(1);
+            self.has_program = self.has_program || task.action.operator() == Operator::Command;
             self.add_name(run, task)
         } else {
             Ok(())
@@ -180,8 +229,8 @@ impl Tally {
         write!(self.names, "{graph} {logical} {task}")
     }
 
-    // `2 failed, 1 lost: DAG LOGICAL TASK, ..; 1 up for a retry, from MOMENT on`
-    fn sentence(self, alloc: Global) -> Result<Option<String>, AllocError> {
+    // `2 failed, 1 lost: DAG LOGICAL TASK, ..; 1 up for a retry, from MOMENT on`, and how a failure of a program is found out
+    fn sentence(&self, alloc: Global, has_logs: bool) -> Result<Option<String>, AllocError> {
         let mut text = String::new(alloc);
         push_count(&mut text, self.failed, "failed")?;
         push_count(
@@ -194,6 +243,9 @@ impl Tally {
             text.push_str(self.names.as_str())?;
         }
         self.push_retries(&mut text)?;
+        if self.has_program && !has_logs {
+            text.push_str("; run --logs DIR keeps what programs print")?;
+        }
         if text.is_empty() {
             Ok(None)
         } else {

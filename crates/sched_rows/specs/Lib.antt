@@ -1,2 +1,2 @@
 pub mod Days
-pub mod Minutes
+pub mod EachMinute

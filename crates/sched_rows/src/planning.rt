@@ -4,7 +4,7 @@ ghost use Rattle.run_planner.specs.Due.{neighbours, considered, without_runs, is
 ghost use Rattle.run_planner.specs.Spans.{with_runs, starts};
 ghost use Rattle.run_planner.specs.ByHand.{the_interval, by_hand};
 ghost use Rattle.run_planner.specs.declared.by_hand.PlanFault.TheVariants.{RunExists, NoInterval};
-ghost use Rattle.sched_rows.specs.Minutes.{minute, three_minutes, minutely};
+ghost use Rattle.sched_rows.specs.EachMinute.{minute, three_minutes, minutely};
 
 /// An interval goes from one tick to the next.
 pub fn ticks_bound_intervals()

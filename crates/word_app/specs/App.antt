@@ -51,9 +51,9 @@ tick = with_rule (new_app (codes "tick")) (word (codes "moment"))
 abbrev pub drain : App
 drain = new_app (codes "drain")
 
--- a command must be given, no word before the first one is the program's name, and `help` is no command
+-- a command must be given, no word before the first one is the program's name, `help` is no command, and there is a version
 abbrev pub bare : Shape
-bare = record (new_app (codes "dagsched")).top { no_binary_name = true; subcommand_required = true; disable_help_subcommand = true }
+bare = record (new_app (codes "dagsched")).top { no_binary_name = true; subcommand_required = true; disable_help_subcommand = true; has_version = true }
 
 abbrev pub start : App
 start = with_rule (record { top = bare; subs = [] }) (option (codes "record"))

@@ -13,6 +13,9 @@ use crate::rules::option;
 use clap::Command;
 use std::alloc::{AllocError, Global};
 
+// What `--version` prints behind the name of the program.
+const VERSION: &str = "0.1.0";
+
 // The program's command with no command under it.
 fn start<'a>(alloc: Global) -> Result<Command<'a>, AllocError>
     ensures app { IfOk result (λ c. app_of c ≡ spec.start) }
@@ -27,8 +30,9 @@ fn start<'a>(alloc: Global) -> Result<Command<'a>, AllocError>
     let command = Command::new(alloc, "dagsched")
         .bin_name("dagsched")?
         .about("Schedules graphs of tasks as Airflow 2 does")
+        .version(VERSION)
         .after_help(
-            "A moment is 2024-02-29, which is its first second, or 2024-02-29T12:30:00Z, in UTC.",
+            "A script of run also takes load FILE, tick MOMENT, tick now and drain.\nA moment is 2024-02-29, which is its first second, or 2024-02-29T12:30:00Z, in UTC.",
         )
         .no_binary_name(true)
         .subcommand_required(true)

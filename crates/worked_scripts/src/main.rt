@@ -19,8 +19,9 @@
 //! `logs`: with one lane, and a log for each try of a program in the folder `logs`. `told`: with one lane, and below the answers what a person is told of them, with
 //! `! ` before each line. The others are without lanes. `reads`: its reads fail after 0, 1, 2 .. that do not, until a run meets no such read; `writes`: the same of
 //! what it writes, a byte at a time. Runs with the same answers, status and clock of the record share a line. `long-COUNT`: each `~` of the script and the byte before
-//! it stand for so many of that byte. `tasks-COUNT`: the script stands below the load of a graph of so many tasks, each after the one before it. `memory`: not a
-//! script, but what is written where memory ran out.
+//! it stand for so many of that byte. `tasks-COUNT`: the script stands below the load of a graph of so many tasks, each after the one before it. `single`: below
+//! the script and a line that is `+` alone stand commands outside of scripts, on the record that it left. `memory`: not a script, but what is written where memory
+//! ran out.
 #![tactic(auto)]
 
 ghost use Rattle.std.specs.Prelude.{◌≤◌};
@@ -32,6 +33,7 @@ mod lacking;
 mod listed_clock;
 mod playing;
 mod sections;
+mod singles;
 mod stopping;
 
 use failing::Calls;
@@ -39,6 +41,7 @@ use generated::{long, with_chain};
 use lacking::put_lacks;
 use playing::{Setting, play};
 use sections::{Kind, Section, next_section};
+use singles::put_singles;
 use std::fs;
 use std::io::{self, BufWriter, Read, Write};
 use std::sync::Wait;
@@ -113,6 +116,7 @@ fn put_run<T: Threads + Wait + Sync, W: Write>(
             let setting = Setting::with_lanes(0);
             put_played(rt, host, setting, script.as_slice(), output)
         }
+        Kind::Single => put_singles(rt, host, section.script, output),
         Kind::Memory => put_lacks(output),
     }
 }
@@ -166,7 +170,7 @@ fn put_line<W: Write>(line: &[u8], output: &mut W) -> io::Result<()> {
 }
 
 // Writes the lines of a text with these bytes before each. A last line may lack its newline.
-fn put_lines<W: Write>(before: &[u8], text: &[u8], output: &mut W) -> io::Result<()> {
+pub(crate) fn put_lines<W: Write>(before: &[u8], text: &[u8], output: &mut W) -> io::Result<()> {
     let mut lines = text.split(|byte| *byte == b'\n').peekable();
     while let Some(line) = lines.next() {
         if lines.peek().is_some() || !line.is_empty() {

@@ -59,8 +59,6 @@ pub struct Played {
 }
 
 /// Runs a script of which so many reads and writes do not fail.
-///
-/// All scripts are run by this, since each type of record and of streams is proved and compiled with all that it stands on.
 pub fn play<T: Threads + Wait + Sync>(
     rt: &T,
     host: &HostRuntime,
@@ -68,6 +66,23 @@ pub fn play<T: Threads + Wait + Sync>(
     script: &[u8],
     calls: Calls,
 ) -> io::Result<Played>
+    requires lanes { setting.lanes ≤ 64 }
+    requires workers { setting.workers ≤ 16 }
+{
+    let (played, _record) = play_and_keep(rt, host, setting, script, calls)?;
+    Ok(played)
+}
+
+/// The same, with the record that it leaves.
+///
+/// All scripts are run by this, since each type of record and of streams is proved and compiled with all that it stands on.
+pub fn play_and_keep<T: Threads + Wait + Sync>(
+    rt: &T,
+    host: &HostRuntime,
+    setting: Setting<'_>,
+    script: &[u8],
+    calls: Calls,
+) -> io::Result<(Played, Store<MemStore>)>
     requires lanes { setting.lanes ≤ 64 }
     requires workers { setting.workers ≤ 16 }
 {
@@ -87,11 +102,16 @@ pub fn play<T: Threads + Wait + Sync>(
     };
     let record = new_record(alloc)?;
     match run_team(rt, alloc, record, setting.lanes, team, script, &mut clock) {
-        Ok(ran) => Ok(Played {
-            printed: ran.output.bytes,
-            status: ran.status,
-            now: clock_of(alloc, ran.store)?,
-        }),
+        Ok(ran) => {
+            let mut record = ran.store;
+            let now = clock_of(alloc, &mut record)?;
+            let played = Played {
+                printed: ran.output.bytes,
+                status: ran.status,
+                now,
+            };
+            Ok((played, record))
+        }
         Err(_) => Err(io::Error::other("not opened")),
     }
 }
@@ -104,8 +124,7 @@ fn new_record(alloc: Global) -> io::Result<Store<MemStore>> {
 }
 
 // The clock of the schedule that the record holds.
-fn clock_of(alloc: Global, record: Store<MemStore>) -> io::Result<Moment> {
-    let mut record = record;
+fn clock_of(alloc: Global, record: &mut Store<MemStore>) -> io::Result<Moment> {
     match record.load(alloc, Limits::full()) {
         Ok(schedule) => Ok(schedule.now()),
         Err(_) => Err(io::Error::other("not read")),

@@ -27,6 +27,8 @@ pub enum Kind {
     Long(usize),
     /// Below the load of a graph of so many tasks.
     Tasks(usize),
+    /// A script without lanes, and below a line that is `+` alone commands outside of scripts.
+    Single,
     /// What is written where memory ran out.
     Memory,
 }
@@ -52,6 +54,7 @@ impl Section<'_> {
             "writes" => Kind::Stops(Part::Writes),
             "logs" => Kind::Logged,
             "told" => Kind::Told,
+            "single" => Kind::Single,
             "memory" => Kind::Memory,
             _ => counted(word),
         }
@@ -88,6 +91,21 @@ pub fn next_section(text: &[u8]) -> Option<(Section<'_>, &[u8])> {
         None => (section, b"".as_slice()),
     };
     Some((Section { heading, script }, rest))
+}
+
+/// A script and the commands below it, with a line that is `+` alone between them.
+pub fn script_and_commands(text: &[u8]) -> (&[u8], &[u8]) {
+    match text
+        .windows(3)
+        .position(|three| three == b"\n+\n".as_slice())
+    {
+        Some(end) => {
+            let (script, rest) = split_at_newline(text, end);
+            let (_plus, commands) = split_at_newline(rest, 1);
+            (script, commands)
+        }
+        None => (text, b"".as_slice()),
+    }
 }
 
 // What stands before the newline at this place, and what stands after it.
