@@ -1,17 +1,19 @@
 -- An event in a record that was opened for it.
-use Rattle.std.proofs.Common.{◌≡◌, ◌∙◌, ℕ, List, Option, Result, Ok, Err, OnOk, MatchResult, IsTrue, refl, sym, subst, inl, inr}
+use Rattle.std.proofs.Common.{◌≡◌, ◌≤◌, ◌∙◌, ℕ, List, Option, Result, Ok, Err, OnOk, MatchResult, IsTrue, refl, sym, subst, inl, inr}
 use Rattle.std.specs.Io.KnownBytes.{Appends}
 use Rattle.sqlite.specs.Held.{Held}
-use Rattle.sqlite.specs.State.{State, HasCleanDisk}
+use Rattle.sqlite.specs.State.{State, HasCleanDisk, Survives}
 use Rattle.sched_state.specs.Limits.{ceilings}
 use Rattle.sched_model.specs.Schedule.{Schedule}
 use Rattle.sched_events.specs.SettledAndSound.{IsSoundAndSaid}
 use Rattle.sched_events.specs.declared.answers.Answer.{Answer}
 use Rattle.sched_events.specs.declared.events.Event.{Event}
 use Rattle.director.specs.Directors.{DirectorValue, Follows, Keeps, Opens, RestartsIn}
-use Rattle.director.specs.Faults.{IsOpenFault}
+use Rattle.director.specs.Faults.{IsOpenFault, IsRefused}
+use Rattle.director.specs.meta_store.Stores.{CommitsBy}
 use Rattle.director.specs.Lists.{IsOutcome}
 use Rattle.director.specs.declared.faults.Fault.{Fault}
+use Rattle.director.proofs.ListLemmas.{stays_open, was_clean}
 use Rattle.script_reader.specs.answer_lines.RecordFaults.{failure_text}
 use Rattle.script_reader.specs.Statuses.{failure_status, shown_for}
 use Rattle.command_runner.specs.Events.{IsStepDone, IsStepped, IsUnopened}
@@ -20,18 +22,20 @@ use Rattle.command_runner.specs.Writes.{IsWritten}
 pub stepped : {S : Type 0} (look : Held S → State) (before : State) (d : DirectorValue S) (e : Event) (old new : Option (List ℕ)) (store : Held S) (status : ℕ)
     → (HasCleanDisk (look d.store) → Opens ceilings 0 before.now d.schedule.content d.opened)
     → (HasCleanDisk (look d.store) → RestartsIn ceilings 0 before.now (look d.store).now)
+    → (before.faults ≤ (look d.store).faults) × (HasCleanDisk (look d.store) → IsTrue (look d.store).is_open)
     → IsSoundAndSaid d.schedule.content
     → IsStepDone look d e old new store status → IsStepped look before e old new store status
-stepped look before d e old new store status opened restarted sound done = record {
+stepped look before d e old new store status opened restarted is_open sound done = record {
   first = d.schedule.content;
   given = d.opened;
   answer = done.answer;
   after = done.after;
-  opened = λ clean. opened (done.followed.clean clean);
+  opened = λ clean. opened (was_clean _ _ _ _ done.followed clean);
   sound = sound;
   outcome = done.outcome;
+  stays = stays_open _ _ before _ _ is_open.0 is_open.1 done.followed;
   stored = λ clean is_open rows stored.
-      let first = done.followed.clean clean in
+      let first = was_clean _ _ _ _ done.followed clean in
       let keeps : Keeps d.schedule.content (look d.store).now = subst (λ (a : Schedule). Keeps a (look d.store).now) (sym (opened first rows stored).stepped.after) (restarted first rows stored) in
       done.followed.stored clean is_open keeps;
   shown = done.shown;
@@ -45,12 +49,16 @@ written text wanted told old new (Err e) status same text_is is = inr is
 pub unopened : {S E T : Type 0} (look : Held S → State) (before : State) (store : Held S) (fault : Fault) (old new : Option (List ℕ)) (told : ℕ) (put : Result T E) (status : ℕ)
     → (HasCleanDisk (look store) → IsOpenFault ceilings 0 before.now fault)
     → (HasCleanDisk (look store) → IsTrue (look store).is_open → ((look store).now ≡ before.now) × ((look store).committed ≡ before.committed))
+    → Survives before (look store) (CommitsBy (RestartsIn ceilings 0) before)
+    → (IsRefused fault → Survives before (look store) (λ _. ⊥))
     → told ≡ failure_status fault → OnOk put (Appends old new (failure_text fault)) → MatchResult put (λ _. status ≡ told) (λ _. status ≡ 4)
     → IsUnopened look before old new store status
-unopened look before store fault old new told put status cause kept same text_is is = record {
+unopened look before store fault old new told put status cause kept crash refused_crash same text_is is = record {
   fault = fault;
   cause = cause;
   kept = kept;
+  crash = crash;
+  refused_crash = refused_crash;
   shown = written (failure_text fault) (failure_status fault) told old new put status same text_is is;
 }
 

@@ -1,5 +1,5 @@
 -- What a run promises, from what its session and its threads leave.
-use Rattle.std.proofs.Common.{◌≡◌, ◌++◌, ℕ, ◌<◌, ◌≤◌, ◌==◌, Bool, true, false, true≢false, not, List, [], ◌∷◌, length, map, take, replicate, Option, None, Result, Ok, Err, MatchResult, OnOk, IfOk, IfErr, IsOk, refl, sym, ap, ◌∙◌, subst, arith, ne_eqb}
+use Rattle.std.proofs.Common.{◌≡◌, ◌++◌, ℕ, ◌<◌, ◌≤◌, ◌==◌, Bool, true, false, true≢false, not, List, [], ◌∷◌, length, map, take, replicate, Option, None, inl, inr, Result, Ok, Err, MatchResult, OnOk, IfOk, IfErr, IsOk, refl, sym, ap, ◌∙◌, subst, arith, ne_eqb}
 use Rattle.std.specs.Prelude.{sum_by}
 use Rattle.std.proofs.lemmas.List.{length-map}
 use Rattle.std.proofs.Math.Seq.{take-length}
@@ -20,6 +20,7 @@ use Rattle.sched_model.specs.Schedule.{Schedule}
 use Rattle.sched_model.specs.States.{in_flight}
 use Rattle.minutes.specs.Minutes.{BeginWithRestart, reports_in}
 use Rattle.sessions.specs.Runs.{DirectorValue, Follows, IsRun}
+use Rattle.sessions.proofs.director.ListLemmas.{follows_itself}
 use Rattle.sessions.specs.declared.faults.ConductFault.{ConductFault}
 use Rattle.sessions.specs.declared.faults.ConductFault.TheVariants as fault
 use Rattle.sessions.specs.declared.line_reading.Line.{Line}
@@ -95,9 +96,13 @@ module _ {A B : Type 0} where
   both_ok (Ok v) q ok x p f = f v (of_ok q ok x) p
   both_ok (Err e) q ok x p f = tt
 
-pub if_ok : {A F : Type 0} {P Q : A → Type 0} (r : Result A F) → IfOk r P → ((v : A) → P v → Q v) → IfOk r Q
+if_ok : {A F : Type 0} {P Q : A → Type 0} (r : Result A F) → IfOk r P → ((v : A) → P v → Q v) → IfOk r Q
 if_ok (Ok v) p f = f v p
 if_ok (Err e) p f = tt
+
+pub also_ok : {A F P Q : Type 0} (r : Result A F) → OnOk r P → (P → Q) → OnOk r Q
+also_ok (Ok v) p f = f p
+also_ok (Err e) p f = tt
 
 pub take_all : {A : Type 0} (n : ℕ) (xs : List A) → n ≡ length xs → take n xs ≡ xs
 take_all n xs same = ap (λ k. take k xs) same ∙ take-length xs
@@ -119,30 +124,36 @@ by_cases false t f = f refl
 pub started_err : (f : ConductFault) → not (is_unstarted f) ≡ true → is_unstarted f ≡ false
 started_err f started = by_cases (is_unstarted f) (λ is. absurd (true≢false (sym started ∙ ap not is))) (λ is. is)
 
-started_or : {A P Q : Type 0} (q : Result A ConductFault) → IfErr q (λ f. is_unstarted f ≡ true → P) → (all_started q ≡ true → Q) → (P → Q) → Q
+-- a fault that came since one was not
+pub refused_err : (f : ConductFault) → not (is_unstarted f) ≡ false → is_unstarted f ≡ true
+refused_err f refused = by_cases (is_unstarted f) (λ is. is) (λ is. absurd (true≢false (sym (ap not is) ∙ refused)))
+
+started_or : {A P Q : Type 0} (q : Result A ConductFault) → IfErr q (λ f. is_unstarted f ≡ true → P) → (all_started q ≡ true → Q) → (all_started q ≡ false → P → Q) → Q
 started_or (Ok v) refused started none = started refl
-started_or (Err f) refused started none = by_cases (is_unstarted f) (λ is. none (refused is)) (λ is. started (ap not is))
+started_or (Err f) refused started none = by_cases (is_unstarted f) (λ is. none (ap not is) (refused is)) (λ is. started (ap not is))
 
 module _ {G O : Type 0} (runs : O → List (Job × Outcome)) (refused : O → List Job) (taken : O → Option Job) (kits : List (Kit O)) where
   -- no worker reported
-  none_worked : (minutes : List Event) (a : Schedule) → minutes ≡ [] → HaveWorkedFor G runs refused taken kits minutes a
-  none_worked minutes a none = record {
-    ends = [];
-    few = omega arith;
+  nobody_worked : (minutes : List Event) (a : Schedule) → minutes ≡ [] → HaveWorkedFor {G = G} runs refused taken kits [] minutes a
+  nobody_worked minutes a none = record {
+    back = inr (refl, none);
     accounts = λ k kit e below. absurd (omega arith);
     handed = λ weight. omega arith;
     told = λ weight. subst (λ (l : List Event). sum_by weight (reports_in l) ≤ sum_by (λ (e : WorkerEnd G O). sum_by weight (reports_of e.log.items)) []) (sym none) (omega arith);
   }
+
+  none_worked : (ends : List (WorkerEnd G O)) (minutes : List Event) (a : Schedule) → ends ≡ [] → minutes ≡ [] → HaveWorkedFor runs refused taken kits ends minutes a
+  none_worked ends minutes a nobody none =
+      subst (λ (es : List (WorkerEnd G O)). HaveWorkedFor runs refused taken kits es minutes a) (sym nobody) (nobody_worked minutes a none)
 
   -- each log is back
   all_worked : (ends : List (WorkerEnd G O)) (minutes now : List Event) (a : Schedule) (sent : List JobOrStop) (heard : List WorkerReport) (stops : ℕ)
       → minutes ≡ now → length ends ≡ length kits → AreAccounts runs refused taken kits ends
       → sent ≡ map (λ j. items.Job j) (handed_along now a) ++ replicate stops items.Stop → AreAmongSent sent ends
       → ((weight : Report → ℕ) → sum_by weight (reports_in now) ≤ sum_by weight (map (λ t. t.report) heard)) → AreAmongTold heard ends
-      → HaveWorkedFor G runs refused taken kits minutes a
+      → HaveWorkedFor runs refused taken kits ends minutes a
   all_worked ends minutes now a sent heard stops same all accounts is among each told = record {
-    ends = ends;
-    few = omega arith;
+    back = inl all;
     accounts = accounts;
     handed = subst (λ (l : List Event). (weight : Job → ℕ) → sum_by (λ (e : WorkerEnd G O). sum_by weight (logged e.log.items)) ends ≤ sum_by weight (handed_along l a)) (sym same)
         (jobs_among ends sent (handed_along now a) stops is among);
@@ -156,15 +167,15 @@ module _ {G O : Type 0} (runs : O → List (Job × Outcome)) (refused : O → Li
 module _ {S G O : Type 0} where
   -- nothing was stepped, and no thread was started
   pub unstarted_run : (look : Held S → State) (runs : O → List (Job × Outcome)) (refused : O → List Job) (taken : O → Option Job) (lane_count : ℕ) (kits : List (Kit O)) (old : DirectorValue S) (run : Conducted S G O) (are_told : Schedule → List Event → Option Line → Type 0) (untouched : Type 0) (failed : Option LineFault) (is_over : Bool) (f : ConductFault)
-      → run.director ≡ old → run.minutes.items ≡ [] → run.outcome ≡ Err f → are_told old.schedule.content [] None → untouched
+      → run.director ≡ old → run.minutes.items ≡ [] → run.ends.items ≡ [] → run.outcome ≡ Err f → are_told old.schedule.content [] None → untouched
       → came_to_its_end run.outcome ≡ false → EndsRun f failed → is_no_worker f ≡ (length kits == 0)
       → IsConducted look runs refused taken lane_count kits old run are_told untouched failed is_over
-  unstarted_run look runs refused taken lane_count kits old run are_told untouched failed is_over f d e o nothing same short ends none =
+  unstarted_run look runs refused taken lane_count kits old run are_told untouched failed is_over f d e nobody o nothing same short ends none =
       let a = old.schedule.content in
       record {
         stepped = ap (λ (x : DirectorValue S). x.schedule.content) d ∙ ap (λ (l : List Event). steps l a) (sym e);
         accepted = subst (λ (l : List Event). AreAccepted l a) (sym e) tt;
-        followed = subst (λ (x : DirectorValue S). Follows a (look old.store) x.schedule.content (look x.store)) (sym d) (record { clean = λ h. h; was_open = λ _ h. h; stored = λ _ _ h. h });
+        followed = subst (λ (x : DirectorValue S). Follows a (look old.store) x.schedule.content (look x.store)) (sym d) (follows_itself a (look old.store));
         opened = ap (λ (x : DirectorValue S). x.opened) d;
         begun = subst (λ (l : List Event). BeginWithRestart lane_count l) (sym e) tt;
         waits = None;
@@ -173,12 +184,10 @@ module _ {S G O : Type 0} where
         fault = subst (λ r. MatchResult r (λ _. failed ≡ None) (λ g. EndsRun g failed)) (sym o) ends;
         workers = subst (λ r. MatchResult r (λ _. 0 < length kits) (λ g. is_no_worker g ≡ (length kits == 0))) (sym o) none;
         unstarted = subst (λ r. IfErr r (λ g. is_unstarted g ≡ true → (run.minutes.items ≡ []) × untouched)) (sym o) (λ _. (e, same));
-        worked = none_worked runs refused taken kits run.minutes.items a e;
-        ends = subst (λ r. IfOk r (λ s. length s.ends.items ≡ length kits)) (sym o) tt;
-        once = subst (λ r. IfOk r (λ s. EachStandsInALog (handed_along run.minutes.items a) s.ends.items)) (sym o) tt;
-        own = subst (λ r. IfOk r (λ s. EachToldItsOwn run.minutes.items s.ends.items)) (sym o) tt;
-        accounts = subst (λ r. IfOk r (λ s. AreAccounts runs refused taken kits s.ends.items)) (sym o) tt;
-        desk = subst (λ r. IfOk r (λ s. (s.desk.slots ≡ 0) × (s.desk.holds.items ≡ []))) (sym o) tt;
+        worked = none_worked runs refused taken kits run.ends.items run.minutes.items a nobody e;
+        once = subst (λ r. OnOk r (EachStandsInALog (handed_along run.minutes.items a) run.ends.items)) (sym o) tt;
+        own = subst (λ r. OnOk r (EachToldItsOwn run.minutes.items run.ends.items)) (sym o) tt;
+        desk = subst (λ r. IfOk r (λ d. (d.slots ≡ 0) × (d.holds.items ≡ []))) (sym o) tt;
       }
 
   -- a session was served while the workers ran, and what the workers did was settled
@@ -190,15 +199,16 @@ module _ {S G O : Type 0} where
       → run.director ≡ now.director → run.minutes.items ≡ now.minutes.items
       → OnOk run.outcome (IsOk outcome) → PassesOn run.outcome outcome
       → (all_started outcome ≡ true → length results ≡ length kits)
-      → IfOk run.outcome (λ s. s.ends.items ≡ map end_of results)
-      → IfOk run.outcome (λ s. EachStandsInALog (handed_along now.minutes.items old.schedule.content) s.ends.items)
-      → IfOk run.outcome (λ s. EachToldItsOwn now.minutes.items s.ends.items)
+      → (all_started outcome ≡ true → run.ends.items ≡ map end_of results)
+      → (all_started outcome ≡ false → run.ends.items ≡ [])
+      → OnOk run.outcome (EachStandsInALog (handed_along now.minutes.items old.schedule.content) run.ends.items)
+      → OnOk run.outcome (EachToldItsOwn now.minutes.items run.ends.items)
       → (all_started outcome ≡ true → AreAccounts runs refused taken kits (map end_of results))
-      → IfOk run.outcome (λ s. (s.desk.slots ≡ 0) × (length s.desk.holds.items ≤ s.desk.slots))
-      → (all_started outcome ≡ true → AreAmongSent (sent_of now.pass) (map end_of results))
-      → (all_started outcome ≡ true → AreAmongTold (heard_of now.pass) (map end_of results))
+      → IfOk run.outcome (λ d. (d.slots ≡ 0) × (length d.holds.items ≤ d.slots))
+      → (all_started outcome ≡ true → AreAmongSent (sent_of now.pass) run.ends.items)
+      → (all_started outcome ≡ true → AreAmongTold (heard_of now.pass) run.ends.items)
       → IsConducted look runs refused taken lane_count kits old run are_told untouched failed is_over
-  conducted {W} {R} look runs refused taken lanes lane_count stops kits old fresh now outcome results end_of run are_told untouched failed is_over some of_old is_run served dir min ok pass all ends once own accounts desk sent told =
+  conducted {W} {R} look runs refused taken lanes lane_count stops kits old fresh now outcome results end_of run are_told untouched failed is_over some of_old is_run served dir min ok pass all ends nobody once own accounts desk sent told =
       let a = old.schedule.content in
       let stop = served.run a is_run in
       let what = served.told a is_run in
@@ -224,12 +234,11 @@ module _ {S G O : Type 0} where
         worked =
             started_or outcome served.unstarted
             (λ is.
-            all_worked runs refused taken kits (map end_of results) run.minutes.items now.minutes.items a (sent_of now.pass) (heard_of now.pass) stops
-            min (length-map results end_of ∙ all is) (accounts is) stop.sent (sent is) stop.each_heard (told is))
-            (λ none. none_worked runs refused taken kits run.minutes.items a (min ∙ none.0));
-        ends = both_ok run.outcome outcome ok (on_ok outcome all) ends (λ s same is. ap length is ∙ length-map results end_of ∙ same);
-        once = if_ok run.outcome once (λ s each. subst (λ (l : List Event). EachStandsInALog (handed_along l a) s.ends.items) (sym min) each);
-        own = if_ok run.outcome own (λ s each. subst (λ (l : List Event). EachToldItsOwn l s.ends.items) (sym min) each);
-        accounts = both_ok run.outcome outcome ok (on_ok outcome accounts) ends (λ s are is. subst (λ (l : List (WorkerEnd G O)). AreAccounts runs refused taken kits l) (sym is) are);
-        desk = if_ok run.outcome desk (λ s d. (d.0, empty_list s.desk.holds.items (subst (λ n. length s.desk.holds.items ≤ n) d.0 d.1)));
+            all_worked runs refused taken kits run.ends.items run.minutes.items now.minutes.items a (sent_of now.pass) (heard_of now.pass) stops
+            min (ap length (ends is) ∙ length-map results end_of ∙ all is) (subst (λ (l : List (WorkerEnd G O)). AreAccounts runs refused taken kits l) (sym (ends is)) (accounts is))
+            stop.sent (sent is) stop.each_heard (told is))
+            (λ is none. none_worked runs refused taken kits run.ends.items run.minutes.items a (nobody is) (min ∙ none.0));
+        once = also_ok run.outcome once (λ each. subst (λ (l : List Event). EachStandsInALog (handed_along l a) run.ends.items) (sym min) each);
+        own = also_ok run.outcome own (λ each. subst (λ (l : List Event). EachToldItsOwn l run.ends.items) (sym min) each);
+        desk = if_ok run.outcome desk (λ d held. (held.0, empty_list d.holds.items (subst (λ n. length d.holds.items ≤ n) held.0 held.1)));
       }

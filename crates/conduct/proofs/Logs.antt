@@ -1,5 +1,5 @@
 -- The jobs in the logs, where stops are left out, and the reports of each log.
-use Rattle.std.proofs.Common.{◌≡◌, ℕ, zero, suc, ◌<◌, ◌≤◌, ◌==◌, List, [], ◌∷◌, ◌++◌, length, get_or, map, replicate, refl, sym, ap, ◌∙◌, arith, eq-eqb, ◌&&◌, true, Result, Ok, Err, IfOk, OnOk}
+use Rattle.std.proofs.Common.{◌≡◌, ℕ, zero, suc, ◌<◌, ◌≤◌, ◌==◌, List, [], ◌∷◌, ◌++◌, length, get_or, map, replicate, refl, sym, ap, ◌∙◌, subst, arith, eq-eqb, ◌&&◌, true, Result, Ok, Err, IfOk, OnOk}
 use Rattle.std.specs.Prelude.{sum_by}
 use Rattle.std.specs.List.{list_all}
 use Rattle.std.proofs.lemmas.List.{length-map}
@@ -140,11 +140,16 @@ module _ {G O : Type 0} where
       let same = length-map ends (λ (e : WorkerEnd G O). logged e.log.items) in
       ap (λ (l : List Job). of_worker (serials_in l) es) (sym (log_at ends k d below)) ∙ law k (omega arith) ∙ told.0 k d below
 
--- ---- what holds where a result is Ok
-pub if_ok : {A F : Type 0} {P Q : A → Type 0} (r : Result A F) → IfOk r P → ((v : A) → P v → Q v) → IfOk r Q
-if_ok (Ok v) p f = f v p
-if_ok (Err e) p f = tt
+-- ---- what holds where a result that was passed on is Ok
+module _ {A E F : Type 0} (desk : Result A E) where
+  pub passed_on : {P Q : Type 0} (r : Result A F) → IfOk r (λ d. desk ≡ Ok d) → OnOk desk P → (P → Q) → OnOk r Q
+  passed_on {P} (Ok d) same p f = f (subst (λ (x : Result A E). OnOk x P) same p)
+  passed_on (Err e) same p f = tt
 
-pub ifs_ok : {A F X : Type 0} {P Q S : A → Type 0} (r : Result A F) → OnOk r X → IfOk r P → IfOk r Q → ((v : A) → X → P v → Q v → S v) → IfOk r S
-ifs_ok (Ok v) x p q f = f v x p q
-ifs_ok (Err e) x p q f = tt
+  pub both_passed_on : {X P Q S : Type 0} (r : Result A F) → IfOk r (λ d. desk ≡ Ok d) → OnOk r X → OnOk desk P → OnOk desk Q → (X → P → Q → S) → OnOk r S
+  both_passed_on {P = P} {Q = Q} (Ok d) same x p q f = f x (subst (λ (y : Result A E). OnOk y P) same p) (subst (λ (y : Result A E). OnOk y Q) same q)
+  both_passed_on (Err e) same x p q f = tt
+
+  pub counted : (P Q : A → Type 0) (r : Result A F) → IfOk r (λ d. desk ≡ Ok d) → IfOk desk P → IfOk desk Q → IfOk r (λ d. P d × Q d)
+  counted P Q (Ok d) same p q = (subst (λ (x : Result A E). IfOk x P) same p, subst (λ (x : Result A E). IfOk x Q) same q)
+  counted P Q (Err e) same p q = tt

@@ -1,5 +1,5 @@
 -- What the ends of the crews say of the jobs that were handed out.
-use Rattle.std.specs.Prelude.{◌≡◌, ℕ, ◌<◌, ◌≤◌, List, length, map, sum_by, slice_index_or, Option}
+use Rattle.std.specs.Prelude.{◌≡◌, ◌⊎◌, ℕ, ◌<◌, ◌≤◌, List, [], length, map, sum_by, slice_index_or, Option}
 use Rattle.instance_machine.specs.declared.tries.Outcome.{Outcome}
 use Rattle.ruled_dispatch.specs.declared.items.Report.{Report}
 use Rattle.sched_state.specs.declared.jobs.Job.{Job}
@@ -34,11 +34,11 @@ module _ {G O : Type 0} where
       (k : ℕ) (e : WorkerEnd G O) → k < length ends
       → of_worker (serials_of (slice_index_or ends k e).log.items) minutes ≡ reports_of (slice_index_or ends k e).log.items
 
--- Workers with these kits, or with the first of them, have worked for these minutes, from this schedule on: the log of each is an account of its kit; no job
--- stands in the logs more often than the minutes hand it out; and the minutes report nothing more often than the logs tell it.
-pub record HaveWorkedFor {O : Type 0} (G : Type 0) (runs : O → List (Job × Outcome)) (refused : O → List Job) (taken : O → Option Job) (kits : List (Kit O)) (minutes : List Event) (a : Schedule) : Type 0 where
-  pub ends : List (WorkerEnd G O)
-  pub few : length ends ≤ length kits
+-- Workers with these kits came to these ends while these minutes were made, from this schedule on. There is an end for each kit, or, where no minute was made,
+-- perhaps none. The log of each is an account of its kit; no job stands in the logs more often than the minutes hand it out; and the minutes report nothing
+-- more often than the logs tell it.
+pub record HaveWorkedFor {G O : Type 0} (runs : O → List (Job × Outcome)) (refused : O → List Job) (taken : O → Option Job) (kits : List (Kit O)) (ends : List (WorkerEnd G O)) (minutes : List Event) (a : Schedule) : Type 0 where
+  pub back : (length ends ≡ length kits) ⊎ ((ends ≡ []) × (minutes ≡ []))
   pub accounts : AreAccounts runs refused taken kits ends
   pub handed : (weight : Job → ℕ) → sum_by (λ e. sum_by weight (logged e.log.items)) ends ≤ sum_by weight (handed_along minutes a)
   pub told : (weight : Report → ℕ) → sum_by weight (reports_in minutes) ≤ sum_by (λ e. sum_by weight (reports_of e.log.items)) ends

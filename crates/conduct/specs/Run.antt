@@ -1,11 +1,10 @@
 -- What a run promises.
-use Rattle.std.specs.Prelude.{◌≡◌, ◌==◌, ℕ, ◌<◌, Bool, true, List, [], length, Option, None, MatchResult, IfOk, IfErr}
+use Rattle.std.specs.Prelude.{◌≡◌, ◌==◌, ℕ, ◌<◌, Bool, true, List, [], length, Option, None, MatchResult, IfOk, IfErr, OnOk}
 use Rattle.sqlite.specs.Held.{Held}
 use Rattle.sqlite.specs.State.{State}
 use Rattle.instance_machine.specs.declared.tries.Outcome.{Outcome}
 use Rattle.sched_state.specs.declared.jobs.Job.{Job}
 use Rattle.operators.specs.declared.kits.Kit.{Kit}
-use Rattle.crews.specs.Settled.{AreAccounts}
 use Rattle.sched_events.specs.Steps.{steps, handed_along, AreAccepted}
 use Rattle.sched_events.specs.declared.events.Event.{Event}
 use Rattle.sched_model.specs.Schedule.{Schedule}
@@ -41,14 +40,12 @@ pub record IsConducted {S G O : Type 0} (look : Held S → State) (runs : O → 
   pub fault : MatchResult run.outcome (λ _. failed ≡ None) (λ f. EndsRun f failed)
   pub workers : MatchResult run.outcome (λ _. 0 < length kits) (λ f. is_no_worker f ≡ (length kits == 0))
   pub unstarted : IfErr run.outcome (λ f. is_unstarted f ≡ true → (run.minutes.items ≡ []) × untouched)
-  -- with a fault too: workers have worked for the minutes, which report nothing that no worker told
-  pub worked : HaveWorkedFor G runs refused taken kits run.minutes.items old.schedule.content
+  -- with a fault too: each worker that came back told what its operators did, which did no job that was not handed out; and the minutes report nothing that
+  -- none of them told
+  pub worked : HaveWorkedFor runs refused taken kits run.ends.items run.minutes.items old.schedule.content
   -- where it ended well: each try that was handed out stands in the log of one worker, as often as it was handed out, and no other does
-  pub ends : IfOk run.outcome (λ s. length s.ends.items ≡ length kits)
-  pub once : IfOk run.outcome (λ s. EachStandsInALog (handed_along run.minutes.items old.schedule.content) s.ends.items)
+  pub once : OnOk run.outcome (EachStandsInALog (handed_along run.minutes.items old.schedule.content) run.ends.items)
   -- what the minutes report of a worker's jobs is what that worker told, in its order
-  pub own : IfOk run.outcome (λ s. EachToldItsOwn run.minutes.items s.ends.items)
-  -- each worker told what its operators did: its log is an account of its kit
-  pub accounts : IfOk run.outcome (λ s. AreAccounts runs refused taken kits s.ends.items)
+  pub own : OnOk run.outcome (EachToldItsOwn run.minutes.items run.ends.items)
   -- nothing is left at the desk
-  pub desk : IfOk run.outcome (λ s. (s.desk.slots ≡ 0) × (s.desk.holds.items ≡ []))
+  pub desk : IfOk run.outcome (λ d. (d.slots ≡ 0) × (d.holds.items ≡ []))

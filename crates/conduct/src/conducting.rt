@@ -8,17 +8,17 @@ ghost use Rattle.conduct.specs.Run.{IsConducted};
 use crate::closing::close;
 use crate::equipment::{Equipment, equip};
 use crate::threads::manage;
-use crews::Settled;
 use operators::Operator;
 use sched_events::Event;
 use sessions::{Clock, ConductFault, Director, Lines, Session};
+use slot_desk::Total;
 use sqlite::Alter;
 use std::alloc::Global;
 use std::marker::Brand;
 use std::sync::Wait;
 use std::sync::ledger::{Blank, Ledger};
 use std::thread::Threads;
-use work::{Crew, Gate};
+use work::{Crew, Gate, WorkerEnd};
 
 /// What came of a run.
 #[derive(Drop)]
@@ -27,8 +27,10 @@ pub struct Conducted<S: Alter, G: Gate, O: Operator> {
     pub director: Director<S>,
     /// The events that were accepted in the run, in their order: the restart, the events of the lines, and what workers reported.
     pub minutes: Vec<Event>,
-    /// What became of the crews, in their order, or why the run ended before.
-    pub outcome: Result<Settled<G, O>, ConductFault>,
+    /// What became of the crews, in their order, also where the run ended with a fault. Before an event was stepped there may be none.
+    pub ends: Vec<WorkerEnd<G, O>>,
+    /// What the desk held, or why the run ended otherwise.
+    pub outcome: Result<Total, ConductFault>,
 }
 
 /// Runs the schedule: restarts it with so many lanes, follows the lines, hands each try to one of the workers, and steps what they report,
@@ -65,6 +67,7 @@ pub fn conduct<
         return Conducted {
             director,
             minutes: Vec::new(alloc),
+            ends: Vec::new(alloc),
             outcome: Err(ConductFault::NoWorker),
         };
     }
@@ -114,6 +117,7 @@ fn conduct_at<
         return Conducted {
             director,
             minutes: Vec::new(alloc),
+            ends: Vec::new(alloc),
             outcome: Err(ConductFault::Memory),
         };
     };
@@ -130,5 +134,5 @@ fn conduct_at<
     let managed = manage(
         rt, alloc, &lanes, &desk, lane_count, session, posts, crews, lines, clock,
     );
-    close(rt, lanes, desk, room, managed)
+    close(rt, alloc, lanes, desk, room, managed)
 }

@@ -1,5 +1,5 @@
 -- What is known of workers that began with new passes and with shares without a hold.
-use Rattle.std.proofs.Common.{◌≡◌, ℕ, suc, ◌+◌, ◌<◌, ◌≤◌, List, [], ◌∷◌, ◌++◌, length, get_or, map, All, Option, refl, ap, ◌∙◌, arith, replicate}
+use Rattle.std.proofs.Common.{◌≡◌, ℕ, suc, ◌+◌, ◌<◌, List, [], ◌∷◌, ◌++◌, length, get_or, map, All, Option, Result, Ok, Err, IfOk, IfErr, OnOk, refl, sym, ap, ◌∙◌, subst, arith, replicate}
 use Rattle.std.specs.Prelude.{sum_by}
 use Rattle.std.proofs.lemmas.List.{length-map}
 use Rattle.std.proofs.lemmas.List.Sums.{sum_by-cons, sum_by-append}
@@ -48,6 +48,20 @@ back_are_sent lanes director rs passes count are back tallied weight =
     let took = took_all weight rs (λ i r b. (back i r b).took) in
     let stops = ap (λ m. sum_by weight (replicate m items.Stop)) (length-map rs (λ r. r.0)) in
     omega arith
+
+-- ---- what the desk held, unless something is left in a queue
+module _ {A T Q : Type 0} where
+  pub where_none_is_left : {P : Type 0} (total : A) (r : Result A T) → IfOk r (λ d. (d ≡ total) × Q) → (Q → P) → OnOk r P
+  where_none_is_left total (Ok d) none p = p none.1
+  where_none_is_left total (Err t) none p = tt
+
+  pub of_the_total : (P : A → Type 0) (total : A) (r : Result A T) → IfOk r (λ d. (d ≡ total) × Q) → (Q → P total) → IfOk r P
+  of_the_total P total (Ok d) same p = subst P (sym same.0) (p same.1)
+  of_the_total P total (Err t) same p = tt
+
+  pub of_what_is_left : (P : T → Type 0) (left : T) (r : Result A T) → IfErr r (λ t. (t ≡ left) × Q) → (Q → P left) → IfErr r P
+  of_what_is_left P left (Ok d) same p = tt
+  of_what_is_left P left (Err t) same p = subst P (sym same.0) (p same.1)
 
 nothing_held : {R : Type 0} (share : R → List Hold) (rs : List R) → ((i : ℕ) (r : R) → i < length rs → share (get_or rs i r) ≡ []) → in_hand (map share rs) ≡ 0
 nothing_held share [] each = refl

@@ -1,14 +1,16 @@
 -- Lists of events, each answered.
-use Rattle.std.proofs.Common.{◌≡◌, ◌∙◌, ℕ, ◌+◌, ◌<◌, List, [], ◌∷◌, ◌++◌, take, length, get_or, Result, Ok, Err, IfOk, IfErr, OnOk, OnErr, IsTrue, refl, sym, ap, subst, arith}
+use Rattle.std.proofs.Common.{◌≡◌, ◌∙◌, ℕ, ◌+◌, ◌<◌, ◌≤◌, inl, inr, List, [], ◌∷◌, ◌++◌, take, length, get_or, Result, Ok, Err, IfOk, IfErr, OnOk, OnErr, IsTrue, refl, sym, ap, subst, arith}
 use Rattle.std.proofs.lemmas.List.{take_more}
+use Rattle.std.specs.Prelude.{⊤}
 use Rattle.sqlite.specs.State.{State, HasCleanDisk, Survives}
 use Rattle.sqlite.specs.Tree.{Trees}
+use Rattle.sqlite.proofs.StateLemmas.{survives_then, survives_weaker}
 use Rattle.sched_model.specs.Schedule.{Schedule}
 use Rattle.sched_events.specs.Outcomes.{IsStepped}
 use Rattle.sched_events.specs.Steps.{steps, AreAccepted}
 use Rattle.sched_events.specs.declared.answers.Answer.{Answer}
 use Rattle.sched_events.specs.declared.events.Event.{Event}
-use Rattle.director.specs.Directors.{Keeps, Follows, StepsIn}
+use Rattle.director.specs.Directors.{Keeps, Follows, StaysOpen, StepsIn}
 use Rattle.director.specs.Faults.{IsFaultOf}
 use Rattle.director.specs.Lists.{IsOutcome, Answers, accepted}
 use Rattle.director.specs.declared.faults.Fault.{Fault}
@@ -53,26 +55,43 @@ outcome_is a e (Ok w) b stepped same fault = stepped
 outcome_is a e (Err f) b stepped same fault = (fault, same)
 
 -- ---- the record follows the schedule
+pub survives_itself : {P : Trees → Type 0} (s : State) → Survives s s P
+survives_itself s = record { clean = omega arith; shield = λ h. h; counts = omega arith; limit = refl; closes = λ _ h. inl h; crash = λ _ _ h. inl h }
+
 pub follows_itself : (a : Schedule) (s : State) → Follows a s a s
-follows_itself a s = record { clean = λ h. h; was_open = λ _ h. h; stored = λ _ _ h. h }
+follows_itself a s = record {
+  survives = survives_itself s;
+  was_open = λ _ h. h;
+  stored = λ _ _ h. h;
+}
+
+pub was_clean : (a b : Schedule) (s t : State) → Follows a s b t → HasCleanDisk t → HasCleanDisk s
+was_clean a b s t follows clean = omega (arith, follows.survives.clean, clean)
 
 pub follows_then : (a b c : Schedule) (s t u : State) → Follows a s b t → Follows b t c u → Follows a s c u
 follows_then a b c s t u one two = record {
-  clean = λ h. one.clean (two.clean h);
-  was_open = λ h is_open. one.was_open (two.clean h) (two.was_open h is_open);
-  stored = λ h is_open keeps. two.stored h is_open (one.stored (two.clean h) (two.was_open h is_open) keeps);
+  survives = survives_then s t u (λ _. ⊤) (λ _. ⊤) (λ _. ⊤) (λ _ _ h. h) (λ _ _ h. h) one.survives two.survives;
+  was_open = λ h is_open. one.was_open (was_clean b c t u two h) (two.was_open h is_open);
+  stored = λ h is_open keeps. two.stored h is_open (one.stored (was_clean b c t u two h) (two.was_open h is_open) keeps);
 }
+
+-- one that was open before, with no fewer faults than an earlier one
+pub stays_open : (a b : Schedule) (first s t : State) → first.faults ≤ s.faults → (HasCleanDisk s → IsTrue s.is_open) → Follows a s b t → StaysOpen first t
+stays_open a b first s t more was_open follows clean = elim (follows.survives.closes clean (was_open (was_clean a b s t follows clean))) [
+  | inl still ↦ inl still
+  | inr fault ↦ inr (omega (arith, more, fault))
+]
 
 -- over one event
 pub follows_step : {P : Trees → Type 0} (a b : Schedule) (e : Event) (r : Result Answer Fault) (s t : State) → Survives s t P → (HasCleanDisk t → IsTrue t.is_open → IsTrue s.is_open)
     → IsOutcome a e r b → (HasCleanDisk t → OnOk r (StepsIn e a s.now t.now)) → (HasCleanDisk t → IsTrue t.is_open → OnErr r ((t.now ≡ s.now) × (t.committed ≡ s.committed))) → Follows a s b t
 follows_step {P} a b e (Ok w) s t lives was stepped stored kept = record {
-  clean = λ h. omega (arith, lives.clean, h);
+  survives = survives_weaker s t P (λ _. ⊤) (λ _ _ _. tt) lives;
   was_open = was;
   stored = λ h is_open keeps. subst (λ (x : Schedule). Keeps x t.now) (sym stepped.after) (stored h keeps);
 }
 follows_step {P} a b e (Err f) s t lives was refused stored kept = record {
-  clean = λ h. omega (arith, lives.clean, h);
+  survives = survives_weaker s t P (λ _. ⊤) (λ _ _ _. tt) lives;
   was_open = was;
   stored = λ h is_open keeps. subst (λ (x : Schedule). Keeps x t.now) (sym refused.1) (subst (Keeps a) (sym (kept h is_open).0) keeps);
 }

@@ -1,9 +1,10 @@
 -- What contracts see of a director, and what its calls leave in its record.
-use Rattle.std.specs.Prelude.{ℕ, IsTrue, refl}
+use Rattle.std.specs.Prelude.{◌⊎◌, ℕ, IsTrue, ⊤, refl}
 use Rattle.std.specs.Coded.{Coded, code_by, coded×}
 use Rattle.sqlite.specs.Effect.{Database}
 use Rattle.sqlite.specs.Held.{Held, held_code}
-use Rattle.sqlite.specs.State.{State, HasCleanDisk}
+use Rattle.sqlite.specs.State.{State, HasCleanDisk, Survives}
+use Rattle.sqlite_disk.specs.Disk.{MoreFaults}
 use Rattle.record_rows.specs.Rows.{Rows}
 use Rattle.record_rules.specs.Reading.{schedule_of}
 use Rattle.meta_store.specs.record_tables.Holds.{Stores}
@@ -39,9 +40,14 @@ Keeps a db = Stores db (tables a)
 abbrev pub StepsIn : Event → Schedule → Database → Database → Type 0
 StepsIn e a old new = Keeps a old → Keeps (step e a) new
 
--- the record follows the schedule from a to b: where it is still open, and stored a before, it stores b
+-- the record is open, unless its disk has failed or refused since
+abbrev pub StaysOpen : State → State → Type 0
+StaysOpen before after = HasCleanDisk after → IsTrue after.is_open ⊎ MoreFaults before.faults after.faults
+
+-- The record follows the schedule from a to b: where it is open, it was, and where it stored a before, it stores b. No fault of its disk is forgotten, and
+-- nothing but such a fault has shut it. Of a crash nothing is said here.
 pub record Follows (a : Schedule) (before : State) (b : Schedule) (after : State) : Type 0 where
-  pub clean : HasCleanDisk after → HasCleanDisk before
+  pub survives : Survives before after (λ _. ⊤)
   pub was_open : HasCleanDisk after → IsTrue after.is_open → IsTrue before.is_open
   pub stored : HasCleanDisk after → IsTrue after.is_open → Keeps a before.now → Keeps b after.now
 

@@ -17,6 +17,7 @@ use Rattle.sqlite.specs.Held.{Held}
 use Rattle.sqlite.specs.Schema.{Schema}
 use Rattle.sqlite.specs.State.{HasCleanDisk, Survives}
 use Rattle.sqlite.proofs.Theorems.{next_run}
+use Rattle.director.specs.meta_store.record_tables.Holds.{Stores}
 use Rattle.director.specs.meta_store.Stores.{CommitsBy}
 use Rattle.record_files.specs.Crashes.{IsConnection, IsFoundAround, IsOpenedOn, MayBeLeft}
 
@@ -24,6 +25,14 @@ pub one_database : (a b : Database) → IsDatabase a → IsDatabase b → a.tree
 one_database a b p q same =
     let schemas : a.schema ≡ b.schema = lists_once (a.trees catalog_tree) a.schema b.schema p.lists (subst (λ (t : Trees). Lists (t catalog_tree) b.schema) (sym same) q.lists) in
     ap (λ (s : Schema). let r : Database = record { schema = s; trees = a.trees } in r) schemas ∙ ap (λ (t : Trees). let r : Database = record { schema = b.schema; trees = t } in r) same
+
+-- a database that SQLite has, with the trees of one that stores rows, is this one
+pub stores_by_trees : (new found : Database) (rows : _) → IsDatabase found → found.trees ≡ new.trees → Stores new rows → Stores found rows
+stores_by_trees new found rows sound same stored = subst (λ (d : Database). Stores d rows) (sym (one_database found new sound stored.sound same)) stored
+
+-- the relation tells of a database what it tells of one with the same trees
+abbrev pub TellsByTrees : (Database → Database → Type 0) → Type 0
+TellsByTrees R = (old new found : Database) → IsDatabase found → found.trees ≡ new.trees → R old new → R old found
 
 -- outside of a transaction a crash leaves nothing but what is there
 leaves_itself : {D : Type 0} {g : Ghosts D} → SeenMayStay g → (h : Held (FileStore D g)) → IsConnection h → IsTrue (file_state h).is_open → h.in_transaction ≡ false → (trees : Trees) → (file_state h).may_leave trees
@@ -47,14 +56,15 @@ module _ {D E : Type 0} {g : Ghosts D} {k : Ghosts E} where
   found_itself stays before found left is clean is_open outside may opened =
       ∥∥₁_map (found_trees before found left is clean may opened) (λ r. same_now before found left is is_open opened (leaves_itself stays before is is_open outside _ r))
 
-  -- trees that a crash in a transaction may leave are those of before, or of what it makes
-  around : SeenMayStay g → (R : Database → Database → Type 0) (old : Held (FileStore D g)) (found : Held (FileStore E k)) (left : Image) → IsConnection old → IsTrue (file_state old).is_open → old.in_transaction ≡ false
+  -- what a crash in a transaction may leave is the database of before, or one that it makes
+  around : SeenMayStay g → (R : Database → Database → Type 0) → TellsByTrees R → (old : Held (FileStore D g)) (found : Held (FileStore E k)) (left : Image) → IsConnection old → IsTrue (file_state old).is_open → old.in_transaction ≡ false
       → IsOpenedOn left found → (file_state old).may_leave (file_state found).now.trees ⊎ CommitsBy R (file_state old) (file_state found).now.trees → IsFoundAround R (file_state old).now (file_state found).now
-  around stays R old found left was is_open outside opened (inl before) = inl (same_now old found left was is_open opened (leaves_itself stays old was is_open outside _ before))
-  around stays R old found left was is_open outside opened (inr made) = inr made.1
+  around stays R tells old found left was is_open outside opened (inl before) = inl (same_now old found left was is_open opened (leaves_itself stays old was is_open outside _ before))
+  around stays R tells old found left was is_open outside opened (inr made) =
+      inr (tells (file_state old).now made.1.0 (file_state found).now (opened.0.1 opened.0.0.is_open).0 made.1.2 made.1.1)
 
-  pub found_around : SeenMayStay g → (R : Database → Database → Type 0) (old new : Held (FileStore D g)) (found : Held (FileStore E k)) (left : Image) → IsConnection old → IsTrue (file_state old).is_open
+  pub found_around : SeenMayStay g → (R : Database → Database → Type 0) → TellsByTrees R → (old new : Held (FileStore D g)) (found : Held (FileStore E k)) (left : Image) → IsConnection old → IsTrue (file_state old).is_open
       → old.in_transaction ≡ false → IsConnection new → HasCleanDisk (file_state new) → Survives (file_state old) (file_state new) (CommitsBy R (file_state old))
       → MayBeLeft new left → IsOpenedOn left found → ∥ IsFoundAround R (file_state old).now (file_state found).now ∥₁
-  found_around stays R old new found left was is_open outside is clean survives may opened =
-      ∥∥₁_map (found_trees new found left is clean may opened) (λ r. around stays R old found left was is_open outside opened (survives.crash clean _ r))
+  found_around stays R tells old new found left was is_open outside is clean survives may opened =
+      ∥∥₁_map (found_trees new found left is clean may opened) (λ r. around stays R tells old found left was is_open outside opened (survives.crash clean _ r))

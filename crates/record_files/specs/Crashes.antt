@@ -8,7 +8,6 @@ use Rattle.sqlite.specs.Effect.{Database}
 use Rattle.sqlite.specs.Files.{file_state, IsOpened}
 use Rattle.sqlite.specs.Held.{Held, IsConnected}
 use Rattle.sqlite.specs.Start.{FindsIn}
-use Rattle.director.specs.meta_store.Stores.{CommitsFrom}
 
 module _ {D : Type 0} {g : Ghosts D} where
   -- what is true of each connection over files: the invariant of its type
@@ -23,6 +22,6 @@ module _ {D : Type 0} {g : Ghosts D} where
   abbrev pub IsOpenedOn : Image → Held (FileStore D g) → Type 0
   IsOpenedOn left h = IsOpened h × FindsIn left (file_state h)
 
--- a database is found as it was before a transaction that changes it by this relation, or with the trees of one that the transaction makes of it
+-- a database is found as it was before a transaction that changes it by this relation, or as one that the transaction makes of it
 abbrev pub IsFoundAround : (Database → Database → Type 0) → Database → Database → Type 0
-IsFoundAround R before found = (found ≡ before) ⊎ CommitsFrom R before found.trees
+IsFoundAround R before found = (found ≡ before) ⊎ R before found

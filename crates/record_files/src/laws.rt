@@ -31,8 +31,8 @@ pub fn the_next_start_finds_what_is_there<D: Disk, E: Disk>(
 {}
 
 /// After a crash in an event, in an opening or in the making of a record (`crash` of `Director::step`, of `open` and of `Store::create`), the next start finds
-/// the database before it, or the trees of one that it makes: one that stores the schedule after the event, or after the restart, if the one before stored
-/// that before; or that of a new record.
+/// the database before it, or one that it makes: one that stores the schedule after the event, or after the restart, if the one before stored that before;
+/// or a new record, if the one before had nothing.
 pub fn the_next_start_finds_before_or_after<D: Disk, E: Disk>(
     old: &Connection<FileStore<D>>,
     new: &Connection<FileStore<D>>,

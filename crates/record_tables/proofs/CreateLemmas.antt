@@ -11,7 +11,7 @@ use Rattle.sqlite_catalog.specs.Change.{indexed}
 use Rattle.sqlite_rules.proofs.ListLemmas.{all_has, all_from}
 use Rattle.sqlite.specs.Change.{created, next_tree, KeepsRows}
 use Rattle.sqlite.specs.declared.error.Error.{Error}
-use Rattle.sqlite.specs.Effect.{Database}
+use Rattle.sqlite.specs.Effect.{Database, IsDatabase}
 use Rattle.sqlite.specs.Does.{Tally, Does, Defines, MakesIndex, lacks_sequence}
 use Rattle.sqlite.specs.State.{State, mode_of, Writes, ExecutesInside}
 use Rattle.sqlite.proofs.Callers.{runs_as}
@@ -22,7 +22,7 @@ use Rattle.record_tables.proofs.TextLemmas.{Makes, make_meta, make_pool, make_da
 use Rattle.record_tables.proofs.ReplaceLemmas.{went, same_value}
 
 pub creates : (schema after : Schema) (sql : List ℕ) (table : Table) → Makes schema sql table after → lacks_sequence after ≡ false → (old new : State) (r : Result ℕ Error) → old.now.schema ≡ schema
-    → ExecutesInside 0 sql [] old new r → OnOk r ((new.now.schema ≡ after) × (new.now.trees (next_tree schema) ≡ []) × KeepsRows schema.tables old.now.trees new.now.trees)
+    → ExecutesInside 0 sql [] old new r → OnOk r ((new.now.schema ≡ after) × (new.now.trees (next_tree schema) ≡ []) × KeepsRows schema.tables old.now.trees new.now.trees × IsDatabase new.now)
 creates schema after sql table m unsequenced old new (Err e) has h = tt
 creates schema after sql table m unsequenced old new (Ok count) has h =
     let w = subst (λ t. Writes old new None CreateTable t [] count) m.1 (runs_as sql [] old new schema has CreateTable m.0 m.2 count h.0) in
@@ -36,10 +36,11 @@ creates schema after sql table m unsequenced old new (Ok count) has h =
       ap (λ (d : Database). d.schema) now ∙ is,
       ap (λ (d : Database). d.trees (next_tree schema)) now ∙ subst (λ s. first.0.trees (next_tree s) ≡ []) has made.empty,
       subst (λ (d : Database). KeepsRows schema.tables old.now.trees d.trees) (sym now) (subst (λ s. KeepsRows s.tables old.now.trees first.0.trees) has made.others),
+      w.sound,
     )
 
 -- the index leaves the rows of each table
-pub indexes : (old new : State) (count : ℕ) → old.now.schema ≡ schema_6 → ExecutesInside 0 create_index [] old new (Ok count) → (new.now.schema ≡ record_schema) × KeepsRows schema_6.tables old.now.trees new.now.trees
+pub indexes : (old new : State) (count : ℕ) → old.now.schema ≡ schema_6 → ExecutesInside 0 create_index [] old new (Ok count) → (new.now.schema ≡ record_schema) × KeepsRows schema_6.tables old.now.trees new.now.trees × IsDatabase new.now
 indexes old new count has h =
     let w = subst (λ t. Writes old new None (CreateIndex 5) t [] count) make_index.1 (runs_as create_index [] old new schema_6 has (CreateIndex 5) make_index.0 make_index.2 count h.0) in
     let done = subst (λ s. Does old.step_limit (mode_of old) [] (record old.now { schema = s }) create_index None (CreateIndex 5) (Ok (w.tally, new.now))) has w.changed in
@@ -50,6 +51,7 @@ indexes old new count has h =
     let now : new.now ≡ all.0 = ap (λ (p : Tally × Database). p.1) (same_value all.2) in (
       ap (λ (d : Database). d.schema) now ∙ made.is ∙ ap (indexed schema_6 (attempt_table 9)) same ∙ make_index.4,
       subst (λ (d : Database). KeepsRows schema_6.tables old.now.trees d.trees) (sym now) made.rows,
+      w.sound,
     )
 
 abbrev AreEmpty : List Table → Trees → Type 0
@@ -69,7 +71,7 @@ extends schema after sql table m unsequenced old new (Ok count) h = λ was.
     let it = creates schema after sql table m unsequenced old new (Ok count) was.is h in
     let left = still_empty schema.tables old.now.trees new.now.trees it.2 was.empty in
     let all = one_more schema.tables (record table { tree = next_tree schema }) new.now.trees left it.1 in
-    record { is = it.0; empty = subst (λ (s : Schema). AreEmpty s.tables new.now.trees) m.4 all }
+    (record { is = it.0; empty = subst (λ (s : Schema). AreEmpty s.tables new.now.trees) m.4 all }, it.3)
 
 -- each statement takes the empty tables before it to those after it
 pub made : (at : ℕ) → at < 7 → (old new : State) (r : Result ℕ Error) → ExecutesInside 0 (text_at at) [] old new r → OnOk r (Extends (schema_at at) (schema_at (at + 1)) old.now new.now)
@@ -85,15 +87,15 @@ made (suc (suc (suc (suc (suc (suc zero)))))) low = indexed_empty
     indexed_empty old new (Err e) h = tt
     indexed_empty old new (Ok count) h = λ was.
         let it = indexes old new count was.is h in
-        record { is = it.0; empty = still_empty schema_6.tables old.now.trees new.now.trees it.1 was.empty }
+        (record { is = it.0; empty = still_empty schema_6.tables old.now.trees new.now.trees it.1 was.empty }, it.2)
 made (suc (suc (suc (suc (suc (suc (suc n))))))) low = absurd (omega (arith, low))
 
 shows_none : (table : Table) (db : Trees) → db table.tree ≡ [] → Shows table db []
 shows_none table db none = record { rising = rw none (tt, tt); is = rw none (IsPermutation-refl []) }
 
 -- the empty tables of the record store no rows
-pub stores_none : (db : Database) → IsEmpty record_schema db → Stores db no_rows
-stores_none db e = record {
+pub stores_none : (db : Database) → IsEmpty record_schema db → IsDatabase db → Stores db no_rows
+stores_none db e is = record {
   holds = record {
     schema = e.is;
     metas = shows_none (meta_table 0) db.trees e.empty.0;
@@ -104,4 +106,5 @@ stores_none db e = record {
     attempts = shows_none (attempt_table 9) db.trees e.empty.1.1.1.1.1.0;
   };
   keys = record { metas = refl; pools = refl; dags = refl; runs = refl; instances = refl; attempts = refl };
+  sound = is;
 }

@@ -12,7 +12,7 @@ use Rattle.sqlite_rules.specs.Action.{works}
 use Rattle.sqlite_rules.specs.Cast.{cast_row}
 use Rattle.sqlite_sql.specs.Term.{Term}
 use Rattle.sqlite.specs.declared.error.Error.{Error}
-use Rattle.sqlite.specs.Effect.{Database, value_rows}
+use Rattle.sqlite.specs.Effect.{Database, IsDatabase, value_rows}
 use Rattle.sqlite.specs.Listing.{understood}
 use Rattle.sqlite.specs.Rows.{stamped}
 use Rattle.sqlite.specs.State.{State, ExecutesInside}
@@ -34,12 +34,12 @@ module _ (sql : List ℕ) (at : ℕ) (table : Table) (terms : List Term) (width 
     (uncounted : table.is_counted ≡ false) (spared : (olds : List Row) → works record_schema Enforced 0 table.tree olds [] ≡ []) (params source : Row)
     (given_row : value_rows (stamped table params) width (length terms / width) terms ≡ source ∷ []) where
   pub replaced : (old new : State) (count : ℕ) (row : Row) → old.now.schema ≡ record_schema → as_stored table (old.now.trees table.tree) source ≡ row → cast_row table row ≡ row
-      → ExecutesInside 0 sql params old new (Ok count) → (new.now.schema ≡ record_schema) × Replaces record_schema table old.now.trees new.now.trees row
+      → ExecutesInside 0 sql params old new (Ok count) → (new.now.schema ≡ record_schema) × Replaces record_schema table old.now.trees new.now.trees row × IsDatabase new.now
   replaced old new count row has stored stable h =
       let w = runs_as sql params old new record_schema has (InsertOr at Replace (Values terms width) []) is.0 is.1 count h.0 in
       let same = subst (λ row. cast_row table row ≡ row) (sym stored) stable in
       let r = replaces record_schema at table found uncounted spared terms width params source given_row old new (statement_of sql (understood record_schema sql)) count has same w in
-      (r.0, subst (Replaces record_schema table old.now.trees new.now.trees) stored r.1)
+      (r.0, subst (Replaces record_schema table old.now.trees new.now.trees) stored r.1, w.sound)
 
 -- a table whose rows are as before shows what it did
 pub shows_still : (table : Table) (db after : Trees) (shown : List Row) → after table.tree ≡ db table.tree → Shows table db shown → Shows table after shown
@@ -90,6 +90,7 @@ meta_put old new x (Ok count) params are h = λ rows stored.
         instances = stored.keys.instances;
         attempts = stored.keys.attempts;
       };
+      sound = did.2;
     }
 
 pub pool_put : (old new : State) (x : PoolRow) (r : Result ℕ Error) (params : Row) → params ≡ pool_cells x → ExecutesInside 0 text.put_pool params old new r → OnOk r (PutsIn (spec.put_pools (x ∷ [])) old.now new.now)
@@ -117,6 +118,7 @@ pool_put old new x (Ok count) params are h = λ rows stored.
         instances = stored.keys.instances;
         attempts = stored.keys.attempts;
       };
+      sound = did.2;
     }
 
 pub dag_put : (old new : State) (x : DagRow) (r : Result ℕ Error) (params : Row) → params ≡ dag_cells x → ExecutesInside 0 text.put_dag params old new r → OnOk r (PutsIn (spec.put_dags (x ∷ [])) old.now new.now)
@@ -144,6 +146,7 @@ dag_put old new x (Ok count) params are h = λ rows stored.
         instances = stored.keys.instances;
         attempts = stored.keys.attempts;
       };
+      sound = did.2;
     }
 
 pub run_put : (old new : State) (x : RunRow) (r : Result ℕ Error) (params : Row) → params ≡ run_cells x → ExecutesInside 0 text.put_run params old new r → OnOk r (PutsIn (spec.put_runs (x ∷ [])) old.now new.now)
@@ -171,6 +174,7 @@ run_put old new x (Ok count) params are h = λ rows stored.
         instances = stored.keys.instances;
         attempts = stored.keys.attempts;
       };
+      sound = did.2;
     }
 
 pub instance_put : (old new : State) (x : InstanceRow) (r : Result ℕ Error) (params : Row) → params ≡ instance_cells x → ExecutesInside 0 text.put_instance params old new r → OnOk r (PutsIn (spec.put_instances (x ∷ [])) old.now new.now)
@@ -198,6 +202,7 @@ instance_put old new x (Ok count) params are h = λ rows stored.
         instances = put_rises instance_order x rows.instances stored.keys.instances;
         attempts = stored.keys.attempts;
       };
+      sound = did.2;
     }
 
 pub attempt_put : (old new : State) (x : AttemptRow) (r : Result ℕ Error) (params : Row) → params ≡ attempt_cells x → ExecutesInside 0 text.put_attempt params old new r → OnOk r (PutsIn (spec.put_attempts (x ∷ [])) old.now new.now)
@@ -225,4 +230,5 @@ attempt_put old new x (Ok count) params are h = λ rows stored.
         instances = stored.keys.instances;
         attempts = put_rises attempt_order x rows.attempts stored.keys.attempts;
       };
+      sound = did.2;
     }

@@ -3,7 +3,7 @@ use Rattle.std.specs.Prelude.{◌≡◌, Some, None, [], ◌∷◌, List, ℕ, �
 use Rattle.std.specs.List.Sorted.{IsPermutation}
 use Rattle.sqlite.specs.declared.types.Value.{Value}
 use Rattle.sqlite.specs.declared.types.Value.TheVariants.{Null, Int, Text}
-use Rattle.sqlite.specs.Effect.{Database}
+use Rattle.sqlite.specs.Effect.{Database, IsDatabase}
 use Rattle.sqlite.specs.Order.{Row}
 use Rattle.sqlite.specs.Table.{Table}
 use Rattle.sqlite.specs.Tree.{Trees}
@@ -76,7 +76,8 @@ pub record RisesByKey (rows : Rows) : Type 0 where
   pub instances : IsTrue (rises instance_row_before rows.instances)
   pub attempts : IsTrue (rises attempt_row_before rows.attempts)
 
--- the database has the tables of the record and nothing else, and these rows, each table by its key
+-- the database has the tables of the record and nothing else, and these rows, each table by its key; and it is one that SQLite has, whose trees say its schema
 pub record Stores (db : Database) (rows : Rows) : Type 0 where
   pub holds : Holds db rows
   pub keys : RisesByKey rows
+  pub sound : IsDatabase db

@@ -61,7 +61,8 @@ pub fn make_tables<S: Alter>(tx: &mut Transaction<'_, S>) -> Result<(), Error>
     ensures err { OnErr result (Stops (state S.Store tx.old.conn.now)
         (state S.Store tx.new.conn.now)) }
 {
-    for at in 0..7 {
+    define(tx, 0)?;
+    for at in 1..7 {
         define(tx, at)?;
     }
     Ok(())

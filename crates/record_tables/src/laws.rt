@@ -1,6 +1,6 @@
 //! The laws of what a database stores.
 ghost use Rattle.std.specs.Prelude.{◌≡◌};
-ghost use Rattle.sqlite.specs.Effect.{Database};
+ghost use Rattle.sqlite.specs.Effect.{Database, IsDatabase};
 ghost use Rattle.record_rows.specs.Rows.{Rows};
 ghost use Rattle.record_changes.specs.record_rules.Keys.{IsByKey};
 ghost use Rattle.record_tables.specs.Empties.{IsEmpty, no_rows};
@@ -12,9 +12,9 @@ pub fn stored_rows_are_determined()
     ensures { (db : Database) (s t : Rows) → Stores db s → Stores db t → s ≡ t }
 {}
 
-/// The empty tables of the record store no rows.
+/// The empty tables of the record, in a database that SQLite has, store no rows.
 pub fn empty_tables_store_no_rows()
-    ensures { (db : Database) → IsEmpty record_schema db → Stores db no_rows }
+    ensures { (db : Database) → IsEmpty record_schema db → IsDatabase db → Stores db no_rows }
 {}
 
 /// Rows that are a record's by key rise by key.

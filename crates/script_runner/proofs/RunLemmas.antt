@@ -1,5 +1,5 @@
 -- What the run of a script promises, from what the conductor promises.
-use Rattle.std.proofs.Common.{◌≡◌, ◌≢◌, ◌∙◌, ◌∷◌, ◌++◌, ℕ, Bool, true, false, true≢false, not, ◌&&◌, List, [], flat_map, Option, None, is_some, Result, Ok, Err, is_ok, MatchResult, IfErr, IfOk, OnOk, refl, sym, ap, subst, inl, inr, arith}
+use Rattle.std.proofs.Common.{◌≡◌, ◌≢◌, ◌∙◌, ◌∷◌, ◌++◌, ℕ, Bool, true, false, true≢false, not, ◌&&◌, List, [], flat_map, Option, None, is_some, Result, Ok, Err, is_ok, IsTrue, MatchResult, IfErr, OnOk, refl, sym, ap, subst, inl, inr, arith, ◌≤◌}
 use Rattle.std.specs.Io.KnownBytes.{Appends}
 use Rattle.sqlite.specs.Held.{Held}
 use Rattle.sqlite.specs.State.{State, HasCleanDisk}
@@ -16,6 +16,7 @@ use Rattle.word_app.specs.App.{Texts}
 use Rattle.script_commands.specs.Commands.{Request}
 use Rattle.command_words.specs.Lines.{IsListed}
 use Rattle.conduct.specs.sessions.director.Directors.{DirectorValue, Keeps, Opens, RestartsIn}
+use Rattle.conduct.proofs.sessions.director.ListLemmas.{stays_open, was_clean}
 use Rattle.minutes.specs.Minutes.{BeginWithRestart}
 use Rattle.conduct.specs.sessions.Exchanges.{Exchange, Heard, readings_in, told_in, TookPlaceBehind}
 use Rattle.conduct.specs.sessions.Readings.{Reading}
@@ -33,7 +34,8 @@ use Rattle.script_reader.proofs.DoneLemmas.{kept_open}
 use Rattle.script_reader.proofs.ShownLemmas.{appends_then}
 use Rattle.script_reader.proofs.StatusLemmas.{all_whole}
 use Rattle.conduct.specs.sessions.Told.{AreTold}
-use Rattle.crews.specs.declared.settling.Settled.{Settled}
+use Rattle.slot_desk.specs.declared.desk.Total.{Total}
+use Rattle.work.specs.declared.crews.WorkerEnd.{WorkerEnd}
 use Rattle.script_reader.specs.Readers.{Tells}
 use Rattle.script_reader.specs.declared.reader.ScriptReader.{ScriptReader}
 use Rattle.script_runner.specs.Named.{AreNamed, may_break_off}
@@ -137,7 +139,7 @@ named words before drained first gives clock shows output told start minutes wai
     }
 
 -- ---- the whole run
-where_well : {A : Type 0} (P : Type 0) (r : Result A ConductFault) → (came_to_its_end r ≡ true → P) → IfOk r (λ _. P)
+where_well : {A : Type 0} (P : Type 0) (r : Result A ConductFault) → (came_to_its_end r ≡ true → P) → OnOk r P
 where_well P (Ok v) h = h refl
 where_well P (Err f) h = tt
 
@@ -152,21 +154,23 @@ module _ {S G O : Type 0} (look : Held S → State) (runs : O → List (Job × O
       → IsSoundAndSaid d.schedule.content
       → (HasCleanDisk (look d.store) → Opens ceilings 0 before.now d.schedule.content d.opened)
       → (HasCleanDisk (look d.store) → RestartsIn ceilings 0 before.now (look d.store).now)
+      → (before.faults ≤ (look d.store).faults) × (HasCleanDisk (look d.store) → IsTrue (look d.store).is_open)
       → AreNamed bytes gives clock output d.schedule.content conducted.minutes.items conducted.outcome status
-      → IsRun look runs refused taken bytes gives clock output quiet lanes kits before conducted.director.store conducted.minutes.items conducted.outcome status
-  is_run bytes gives clock output lanes kits before d conducted status are_told untouched quiet failed over c to sound opened restarted named =
+      → IsRun look runs refused taken bytes gives clock output quiet lanes kits before conducted.director.store conducted.minutes.items conducted.ends.items conducted.outcome status
+  is_run bytes gives clock output lanes kits before d conducted status are_told untouched quiet failed over c to sound opened restarted is_open named =
       let a = d.schedule.content in
       let es = conducted.minutes.items in
       record {
         first = a;
         given = d.opened;
-        opened = λ clean. opened (c.followed.clean clean);
+        opened = λ clean. opened (was_clean _ _ _ _ c.followed clean);
         sound = sound;
         accepted = c.accepted;
         begun = c.begun;
         started = λ came. (c.whole came).2;
+        stays = stays_open _ _ before _ _ is_open.0 is_open.1 c.followed;
         stored = λ clean is_open rows stored.
-            let first = c.followed.clean clean in
+            let first = was_clean _ _ _ _ c.followed clean in
             let keeps : Keeps a (look d.store).now = subst (λ (x : Schedule). Keeps x (look d.store).now) (sym (opened first rows stored).stepped.after) (restarted first rows stored) in
             subst (λ (x : Schedule). Keeps x (look conducted.director.store).now) c.stepped (c.followed.stored clean is_open keeps);
         named = named;
@@ -177,10 +181,8 @@ module _ {S G O : Type 0} (look : Held S → State) (runs : O → List (Job × O
         unstarted = still (es ≡ []) untouched quiet conducted.outcome to c.unstarted;
         worked = c.worked;
         idle = where_well (in_flight (steps es a) ≡ 0) conducted.outcome (λ well. ap in_flight (sym c.stepped) ∙ (c.whole well).3);
-        ends = c.ends;
         once = c.once;
         own = c.own;
-        accounts = c.accounts;
         desk = c.desk;
       }
 
@@ -206,9 +208,10 @@ pub record IsFresh {R W F P : Type 0} (first : ScriptReader R W F P) : Type 0 wh
 
 module _ {S G O R W F P C : Type 0} (look : Held S → State) (runs : O → List (Job × Outcome)) (refused : O → List Job) (taken : O → Option Job) (remaining : R → Option (List ℕ)) (contents : W → Option (List ℕ)) (gives : F → List FileAnswer → F → Type 0) (ticks : C → List Reading → C → Type 0) where
   -- what comes back of what was conducted, with the last state of the reader
-  pub record ComesBack (conducted : Conducted S G O) (last : ScriptReader R W F P) (store : Held S) (minutes : List Event) (outcome : Result (Settled G O) ConductFault) (status : ℕ) (sources : F) (output : W) : Type 0 where
+  pub record ComesBack (conducted : Conducted S G O) (last : ScriptReader R W F P) (store : Held S) (minutes : List Event) (ends : List (WorkerEnd G O)) (outcome : Result Total ConductFault) (status : ℕ) (sources : F) (output : W) : Type 0 where
     pub store_is : store ≡ conducted.director.store
     pub minutes_are : minutes ≡ conducted.minutes.items
+    pub ends_are : ends ≡ conducted.ends.items
     pub outcome_is : outcome ≡ conducted.outcome
     pub status_is : IsEndStatus last.status conducted.outcome status
     pub sources_are : sources ≡ last.sources
@@ -240,10 +243,11 @@ module _ {S G O R W F P C : Type 0} (look : Held S → State) (runs : O → List
       → IsSoundAndSaid d.schedule.content
       → (HasCleanDisk (look d.store) → Opens ceilings 0 before.now d.schedule.content d.opened)
       → (HasCleanDisk (look d.store) → RestartsIn ceilings 0 before.now (look d.store).now)
+      → (before.faults ≤ (look d.store).faults) × (HasCleanDisk (look d.store) → IsTrue (look d.store).is_open)
       → IsFresh first
-      → (store : Held S) (minutes : List Event) (outcome : Result (Settled G O) ConductFault) (status : ℕ) (sources : F) (output : W) → ComesBack conducted last store minutes outcome status sources output
-      → IsRun look runs refused taken (remaining first.input) (λ given. gives first.sources given sources) (λ moments. ticks clock moments later) (λ shown. Appends (contents first.output) (contents output) shown) ((sources ≡ first.sources) × (later ≡ clock)) lanes kits before store minutes outcome status
-  ran lanes kits before d conducted first last clock later c sound opened restarted fresh store minutes outcome status sources output back =
+      → (store : Held S) (minutes : List Event) (ends : List (WorkerEnd G O)) (outcome : Result Total ConductFault) (status : ℕ) (sources : F) (output : W) → ComesBack conducted last store minutes ends outcome status sources output
+      → IsRun look runs refused taken (remaining first.input) (λ given. gives first.sources given sources) (λ moments. ticks clock moments later) (λ shown. Appends (contents first.output) (contents output) shown) ((sources ≡ first.sources) × (later ≡ clock)) lanes kits before store minutes ends outcome status
+  ran lanes kits before d conducted first last clock later c sound opened restarted is_open fresh store minutes ends outcome status sources output back =
       let es = conducted.minutes.items in
       let t = c.told in
       let bytes = remaining first.input in
@@ -255,8 +259,9 @@ module _ {S G O R W F P C : Type 0} (look : Held S → State) (runs : O → List
       named first.words.names first.status first.has_drained bytes files times (Appends (contents first.output) (contents last.output)) text t.exchanges d.schedule.content es (waiting c.waits last.has_drained) (remaining last.input) last.status status lanes (is_some last.failed) last.is_over first.is_over conducted.outcome
       fresh.listed fresh.status fresh.drains t.told.1 (writes lanes kits d conducted first last clock later output c back.output_is) (breaks_off last.failed conducted.outcome c.fault) (closing (contents first.output) (contents last.output) (contents output) last.failed last.status status conducted.outcome c.fault back.status_is back.ended_is) c.begun t.took_place t.given fresh.over (undrained lanes kits d conducted first last clock later c fresh) back.status_is
       in
-      let here = is_run look runs refused taken bytes files times text lanes kits before d conducted status _ ((last ≡ first) × (later ≡ clock)) quiet last.failed last.is_over c (λ same. (ap (λ (r : ScriptReader R W F P). r.sources) same.0, same.1)) sound opened restarted named_here in
-      subst (λ (f : F). IsRun look runs refused taken bytes (λ given. gives first.sources given f) times text ((f ≡ first.sources) × (later ≡ clock)) lanes kits before store minutes outcome status) (sym back.sources_are)
-      (subst (λ (s : Held S). IsRun look runs refused taken bytes files times text quiet lanes kits before s minutes outcome status) (sym back.store_is)
-      (subst (λ (l : List Event). IsRun look runs refused taken bytes files times text quiet lanes kits before conducted.director.store l outcome status) (sym back.minutes_are)
-      (subst (λ (o : Result (Settled G O) ConductFault). IsRun look runs refused taken bytes files times text quiet lanes kits before conducted.director.store es o status) (sym back.outcome_is) here)))
+      let here = is_run look runs refused taken bytes files times text lanes kits before d conducted status _ ((last ≡ first) × (later ≡ clock)) quiet last.failed last.is_over c (λ same. (ap (λ (r : ScriptReader R W F P). r.sources) same.0, same.1)) sound opened restarted is_open named_here in
+      subst (λ (f : F). IsRun look runs refused taken bytes (λ given. gives first.sources given f) times text ((f ≡ first.sources) × (later ≡ clock)) lanes kits before store minutes ends outcome status) (sym back.sources_are)
+      (subst (λ (s : Held S). IsRun look runs refused taken bytes files times text quiet lanes kits before s minutes ends outcome status) (sym back.store_is)
+      (subst (λ (l : List Event). IsRun look runs refused taken bytes files times text quiet lanes kits before conducted.director.store l ends outcome status) (sym back.minutes_are)
+      (subst (λ (l : List (WorkerEnd G O)). IsRun look runs refused taken bytes files times text quiet lanes kits before conducted.director.store es l outcome status) (sym back.ends_are)
+      (subst (λ (o : Result Total ConductFault). IsRun look runs refused taken bytes files times text quiet lanes kits before conducted.director.store es conducted.ends.items o status) (sym back.outcome_is) here))))

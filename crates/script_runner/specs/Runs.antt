@@ -1,5 +1,5 @@
 -- What the run of a script promises.
-use Rattle.std.specs.Prelude.{◌≡◌, ◌==◌, ℕ, ◌<◌, true, List, [], length, Option, None, Result, is_ok, IfErr, IfOk, IsTrue, MatchResult}
+use Rattle.std.specs.Prelude.{◌≡◌, ◌==◌, ℕ, ◌<◌, true, List, [], length, Option, None, Result, is_ok, IfErr, IfOk, IsTrue, MatchResult, OnOk}
 use Rattle.sqlite.specs.Held.{Held}
 use Rattle.sqlite.specs.State.{State, HasCleanDisk}
 use Rattle.instance_machine.specs.declared.tries.Outcome.{Outcome}
@@ -14,13 +14,13 @@ use Rattle.sched_events.specs.SettledAndSound.{IsSoundAndSaid}
 use Rattle.sched_events.specs.Steps.{steps, handed_along, AreAccepted}
 use Rattle.sched_events.specs.declared.answers.Answer.{Answer}
 use Rattle.sched_events.specs.declared.events.Event.{Event}
-use Rattle.conduct.specs.sessions.director.Directors.{Keeps, Opens}
+use Rattle.conduct.specs.sessions.director.Directors.{Keeps, Opens, StaysOpen}
 use Rattle.minutes.specs.Minutes.{BeginWithRestart}
 use Rattle.conduct.specs.sessions.Readings.{Reading}
 use Rattle.conduct.specs.sessions.declared.faults.ConductFault.{ConductFault}
 use Rattle.conduct.specs.sessions.declared.line_reading.LineFault.{LineFault}
-use Rattle.crews.specs.Settled.{AreAccounts}
-use Rattle.crews.specs.declared.settling.Settled.{Settled}
+use Rattle.slot_desk.specs.declared.desk.Total.{Total}
+use Rattle.work.specs.declared.crews.WorkerEnd.{WorkerEnd}
 use Rattle.conduct.specs.Ends.{EachStandsInALog, EachToldItsOwn, HaveWorkedFor}
 use Rattle.conduct.specs.Faults.{EndsRun, came_to_its_end, is_no_worker, is_unstarted}
 use Rattle.script_reader.specs.Done.{FileAnswer}
@@ -29,7 +29,7 @@ use Rattle.script_runner.specs.Named.{AreNamed}
 -- A script of these bytes was run with so many lanes and these kits on what a record held before: what the record is now, the minutes, what became of the
 -- crews, and the status. The sources and the clock gave what their relations say, or were asked nothing (untouched); the output has grown as its relation
 -- says.
-pub record IsRun {S G O : Type 0} (look : Held S → State) (runs : O → List (Job × Outcome)) (refused : O → List Job) (taken : O → Option Job) (bytes : Option (List ℕ)) (sources : List FileAnswer → Type 0) (clock : List Reading → Type 0) (output : List ℕ → Type 0) (untouched : Type 0) (lanes : ℕ) (kits : List (Kit O)) (before : State) (store : Held S) (minutes : List Event) (outcome : Result (Settled G O) ConductFault) (status : ℕ) : Type 0 where
+pub record IsRun {S G O : Type 0} (look : Held S → State) (runs : O → List (Job × Outcome)) (refused : O → List Job) (taken : O → Option Job) (bytes : Option (List ℕ)) (sources : List FileAnswer → Type 0) (clock : List Reading → Type 0) (output : List ℕ → Type 0) (untouched : Type 0) (lanes : ℕ) (kits : List (Kit O)) (before : State) (store : Held S) (minutes : List Event) (ends : List (WorkerEnd G O)) (outcome : Result Total ConductFault) (status : ℕ) : Type 0 where
   -- the schedule that was opened, without lanes, and the answer to its restart
   pub first : Schedule
   pub given : Answer
@@ -40,7 +40,8 @@ pub record IsRun {S G O : Type 0} (look : Held S → State) (runs : O → List (
   pub accepted : AreAccepted minutes first
   pub begun : BeginWithRestart lanes minutes
   pub started : came_to_its_end outcome ≡ true → 0 < length minutes
-  -- where the record stored rows and is still open, it stores the schedule after them
+  -- the record is open, unless its disk failed or refused meanwhile; and where it is, and stored rows, it stores the schedule after the minutes
+  pub stays : StaysOpen before (look store)
   pub stored : HasCleanDisk (look store) → IsTrue (look store).is_open → (rows : Rows) → Stores before.now rows → Keeps (steps minutes first) (look store).now
   -- those that are no report and no restart, with their answers, are what the script's lines name; what is shown is of these; and the status is that of what
   -- was done and of the end
@@ -53,14 +54,13 @@ pub record IsRun {S G O : Type 0} (look : Held S → State) (runs : O → List (
   pub fault : MatchResult outcome (λ _. failed ≡ None) (λ f. EndsRun f failed)
   pub workers : MatchResult outcome (λ _. 0 < length kits) (λ f. is_no_worker f ≡ (length kits == 0))
   pub unstarted : IfErr outcome (λ f. is_unstarted f ≡ true → (minutes ≡ []) × untouched)
-  -- with a fault too: workers have worked for the minutes, which report nothing that no worker told
-  pub worked : HaveWorkedFor G runs refused taken kits minutes first
+  -- with a fault too: each worker that came back told what its operators did, which did no job that was not handed out; and the minutes report nothing that
+  -- none of them told
+  pub worked : HaveWorkedFor runs refused taken kits ends minutes first
   -- where the run ended well: no try is in flight; each try that was handed out stands in the log of one worker, as often as it was handed out, and no
-  -- other does; what the minutes report of a worker's jobs is what that worker told, in its order; and its log is an account of its kit
-  pub idle : IfOk outcome (λ s. in_flight (steps minutes first) ≡ 0)
-  pub ends : IfOk outcome (λ s. length s.ends.items ≡ length kits)
-  pub once : IfOk outcome (λ s. EachStandsInALog (handed_along minutes first) s.ends.items)
-  pub own : IfOk outcome (λ s. EachToldItsOwn minutes s.ends.items)
-  pub accounts : IfOk outcome (λ s. AreAccounts runs refused taken kits s.ends.items)
+  -- other does; and what the minutes report of a worker's jobs is what that worker told, in its order
+  pub idle : OnOk outcome (in_flight (steps minutes first) ≡ 0)
+  pub once : OnOk outcome (EachStandsInALog (handed_along minutes first) ends)
+  pub own : OnOk outcome (EachToldItsOwn minutes ends)
   -- nothing is left at the desk
-  pub desk : IfOk outcome (λ s. (s.desk.slots ≡ 0) × (s.desk.holds.items ≡ []))
+  pub desk : IfOk outcome (λ d. (d.slots ≡ 0) × (d.holds.items ≡ []))

@@ -2,24 +2,26 @@
 ghost use Rattle.std.specs.Prelude.{◌≡◌, ◌≢◌, ◌≤◌, All, IfOk, IfErr, IsTrue, OnOk, length, map};
 ghost use Rattle.std.specs.Io.KnownBytes.{Appends};
 ghost use Rattle.sqlite.specs.Held.{state};
-ghost use Rattle.sqlite.specs.State.{HasCleanDisk};
+ghost use Rattle.sqlite.specs.State.{HasCleanDisk, Survives};
 ghost use Rattle.operators.specs.Kits.{IsKit};
 ghost use Rattle.sched_state.specs.Limits.{ceilings};
-ghost use Rattle.conduct.specs.sessions.director.Faults.{IsOpenFault};
+ghost use Rattle.conduct.specs.sessions.director.Directors.{RestartsIn};
+ghost use Rattle.conduct.specs.sessions.director.Faults.{IsOpenFault, IsRefused};
+ghost use Rattle.conduct.specs.sessions.director.meta_store.Stores.{CommitsBy};
 ghost use Rattle.script_reader.specs.Ends.{IsEndStatus, end_text};
 ghost use Rattle.script_runner.specs.Runs.{IsRun};
 
 use conduct::{Clock, ConductFault, Conducted, Director, Fault, Limits, Store, conduct};
-use crews::Settled;
 use operators::Operator;
 use sched_events::Event;
 use script_reader::{Console, Script, ScriptReader, Sources};
+use slot_desk::Total;
 use sqlite::Alter;
 use std::alloc::Global;
 use std::io::{BufRead, Read, Write};
 use std::sync::Wait;
 use std::thread::Threads;
-use work::{Crew, Gate};
+use work::{Crew, Gate, WorkerEnd};
 
 /// How a script is run.
 #[derive(Clone, Copy, Debug, PartialEq, Eq)]
@@ -33,13 +35,15 @@ pub struct RunOptions {
 pub struct Ran<S: Alter, G: Gate, O: Operator, F: Sources, W: Write + Drop> {
     /// The record.
     pub store: Store<S>,
-    /// How it went: the greatest status of the answers and of the end. 0 where all was accepted, 1 where an event was refused or a question has no answer, 2 where a line is no command,
-    /// 3 for a fault of the record, 4 for any other.
+    /// How it went: the greatest status of the answers and of the end. 0 where all was accepted, 1 where an event was refused or a question has no
+    /// answer, 2 where a line is no command, 3 for a fault of the record, 4 for any other.
     pub status: u8,
     /// The events that were accepted, in their order, from the restart on.
     pub minutes: Vec<Event>,
-    /// What became of the crews, in their order, or why the run ended before the script did.
-    pub outcome: Result<Settled<G, O>, ConductFault>,
+    /// What became of the crews, in their order, also where the run ended with a fault. Before an event was stepped there may be none.
+    pub ends: Vec<WorkerEnd<G, O>>,
+    /// What the desk held, or why the run ended otherwise.
+    pub outcome: Result<Total, ConductFault>,
     /// Where the texts of `load PATH` came from.
     pub sources: F,
     /// Where the answers went.
@@ -86,13 +90,17 @@ pub fn run_on<
     ensures run { IfOk result (λ ran. IsRun (state S.Store) O.runs_of O.refused_of O.taken (R.Read.remaining script.input)
         (λ given. F.gives script.sources given ran.sources) (λ moments. C.gives clock.old moments clock.new)
         (λ shown. Appends (W.contents script.output) (W.contents ran.output) shown)
-        ((ran.sources ≡ script.sources) × (clock.new ≡ clock.old)) options.lanes (map (λ c. c.kit) crews.items) (state S.Store store) ran.store ran.minutes.items ran.outcome ran.status) }
+        ((ran.sources ≡ script.sources) × (clock.new ≡ clock.old)) options.lanes (map (λ c. c.kit) crews.items) (state S.Store store) ran.store ran.minutes.items ran.ends.items ran.outcome ran.status) }
     ensures fault { IfErr result (λ e. HasCleanDisk (state S.Store e.store)
         → IsOpenFault ceilings 0 (state S.Store store).now e.fault) }
     ensures kept { IfErr result (λ e. HasCleanDisk (state S.Store e.store)
         → IsTrue (state S.Store e.store).is_open
         → ((state S.Store e.store).now ≡ (state S.Store store).now)
         × ((state S.Store e.store).committed ≡ (state S.Store store).committed)) }
+    ensures crash { IfErr result (λ e. Survives (state S.Store store) (state S.Store e.store)
+        (CommitsBy (RestartsIn ceilings 0) (state S.Store store))) }
+    ensures refused_crash { IfErr result (λ e. IsRefused e.fault
+        → Survives (state S.Store store) (state S.Store e.store) (λ _. ⊥)) }
     ensures untouched { IfErr result (λ e. (e.script.input ≡ script.input) × (e.script.output ≡ script.output)
         × (e.script.sources ≡ script.sources) × (e.script.console ≡ script.console) × (clock.new ≡ clock.old)) }
 {
@@ -142,6 +150,7 @@ fn close<
     ensures store { result.store ≡ conducted.director.store }
     ensures status { IsEndStatus reader.status conducted.outcome result.status }
     ensures minutes { result.minutes ≡ conducted.minutes }
+    ensures ends { result.ends ≡ conducted.ends }
     ensures outcome { result.outcome ≡ conducted.outcome }
     ensures sources { result.sources ≡ reader.sources }
     ensures output { OnOk conducted.outcome (result.output ≡ reader.output) }
@@ -150,6 +159,7 @@ fn close<
     let Conducted {
         director,
         minutes,
+        ends,
         outcome,
     } = conducted;
     let (status, sources, output) = reader.close(director.schedule(), &outcome);
@@ -157,6 +167,7 @@ fn close<
         store: director.close(),
         status,
         minutes,
+        ends,
         outcome,
         sources,
         output,

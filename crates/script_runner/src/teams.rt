@@ -2,10 +2,12 @@
 ghost use Rattle.std.specs.Prelude.{◌≡◌, ◌≤◌, All, IfErr, IfOk, IsTrue, length, map};
 ghost use Rattle.std.specs.Io.KnownBytes.{Appends};
 ghost use Rattle.sqlite.specs.Held.{state};
-ghost use Rattle.sqlite.specs.State.{HasCleanDisk};
+ghost use Rattle.sqlite.specs.State.{HasCleanDisk, Survives};
 ghost use Rattle.operators.specs.Kits.{IsKit};
 ghost use Rattle.sched_state.specs.Limits.{ceilings};
-ghost use Rattle.conduct.specs.sessions.director.Faults.{IsOpenFault};
+ghost use Rattle.conduct.specs.sessions.director.Directors.{RestartsIn};
+ghost use Rattle.conduct.specs.sessions.director.Faults.{IsOpenFault, IsRefused};
+ghost use Rattle.conduct.specs.sessions.director.meta_store.Stores.{CommitsBy};
 ghost use Rattle.script_runner.specs.Teams.{AreKitsOf, IsTeamRun, IsWhole};
 
 use crate::running::{Ran, RunOptions, Unopened, run_on};
@@ -46,13 +48,17 @@ pub fn run_team<
     ensures run { IfOk result (λ ran. IsTeamRun (state S.Store) O.kind_of O.runs_of O.refused_of O.taken (R.Read.remaining script.input)
         (λ given. F.gives script.sources given ran.sources) (λ moments. C.gives clock.old moments clock.new)
         (λ shown. Appends (W.contents script.output) (W.contents ran.output) shown)
-        ((ran.sources ≡ script.sources) × (clock.new ≡ clock.old)) lanes (map (λ w. w.0.items) team.items) (state S.Store store) ran.store ran.minutes.items ran.outcome ran.status) }
+        ((ran.sources ≡ script.sources) × (clock.new ≡ clock.old)) lanes (map (λ w. w.0.items) team.items) (state S.Store store) ran.store ran.minutes.items ran.ends.items ran.outcome ran.status) }
     ensures fault { IfErr result (λ e. HasCleanDisk (state S.Store e.store)
         → IsOpenFault ceilings 0 (state S.Store store).now e.fault) }
     ensures kept { IfErr result (λ e. HasCleanDisk (state S.Store e.store)
         → IsTrue (state S.Store e.store).is_open
         → ((state S.Store e.store).now ≡ (state S.Store store).now)
         × ((state S.Store e.store).committed ≡ (state S.Store store).committed)) }
+    ensures crash { IfErr result (λ e. Survives (state S.Store store) (state S.Store e.store)
+        (CommitsBy (RestartsIn ceilings 0) (state S.Store store))) }
+    ensures refused_crash { IfErr result (λ e. IsRefused e.fault
+        → Survives (state S.Store store) (state S.Store e.store) (λ _. ⊥)) }
     ensures untouched { IfErr result (λ e. (e.script.input ≡ script.input) × (e.script.output ≡ script.output)
         × (e.script.sources ≡ script.sources) × (e.script.console ≡ script.console) × (clock.new ≡ clock.old)) }
 {

@@ -1,51 +1,66 @@
-use Rattle.std.proofs.Common.{◌∙◌, map, not, vec_items, ap, sym}
+use Rattle.std.proofs.Common.{◌≡◌, ◌≤◌, ◌∙◌, length, map, not, vec_items, ap, sym}
 use Rattle.ruled_dispatch.specs.Lanes.{sent_of, heard_of}
+use Rattle.slot_desk.specs.Holds.{in_hand}
 use Rattle.work.specs.declared.crews.WorkerEnd.{WorkerEnd}
 use Rattle.conduct.specs.Ends.{logged}
 use Rattle.conduct.specs.Faults.{all_started}
-use Rattle.conduct.proofs.Composition.{started_err}
-use Rattle.conduct.proofs.Logs.{if_ok, ifs_ok, jobs_stand, are_logs, told_own}
+use Rattle.conduct.proofs.Composition.{started_err, refused_err}
+use Rattle.conduct.proofs.Logs.{passed_on, both_passed_on, counted, jobs_stand, are_logs, told_own}
 use Rattle.conduct.proofs.closing.close.Goals as goal
+
+pub settle-ends-requires-clause-back : goal.settle-ends-requires-clause-back
+settle-ends-requires-clause-back g c = c.requires.back (ap all_started c.in-Ok.is)
 
 pub returns-in-Ok-clause-once : goal.returns-in-Ok-clause-once
 returns-in-Ok-clause-once g c =
     let pass = c.args.managed.session.pass in
-    if_ok c.settle_unless-outcome.result c.settle_unless-outcome.ensures.once (λ s stand a lane_count stopped. jobs_stand (vec_items s.ends) (sent_of pass) _ _ stopped.sent stand)
+    let settled = c.settle-ends.result in
+    passed_on settled.desk c.unless_missed.result c.unless_missed.ensures.desk c.settle-ends.ensures.once (λ stand a lane_count stopped. jobs_stand (vec_items settled.ends) (sent_of pass) _ _ stopped.sent stand)
 
 pub returns-in-Ok-clause-own : goal.returns-in-Ok-clause-own
 returns-in-Ok-clause-own g c =
-    let e = c.settle_unless-outcome.ensures in
+    let e = c.settle-ends.ensures in
     let law = c.each_report_is_its_workers_own.ensures in
     let session = c.args.managed.session in
     let es = vec_items session.minutes in
     let heard = heard_of session.pass in
-    ifs_ok c.settle_unless-outcome.result e.missed e.once e.heard
-    (λ s none stand told a lane_count sound stopped.
-    let ends = vec_items s.ends in
+    let ends = vec_items c.settle-ends.result.ends in
+    both_passed_on c.settle-ends.result.desk c.unless_missed.result c.unless_missed.ensures.desk c.unless_missed.ensures.missed e.once e.heard
+    (λ none stand told a lane_count sound stopped.
     let each = jobs_stand ends (sent_of session.pass) _ _ stopped.sent stand in
     told_own ends heard es told
     (λ k below. law es a (map (λ (x : WorkerEnd g.row.G.Denot g.row.O.Denot). logged (vec_items x.log)) ends) heard stopped.accepted sound (are_logs ends heard es a each told (stopped.heard none)) k below))
 
-pub settle_unless-outcome-requires-clause-back : goal.settle_unless-outcome-requires-clause-back
-settle_unless-outcome-requires-clause-back g c = c.requires.back (ap all_started c.in-Ok.is)
+pub returns-in-Ok-clause-desk : goal.returns-in-Ok-clause-desk
+returns-in-Ok-clause-desk g c =
+    counted c.settle-ends.result.desk (λ d. d.slots ≡ in_hand (map (λ r. r.2) (vec_items c.args.managed.results))) (λ d. length (vec_items d.holds) ≤ d.slots) c.unless_missed.result c.unless_missed.ensures.desk c.settle-ends.ensures.in_hand c.settle-ends.ensures.each_has_one
 
-pub settle_after-requires-clause-back : goal.settle_after-requires-clause-back
-settle_after-requires-clause-back g c = λ none. c.requires.back (ap all_started c.in-Err.is ∙ ap not none)
+pub settle_after-ends-requires-clause-back : goal.settle_after-ends-requires-clause-back
+settle_after-ends-requires-clause-back g c = λ none. c.requires.back (ap all_started c.in-Err.is ∙ ap not none)
 
-pub settle_after-requires-clause-workers : goal.settle_after-requires-clause-workers
-settle_after-requires-clause-workers g c = λ none. c.requires.workers (ap all_started c.in-Err.is ∙ ap not none)
+pub settle_after-ends-requires-clause-workers : goal.settle_after-ends-requires-clause-workers
+settle_after-ends-requires-clause-workers g c = λ none. c.requires.workers (ap all_started c.in-Err.is ∙ ap not none)
 
-pub settle_after-requires-clause-all : goal.settle_after-requires-clause-all
-settle_after-requires-clause-all g c = λ none. c.requires.all (ap all_started c.in-Err.is ∙ ap not none)
+pub settle_after-ends-requires-clause-all : goal.settle_after-ends-requires-clause-all
+settle_after-ends-requires-clause-all g c = λ none. c.requires.all (ap all_started c.in-Err.is ∙ ap not none)
+
+pub returns-in-Ok-clause-ends : goal.returns-in-Ok-clause-ends
+returns-in-Ok-clause-ends g c = λ started. c.settle-ends.ensures.ends
 
 pub returns-in-Ok-clause-sent : goal.returns-in-Ok-clause-sent
-returns-in-Ok-clause-sent g c = λ started. c.settle_unless-outcome.ensures.sent
+returns-in-Ok-clause-sent g c = λ started. c.settle-ends.ensures.sent
 
 pub returns-in-Ok-clause-told : goal.returns-in-Ok-clause-told
-returns-in-Ok-clause-told g c = λ started. c.settle_unless-outcome.ensures.told
+returns-in-Ok-clause-told g c = λ started. c.settle-ends.ensures.told
+
+pub returns-in-Err-clause-ends : goal.returns-in-Err-clause-ends
+returns-in-Err-clause-ends g c = λ started. c.settle_after-ends.ensures.ends (started_err c.in-Err.fault (sym (ap all_started c.in-Err.is) ∙ started))
+
+pub returns-in-Err-clause-none : goal.returns-in-Err-clause-none
+returns-in-Err-clause-none g c = λ refused. c.settle_after-ends.ensures.none (refused_err c.in-Err.fault (sym (ap all_started c.in-Err.is) ∙ refused))
 
 pub returns-in-Err-clause-sent : goal.returns-in-Err-clause-sent
-returns-in-Err-clause-sent g c = λ started. c.settle_after.ensures.sent (started_err c.in-Err.fault (sym (ap all_started c.in-Err.is) ∙ started))
+returns-in-Err-clause-sent g c = λ started. c.settle_after-ends.ensures.sent (started_err c.in-Err.fault (sym (ap all_started c.in-Err.is) ∙ started))
 
 pub returns-in-Err-clause-told : goal.returns-in-Err-clause-told
-returns-in-Err-clause-told g c = λ started. c.settle_after.ensures.told (started_err c.in-Err.fault (sym (ap all_started c.in-Err.is) ∙ started))
+returns-in-Err-clause-told g c = λ started. c.settle_after-ends.ensures.told (started_err c.in-Err.fault (sym (ap all_started c.in-Err.is) ∙ started))

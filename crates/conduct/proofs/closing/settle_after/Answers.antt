@@ -1,9 +1,11 @@
-use Rattle.std.proofs.Common.{◌≡◌, ◌∙◌, true, false, true≢false, sym}
-use Rattle.conduct.specs.Faults.{is_unstarted}
+use Rattle.std.proofs.Common.{◌∙◌, true≢false, sym}
 use Rattle.conduct.proofs.closing.settle_after.Goals as goal
 
-pub settle-requires-clause-back : goal.settle-requires-clause-back
-settle-requires-clause-back g c = c.requires.back (sym c.is_unstarted.ensures ∙ c.if-is_unstarted.false)
+pub settle-ends-requires-clause-back : goal.settle-ends-requires-clause-back
+settle-ends-requires-clause-back g c = c.requires.back (sym c.is_unstarted.ensures ∙ c.if-is_unstarted.false)
+
+pub returns-then-is_unstarted-clause-ends : goal.returns-then-is_unstarted-clause-ends
+returns-then-is_unstarted-clause-ends g c = λ none. absurd (true≢false (sym c.if-is_unstarted.true ∙ c.is_unstarted.ensures ∙ none))
 
 pub returns-then-is_unstarted-clause-sent : goal.returns-then-is_unstarted-clause-sent
 returns-then-is_unstarted-clause-sent g c = λ none. absurd (true≢false (sym c.if-is_unstarted.true ∙ c.is_unstarted.ensures ∙ none))
@@ -11,8 +13,11 @@ returns-then-is_unstarted-clause-sent g c = λ none. absurd (true≢false (sym c
 pub returns-then-is_unstarted-clause-told : goal.returns-then-is_unstarted-clause-told
 returns-then-is_unstarted-clause-told g c = λ none. absurd (true≢false (sym c.if-is_unstarted.true ∙ c.is_unstarted.ensures ∙ none))
 
+pub returns-clause-none : goal.returns-clause-none
+returns-clause-none g c = λ is. absurd (true≢false (sym is ∙ sym c.is_unstarted.ensures ∙ c.if-is_unstarted.false))
+
 pub returns-clause-sent : goal.returns-clause-sent
-returns-clause-sent g c = λ none. c.settle.ensures.sent
+returns-clause-sent g c = λ none. c.settle-ends.ensures.sent
 
 pub returns-clause-told : goal.returns-clause-told
-returns-clause-told g c = λ none. c.settle.ensures.told
+returns-clause-told g c = λ none. c.settle-ends.ensures.told

@@ -12,5 +12,5 @@ returns-then-workers-eq0 g c =
     let kits = map (λ x. x.kit) crews in
     let zero : length crews ≡ 0 = search rules in
     let none : true ≡ (length kits == 0) = sym (eq-eqb (length kits) 0 (length-map crews (λ x. x.kit) ∙ zero)) in
-    unstarted_run (state g.S.Store) g.O.Operator.runs_of g.O.Operator.refused_of g.O.Operator.taken c.args.lane_count kits c.args.director _ (AreTold g.L.Lines.tells g.C.Clock.gives c.args.lines.now c.args.clock.now c.args.lines.now c.args.clock.now) ((c.args.lines.now ≡ c.args.lines.now) × (c.args.clock.now ≡ c.args.clock.now)) _ _ fault.NoWorker refl c.new.ensures.items refl
+    unstarted_run (state g.S.Store) g.O.Operator.runs_of g.O.Operator.refused_of g.O.Operator.taken c.args.lane_count kits c.args.director _ (AreTold g.L.Lines.tells g.C.Clock.gives c.args.lines.now c.args.clock.now c.args.lines.now c.args.clock.now) ((c.args.lines.now ≡ c.args.lines.now) × (c.args.clock.now ≡ c.args.clock.now)) _ _ fault.NoWorker refl c.new.ensures.items c.new-then-workers-eq0.ensures.items refl
     (record { exchanges = []; took_place = refl; told = g.met.L.Lines.begins c.args.lines.now; given = g.met.C.Clock.begins c.args.clock.now }) (refl, refl) refl c.requires.sound none

@@ -10,7 +10,7 @@ use Rattle.sessions.specs.declared.faults.ConductFault.TheVariants as fault
 use Rattle.crews.specs.Threads.{HaveWorked}
 use Rattle.crews.proofs.Backs.{are_back, are_accounts, none_in_hand}
 use Rattle.conduct.proofs.Runs.{worked_from}
-use Rattle.conduct.proofs.Composition.{both_ok, conducted, if_ok, on_ok, take_all, unstarted_run}
+use Rattle.conduct.proofs.Composition.{also_ok, both_ok, conducted, on_ok, take_all, unstarted_run}
 use Rattle.conduct.proofs.conducting.conduct_at.Goals as goal
 
 pub returns-in_default : goal.returns-in_default
@@ -19,7 +19,7 @@ returns-in_default g c =
     let kits = map (λ x. x.kit) crews in
     let some : 0 < length kits = subst (λ n. 0 < n) (sym (length-map crews (λ x. x.kit))) c.requires.crews.0 in
     let none : false ≡ (length kits == 0) = sym (ne_eqb (length kits) 0 (λ e. absurd (omega arith))) in
-    unstarted_run (state g.S.Store) g.O.Operator.runs_of g.O.Operator.refused_of g.O.Operator.taken c.args.lane_count kits c.args.director _ (AreTold g.L.Lines.tells g.C.Clock.gives c.args.lines.now c.args.clock.now c.args.lines.now c.args.clock.now) ((c.args.lines.now ≡ c.args.lines.now) × (c.args.clock.now ≡ c.args.clock.now)) _ _ fault.Memory refl c.new.ensures.items refl
+    unstarted_run (state g.S.Store) g.O.Operator.runs_of g.O.Operator.refused_of g.O.Operator.taken c.args.lane_count kits c.args.director _ (AreTold g.L.Lines.tells g.C.Clock.gives c.args.lines.now c.args.clock.now c.args.lines.now c.args.clock.now) ((c.args.lines.now ≡ c.args.lines.now) × (c.args.clock.now ≡ c.args.clock.now)) _ _ fault.Memory refl c.new.ensures.items c.new-in_default.ensures.items refl
     (record { exchanges = []; took_place = refl; told = g.met.L.Lines.begins c.args.lines.now; given = g.met.C.Clock.begins c.args.clock.now }) (refl, refl) refl (inl c.requires.sound) none
 
 pub manage-managed-requires-after_bounds : goal.manage-managed-requires-after_bounds
@@ -116,9 +116,9 @@ returns g c =
     let sound : IsSoundAndSaid a = subst (λ (s : ScheduleValue). IsSoundAndSaid s.content) c.schedule.ensures c.runs.ensures.kept in
     conducted (state g.S.Store) op.runs_of op.refused_of op.taken q.lanes c.args.lane_count (length results) kits c.args.director c.new-session.result m.session m.outcome results (λ r. r.0) c.close.result _ _ _ _
     (subst (λ k. 0 < k) (sym long) c.requires.crews.0) n.director run d.served z.director (ap vec_items z.minutes) z.ok z.fault
-    (λ started. d.all started ∙ sym long) z.ends
-    (if_ok c.close.result.outcome z.once (λ s each. each a c.args.lane_count stop))
-    (if_ok c.close.result.outcome z.own (λ s each. each a c.args.lane_count sound stop))
+    (λ started. d.all started ∙ sym long) z.ends z.none
+    (also_ok c.close.result.outcome z.once (λ each. each a c.args.lane_count stop))
+    (also_ok c.close.result.outcome z.own (λ each. each a c.args.lane_count sound stop))
     (λ started. are_accounts op.kind_of op.runs_of op.refused_of op.taken passes shares kits results (worked (d.all started)))
     (both_ok c.close.result.outcome m.outcome z.ok (on_ok m.outcome (λ started. none_in_hand op.kind_of op.runs_of op.refused_of op.taken passes shares kits results (worked (d.all started)) (e.workers.1 ∙ sym e.workers.0) e.none)) z.desk
     (λ s none p. (p.0 ∙ none, p.1)))

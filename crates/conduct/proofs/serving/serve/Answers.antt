@@ -3,6 +3,7 @@ use Rattle.sqlite.specs.Held.{state}
 use Rattle.sched_events.specs.declared.events.Event.{Event}
 use Rattle.sessions.specs.Exchanges.{Heard, TookPlaceBehind}
 use Rattle.sessions.specs.Told.{AreTold}
+use Rattle.sessions.proofs.director.ListLemmas.{follows_itself}
 use Rattle.conduct.proofs.Runs.{served, stopped}
 use Rattle.conduct.proofs.serving.serve.Goals as goal
 
@@ -25,7 +26,7 @@ returns-then-not-started-clause-served g c =
       pass = stop.pass;
       workers = stop.workers;
       opened = refl;
-      followed = record { clean = λ h. h; was_open = λ _ h. h; stored = λ _ _ h. h };
+      followed = follows_itself session.director.schedule.content (state g.S.Store session.director.store);
       run = λ a run. stopped a c.args.lane_count c.args.started.workers session c.stop_all.new.director stop.sent stop.heard run;
       told = λ a run. (
         None,

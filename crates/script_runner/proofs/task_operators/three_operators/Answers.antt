@@ -1,4 +1,3 @@
-use Rattle.std.proofs.Common.{All}
 use Rattle.std.proofs.lemmas.List.Elements.{All-nil, All-push, All-same}
 use Rattle.script_runner.specs.TaskOperators.{IsFresh, runs_of, refused_by, taken_by}
 use Rattle.script_runner.proofs.task_operators.three_operators.Goals as goal
