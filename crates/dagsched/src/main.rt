@@ -18,7 +18,7 @@ mod usage;
 mod volatile;
 
 use crate::records::{in_file, in_memory};
-use crate::scripts::has_logs;
+use crate::scripts::make_logs;
 use crate::usage::{put_refusal, put_unreadable, put_usage};
 use command_words::{Command, CommandLine, UsageFault, read_command};
 use std::alloc::{AllocError, Global};
@@ -97,7 +97,7 @@ fn do_line<T: Threads + Wait + Sync>(
         return put_usage(rt, UsageFault::NotHere, words.as_slice());
     }
     // before the record is opened, so that it stays as it is where nothing is run
-    if !has_logs(rt, &command)? {
+    if !make_logs(rt, &command)? {
         return Ok(4);
     }
     match record_path {

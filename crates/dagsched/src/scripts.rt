@@ -10,7 +10,7 @@ use sqlite::Alter;
 use sqlite_disk::{Files, Unknown};
 use sqlite_std_file::{File, OpenError};
 use std::fs;
-use std::io::{self, BufReader, BufWriter, ErrorKind};
+use std::io::{self, BufReader, BufWriter, ErrorKind, IsTerminal};
 use std::sync::Wait;
 use std::thread::Threads;
 
@@ -28,6 +28,7 @@ pub fn run_script<S: Alter + Drop, T: Threads + Wait + Sync>(
     let alloc = rt.alloc();
     let scratch = options.scratch.as_str();
     let logs = options.logs.as_ref().map(FilePath::as_str);
+    tell_terminal(rt);
     tell_lanes(rt, options);
     make_scratch(rt, scratch);
     let _held = hold(rt, scratch);
@@ -56,9 +57,9 @@ pub fn run_script<S: Alter + Drop, T: Threads + Wait + Sync>(
     }
 }
 
-/// Whether what the command runs has the folder of its logs, if it names one. A folder that is not there is made. Where there is none, or nothing
-/// can be made in it, that is told.
-pub fn has_logs(rt: &HostRuntime, command: &Command) -> io::Result<bool> {
+/// Makes the folder of the logs, if the command names one that is not there; whether the command may go on. Where there is no such folder, or nothing
+/// can be made in it, that is told. An error is that memory ran out.
+pub fn make_logs(rt: &HostRuntime, command: &Command) -> io::Result<bool> {
     let Command::Run(options) = command else {
         return Ok(true);
     };
@@ -75,7 +76,17 @@ pub fn has_logs(rt: &HostRuntime, command: &Command) -> io::Result<bool> {
     }
 }
 
-// Tells that there are fewer lanes than the workers that were asked for, so that some of these never work.
+// Tells who begins it on a terminal where the script comes from.
+fn tell_terminal(rt: &HostRuntime) {
+    if rt.stdin().is_terminal() {
+        tell(
+            rt,
+            "dagsched: commands are read from the terminal, a line each; Ctrl-D ends them",
+        );
+    }
+}
+
+// Tells that there are fewer lanes than workers, so that some of these never work. Where there are no more workers than without asking it says nothing.
 fn tell_lanes(rt: &HostRuntime, options: &ScriptOptions) {
     let (workers, lanes) = (options.workers.get(), options.lanes.get());
     if lanes == 0 || workers <= lanes || workers <= DEFAULT_WORKERS {

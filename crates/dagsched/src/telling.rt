@@ -88,6 +88,7 @@ fn refused_text(rt: &HostRuntime, path: &str) -> Result<String, AllocError> {
 fn unmade_text(rt: &HostRuntime, path: &str) -> Result<String, AllocError> {
     let alloc = rt.alloc();
     let folder = match path.rsplit_once('/') {
+        Some(("", _)) => "/",
         Some((folder, _)) => folder,
         None => ".",
     };

@@ -17,15 +17,21 @@ const SAME_DELAY: &str = "dagsched has none: retry_delay is always the same";
 
 const POOL: &str = "dagsched has none: a pool of its own limits the graph's tasks";
 
+const NAME: &str = "here it is dag_id above the tasks, and task_id in a task";
+
 const SHELL: &str = "dagsched has none: argv = [\"sh\", \"-c\", \"cd DIR && X=1 ./load\"] does it";
 
+const TIMEOUT: &str = "dagsched has none: argv = [\"timeout\", \"3600\", ..] ends a program";
+
 const LATE: &str = "dagsched has none: look at list runs";
+
+const PAUSE: &str = "here it is the command pause DAG after the load";
 
 const ALARM: &str =
     "dagsched has none: a task with trigger_rule = \"one_failed\" may tell somebody";
 
 // Pairs of a word and what stands for it here.
-static WORDS: [(&str, &str); 51] = [
+static WORDS: [(&str, &str); 62] = [
     ("schedule_interval", "here it is schedule"),
     (
         "default_args",
@@ -36,6 +42,7 @@ static WORDS: [(&str, &str); 51] = [
     ("bash", BASH),
     ("python_callable", PYTHON),
     ("PythonOperator", PYTHON),
+    ("python", PYTHON),
     ("EmptyOperator", "here it is noop"),
     ("DummyOperator", "here it is noop"),
     ("FileSensor", SENSOR),
@@ -52,10 +59,8 @@ static WORDS: [(&str, &str); 51] = [
     ("downstream", "here each task names its upstream"),
     ("upstream_task_ids", WAITING),
     ("task_dependencies", WAITING),
-    (
-        "execution_timeout",
-        "dagsched has none: argv = [\"timeout\", \"3600\", ..] ends a program",
-    ),
+    ("execution_timeout", TIMEOUT),
+    ("timeout", TIMEOUT),
     ("dagrun_timeout", LATE),
     ("sla", LATE),
     ("email", ALARM),
@@ -73,12 +78,27 @@ static WORDS: [(&str, &str); 51] = [
         "dagsched has none: depends_on_past in all tasks comes near to it",
     ),
     ("max_active_tasks", POOL),
-    ("max_active_tis_per_dag", POOL),
-    ("concurrency", POOL),
-    ("queue", POOL),
     (
-        "is_paused_upon_creation",
-        "here it is the command pause DAG after the load",
+        "max_active_tis_per_dag",
+        "dagsched has none: a pool for this task alone limits it",
+    ),
+    ("concurrency", POOL),
+    (
+        "queue",
+        "dagsched has none: all tries run on the scheduler's machine",
+    ),
+    ("priority", "here it is priority_weight"),
+    ("weight", "here it is priority_weight"),
+    ("slots", "here it is pool_slots"),
+    ("name", NAME),
+    ("id", NAME),
+    ("cron", "here it is schedule"),
+    ("interval", "here it is schedule"),
+    ("is_paused_upon_creation", PAUSE),
+    ("paused", PAUSE),
+    (
+        "skip_on_exit_code",
+        "dagsched has none: a program that ends with the status 99 is skipped",
     ),
     ("timezone", "dagsched has none: all times are UTC"),
     (

@@ -19,10 +19,10 @@ impl<'a> Asked<'a> {
         }
     }
 
-    /// The word after the first, where it is that of a file.
+    /// The value after the first, where it is that of a file. A `load inline` has none: it is asked for by its last line, the `.`.
     pub fn path(self, alloc: Global) -> Result<Option<&'a str>, AllocError> {
-        let words = self.words(alloc)?;
-        Ok(words.as_slice().get(1).copied())
+        let values = self.values(alloc)?;
+        Ok(values.as_slice().get(1).copied())
     }
 
     /// The words that are no options and no values of `--record` and `--task`.

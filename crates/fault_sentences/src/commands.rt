@@ -148,6 +148,8 @@ fn hint_of(asked: Asked<'_>, words: &[&str]) -> Option<&'static str> {
             Some(first) if first.starts_with("--record") => Some("--record stands once"),
             _ => Some("--record stands first: dagsched --record PATH COMMAND"),
         }
+    } else if matches!(words, ["trigger", _, _, ..]) {
+        Some("a run by hand has the record's clock as its date, which only a tick moves")
     } else {
         None
     }
@@ -194,7 +196,10 @@ fn moment_sentence(
         .iter()
         .skip(first)
         .find(|word| Moment::read(word).err() == Some(fault));
-    let why = moment_text(Some(fault));
+    let why = match found {
+        Some(word) if word.contains("__") => "a run's date is what stands behind __ in its id",
+        _ => moment_text(Some(fault)),
+    };
     let order = if fault == MomentFault::Shape {
         order_of(command)
     } else {

@@ -22,7 +22,7 @@ pub struct Idle {
 enum Work {
     // Those that are not there are made.
     Backfill,
-    // So they are, and the others are set back.
+    // Those that are not there are made, and the others are set back.
     Reset,
     // The task instances that are named are set back.
     Clear,
@@ -30,27 +30,29 @@ enum Work {
     ClearFailed,
 }
 
-// What is to be told of an event that was done, where it has changed nothing.
-pub fn idle_note(
+// What is to be told of a backfill or a clear that was done: why it has changed nothing, or that its runs wait where their graph is paused.
+pub fn done_note(
     alloc: Global,
     event: &Event,
     answer: &Answer,
 ) -> Result<Option<Note>, AllocError> {
-    if !answer.made.as_slice().is_empty() || answer.cleared > 0 {
-        return Ok(None);
-    }
     let Some((graph, from, to, work)) = work_of(event) else {
         return Ok(None);
     };
     let graph = graph.copy(alloc)?;
-    Ok(Some(Note {
-        text: String::new(alloc),
-        rest: Rest::Idle(Idle {
+    let rest = if answer.made.as_slice().is_empty() && answer.cleared == 0 {
+        Rest::Idle(Idle {
             graph,
             from,
             to,
             work,
-        }),
+        })
+    } else {
+        Rest::Paused(graph)
+    };
+    Ok(Some(Note {
+        text: String::new(alloc),
+        rest,
     }))
 }
 

@@ -179,28 +179,29 @@ fn kind_sentence(alloc: Global, key: Key, value: &Value) -> Result<String, Alloc
         Kind::Texts => "an array of strings",
         Kind::Tables => "an array of tables",
     };
-    match value {
-        Value::String(text) => {
+    let found = found_text(alloc, key.kind(), value)?;
+    let found = found.as_str();
+    format!(in alloc; "{name}: {wanted} is wanted{found}")
+}
+
+// What stands there in place of a value of this kind, and what was probably meant.
+fn found_text(alloc: Global, wanted: Kind, value: &Value) -> Result<String, AllocError> {
+    let found = match (value, wanted) {
+        (Value::String(text), _) => {
             let text = text.as_str();
-            format!(in alloc; "{name}: {wanted} is wanted, and \"{text}\" is a string")
+            return format!(in alloc; ", and \"{text}\" is a string");
         }
-        Value::Integer(number) => {
-            format!(in alloc; "{name}: {wanted} is wanted, and {number} is an integer")
-        }
-        Value::Boolean(flag) => {
-            format!(in alloc; "{name}: {wanted} is wanted, and {flag} is a boolean")
-        }
-        Value::Datetime(_) => {
-            format!(in alloc; "{name}: {wanted} is wanted, and this is a date: put it in quotes")
-        }
-        Value::Table(_) if matches!(key.kind(), Kind::Tables) => {
-            format!(in alloc; "{name}: {wanted} is wanted: write [[{name}]], with two brackets")
-        }
-        Value::Float(_) | Value::Array(_) | Value::Table(_) => {
-            let found = value.type_str();
-            format!(in alloc; "{name}: {wanted} is wanted, and this is another {found}")
-        }
-    }
+        (Value::Integer(number), _) => return format!(in alloc; ", and {number} is an integer"),
+        (Value::Boolean(flag), _) => return format!(in alloc; ", and {flag} is a boolean"),
+        (Value::Datetime(_), Kind::Text) => ", and this is a date: put it in quotes",
+        (Value::Datetime(_), _) => ", and this is a date or a time",
+        (Value::Float(_), _) => ", and this is a number with a point",
+        (Value::Array(_), Kind::Texts | Kind::Tables) => ", and this is another array",
+        (Value::Array(_), _) => ", and this is an array",
+        (Value::Table(_), Kind::Tables) => ": write [[task]], with two brackets",
+        (Value::Table(_), _) => ", and this is a table",
+    };
+    String::from_str(alloc, found)
 }
 
 // The text, or the first of the texts, that is no name.

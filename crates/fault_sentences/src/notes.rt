@@ -2,9 +2,9 @@
 use crate::asked::Asked;
 use crate::commands::command_sentence;
 use crate::graphs::load_note;
-use crate::idle::{Idle, idle_note};
+use crate::idle::{Idle, done_note};
 use crate::keys::hint_of;
-use crate::records::{clock_sentence, end_sentence, store_sentence, told};
+use crate::records::{clock_sentence, end_sentence, store_sentence};
 use crate::refusals::{refusal_note, unexplained_note};
 use graph_file::Name;
 use moment_core::Moment;
@@ -37,6 +37,8 @@ pub enum Rest {
     Near(String),
     /// Why a command changed nothing.
     Idle(Idle),
+    /// That this graph is paused, where it is.
+    Paused(Name),
 }
 
 /// What is to be told of what was put for a command, of an event where it is one. `None` where there is nothing to tell.
@@ -48,8 +50,8 @@ pub fn note_of(
 ) -> Result<Option<Note>, AllocError> {
     match shown {
         Shown::Answer(Event::Load(text), _) => load_note(alloc, text.as_str()),
-        Shown::Answer(Event::Trigger(_), answer) => alone(trigger_sentence(alloc, answer)?),
-        Shown::Answer(done, answer) => idle_note(alloc, done, answer),
+        Shown::Answer(Event::Trigger(graph), answer) => trigger_note(alloc, graph, answer),
+        Shown::Answer(done, answer) => done_note(alloc, done, answer),
         Shown::Failure(fault) => failure_note(alloc, asked, event, fault),
         Shown::NoCommand(fault) => alone(command_sentence(alloc, asked, fault)?),
         Shown::NoMoment(fault) => alone(clock_sentence(alloc, fault)?),
@@ -59,15 +61,18 @@ pub fn note_of(
     }
 }
 
-// That a run by hand has the date at which the clock of a new record stands, which is probably not meant.
-fn trigger_sentence(alloc: Global, answer: &Answer) -> Result<Option<String>, AllocError> {
-    match answer.made.as_slice().first() {
-        Some(made) if made.logical.secs() == 0 => told(
-            alloc,
-            "the clock of this record was never moved, so the run is of 1970: say tick now before trigger",
-        ),
-        _ => Ok(None),
-    }
+// That a run by hand has the date at which the clock of a new record stands, which is probably not meant; and that it waits where its graph is paused.
+fn trigger_note(alloc: Global, graph: &Name, answer: &Answer) -> Result<Option<Note>, AllocError> {
+    let text = match answer.made.as_slice().first() {
+        Some(made) if made.logical.secs() == 0 => {
+            "the clock of this record was never moved, so the run is of 1970: say tick now before trigger"
+        }
+        _ => "",
+    };
+    Ok(Some(Note {
+        text: String::from_str(alloc, text)?,
+        rest: Rest::Paused(graph.copy(alloc)?),
+    }))
 }
 
 /// What is to be told of a file that the system does not give, for this cause.
@@ -138,6 +143,7 @@ impl Note {
             },
             Rest::Near(word) => push_near(alloc, sentence, schedule, word.as_str()),
             Rest::Idle(idle) => idle.push_why(sentence, schedule),
+            Rest::Paused(graph) => push_paused(sentence, schedule, graph),
         }
     }
 }
@@ -166,7 +172,27 @@ fn push_near(
 // Adds the moment that the clock has reached.
 pub fn push_clock(sentence: &mut String, schedule: &Schedule) -> Result<(), AllocError> {
     let now = schedule.now();
+    if now.secs() == 0 {
+        return sentence.push_str("; the record's clock was never moved: say tick now first");
+    }
     write!(sentence, "; the record's clock stands at {now}")
+}
+
+// Adds that the runs of a graph wait since it is paused, where it is.
+fn push_paused(sentence: &mut String, schedule: &Schedule, id: &Name) -> Result<(), AllocError> {
+    match schedule.graph_of(id) {
+        Some(graph) if graph.paused => {
+            if !sentence.is_empty() {
+                sentence.push_str("; ")?;
+            }
+            let id = id.as_str();
+            write!(
+                sentence,
+                "the graph is paused, so its runs wait until unpause {id}"
+            )
+        }
+        _ => Ok(()),
+    }
 }
 
 // Adds the task instance whose try has this serial.

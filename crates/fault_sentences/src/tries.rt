@@ -241,6 +241,7 @@ impl Tally {
         if !self.names.is_empty() {
             text.push_str(": ")?;
             text.push_str(self.names.as_str())?;
+            self.push_more(&mut text)?;
         }
         self.push_retries(&mut text)?;
         if self.has_program && !has_logs {
@@ -251,6 +252,18 @@ impl Tally {
         } else {
             Ok(Some(text))
         }
+    }
+
+    // Adds how many failed or were lost beside those that are named.
+    fn push_more(&self, text: &mut String) -> Result<(), AllocError> {
+        let more = self
+            .failed
+            .saturating_add(self.lost)
+            .saturating_sub(self.named);
+        if more == 0 {
+            return Ok(());
+        }
+        write!(text, " and {more} more")
     }
 
     // Adds how many wait for a retry, and from which moment on.
