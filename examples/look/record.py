@@ -32,6 +32,14 @@ class Record:
         found = tomllib.loads(self.bodies[dag])["task"]
         return [Task(it["task_id"], it.get("pool", "default_pool"), it.get("upstream", []), it.get("retries", 0)) for it in found]
 
+    def full(self, dag):
+        """How many tries of a graph are in flight, where it may have no more: else None, and of a record of version 1, which has no bounds."""
+        if not self.rows.execute("SELECT 1 FROM sqlite_schema WHERE name = 'dag_limit'").fetchone():
+            return None
+        asked = "SELECT max_active_tasks, (SELECT count(*) FROM attempt a WHERE a.dag_id = l.dag_id AND a.ended IS NULL) FROM dag_limit l WHERE dag_id = ?"
+        bound, active = self.rows.execute(asked, (dag,)).fetchone()
+        return active if active >= bound else None
+
     def runs(self, dag):
         """The runs of a graph by date."""
         asked = "SELECT logical, data_end, kind, phase FROM run WHERE dag_id = ? ORDER BY logical"

@@ -23,3 +23,7 @@ SELECT datetime(at, 'unixepoch') AS moment, sum(sum(change)) OVER (ORDER BY at) 
     FROM (SELECT started AS at, slots AS change FROM attempt WHERE started IS NOT NULL
         UNION ALL SELECT ended, -slots FROM attempt WHERE started IS NOT NULL AND ended IS NOT NULL)
     GROUP BY at ORDER BY at;
+
+-- How full each graph is: how many of its tries are in flight, and how many may be (max_active_tasks). A record of version 1 has no such table.
+SELECT l.dag_id, (SELECT count(*) FROM attempt a WHERE a.dag_id = l.dag_id AND a.ended IS NULL) AS in_flight, l.max_active_tasks
+    FROM dag_limit l ORDER BY l.dag_id;

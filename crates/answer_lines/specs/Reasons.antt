@@ -8,7 +8,7 @@ use Rattle.trigger_rules.specs.States.{name_of}
 use Rattle.trigger_rules.specs.declared.states.State.{State}
 use Rattle.sched_state.specs.declared.runs.RunPhase.{RunPhase}
 use Rattle.explain.specs.declared.reasons.Reason.{Reason}
-use Rattle.explain.specs.declared.reasons.Reason.TheVariants.{Finished, HandedOut, RunQueued, Paused, RunFinished, Upstream, Past, RetryAt, Pool, Lanes}
+use Rattle.explain.specs.declared.reasons.Reason.TheVariants.{Finished, HandedOut, RunQueued, Paused, RunFinished, Upstream, Past, RetryAt, Pool, GraphFull, Lanes}
 use Rattle.explain.specs.declared.reasons.ExplainFault.{ExplainFault}
 use Rattle.explain.specs.declared.reasons.ExplainFault.TheVariants.{UnknownGraph, UnknownRun, UnknownTask, Memory}
 use Rattle.answer_lines.specs.Runs.{phase_text}
@@ -42,6 +42,10 @@ abbrev pub pool_reason_line : List ℕ → ℕ → ℤ → List ℕ
 pool_reason_line pool needs free =
     codes "pool " ++ (pool ++ (codes " needs " ++ (decimal needs ++ (codes " open " ++ (signed_decimal free ++ codes "\n")))))
 
+-- `graph-full ACTIVE limit LIMIT`
+abbrev pub graph_full_line : ℕ → ℕ → List ℕ
+graph_full_line active limit = codes "graph-full " ++ (decimal active ++ (codes " limit " ++ (decimal limit ++ codes "\n")))
+
 -- the line of a reason
 abbrev pub reason_line : Reason → List ℕ
 reason_line (Finished state) = finished_line state
@@ -53,6 +57,7 @@ reason_line (Upstream task state) = upstream_line task state
 reason_line (Past logical state) = past_line logical state
 reason_line (RetryAt seconds) = retry_line seconds
 reason_line (Pool pool needs free) = pool_reason_line pool needs free
+reason_line (GraphFull active limit) = graph_full_line active limit
 reason_line (Lanes count) = codes "lanes " ++ (decimal count ++ codes "\n")
 
 -- a line for each reason, and `ok`

@@ -13,6 +13,7 @@ abbrev pub table_name : Table → List ℕ
 table_name table.Meta = codes "meta"
 table_name table.Pool = codes "pool"
 table_name table.Dag = codes "dag"
+table_name table.DagLimit = codes "dag_limit"
 table_name table.Run = codes "run"
 table_name table.Instance = codes "instance"
 table_name table.Attempt = codes "attempt"

@@ -49,6 +49,7 @@ pub(crate) fn put_reason<W: Write>(output: &mut W, reason: &Reason) -> io::Resul
         Reason::Past { logical, state } => put_past(output, *logical, *state),
         Reason::RetryAt(seconds) => put_retry(output, *seconds),
         Reason::Pool { pool, needs, free } => put_pool_reason(output, pool, *needs, *free),
+        Reason::GraphFull { active, limit } => put_graph_full(output, *active, *limit),
         Reason::Lanes(count) => writeln!(output, "lanes {count}"),
     }
 }
@@ -99,6 +100,13 @@ fn put_pool_reason<W: Write>(output: &mut W, pool: &Name, needs: u32, free: i64)
 {
     let pool = pool.as_str();
     writeln!(output, "pool {pool} needs {needs} open {free}")
+}
+
+fn put_graph_full<W: Write>(output: &mut W, active: u64, limit: u32) -> io::Result<()>
+    ensures { OnOk result (Appends (W.contents output.old) (W.contents output.new)
+        (spec.graph_full_line active limit)) }
+{
+    writeln!(output, "graph-full {active} limit {limit}")
 }
 
 // Writes the moment of a retry: never, where it lies past the end of moments.

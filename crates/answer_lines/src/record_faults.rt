@@ -47,6 +47,7 @@ fn table_name(table: Table) -> &'static str
         Table::Meta => "meta",
         Table::Pool => "pool",
         Table::Dag => "dag",
+        Table::DagLimit => "dag_limit",
         Table::Run => "run",
         Table::Instance => "instance",
         Table::Attempt => "attempt",

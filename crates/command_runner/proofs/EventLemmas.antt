@@ -10,7 +10,7 @@ use Rattle.sched_events.specs.declared.answers.Answer.{Answer}
 use Rattle.sched_events.specs.declared.events.Event.{Event}
 use Rattle.director.specs.Directors.{DirectorValue, Follows, Keeps, Opens, RestartsIn}
 use Rattle.director.specs.Faults.{IsOpenFault, IsRefused}
-use Rattle.director.specs.meta_store.Stores.{CommitsBy}
+use Rattle.director.specs.meta_store.Stores.{CommitsBy, IsKeptOrMigrated, Migrates, OpensBy}
 use Rattle.director.specs.Lists.{IsOutcome}
 use Rattle.director.specs.declared.faults.Fault.{Fault}
 use Rattle.director.proofs.ListLemmas.{stays_open, was_clean}
@@ -34,9 +34,9 @@ stepped look before d e old new store status opened restarted is_open sound done
   sound = sound;
   outcome = done.outcome;
   stays = stays_open _ _ before _ _ is_open.0 is_open.1 done.followed;
-  stored = λ clean is_open rows stored.
+  stored = λ clean is_open rows has.
       let first = was_clean _ _ _ _ done.followed clean in
-      let keeps : Keeps d.schedule.content (look d.store).now = subst (λ (a : Schedule). Keeps a (look d.store).now) (sym (opened first rows stored).stepped.after) (restarted first rows stored) in
+      let keeps : Keeps d.schedule.content (look d.store).now = subst (λ (a : Schedule). Keeps a (look d.store).now) (sym (opened first rows has).stepped.after) (restarted first rows has) in
       done.followed.stored clean is_open keeps;
   shown = done.shown;
 }
@@ -48,9 +48,9 @@ written text wanted told old new (Err e) status same text_is is = inr is
 
 pub unopened : {S E T : Type 0} (look : Held S → State) (before : State) (store : Held S) (fault : Fault) (old new : Option (List ℕ)) (told : ℕ) (put : Result T E) (status : ℕ)
     → (HasCleanDisk (look store) → IsOpenFault ceilings 0 before.now fault)
-    → (HasCleanDisk (look store) → IsTrue (look store).is_open → ((look store).now ≡ before.now) × ((look store).committed ≡ before.committed))
-    → Survives before (look store) (CommitsBy (RestartsIn ceilings 0) before)
-    → (IsRefused fault → Survives before (look store) (λ _. ⊥))
+    → (HasCleanDisk (look store) → IsTrue (look store).is_open → IsKeptOrMigrated before (look store))
+    → Survives before (look store) (CommitsBy (OpensBy (RestartsIn ceilings 0)) before)
+    → (IsRefused fault → Survives before (look store) (CommitsBy Migrates before))
     → told ≡ failure_status fault → OnOk put (Appends old new (failure_text fault)) → MatchResult put (λ _. status ≡ told) (λ _. status ≡ 4)
     → IsUnopened look before old new store status
 unopened look before store fault old new told put status cause kept crash refused_crash same text_is is = record {

@@ -3,14 +3,13 @@ use Rattle.std.specs.Prelude.{◌≡◌, ◌⊎◌, ℕ, List, Option, Result, I
 use Rattle.sqlite.specs.Held.{Held}
 use Rattle.sqlite.specs.State.{State, HasCleanDisk, Survives}
 use Rattle.record_rows.specs.Rows.{Rows}
-use Rattle.record_tables.specs.Holds.{Stores}
 use Rattle.sched_state.specs.Limits.{ceilings}
 use Rattle.sched_model.specs.Schedule.{Schedule}
 use Rattle.sched_events.specs.SettledAndSound.{IsSoundAndSaid}
 use Rattle.sched_events.specs.declared.answers.Answer.{Answer}
 use Rattle.sched_events.specs.declared.events.Event.{Event}
 use Rattle.director.specs.Directors.{DirectorValue, Follows, Keeps, Opens, RestartsIn, StaysOpen}
-use Rattle.director.specs.meta_store.Stores.{CommitsBy}
+use Rattle.director.specs.meta_store.Stores.{CommitsBy, HasRows, IsKeptOrMigrated, Migrates, OpensBy}
 use Rattle.director.specs.Faults.{IsOpenFault, IsRefused}
 use Rattle.director.specs.Lists.{IsOutcome}
 use Rattle.director.specs.declared.faults.Fault.{Fault}
@@ -27,8 +26,8 @@ pub record IsStepDone {S : Type 0} (look : Held S → State) (d : DirectorValue 
   pub shown : IsWritten (shown_for e answer) (status_of answer) old new status
 
 -- The record was opened without lanes, as a schedule that follows the rules of schedules, whatever the disk gave, and the event was stepped in it, or not.
--- The record is open, unless its disk failed or refused meanwhile; and where it is, and stored rows, it stores the schedule after the restart, and after the
--- event where that was accepted.
+-- The record is open, unless its disk failed or refused meanwhile; and where it is, and had rows, in either version, it stores the schedule after the
+-- restart, and after the event where that was accepted.
 pub record IsStepped {S : Type 0} (look : Held S → State) (before : State) (e : Event) (old new : Option (List ℕ)) (store : Held S) (status : ℕ) : Type 0 where
   pub first : Schedule
   pub given : Answer
@@ -38,17 +37,17 @@ pub record IsStepped {S : Type 0} (look : Held S → State) (before : State) (e 
   pub sound : IsSoundAndSaid first
   pub outcome : IsOutcome first e answer after
   pub stays : StaysOpen before (look store)
-  pub stored : HasCleanDisk (look store) → IsTrue (look store).is_open → (rows : Rows) → Stores before.now rows → Keeps after (look store).now
+  pub stored : HasCleanDisk (look store) → IsTrue (look store).is_open → (rows : Rows) → HasRows before.now rows → Keeps after (look store).now
   pub shown : IsWritten (shown_for e answer) (status_of answer) old new status
 
--- the record was not opened, and is as it was; a crash leaves what it could leave before, or the record restarted, and where the restart was refused the
--- first alone
+-- the record was not opened, and is as it was, or migrated; a crash leaves what it could leave before, or the record migrated, or the record restarted, and
+-- where the restart was refused one of the first two
 pub record IsUnopened {S : Type 0} (look : Held S → State) (before : State) (old new : Option (List ℕ)) (store : Held S) (status : ℕ) : Type 0 where
   pub fault : Fault
   pub cause : HasCleanDisk (look store) → IsOpenFault ceilings 0 before.now fault
-  pub kept : HasCleanDisk (look store) → IsTrue (look store).is_open → ((look store).now ≡ before.now) × ((look store).committed ≡ before.committed)
-  pub crash : Survives before (look store) (CommitsBy (RestartsIn ceilings 0) before)
-  pub refused_crash : IsRefused fault → Survives before (look store) (λ _. ⊥)
+  pub kept : HasCleanDisk (look store) → IsTrue (look store).is_open → IsKeptOrMigrated before (look store)
+  pub crash : Survives before (look store) (CommitsBy (OpensBy (RestartsIn ceilings 0)) before)
+  pub refused_crash : IsRefused fault → Survives before (look store) (CommitsBy Migrates before)
   pub shown : IsWritten (failure_text fault) (failure_status fault) old new status
 
 abbrev pub IsEventDone : {S : Type 0} → (Held S → State) → Held S → Event → Option (List ℕ) → Option (List ℕ) → Held S → ℕ → Type 0

@@ -13,7 +13,7 @@ use sqlite::Alter;
 use std::alloc::Global;
 use std::io::{self, Write};
 
-// Opens the record without lanes, and steps the event.
+// Opens the record without lanes, which makes one of version 1 one of version 2, and steps the event.
 pub(crate) fn step_event<S: Alter + Drop, W: Write, P: Console>(
     alloc: Global,
     store: Store<S>,

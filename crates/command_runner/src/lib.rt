@@ -5,7 +5,7 @@
 //! ```
 //!
 //! Easy to get wrong: an event opens the record without lanes, as a restart of the scheduler does: tries without an end are lost, and none is handed
-//! out. Rows and reasons change nothing.
+//! out; and a record of version 1 is one of version 2 from then on. Rows and reasons change nothing.
 #![tactic(auto)]
 
 mod commands;

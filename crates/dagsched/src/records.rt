@@ -2,7 +2,9 @@
 ghost use Rattle.std.specs.Prelude.{◌≡◌, false, IfOk};
 
 use crate::scripts::run_script;
-use crate::telling::{tell_fault, tell_made, tell_unanswered, tell_unkept, tell_unopened};
+use crate::telling::{
+    tell_fault, tell_made, tell_migrated, tell_unanswered, tell_unkept, tell_unopened,
+};
 use crate::volatile::Volatile;
 use answer_lines::{Shown, put};
 use command_runner::run_command;
@@ -45,7 +47,7 @@ fn on_path<F: Start, T: Threads + Wait + Sync>(
             if !was_there {
                 tell_made(rt, path);
             }
-            let (conn, status) = on_connection(threads, rt, conn, command, words)?;
+            let (conn, status) = on_connection(threads, rt, conn, Some(path), command, words)?;
             match conn.close() {
                 Ok(()) => Ok(status),
                 Err(_) => Ok(status.max(3)),
@@ -70,7 +72,7 @@ pub fn in_memory<T: Threads + Wait + Sync>(
     words: Vec<String>,
 ) -> io::Result<u8> {
     let conn = new_database(rt.alloc())?;
-    let (_conn, status) = on_connection(threads, rt, conn, command, words)?;
+    let (_conn, status) = on_connection(threads, rt, conn, None, command, words)?;
     tell_unkept(rt, command);
     Ok(status)
 }
@@ -93,21 +95,22 @@ fn new_database(alloc: Global) -> io::Result<Connection<FileStore<Volatile>>>
 }
 
 // Makes a record in an empty database, or takes the one that is there, and does the command on it. The database of another program is no
-// record, and is left as it is.
+// record, and is left as it is. The path is that of its file, where it has one.
 fn on_connection<S: Alter + Drop, T: Threads + Wait + Sync>(
     threads: &T,
     rt: &HostRuntime,
     conn: Connection<S>,
+    path: Option<&str>,
     command: &Command,
     words: Vec<String>,
 ) -> io::Result<(Connection<S>, u8)>
     requires { conn.in_transaction ≡ false }
 {
     if !conn.schema().tables.as_slice().is_empty() {
-        return on_store(threads, rt, Store::adopt(conn), command, words);
+        return on_store(threads, rt, Store::adopt(conn), path, command, words);
     }
     match Store::create(rt.alloc(), conn) {
-        Ok(store) => on_store(threads, rt, store, command, words),
+        Ok(store) => on_store(threads, rt, store, path, command, words),
         Err((conn, fault)) => {
             let status = put_failure(rt, &Fault::from(fault))?;
             Ok((conn, status))
@@ -115,17 +118,25 @@ fn on_connection<S: Alter + Drop, T: Threads + Wait + Sync>(
     }
 }
 
+// Does the command on a record, and tells where it was of version 1 and is of version 2 now.
 fn on_store<S: Alter + Drop, T: Threads + Wait + Sync>(
     threads: &T,
     rt: &HostRuntime,
     store: Store<S>,
+    path: Option<&str>,
     command: &Command,
     words: Vec<String>,
 ) -> io::Result<(Connection<S>, u8)> {
+    let had_limits = store.has_limits();
     let (store, status) = match command {
         Command::Run(options) => run_script(threads, rt, store, options, words)?,
         _ => run_single(rt, store, command, words)?,
     };
+    if let Some(path) = path {
+        if !had_limits && store.has_limits() {
+            tell_migrated(rt, path);
+        }
+    }
     Ok((store.release(), status))
 }
 

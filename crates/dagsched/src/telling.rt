@@ -107,6 +107,15 @@ pub fn tell_made(rt: &HostRuntime, path: &str) {
     }
 }
 
+/// Tells of a record of version 1 that was made one of version 2, so that nobody goes on with an older program.
+pub fn tell_migrated(rt: &HostRuntime, path: &str) {
+    if let Ok(text) = format!(in rt.alloc();
+        "dagsched: {path} is a record of version 2 now: older programs do not open it"
+    ) {
+        tell(rt, text.as_str());
+    }
+}
+
 /// Tells that the answer to a command could not be written.
 pub fn tell_unanswered(rt: &HostRuntime, error: &io::Error) {
     if let Ok(text) = format!(in rt.alloc();

@@ -1,5 +1,5 @@
 -- What contracts see of a director, and what its calls leave in its record.
-use Rattle.std.specs.Prelude.{◌⊎◌, ℕ, IsTrue, ⊤, refl}
+use Rattle.std.specs.Prelude.{◌≡◌, ◌⊎◌, ℕ, true, IsTrue, ⊤, refl}
 use Rattle.std.specs.Coded.{Coded, code_by, coded×}
 use Rattle.sqlite.specs.Effect.{Database}
 use Rattle.sqlite.specs.Held.{Held, held_code}
@@ -19,7 +19,9 @@ use Rattle.sched_events.specs.declared.events.Event.{Event}
 use Rattle.sched_events.specs.declared.events.Event.TheVariants.{Restart}
 use Rattle.meta_store.specs.Loads.{IsReadAs}
 pub use Rattle.meta_store.specs.Schedules.{ScheduleValue}
+use Rattle.meta_store.specs.Schedules.{has_limits}
 use Rattle.meta_store.specs.Schedules.schedule
+use Rattle.meta_store.specs.Stores.{HasRows, Migrates}
 
 -- the record's connection, the schedule in memory, and the answer to the restart that began it
 pub record DirectorValue (S : Type 0) : Type 0 where
@@ -51,15 +53,20 @@ pub record Follows (a : Schedule) (before : State) (b : Schedule) (after : State
   pub was_open : HasCleanDisk after → IsTrue after.is_open → IsTrue before.is_open
   pub stored : HasCleanDisk after → IsTrue after.is_open → Keeps a before.now → Keeps b after.now
 
--- what a restart with so many lanes makes of a database: one that stores these rows stores the schedule that they are read as, restarted
+-- nothing is to be migrated in a database, and it is as it was; or it was migrated
+abbrev pub IsMigrated : Database → Database → Type 0
+IsMigrated old new = ((has_limits old.schema ≡ true) × (new ≡ old)) ⊎ Migrates old new
+
+-- what a restart with so many lanes makes of a database: one that has these rows, in either version, becomes one that stores the schedule that they are
+-- read as, restarted
 abbrev pub RestartsIn : Bounds → ℕ → Database → Database → Type 0
-RestartsIn l lanes old new = (rows : Rows) → Stores old rows → Keeps (step (Restart lanes) (schedule_of l rows)) new
+RestartsIn l lanes old new = (rows : Rows) → HasRows old rows → Keeps (step (Restart lanes) (schedule_of l rows)) new
 
 -- rows are read as a schedule, and a restart of it with so many lanes gives this schedule, with this answer
 pub record IsOpenedAs (l : Bounds) (lanes : ℕ) (rows : Rows) (b : Schedule) (given : Answer) : Type 0 where
   pub read : IsReadAs l rows (schedule_of l rows)
   pub stepped : IsStepped (schedule_of l rows) (Restart lanes) b given
 
--- a director is opened on what a database stores
+-- a director is opened on the rows that a database has, in either version
 abbrev pub Opens : Bounds → ℕ → Database → Schedule → Answer → Type 0
-Opens l lanes db b given = (rows : Rows) → Stores db rows → IsOpenedAs l lanes rows b given
+Opens l lanes db b given = (rows : Rows) → HasRows db rows → IsOpenedAs l lanes rows b given

@@ -1,11 +1,13 @@
 -- Why a director does not step.
-use Rattle.std.specs.Prelude.{◌≡◌, ◌≢◌, ◌⊎◌, ℕ, false, None}
+use Rattle.std.specs.Prelude.{◌≡◌, ◌≢◌, ◌⊎◌, ℕ, pos, false, true, None, Some}
 use Rattle.sqlite.specs.declared.error.Error.{Error}
 use Rattle.sqlite.specs.Effect.{Database}
 use Rattle.record_rows.specs.Rows.{Rows}
+use Rattle.record_rules.specs.Faults.{record_fault}
 use Rattle.record_rules.specs.Reading.{schedule_of}
-use Rattle.meta_store.specs.record_tables.Holds.{Stores}
-use Rattle.meta_store.specs.Loads.{IsReadAs, IsLoadFault}
+use Rattle.meta_store.specs.Loads.{IsReadAs}
+use Rattle.meta_store.specs.Schedules.{is_version}
+use Rattle.meta_store.specs.Stores.{HasRows, IsNoRecord}
 pub use Rattle.meta_store.specs.Schedules.{is_memory}
 pub use Rattle.meta_store.specs.declared.faults.StoreFault.{StoreFault}
 pub use Rattle.meta_store.specs.declared.faults.StoreFault.TheVariants as store
@@ -39,11 +41,19 @@ IsFaultOfStore (Refused r) = ⊥
 IsFaultOfStore (Store f) = (error : Error) × (is_memory error ≡ false) × (f ≡ store.Refused error)
 IsFaultOfStore Memory = Unit {0}
 
--- a director is not opened on a database: the restart is refused at the schedule that is read, or why it is not read or not written, or want of
--- memory
+-- what the store says against an opening: an error of SQLite, a database that is no record, the first rule that fails of the rows that the database has as
+-- those of version 2, or want of memory
+abbrev pub StandsAgainst : Bounds → Database → StoreFault → Type 0
+StandsAgainst l db (store.Refused error) = is_memory error ≡ false
+StandsAgainst l db store.NotOurs = IsNoRecord db
+StandsAgainst l db (store.Inconsistent t n) = (rows : Rows) → HasRows db rows → (is_version (pos 2) rows.metas ≡ true) × (record_fault l rows ≡ Some (t, n))
+StandsAgainst l db store.Memory = Unit {0}
+
+-- a director is not opened on a database: the restart is refused at the schedule that is read, or why it is not migrated, not read or not written, or want
+-- of memory
 abbrev pub IsOpenFault : Bounds → ℕ → Database → Fault → Type 0
-IsOpenFault l lanes db (Refused r) = (rows : Rows) → Stores db rows → IsReadAs l rows (schedule_of l rows) × IsCause (schedule_of l rows) (Restart lanes) r
-IsOpenFault l lanes db (Store f) = (f ≢ store.Memory) × IsLoadFault l db f
+IsOpenFault l lanes db (Refused r) = (rows : Rows) → HasRows db rows → IsReadAs l rows (schedule_of l rows) × IsCause (schedule_of l rows) (Restart lanes) r
+IsOpenFault l lanes db (Store f) = (f ≢ store.Memory) × StandsAgainst l db f
 IsOpenFault l lanes db Memory = Unit {0}
 
 -- the event itself is refused, and nothing was asked of the record

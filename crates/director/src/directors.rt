@@ -4,7 +4,7 @@ ghost use Rattle.sqlite.specs.Held.{state};
 ghost use Rattle.sqlite.specs.State.{HasCleanDisk, Survives};
 ghost use Rattle.sqlite.specs.Tree.{Trees};
 ghost use Rattle.meta_store.specs.Schedules.{is_ours};
-ghost use Rattle.meta_store.specs.Stores.{CommitsBy};
+ghost use Rattle.meta_store.specs.Stores.{CommitsBy, IsKeptOrMigrated, Migrates, OpensBy};
 ghost use Rattle.meta_store.specs.declared.faults.StoreFault.TheVariants as store_fault;
 ghost use Rattle.sched_events.specs.Promises.{KeepsPromises};
 ghost use Rattle.director.specs.Directors.{Follows, Opens, RestartsIn, StepsIn};
@@ -44,8 +44,9 @@ impl<S: Alter> Model for Director<S> {
 }
 
 impl<S: Alter> Director<S> {
-    /// Opens the record that a store has: the schedule that it holds is loaded, within limits, and then restarted with so many lanes, so that
-    /// tries which had no end when the program was stopped are lost. Where it is not opened, the store comes back, and the record is as it was.
+    /// Opens the record that a store has: one of version 1 is made one of version 2, the schedule that it holds is loaded, within limits, and then
+    /// restarted with so many lanes, so that tries which had no end when the program was stopped are lost. Where it is not opened, the store comes
+    /// back, and the record is as it was, or migrated.
     pub fn open(
         alloc: Global,
         store: Store<S>,
@@ -62,7 +63,7 @@ impl<S: Alter> Director<S> {
         ensures open { IfOk result (λ d. HasCleanDisk (state S.Store d.store)
             → IsTrue (state S.Store d.store).is_open) }
         ensures crash { IfOk result (λ d. Survives (state S.Store store) (state S.Store d.store)
-            (CommitsBy (RestartsIn limits lanes) (state S.Store store))) }
+            (CommitsBy (OpensBy (RestartsIn limits lanes)) (state S.Store store))) }
         ensures limits { IfOk result (λ d. d.schedule.content.limits ≡ limits) }
         ensures fault { IfErr result (λ e. HasCleanDisk (state S.Store e.0)
             → IsOpenFault limits lanes (state S.Store store).now e.1) }
@@ -70,12 +71,12 @@ impl<S: Alter> Director<S> {
             → IsErrAnd result (λ e. e.1 ≡ fault.Store store_fault.NotOurs) }
         ensures kept { IfErr result (λ e. HasCleanDisk (state S.Store e.0)
             → IsTrue (state S.Store e.0).is_open
-            → ((state S.Store e.0).now ≡ (state S.Store store).now)
-            × ((state S.Store e.0).committed ≡ (state S.Store store).committed)) }
+            → IsKeptOrMigrated (state S.Store store) (state S.Store e.0)) }
         ensures err_crash { IfErr result (λ e. Survives (state S.Store store) (state S.Store e.0)
-            (CommitsBy (RestartsIn limits lanes) (state S.Store store))) }
+            (CommitsBy (OpensBy (RestartsIn limits lanes)) (state S.Store store))) }
         ensures refused_crash { IfErr result (λ e. IsRefused e.1
-            → Survives (state S.Store store) (state S.Store e.0) (λ _. ⊥)) }
+            → Survives (state S.Store store) (state S.Store e.0)
+            (CommitsBy Migrates (state S.Store store))) }
     {
         let mut store = store;
         match restart(alloc, &mut store, lanes, limits) {
@@ -102,7 +103,8 @@ impl<S: Alter> Director<S> {
         ensures open { IfOk result (λ d. HasCleanDisk (state S.Store d.store)
             → IsTrue (state S.Store d.store).is_open) }
         ensures crash { IfOk result (λ d. Survives (state S.Store self.store)
-            (state S.Store d.store) (CommitsBy (RestartsIn self.schedule.content.limits lanes)
+            (state S.Store d.store)
+            (CommitsBy (OpensBy (RestartsIn self.schedule.content.limits lanes))
             (state S.Store self.store))) }
         ensures limits { IfOk result (λ d. d.schedule.content.limits ≡ self.schedule.content.limits) }
         ensures fault { IfErr result (λ e. HasCleanDisk (state S.Store e.0)
@@ -111,13 +113,14 @@ impl<S: Alter> Director<S> {
             → IsErrAnd result (λ e. e.1 ≡ fault.Store store_fault.NotOurs) }
         ensures kept { IfErr result (λ e. HasCleanDisk (state S.Store e.0)
             → IsTrue (state S.Store e.0).is_open
-            → ((state S.Store e.0).now ≡ (state S.Store self.store).now)
-            × ((state S.Store e.0).committed ≡ (state S.Store self.store).committed)) }
+            → IsKeptOrMigrated (state S.Store self.store) (state S.Store e.0)) }
         ensures err_crash { IfErr result (λ e. Survives (state S.Store self.store)
-            (state S.Store e.0) (CommitsBy (RestartsIn self.schedule.content.limits lanes)
+            (state S.Store e.0)
+            (CommitsBy (OpensBy (RestartsIn self.schedule.content.limits lanes))
             (state S.Store self.store))) }
         ensures refused_crash { IfErr result (λ e. IsRefused e.1
-            → Survives (state S.Store self.store) (state S.Store e.0) (λ _. ⊥)) }
+            → Survives (state S.Store self.store) (state S.Store e.0)
+            (CommitsBy Migrates (state S.Store self.store))) }
     {
         let limits = self.schedule().limits();
         Director::open(alloc, self.close(), lanes, limits)

@@ -5,7 +5,7 @@ use meta_store::StoreFault;
 use sched_events::Refusal;
 use std::alloc::AllocError;
 
-/// Why an event was not stepped. Schedule and record are as they were.
+/// Why an event was not stepped, so that schedule and record are as they were; or why a record was not opened.
 #[derive(Debug, Drop)]
 pub enum Fault {
     /// The event is refused.

@@ -1,14 +1,19 @@
 //! The laws of lists of events, and of a record that is opened again.
-ghost use Rattle.std.specs.Prelude.{◌≡◌, ℕ, List, Result};
+ghost use Rattle.std.specs.Prelude.{◌≡◌, ◌⊎◌, ℕ, List, Result};
 ghost use Rattle.sqlite.specs.Effect.{Database};
+ghost use Rattle.record_rows.specs.Rows.{Rows};
+ghost use Rattle.record_rules.specs.Reading.{schedule_of};
+ghost use Rattle.meta_store.specs.record_tables.Holds.{Stores};
+ghost use Rattle.meta_store.specs.Stores.{HasRows, Migrates, OpensBy};
 ghost use Rattle.sched_model.specs.Schedule.{Schedule};
+ghost use Rattle.sched_state.specs.Limits.{Bounds};
 ghost use Rattle.sched_events.specs.Outcomes.{IsStepped};
 ghost use Rattle.sched_events.specs.SettledAndSound.{IsSoundAndSaid};
-ghost use Rattle.sched_events.specs.Steps.{steps, AreAccepted};
+ghost use Rattle.sched_events.specs.Steps.{step, steps, AreAccepted};
 ghost use Rattle.sched_events.specs.declared.answers.Answer.{Answer};
 ghost use Rattle.sched_events.specs.declared.events.Event.{Event};
 ghost use Rattle.sched_events.specs.declared.events.Event.TheVariants.{Restart};
-ghost use Rattle.director.specs.Directors.{Keeps, Opens};
+ghost use Rattle.director.specs.Directors.{Keeps, Opens, RestartsIn};
 ghost use Rattle.director.specs.Lists.{Answers, accepted};
 ghost use Rattle.director.specs.declared.faults.Fault.{Fault};
 
@@ -30,3 +35,16 @@ pub fn a_record_is_opened_as_it_was_left()
 {
     tables_have_no_fault();
 }
+
+/// What an opening makes of a record, also one that is stopped in the middle: a record of version 2 with the rows that were there, or one that stores the
+/// schedule that they are read as, restarted. A record of version 2 is not migrated, so of it an opening makes the latter alone.
+pub fn an_opening_keeps_the_rows_or_restarts_them()
+    ensures either { (limits : Bounds) (lanes : ℕ) (old new : Database) (rows : Rows)
+        → HasRows old rows → OpensBy (RestartsIn limits lanes) old new
+        → Stores new rows ⊎ Keeps (step (Restart lanes) (schedule_of limits rows)) new }
+    ensures second { (limits : Bounds) (lanes : ℕ) (old new : Database) (rows : Rows)
+        → Stores old rows → OpensBy (RestartsIn limits lanes) old new
+        → Keeps (step (Restart lanes) (schedule_of limits rows)) new }
+    ensures unmigrated { (old new : Database) (rows : Rows) → Stores old rows
+        → Migrates old new → ⊥ }
+{}

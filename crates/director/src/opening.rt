@@ -1,12 +1,13 @@
-//! A record, read and restarted.
-ghost use Rattle.std.specs.Prelude.{◌≡◌, false, IfOk, IfErr, OnOk, OnErr, IsErrAnd, IsTrue};
+//! A record, migrated where it has to be, read and restarted.
+ghost use Rattle.std.specs.Prelude.{◌≡◌, false, IfOk, IfErr, OnOk, OnErr, IsErrAnd, IsTrue, MatchResult, ℕ};
 ghost use Rattle.sqlite.specs.Held.{state};
 ghost use Rattle.sqlite.specs.State.{HasCleanDisk, Survives};
 ghost use Rattle.sqlite.specs.Tree.{Trees};
 ghost use Rattle.meta_store.specs.Schedules.{is_ours};
-ghost use Rattle.meta_store.specs.Stores.{CommitsBy};
+ghost use Rattle.meta_store.specs.Stores.{CommitsBy, IsKeptOrMigrated, Migrates, OpensBy};
 ghost use Rattle.meta_store.specs.declared.faults.StoreFault.TheVariants as store_fault;
-ghost use Rattle.director.specs.Directors.{Opens, RestartsIn};
+ghost use Rattle.sched_state.specs.Limits.{Bounds};
+ghost use Rattle.director.specs.Directors.{IsMigrated, Opens, RestartsIn};
 ghost use Rattle.director.specs.Faults.{IsOpenFault, IsRefused};
 ghost use Rattle.director.specs.declared.faults.Fault.TheVariants as fault;
 
@@ -17,7 +18,7 @@ use sched_events::{Answer, Event};
 use sqlite::Alter;
 use std::alloc::Global;
 
-// Loads the schedule that the record holds, and steps a restart of it in the record too.
+// Makes a record of version 1 one of version 2, loads the schedule that it holds, and steps a restart of it in the record too.
 pub fn restart<S: Alter>(
     alloc: Global,
     store: &mut Store<S>,
@@ -38,18 +39,47 @@ pub fn restart<S: Alter>(
         → IsErrAnd result (λ e. e ≡ fault.Store store_fault.NotOurs) }
     ensures kept { HasCleanDisk (state S.Store store.new)
         → IsTrue (state S.Store store.new).is_open → OnErr result
-        (((state S.Store store.new).now ≡ (state S.Store store.old).now)
-        × ((state S.Store store.new).committed ≡ (state S.Store store.old).committed)) }
+        (IsKeptOrMigrated (state S.Store store.old) (state S.Store store.new)) }
     ensures open { HasCleanDisk (state S.Store store.new) → OnOk result
         (IsTrue (state S.Store store.new).is_open) }
     ensures crash { Survives (state S.Store store.old) (state S.Store store.new)
-        (CommitsBy (RestartsIn limits lanes) (state S.Store store.old)) }
+        (CommitsBy (OpensBy (RestartsIn limits lanes)) (state S.Store store.old)) }
     ensures refused_crash { IfErr result (λ f. IsRefused f
-        → Survives (state S.Store store.old) (state S.Store store.new) (λ _. ⊥)) }
+        → Survives (state S.Store store.old) (state S.Store store.new)
+        (CommitsBy Migrates (state S.Store store.old))) }
 {
+    migrate(alloc, store)?;
     let mut schedule = store.load(alloc, limits)?;
     match step(alloc, store, &mut schedule, &Event::Restart(lanes)) {
         Ok(answer) => Ok((schedule, answer)),
         Err(fault) => Err(fault),
     }
+}
+
+// Makes a record of version 1 one of version 2. Of a record that has the table of version 2 nothing is asked, and it stays as it is.
+fn migrate<S: Alter>(alloc: Global, store: &mut Store<S>) -> Result<(), Fault>
+    ensures done { HasCleanDisk (state S.Store store.new) → OnOk result
+        (IsMigrated (state S.Store store.old).now (state S.Store store.new).now) }
+    ensures settled { HasCleanDisk (state S.Store store.new) → OnOk result
+        (IsKeptOrMigrated (state S.Store store.old) (state S.Store store.new)) }
+    ensures kept { HasCleanDisk (state S.Store store.new)
+        → IsTrue (state S.Store store.new).is_open → OnErr result
+        (((state S.Store store.new).now ≡ (state S.Store store.old).now)
+        × ((state S.Store store.new).committed ≡ (state S.Store store.old).committed)) }
+    ensures was_open { HasCleanDisk (state S.Store store.new)
+        → IsTrue (state S.Store store.new).is_open → IsTrue (state S.Store store.old).is_open }
+    ensures crash { Survives (state S.Store store.old) (state S.Store store.new)
+        (CommitsBy Migrates (state S.Store store.old)) }
+    ensures missing { is_ours (state S.Store store.old).now.schema ≡ false → MatchResult result
+        (λ _. is_ours (state S.Store store.new).now.schema ≡ false)
+        (λ e. e ≡ fault.Store store_fault.NotOurs) }
+    ensures fault { HasCleanDisk (state S.Store store.new)
+        → IfErr result (λ e. (limits : Bounds) (lanes : ℕ)
+        → IsOpenFault limits lanes (state S.Store store.old).now e) }
+{
+    if store.has_limits() {
+        return Ok(());
+    }
+    let _did = store.migrate(alloc)?;
+    Ok(())
 }

@@ -36,6 +36,7 @@ pub record IsSilent (a : Schedule) (s : SubjectValue) : Type 0 where
   pub past : reason.past a s ≡ None
   pub retry : reason.retry_later a s ≡ None
   pub pool : reason.pool_full a s ≡ None
+  pub full : reason.graph_full a s ≡ None
   pub lanes : reason.lanes_full a s ≡ None
 
 pub silent : (a : Schedule) (s : SubjectValue) → reasons a s ≡ [] → IsSilent a s
@@ -50,7 +51,9 @@ silent a s e =
     let p7 : List Reason = p6 ++ given (reason.past a s) in
     let p8 : List Reason = p7 ++ given (reason.retry_later a s) in
     let p9 : List Reason = p8 ++ given (reason.pool_full a s) in
-    let c10 = append-none p9 (given (reason.lanes_full a s)) e in
+    let p10 : List Reason = p9 ++ given (reason.graph_full a s) in
+    let c11 = append-none p10 (given (reason.lanes_full a s)) e in
+    let c10 = append-none p9 (given (reason.graph_full a s)) c11.0 in
     let c9 = append-none p8 (given (reason.pool_full a s)) c10.0 in
     let c8 = append-none p7 (given (reason.retry_later a s)) c9.0 in
     let c7 = append-none p6 (given (reason.past a s)) c8.0 in
@@ -69,5 +72,6 @@ silent a s e =
       past = given-none (reason.past a s) c7.1;
       retry = given-none (reason.retry_later a s) c8.1;
       pool = given-none (reason.pool_full a s) c9.1;
-      lanes = given-none (reason.lanes_full a s) c10.1;
+      full = given-none (reason.graph_full a s) c10.1;
+      lanes = given-none (reason.lanes_full a s) c11.1;
     }

@@ -20,8 +20,8 @@ use Rattle.sched_state.proofs.NameLemmas.{same_is, find_passes}
 use Rattle.sched_state.proofs.OrderLemmas.{and_left, and_right, or_left, or_right, not_false}
 use Rattle.sched_state.specs.declared.graphs.LoadedGraph.{LoadedGraph}
 use Rattle.sched_state.specs.declared.runs.Run.{Run}
-use Rattle.sched_model.specs.Schedule.{Schedule, Pool, dag_named, tasks_of, is_paused, is_running, has_pool, size_of}
-use Rattle.sched_model.specs.States.{occupied, in_flight, previous, past_is_open, state_at}
+use Rattle.sched_model.specs.Schedule.{Schedule, Pool, dag_named, tasks_of, is_paused, is_running, bound_of, has_pool, size_of}
+use Rattle.sched_model.specs.States.{occupied, in_flight, active_tries, previous, past_is_open, state_at}
 use Rattle.sched_model.specs.Settle.{decides, decided_verdict, decide_task, decide_instance, upstream_states}
 use Rattle.sched_model.specs.Handout.{is_ready, is_scheduled, has_come, fits, offer_of, last_serial}
 use Rattle.sched_model.specs.Sound.{is_sound_run, is_sound_graph, is_sound_dag, is_sound_in, has_pools}
@@ -181,8 +181,14 @@ module _ (a : Schedule) (s : SubjectValue) (ok : IsSettledAndSound a) (found : I
       let none : (nat_le a.lanes (in_flight a) || nat_lt last_serial a.next) ≡ false = and-not _ _ (when-none _ _ q.lanes) r in
       and-made _ _ (lt_from (in_flight a) a.lanes (or_left _ _ none)) (le_from a.next last_serial (or_right _ _ none))
 
+  graph_fits : is_ready a.now s.task s.instance ≡ true → nat_lt (active_tries a s.run.graph) (bound_of a s.run.graph) ≡ true
+  graph_fits r =
+      let bound : bound_of a s.run.graph ≡ s.graph.max_active_tasks = ap (λ (o : Option LoadedGraph). unwrap_or (option_map (λ (g : LoadedGraph). g.max_active_tasks) o) 0) found.graph in
+      let few : nat_le s.graph.max_active_tasks (active_tries a s.run.graph) ≡ false = and-not _ _ (when-none _ _ q.full) r in
+      ap (nat_lt (active_tries a s.run.graph)) bound ∙ lt_from (active_tries a s.run.graph) s.graph.max_active_tasks few
+
   not_ready : is_ready a.now s.task s.instance ≡ true → ⊥
-  not_ready r = both (and-made _ _ (pool_fits r) (lanes_fit r)) (offer_fits_not r)
+  not_ready r = both (and-made _ _ (pool_fits r) (and-made _ _ (lanes_fit r) (graph_fits r))) (offer_fits_not r)
 
   up_for_retry : is_up_for_retry (state_of_subject s) ≡ true → ⊥
   up_for_retry up =

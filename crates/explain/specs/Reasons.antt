@@ -14,14 +14,14 @@ use Rattle.instance_machine.specs.declared.tries.Try.{Try}
 use Rattle.sched_state.specs.Lists.{same}
 use Rattle.sched_state.specs.declared.runs.Run.{Run}
 use Rattle.sched_model.specs.Schedule.{Schedule, is_queued, is_ended}
-use Rattle.sched_model.specs.States.{active_runs, in_flight, previous, state_at}
+use Rattle.sched_model.specs.States.{active_runs, active_tries, in_flight, previous, state_at}
 use Rattle.sched_model.specs.Settle.{upstream_states}
 use Rattle.sched_model.specs.Handout.{is_ready, last_serial}
 use Rattle.sched_core.specs.sched_events.Rows.{PoolLine}
 use Rattle.sched_core.specs.Views.{pool_rows}
 use Rattle.explain.specs.Subjects.{SubjectValue, state_of_subject, subject_of}
 use Rattle.explain.specs.declared.reasons.Reason.{Reason}
-use Rattle.explain.specs.declared.reasons.Reason.TheVariants.{Finished, HandedOut, RunQueued, Paused, RunFinished, Upstream, Past, RetryAt, Pool, Lanes}
+use Rattle.explain.specs.declared.reasons.Reason.TheVariants.{Finished, HandedOut, RunQueued, Paused, RunFinished, Upstream, Past, RetryAt, Pool, GraphFull, Lanes}
 use Rattle.explain.specs.declared.reasons.ExplainFault.{ExplainFault}
 use Rattle.explain.specs.declared.reasons.ExplainFault.TheVariants.{Memory}
 
@@ -105,6 +105,11 @@ pool_in s p = when (int_lt p.open_slots (pos s.task.pool_slots)) (Pool p.name s.
 abbrev pub pool_full : Schedule → SubjectValue → Option Reason
 pool_full a s = if_so (is_ready_subject a s) (option_and_then (pool_in s) (find (λ (p : PoolLine). same p.name s.task.pool) (pool_rows a)))
 
+-- so many tries of the graph are without an end, over all its runs, that it may have no more
+abbrev pub graph_full : Schedule → SubjectValue → Option Reason
+graph_full a s =
+    when (is_ready_subject a s && nat_le s.graph.max_active_tasks (active_tries a s.run.graph)) (GraphFull (active_tries a s.run.graph) s.graph.max_active_tasks)
+
 abbrev pub lanes_full : Schedule → SubjectValue → Option Reason
 lanes_full a s = when (is_ready_subject a s && (nat_le a.lanes (in_flight a) || nat_lt last_serial a.next)) (Lanes (in_flight a))
 
@@ -124,6 +129,7 @@ reasons a s =
     ++ given (past a s)
     ++ given (retry_later a s)
     ++ given (pool_full a s)
+    ++ given (graph_full a s)
     ++ given (lanes_full a s)
 
 -- the reasons of the instance of a task in the run of a graph with a logical date, or what is not there

@@ -6,7 +6,7 @@ ghost use Rattle.explain.specs.Subjects.{IsSubjectOf};
 use crate::graph_reasons::{
     add_upstreams, finished, handed_out, past, paused, run_finished, run_queued,
 };
-use crate::handout_reasons::{lanes_full, pool_full, retry_later};
+use crate::handout_reasons::{graph_full, lanes_full, pool_full, retry_later};
 use crate::reasons::{ExplainFault, Reason};
 use crate::subjects::{Subject, subject_of};
 use graph_file::Name;
@@ -53,6 +53,7 @@ fn reasons_of(
     add(&mut reasons, past(schedule, subject))?;
     add(&mut reasons, retry_later(schedule, subject))?;
     add(&mut reasons, pool_full(alloc, schedule, subject)?)?;
+    add(&mut reasons, graph_full(schedule, subject))?;
     add(&mut reasons, lanes_full(schedule, subject))?;
     Ok(reasons)
 }

@@ -80,6 +80,20 @@ pub fn pool_full(
     }
 }
 
+pub fn graph_full(schedule: &Schedule, subject: &Subject<'_>) -> Option<Reason>
+    ensures { result ≡ spec.graph_full schedule.now.content subject.now }
+{
+    let run = subject.run;
+    let graph = subject.graph;
+    let active = schedule.active_tries(&run.graph);
+    let limit = graph.max_active_tasks.get();
+    if is_ready(schedule, subject) && u64::from(limit) <= active {
+        Some(Reason::GraphFull { active, limit })
+    } else {
+        None
+    }
+}
+
 pub fn lanes_full(schedule: &Schedule, subject: &Subject<'_>) -> Option<Reason>
     ensures { result ≡ spec.lanes_full schedule.now.content subject.now }
 {

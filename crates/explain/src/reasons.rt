@@ -26,6 +26,9 @@ pub enum Reason {
     RetryAt(u64),
     /// It could be handed out, and needs more slots than its pool has open (Airflow 2, "Pools").
     Pool { pool: Name, needs: u32, free: i64 },
+    /// It could be handed out, and so many tries of its graph, over all its runs, are in flight, where only so many may be (Airflow 2, the class
+    /// DAG: max_active_tasks).
+    GraphFull { active: u64, limit: u32 },
     /// It could be handed out, and so many tries are in flight that no lane is free; or no serial is left.
     Lanes(usize),
 }

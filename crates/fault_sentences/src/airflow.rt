@@ -15,7 +15,9 @@ const SENSOR: &str =
 
 const SAME_DELAY: &str = "dagsched has none: retry_delay is always the same";
 
-const POOL: &str = "dagsched has none: a pool of its own limits the graph's tasks";
+const BOUND: &str = "here it is max_active_tasks";
+
+const POOL: &str = "dagsched has none: a pool for this task alone limits it";
 
 const NAME: &str = "here it is dag_id above the tasks, and task_id in a task";
 
@@ -31,7 +33,7 @@ const ALARM: &str =
     "dagsched has none: a task with trigger_rule = \"one_failed\" may tell somebody";
 
 // Pairs of a word and what stands for it here.
-static WORDS: [(&str, &str); 62] = [
+static WORDS: [(&str, &str); 64] = [
     ("schedule_interval", "here it is schedule"),
     (
         "default_args",
@@ -77,12 +79,11 @@ static WORDS: [(&str, &str); 62] = [
         "wait_for_downstream",
         "dagsched has none: depends_on_past in all tasks comes near to it",
     ),
-    ("max_active_tasks", POOL),
-    (
-        "max_active_tis_per_dag",
-        "dagsched has none: a pool for this task alone limits it",
-    ),
-    ("concurrency", POOL),
+    ("concurrency", BOUND),
+    ("dag_concurrency", BOUND),
+    ("max_active_tasks_per_dag", BOUND),
+    ("max_active_tis_per_dag", POOL),
+    ("task_concurrency", POOL),
     (
         "queue",
         "dagsched has none: all tries run on the scheduler's machine",

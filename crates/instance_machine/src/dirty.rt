@@ -1,5 +1,6 @@
-//! A set of what is still to be looked at. No crate above uses this yet.
-ghost use Rattle.std.specs.Prelude.{◌≡◌, ◌+◌, ◌<◌, ◌≤◌, [], ◌∷◌, MatchOption, OnOk};
+//! A set of keys that rise. No crate above uses this yet.
+ghost use Rattle.std.specs.Prelude.{◌≡◌, ◌+◌, ◌<◌, ◌≤◌, [], ◌∷◌, filter, length, not, slice_get, IfOk, MatchOption, OnOk};
+ghost use Rattle.std.specs.Ordering.{eq_by_cmp};
 ghost use Rattle.std.specs.BTreeSet.{insert_key};
 ghost use Rattle.std.specs.List.Sorted.{IsStrictlySortedBy};
 
@@ -70,5 +71,43 @@ impl<K: Ord + Copy> Dirty<K> {
         ensures room { self.old.room ≤ self.new.room }
     {
         self.keys.pop_front()
+    }
+
+    /// How many keys there are.
+    pub fn len(&self) -> usize
+        ensures { result ≡ length self.now.keys }
+    {
+        self.keys.len()
+    }
+
+    /// The key at a place, the least first.
+    pub fn get(&self, at: usize) -> Option<K>
+        ensures key { result ≡ slice_get self.now.keys at }
+        ensures rises { IsStrictlySortedBy K.cmp self.now.keys }
+    {
+        self.keys.get(at).copied()
+    }
+
+    /// Takes a key out. One that is not there changes nothing.
+    pub fn unmark(&mut self, key: &K)
+        ensures keys { self.new.keys ≡ filter (λ k. not (eq_by_cmp K.cmp key.now k)) self.old.keys }
+        ensures room { self.old.room ≤ self.new.room }
+    {
+        if let Ok(at) = self.keys.binary_search(key) {
+            self.keys.remove(at);
+        }
+    }
+
+    /// The same keys, with room for `more`.
+    pub fn copy(&self, alloc: Global, more: usize) -> Result<Dirty<K>, AllocError>
+        ensures keys { IfOk result (λ copy. copy.keys ≡ self.now.keys) }
+        ensures room { IfOk result (λ copy. more ≤ copy.room) }
+    {
+        let mut keys = VecDeque::with_capacity(alloc, self.keys.len())?;
+        for at in 0..self.keys.len() {
+            keys.push_back(self.keys[at])?;
+        }
+        keys.reserve(more)?;
+        Ok(Dirty { keys })
     }
 }

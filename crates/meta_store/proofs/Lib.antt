@@ -1,4 +1,8 @@
 mod BeginLemmas
 mod CommitLemmas
 mod FaultLemmas
+mod AskLemmas
+mod UpgradeLemmas
+pub mod MigrateLemmas
+pub mod BackLemmas
 mod LoadLemmas

@@ -1,22 +1,25 @@
 //! The record and its transactions.
-ghost use Rattle.std.specs.Prelude.{◌≡◌, ◌⊎◌, true, false, IsTrue, OnOk, OnErr, IfOk, IfErr, IsErrAnd};
+ghost use Rattle.std.specs.Prelude.{◌≡◌, ◌⊎◌, pos, true, false, IsTrue, OnOk, OnErr, IfOk, IfErr, IsErrAnd};
 ghost use Rattle.sqlite.specs.Held.{state};
 ghost use Rattle.sqlite.specs.State.{HasCleanDisk, Survives};
 ghost use Rattle.sqlite.specs.Tree.{Trees};
 ghost use Rattle.record_changes.specs.Changes as changes;
-ghost use Rattle.record_tables.specs.Holds.{Stores};
+ghost use Rattle.record_tables.specs.Holds.{Stores, StoresFirst};
 ghost use Rattle.record_tables.specs.Puts.{PutsIn};
-ghost use Rattle.record_load.specs.Loads.{AreTexts, is_version_1};
-ghost use Rattle.record_load.specs.Ours.{is_ours};
+ghost use Rattle.record_tables.specs.Schema.{first_schema};
+ghost use Rattle.record_load.specs.Loads.{AreTexts, is_version};
+ghost use Rattle.record_load.specs.Ours.{has_limits, is_ours};
 ghost use Rattle.record_load.specs.declared.faults.LoadFault.TheVariants as unread;
-ghost use Rattle.meta_store.specs.Stores.{Begins, CommitsBy, IsNoRecord, first_rows, has_record_table, Writes};
+ghost use Rattle.meta_store.specs.Stores.{Begins, CommitsBy, HasRows, IsNoRecord, IsOfVersion, first_rows, has_record_table, Writes};
+ghost use Rattle.meta_store.specs.Upgraded.{upgraded};
 ghost use Rattle.meta_store.specs.declared.faults.StoreFault.TheVariants as fault;
 ghost use Rattle.meta_store.specs.Faults.{IsOfSqlite};
 
 use crate::faults::{StoreFault, fault_of, fault_of_load};
 use crate::first_rows::first_rows;
 use crate::names::has_record_table;
-use record_load::{LoadFault, is_ours, is_version_1, load_rows};
+use crate::upgrading::{load_old_rows, upgrade_rows};
+use record_load::{LoadFault, has_limits, is_ours, is_version, load_rows};
 use record_rows::Rows;
 use sched_core::Change;
 use sqlite::{Alter, Connection};
@@ -100,8 +103,15 @@ impl<S: Alter> Store<S> {
         conn
     }
 
+    /// Whether the database has a table of the name that a record of version 1 lacks, so that there is nothing to migrate.
+    pub fn has_limits(&self) -> bool
+        ensures { result ≡ has_limits (state S.Store self.now).now.schema }
+    {
+        has_limits(self.conn.schema())
+    }
+
     /// Writes what a planned change makes differ, in one transaction, which is committed as a whole or not at all. Where the record
-    /// holds the schedule before the change, it holds the one after it then (`a_planned_event_is_written`).
+    /// holds the schedule before the change, it holds the one after it then (`a_planned_event_is_written`). A record of version 1 is refused.
     pub fn write(&mut self, change: &Change) -> Result<(), StoreFault>
         ensures stored { HasCleanDisk (state S.Store self.new) → OnOk result
             (Writes change.now (state S.Store self.old).now (state S.Store self.new).now) }
@@ -119,11 +129,13 @@ impl<S: Alter> Store<S> {
         ensures crash_stored { Survives (state S.Store self.old) (state S.Store self.new)
             (CommitsBy (Writes change.now) (state S.Store self.old)) }
         ensures fault { IfErr result IsOfSqlite }
+        ensures guarded { HasCleanDisk (state S.Store self.new)
+            → (state S.Store self.old).now.schema ≡ first_schema → OnOk result ⊥ }
     {
         self.write_rows(change.rows())
     }
 
-    /// Puts the rows of all tables by key, in one transaction, which is committed as a whole or not at all.
+    /// Puts the rows of all tables by key, in one transaction, which is committed as a whole or not at all. A record of version 1 is refused.
     pub fn write_rows(&mut self, rows: &Rows) -> Result<(), StoreFault>
         ensures stored { HasCleanDisk (state S.Store self.new) → OnOk result
             (PutsIn (changes.put_rows rows.now) (state S.Store self.old).now
@@ -142,6 +154,8 @@ impl<S: Alter> Store<S> {
         ensures crash_stored { Survives (state S.Store self.old) (state S.Store self.new)
             (CommitsBy (PutsIn (changes.put_rows rows.now)) (state S.Store self.old)) }
         ensures fault { IfErr result IsOfSqlite }
+        ensures guarded { HasCleanDisk (state S.Store self.new)
+            → (state S.Store self.old).now.schema ≡ first_schema → OnOk result ⊥ }
     {
         match self.commit_rows(rows) {
             Ok(()) => Ok(()),
@@ -149,11 +163,14 @@ impl<S: Alter> Store<S> {
         }
     }
 
-    /// The rows of all tables, each table by its key. They are read in a transaction that writes nothing.
+    /// The rows of all tables, each table by its key, of a record of version 2, or of version 1 as version 2 has them. They are read in a
+    /// transaction that commits nothing.
     pub fn load_rows(&mut self, alloc: Global) -> Result<Rows, StoreFault>
         ensures list { HasCleanDisk (state S.Store self.new) → IfOk result (λ loaded. (rows : _)
-            → Stores (state S.Store self.old).now rows → loaded ≡ rows) }
-        ensures version { IfOk result (λ loaded. is_version_1 loaded.metas ≡ true) }
+            → HasRows (state S.Store self.old).now rows → loaded ≡ rows) }
+        ensures version { IfOk result (λ loaded. is_version (pos 2) loaded.metas ≡ true) }
+        ensures found { HasCleanDisk (state S.Store self.new) → OnOk result
+            (IsOfVersion (state S.Store self.old).now) }
         ensures kept { HasCleanDisk (state S.Store self.new)
             → IsTrue (state S.Store self.new).is_open
             → ((state S.Store self.new).now ≡ (state S.Store self.old).now)
@@ -169,17 +186,92 @@ impl<S: Alter> Store<S> {
         if !is_ours(self.conn.schema()) {
             return Err(StoreFault::NotOurs);
         }
+        if has_limits(self.conn.schema()) {
+            self.load_second(alloc)
+        } else {
+            self.load_first(alloc)
+        }
+    }
+
+    // The rows of a record of version 2.
+    fn load_second(&mut self, alloc: Global) -> Result<Rows, StoreFault>
+        ensures list { HasCleanDisk (state S.Store self.new) → IfOk result (λ loaded. (rows : _)
+            → Stores (state S.Store self.old).now rows → loaded ≡ rows) }
+        ensures version { IfOk result (λ loaded. is_version (pos 2) loaded.metas ≡ true) }
+        ensures kept { HasCleanDisk (state S.Store self.new)
+            → IsTrue (state S.Store self.new).is_open
+            → ((state S.Store self.new).now ≡ (state S.Store self.old).now)
+            × ((state S.Store self.new).committed ≡ (state S.Store self.old).committed) }
+        ensures was_open { HasCleanDisk (state S.Store self.new)
+            → IsTrue (state S.Store self.new).is_open → IsTrue (state S.Store self.old).is_open }
+        ensures crash { Survives (state S.Store self.old) (state S.Store self.new) (λ _. ⊥) }
+        ensures fault { HasCleanDisk (state S.Store self.new) → IfErr result (λ e. IsOfSqlite e
+            ⊎ ((e ≡ fault.NotOurs) × ((rows : _) → Stores (state S.Store self.old).now rows
+            → AreTexts rows → is_version (pos 2) rows.metas ≡ false))) }
+    {
         let rows = match self.read_rows(alloc) {
             Ok(rows) => rows,
             Err(fault) => return Err(fault_of_load(fault)),
         };
-        if !is_version_1(&rows.metas) {
+        if !is_version(2, &rows.metas) {
             return Err(StoreFault::NotOurs);
         }
         Ok(rows)
     }
 
-    /// The rows of all tables, whatever `meta` says, in a transaction that is dropped.
+    // The rows of a record of version 1, as version 2 has them.
+    fn load_first(&mut self, alloc: Global) -> Result<Rows, StoreFault>
+        ensures list { HasCleanDisk (state S.Store self.new) → IfOk result (λ loaded. (rows : _)
+            → StoresFirst (state S.Store self.old).now rows → loaded ≡ upgraded rows) }
+        ensures version { IfOk result (λ loaded. is_version (pos 2) loaded.metas ≡ true) }
+        ensures found { HasCleanDisk (state S.Store self.new) → OnOk result ((rows : _)
+            → StoresFirst (state S.Store self.old).now rows
+            → is_version (pos 1) rows.metas ≡ true) }
+        ensures kept { HasCleanDisk (state S.Store self.new)
+            → IsTrue (state S.Store self.new).is_open
+            → ((state S.Store self.new).now ≡ (state S.Store self.old).now)
+            × ((state S.Store self.new).committed ≡ (state S.Store self.old).committed) }
+        ensures was_open { HasCleanDisk (state S.Store self.new)
+            → IsTrue (state S.Store self.new).is_open → IsTrue (state S.Store self.old).is_open }
+        ensures crash { Survives (state S.Store self.old) (state S.Store self.new) (λ _. ⊥) }
+        ensures fault { HasCleanDisk (state S.Store self.new) → IfErr result (λ e. IsOfSqlite e
+            ⊎ ((e ≡ fault.NotOurs) × ((rows : _) → StoresFirst (state S.Store self.old).now rows
+            → AreTexts rows → is_version (pos 1) rows.metas ≡ false))) }
+    {
+        let rows = match self.read_first(alloc) {
+            Ok(rows) => rows,
+            Err(fault) => return Err(fault_of_load(fault)),
+        };
+        if !is_version(1, &rows.metas) {
+            return Err(StoreFault::NotOurs);
+        }
+        match upgrade_rows(alloc, rows) {
+            Ok(rows) => Ok(rows),
+            Err(_) => Err(StoreFault::Memory),
+        }
+    }
+
+    // The rows of a record of version 1, whatever `meta` says. The table that it lacks is made in a transaction that is dropped.
+    fn read_first(&mut self, alloc: Global) -> Result<Rows, LoadFault>
+        ensures list { HasCleanDisk (state S.Store self.new) → IfOk result (λ loaded. (rows : _)
+            → StoresFirst (state S.Store self.old).now rows → loaded ≡ rows) }
+        ensures fault { HasCleanDisk (state S.Store self.new) → IfErr result (λ e.
+            e ≡ unread.NotOurs → (rows : _) → StoresFirst (state S.Store self.old).now rows
+            → ¬ AreTexts rows) }
+        ensures kept { HasCleanDisk (state S.Store self.new)
+            → IsTrue (state S.Store self.new).is_open
+            → ((state S.Store self.new).now ≡ (state S.Store self.old).now)
+            × ((state S.Store self.new).committed ≡ (state S.Store self.old).committed) }
+        ensures was_open { HasCleanDisk (state S.Store self.new)
+            → IsTrue (state S.Store self.new).is_open → IsTrue (state S.Store self.old).is_open }
+        ensures crash { Survives (state S.Store self.old) (state S.Store self.new) (λ _. ⊥) }
+    {
+        let _settled = self.conn.is_autocommit();
+        let mut tx = self.conn.transaction();
+        load_old_rows(alloc, &mut tx)
+    }
+
+    // The rows of a record of version 2, whatever `meta` says, in a transaction that is dropped.
     fn read_rows(&mut self, alloc: Global) -> Result<Rows, LoadFault>
         ensures list { HasCleanDisk (state S.Store self.new) → IfOk result (λ loaded. (rows : _)
             → Stores (state S.Store self.old).now rows → loaded ≡ rows) }

@@ -18,7 +18,7 @@ use Rattle.sqlite.specs.Schema.{Schema}
 use Rattle.sqlite.specs.State.{HasCleanDisk, Survives}
 use Rattle.sqlite.proofs.Theorems.{next_run}
 use Rattle.director.specs.meta_store.record_tables.Holds.{Stores}
-use Rattle.director.specs.meta_store.Stores.{CommitsBy}
+use Rattle.director.specs.meta_store.Stores.{CommitsBy, Migrates, OpensBy}
 use Rattle.record_files.specs.Crashes.{IsConnection, IsFoundAround, IsOpenedOn, MayBeLeft}
 
 pub one_database : (a b : Database) → IsDatabase a → IsDatabase b → a.trees ≡ b.trees → a ≡ b
@@ -33,6 +33,17 @@ stores_by_trees new found rows sound same stored = subst (λ (d : Database). Sto
 -- the relation tells of a database what it tells of one with the same trees
 abbrev pub TellsByTrees : (Database → Database → Type 0) → Type 0
 TellsByTrees R = (old new found : Database) → IsDatabase found → found.trees ≡ new.trees → R old new → R old found
+
+-- a migration and an opening do
+pub migrates_by_trees : TellsByTrees Migrates
+migrates_by_trees old new found sound same migrates = record {
+  was = migrates.was;
+  stored = λ rows first. let it = migrates.stored rows first in (it.0, stores_by_trees new found _ sound same it.1);
+}
+
+pub opens_by_trees : (R : Database → Database → Type 0) → TellsByTrees R → TellsByTrees (OpensBy R)
+opens_by_trees R tells old new found sound same (inl migrates) = inl (migrates_by_trees old new found sound same migrates)
+opens_by_trees R tells old new found sound same (inr (mid, how, made)) = inr (mid, how, tells mid new found sound same made)
 
 -- outside of a transaction a crash leaves nothing but what is there
 leaves_itself : {D : Type 0} {g : Ghosts D} → SeenMayStay g → (h : Held (FileStore D g)) → IsConnection h → IsTrue (file_state h).is_open → h.in_transaction ≡ false → (trees : Trees) → (file_state h).may_leave trees

@@ -7,7 +7,7 @@ ghost use Rattle.sqlite.specs.State.{HasCleanDisk, Survives};
 ghost use Rattle.sched_model.specs.Schedule.{Schedule};
 ghost use Rattle.sched_state.specs.Limits.{Bounds};
 ghost use Rattle.sched_events.specs.declared.events.Event.{Event};
-ghost use Rattle.director.specs.meta_store.Stores.{Begins, CommitsBy};
+ghost use Rattle.director.specs.meta_store.Stores.{Begins, CommitsBy, Migrates, OpensBy};
 ghost use Rattle.director.specs.Directors.{RestartsIn, StepsIn};
 ghost use Rattle.record_files.specs.Crashes.{IsConnection, IsFoundAround, IsOpenedOn, MayBeLeft};
 
@@ -30,9 +30,9 @@ pub fn the_next_start_finds_what_is_there<D: Disk, E: Disk>(
         → ∥ (file_state found.now).now ≡ (file_state before.now).now ∥₁ }
 {}
 
-/// After a crash in an event, in an opening or in the making of a record (`crash` of `Director::step`, of `open` and of `Store::create`), the next start finds
-/// the database before it, or one that it makes: one that stores the schedule after the event, or after the restart, if the one before stored that before;
-/// or a new record, if the one before had nothing.
+/// After a crash in an event, in an opening, in a migration or in the making of a record (`crash` of `Director::step`, of `open`, of `Store::migrate` and of
+/// `Store::create`), the next start finds the database before it, or one that it makes: one that stores the schedule after the event, or after the restart, if
+/// the one before had that before; a record of version 2, if the one before was of version 1; or a new record, if the one before had nothing.
 pub fn the_next_start_finds_before_or_after<D: Disk, E: Disk>(
     old: &Connection<FileStore<D>>,
     new: &Connection<FileStore<D>>,
@@ -45,9 +45,14 @@ pub fn the_next_start_finds_before_or_after<D: Disk, E: Disk>(
         → ∥ IsFoundAround (StepsIn e a) (file_state old.now).now (file_state found.now).now ∥₁ }
     ensures opening { (limits : Bounds) (lanes : ℕ) (left : Image) → IsConnection old.now → IsTrue (file_state old.now).is_open
         → old.now.in_transaction ≡ false → IsConnection new.now → HasCleanDisk (file_state new.now)
-        → Survives (file_state old.now) (file_state new.now) (CommitsBy (RestartsIn limits lanes) (file_state old.now))
+        → Survives (file_state old.now) (file_state new.now) (CommitsBy (OpensBy (RestartsIn limits lanes)) (file_state old.now))
         → MayBeLeft new.now left → IsOpenedOn left found.now
-        → ∥ IsFoundAround (RestartsIn limits lanes) (file_state old.now).now (file_state found.now).now ∥₁ }
+        → ∥ IsFoundAround (OpensBy (RestartsIn limits lanes)) (file_state old.now).now (file_state found.now).now ∥₁ }
+    ensures migrating { (left : Image) → IsConnection old.now → IsTrue (file_state old.now).is_open
+        → old.now.in_transaction ≡ false → IsConnection new.now → HasCleanDisk (file_state new.now)
+        → Survives (file_state old.now) (file_state new.now) (CommitsBy Migrates (file_state old.now))
+        → MayBeLeft new.now left → IsOpenedOn left found.now
+        → ∥ IsFoundAround Migrates (file_state old.now).now (file_state found.now).now ∥₁ }
     ensures making { (left : Image) → IsConnection old.now → IsTrue (file_state old.now).is_open
         → old.now.in_transaction ≡ false → IsConnection new.now → HasCleanDisk (file_state new.now)
         → Survives (file_state old.now) (file_state new.now) (CommitsBy Begins (file_state old.now))

@@ -1,9 +1,9 @@
 mod QueryLemmas
 mod ValueLemmas
-mod SelectLemmas
+pub mod SelectLemmas
 mod ShownLemmas
 mod TableLemmas
 mod RiseLemmas
 mod RowsLemmas
-mod OursLemmas
-mod VersionLemmas
+pub mod OursLemmas
+pub mod VersionLemmas

@@ -1,15 +1,15 @@
 -- What the texts of the queries mean.
-use Rattle.std.proofs.Common.{◌≡◌, ℕ, pos, negsuc, List, [], ◌∷◌, codes, false, None, refl}
+use Rattle.std.proofs.Common.{◌≡◌, ℕ, pos, negsuc, List, [], ◌∷◌, codes, false, None, is_ok, refl}
 use Rattle.sqlite.specs.declared.types.Value.TheVariants.{Int}
 use Rattle.sqlite.specs.Term.{Term, lit, col}
 use Rattle.sqlite.specs.Command.TheVariants.{Select}
 use Rattle.sqlite.specs.Command.{Command}
 use Rattle.sqlite.specs.Schema.{Schema}
 use Rattle.sqlite.specs.Query.{Query, inner, end}
-use Rattle.sqlite.specs.Listing.{understood, reads_listing}
+use Rattle.sqlite.specs.Listing.{listing_schema, understood, reads_listing}
 use Rattle.sqlite.proofs.Callers.{IsPlain, command_of}
 use Rattle.sqlite_tied.specs.Compute.{everything}
-use Rattle.record_tables.specs.Schema.{record_schema}
+use Rattle.record_tables.specs.Schema.{first_schema, record_schema}
 
 abbrev pub select_metas : List ℕ
 select_metas = codes "SELECT one, version, now, next_serial, lanes FROM meta"
@@ -19,6 +19,9 @@ select_pools = codes "SELECT name, size FROM pool"
 
 abbrev pub select_dags : List ℕ
 select_dags = codes "SELECT dag_id, body, paused FROM dag"
+
+abbrev pub select_dag_limits : List ℕ
+select_dag_limits = codes "SELECT dag_id, max_active_tasks FROM dag_limit"
 
 abbrev pub select_runs : List ℕ
 select_runs = codes "SELECT dag_id, logical, data_start, data_end, kind, phase FROM run"
@@ -46,6 +49,12 @@ dag_columns = col 1 1 ∷ col 1 2 ∷ col 1 3 ∷ []
 
 abbrev pub dag_names : List (List ℕ)
 dag_names = codes "dag_id" ∷ codes "body" ∷ codes "paused" ∷ []
+
+abbrev pub dag_limit_columns : List Term
+dag_limit_columns = col 1 1 ∷ col 1 2 ∷ []
+
+abbrev pub dag_limit_names : List (List ℕ)
+dag_limit_names = codes "dag_id" ∷ codes "max_active_tasks" ∷ []
 
 abbrev pub run_columns : List Term
 run_columns = col 1 1 ∷ col 1 2 ∷ col 1 3 ∷ col 1 4 ∷ col 1 5 ∷ col 1 6 ∷ []
@@ -98,6 +107,10 @@ pub select_dags_is : Selects record_schema select_dags 3 dag_columns dag_names
 unfolding understood everything
 select_dags_is = (refl, (refl, refl), refl)
 
+pub select_dag_limits_is : Selects record_schema select_dag_limits 11 dag_limit_columns dag_limit_names
+unfolding understood everything
+select_dag_limits_is = (refl, (refl, refl), refl)
+
 pub select_runs_is : Selects record_schema select_runs 5 run_columns run_names
 unfolding understood everything
 select_runs_is = (refl, (refl, refl), refl)
@@ -109,3 +122,8 @@ select_instances_is = (refl, (refl, refl), refl)
 pub select_attempts_is : Selects record_schema select_attempts 9 attempt_columns attempt_names
 unfolding understood everything
 select_attempts_is = (refl, (refl, refl), refl)
+
+-- version 1 has no table of bounds
+pub no_bounds : is_ok (understood first_schema (codes "SELECT max_active_tasks FROM dag_limit")) ≡ false
+unfolding understood everything listing_schema
+no_bounds = refl

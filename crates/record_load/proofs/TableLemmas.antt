@@ -7,12 +7,12 @@ use Rattle.sqlite_value.specs.Order.{Row, column}
 use Rattle.sqlite_rules.specs.Lists.{Has}
 use Rattle.sqlite.specs.Query.{output}
 use Rattle.sqlite.specs.State.{State, Shown}
-use Rattle.record_rows.specs.Rows.{Rows, MetaRow, PoolRow, DagRow, RunRow, InstanceRow, AttemptRow}
-use Rattle.record_tables.specs.Schema.{meta_table, pool_table, dag_table, run_table, instance_table, attempt_table}
-use Rattle.record_tables.specs.Holds.{columns_of, Stores, meta_cells, pool_cells, dag_cells, run_cells, instance_cells, attempt_cells}
-use Rattle.record_tables.proofs.OnceLemmas.{meta_inj, pool_inj, dag_inj, run_inj, instance_inj, attempt_inj}
-use Rattle.record_load.specs.Loads.{Stays, IsPoolText, IsDagText, IsRunText, IsInstanceText, IsAttemptText}
-use Rattle.record_load.specs.Shown.{first_2, first_3, first_5, first_6, first_9, IsMetaRow, IsPoolRow, IsDagRow, IsRunRow, IsInstanceRow, IsAttemptRow}
+use Rattle.record_rows.specs.Rows.{Rows, MetaRow, PoolRow, DagRow, DagLimitRow, RunRow, InstanceRow, AttemptRow}
+use Rattle.record_tables.specs.Schema.{meta_table, pool_table, dag_table, dag_limit_table, run_table, instance_table, attempt_table}
+use Rattle.record_tables.specs.Holds.{columns_of, Stores, meta_cells, pool_cells, dag_cells, dag_limit_cells, run_cells, instance_cells, attempt_cells}
+use Rattle.record_tables.proofs.OnceLemmas.{meta_inj, pool_inj, dag_inj, dag_limit_inj, run_inj, instance_inj, attempt_inj}
+use Rattle.record_load.specs.Loads.{Stays, IsPoolText, IsDagText, IsDagLimitText, IsRunText, IsInstanceText, IsAttemptText}
+use Rattle.record_load.specs.Shown.{first_2, first_3, first_5, first_6, first_9, IsMetaRow, IsPoolRow, IsDagRow, IsDagLimitRow, IsRunRow, IsInstanceRow, IsAttemptRow}
 use Rattle.record_load.proofs.SelectLemmas as text
 use Rattle.record_load.proofs.SelectLemmas.{query_of}
 use Rattle.record_load.proofs.ShownLemmas.{answer_is, stays, loaded_is, reads_all}
@@ -106,6 +106,33 @@ dags_are old new got rows stored shown read is =
 pub dags_read : (old new : State) (got : List Row) (rows : Rows) → Stores old.now rows → Shown text.select_dags [] old new got → AllByRecursion IsDagText rows.dags → (row : Row) → Has got row → IsDagRow row
 dags_read old new got rows stored shown all row has =
     reads_all dag_cells dag_pick first_3 (dag_table 3) dag_picks IsDagText old.now.trees rows.dags stored.holds.dags got (dag_answer old new got rows stored shown) all row has
+
+-- ---- dag_limit
+abbrev dag_limit_pick : Row → Row
+dag_limit_pick r = column r 1 ∷ column r 2 ∷ []
+
+dag_limit_picked : (rows : List Row) → map (output (query_of 11 text.dag_limit_columns)) (flat_map (λ r. ([] ∷ r ∷ []) ∷ []) rows) ≡ map (λ r. ([], dag_limit_pick r)) rows
+dag_limit_picked [] = refl
+dag_limit_picked (r ∷ rows) = ap (λ more. ([], dag_limit_pick r) ∷ more) (dag_limit_picked rows)
+
+dag_limit_picks : (r : Row) (p : DagLimitRow) → columns_of (dag_limit_table 11) r ≡ dag_limit_cells p → dag_limit_pick r ≡ dag_limit_cells p
+dag_limit_picks [] p h = absurd (cc)
+dag_limit_picks (v ∷ r) p h = rw h refl
+
+dag_limit_answer : (old new : State) (got : List Row) (rows : Rows) → Stores old.now rows → Shown text.select_dag_limits [] old new got → IsPermutation (map dag_limit_pick (old.now.trees 11)) got
+dag_limit_answer old new got rows stored shown =
+    answer_is 11 text.dag_limit_columns text.dag_limit_names text.select_dag_limits text.select_dag_limits_is dag_limit_pick (λ db. dag_limit_picked (db 11)) old new got stored.holds.schema shown
+
+pub dag_limits_stay : (old new : State) (got : List Row) → Shown text.select_dag_limits [] old new got → Stays old.now new.now
+dag_limits_stay old new got = stays 11 text.dag_limit_columns text.dag_limit_names text.select_dag_limits text.select_dag_limits_is dag_limit_pick (λ db. dag_limit_picked (db 11)) old new got
+
+pub dag_limits_are : (old new : State) (got : List Row) (rows : Rows) → Stores old.now rows → Shown text.select_dag_limits [] old new got → (read : List DagLimitRow) → map dag_limit_cells read ≡ map first_2 got → IsPermutation read rows.dag_limits
+dag_limits_are old new got rows stored shown read is =
+    loaded_is dag_limit_cells dag_limit_pick first_2 (dag_limit_table 11) dag_limit_picks dag_limit_inj (λ p. refl) old.now.trees rows.dag_limits stored.holds.dag_limits got (dag_limit_answer old new got rows stored shown) read is
+
+pub dag_limits_read : (old new : State) (got : List Row) (rows : Rows) → Stores old.now rows → Shown text.select_dag_limits [] old new got → AllByRecursion IsDagLimitText rows.dag_limits → (row : Row) → Has got row → IsDagLimitRow row
+dag_limits_read old new got rows stored shown all row has =
+    reads_all dag_limit_cells dag_limit_pick first_2 (dag_limit_table 11) dag_limit_picks IsDagLimitText old.now.trees rows.dag_limits stored.holds.dag_limits got (dag_limit_answer old new got rows stored shown) all row has
 
 -- ---- run
 abbrev run_pick : Row → Row

@@ -1,5 +1,5 @@
 -- When a schema has the tables of the record, with each of their columns. SQL goes by names without case.
-use Rattle.std.specs.Prelude.{Bool, ◌&&◌, List, ℕ, codes}
+use Rattle.std.specs.Prelude.{Bool, ◌&&◌, ◌||◌, not, List, ℕ, codes}
 use Rattle.std.specs.List.{list_any}
 use Rattle.sqlite.specs.Schema.{Schema}
 use Rattle.sqlite.specs.Table.{Table}
@@ -44,5 +44,19 @@ has_instance schema = list_any is_instance schema.tables
 abbrev pub has_attempt : Schema → Bool
 has_attempt schema = list_any is_attempt schema.tables
 
+abbrev pub is_dag_limit : Table → Bool
+is_dag_limit table = ((same_name table.name (codes "dag_limit") && has_column table (codes "dag_id")) && has_column table (codes "max_active_tasks"))
+
+abbrev pub has_dag_limit : Schema → Bool
+has_dag_limit schema = list_any is_dag_limit schema.tables
+
+-- a table is named `dag_limit`, which version 1 has not
+abbrev pub has_limits : Schema → Bool
+has_limits schema = list_any (λ (t : Table). same_name t.name (codes "dag_limit")) schema.tables
+
+abbrev pub has_first_tables : Schema → Bool
+has_first_tables schema = (((((has_meta schema && has_pool schema) && has_dag schema) && has_run schema) && has_instance schema) && has_attempt schema)
+
+-- the six tables of version 1 are there with their columns, and `dag_limit` with its columns where a table has that name
 abbrev pub is_ours : Schema → Bool
-is_ours schema = (((((has_meta schema && has_pool schema) && has_dag schema) && has_run schema) && has_instance schema) && has_attempt schema)
+is_ours schema = has_first_tables schema && (not (has_limits schema) || has_dag_limit schema)

@@ -2,9 +2,9 @@
 use Rattle.std.specs.Prelude.{◌≡◌, [], ◌∷◌}
 use Rattle.sqlite.specs.Order.{Row}
 use Rattle.sqlite_value.specs.Order.{column}
-use Rattle.record_rows.specs.Rows.{MetaRow, PoolRow, DagRow, RunRow, InstanceRow, AttemptRow}
-use Rattle.record_tables.specs.Holds.{meta_cells, pool_cells, dag_cells, run_cells, instance_cells, attempt_cells}
-use Rattle.record_load.specs.Loads.{IsPoolText, IsDagText, IsRunText, IsInstanceText, IsAttemptText}
+use Rattle.record_rows.specs.Rows.{MetaRow, PoolRow, DagRow, DagLimitRow, RunRow, InstanceRow, AttemptRow}
+use Rattle.record_tables.specs.Holds.{meta_cells, pool_cells, dag_cells, dag_limit_cells, run_cells, instance_cells, attempt_cells}
+use Rattle.record_load.specs.Loads.{IsPoolText, IsDagText, IsDagLimitText, IsRunText, IsInstanceText, IsAttemptText}
 
 -- ---- the first columns of a row
 abbrev pub first_2 : Row → Row
@@ -31,6 +31,9 @@ IsPoolRow row = (x : PoolRow) × IsPoolText x × (row ≡ pool_cells x)
 
 abbrev pub IsDagRow : Row → Type 0
 IsDagRow row = (x : DagRow) × IsDagText x × (row ≡ dag_cells x)
+
+abbrev pub IsDagLimitRow : Row → Type 0
+IsDagLimitRow row = (x : DagLimitRow) × IsDagLimitText x × (row ≡ dag_limit_cells x)
 
 abbrev pub IsRunRow : Row → Type 0
 IsRunRow row = (x : RunRow) × IsRunText x × (row ≡ run_cells x)

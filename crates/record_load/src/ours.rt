@@ -121,9 +121,36 @@ fn has_attempt(schema: &Schema) -> bool
         .any(|table| is_attempt(table))
 }
 
-/// Whether the tables of the record are there, with each of their columns; case does not count.
-pub fn is_ours(schema: &Schema) -> bool
-    ensures { result ≡ spec.is_ours schema.now }
+fn is_dag_limit(table: &Table) -> bool
+    ensures { result ≡ spec.is_dag_limit table.now }
+{
+    same_name(table.name.as_slice(), "dag_limit".as_bytes())
+        && has_column(table, "dag_id")
+        && has_column(table, "max_active_tasks")
+}
+
+fn has_dag_limit(schema: &Schema) -> bool
+    ensures { result ≡ spec.has_dag_limit schema.now }
+{
+    schema
+        .tables
+        .as_slice()
+        .iter()
+        .any(|table| is_dag_limit(table))
+}
+
+/// Whether there is a table named `dag_limit`, which version 1 has not; case does not count.
+pub fn has_limits(schema: &Schema) -> bool
+    ensures { result ≡ spec.has_limits schema.now }
+{
+    schema.tables.as_slice().iter().any(|table| same_name(
+        table.name.as_slice(),
+        "dag_limit".as_bytes(),
+    ))
+}
+
+fn has_first_tables(schema: &Schema) -> bool
+    ensures { result ≡ spec.has_first_tables schema.now }
 {
     has_meta(schema)
         && has_pool(schema)
@@ -131,4 +158,12 @@ pub fn is_ours(schema: &Schema) -> bool
         && has_run(schema)
         && has_instance(schema)
         && has_attempt(schema)
+}
+
+/// Whether the tables of the record are there, with each of their columns: the six of version 1, and `dag_limit` where a table has that
+/// name; case does not count.
+pub fn is_ours(schema: &Schema) -> bool
+    ensures { result ≡ spec.is_ours schema.now }
+{
+    has_first_tables(schema) && (!has_limits(schema) || has_dag_limit(schema))
 }

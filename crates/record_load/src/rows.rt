@@ -9,7 +9,9 @@ ghost use Rattle.record_load.specs.Loads.{AreTexts, Stays};
 ghost use Rattle.record_load.specs.declared.faults.LoadFault.TheVariants as fault;
 
 use crate::faults::LoadFault;
-use crate::{load_attempts, load_dags, load_instances, load_metas, load_pools, load_runs};
+use crate::{
+    load_attempts, load_dag_limits, load_dags, load_instances, load_metas, load_pools, load_runs,
+};
 use record_rows::Rows;
 use sqlite::{Alter, Transaction};
 use std::alloc::Global;
@@ -33,6 +35,7 @@ pub fn load_rows<S: Alter>(alloc: Global, tx: &mut Transaction<'_, S>) -> Result
         metas: load_metas(alloc, tx)?,
         pools: load_pools(alloc, tx)?,
         dags: load_dags(alloc, tx)?,
+        dag_limits: load_dag_limits(alloc, tx)?,
         runs: load_runs(alloc, tx)?,
         instances: load_instances(alloc, tx)?,
         attempts: load_attempts(alloc, tx)?,

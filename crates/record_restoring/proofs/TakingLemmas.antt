@@ -11,7 +11,7 @@ use Rattle.record_rows.specs.Rows.{PoolRow}
 use Rattle.sched_state.specs.Lists.{same}
 use Rattle.sched_state.proofs.ElementLemmas.{drop_at}
 use Rattle.record_rules.proofs.sched_laws.SettleLemmas.{map_some}
-use Rattle.sched_model.specs.States.{is_open, slots_in}
+use Rattle.sched_model.specs.States.{OpenTry, opened, is_open, slots_in}
 use Rattle.sched_draft.specs.Books.{pools_in, Takes}
 use Rattle.sched_draft.proofs.BookLemmas.{with_keeps}
 use Rattle.record_rules.specs.Numbers.{natural}
@@ -20,25 +20,25 @@ use Rattle.record_restoring.specs.Pools.{vacant_pools, taken_by}
 use Rattle.record_restoring.proofs.PoolLemmas.{pools_read}
 
 -- ---- some after others
-taken_append : (es : Entries) (xs ys : List (TaskSpec × Try)) → taken_by ys (taken_by xs es) ≡ taken_by (xs ++ ys) es
+taken_append : (es : Entries) (xs ys : List OpenTry) → taken_by ys (taken_by xs es) ≡ taken_by (xs ++ ys) es
 taken_append es [] ys = refl
-taken_append es (x ∷ xs) ys = taken_append (with_pool x.0.pool (take_counted x.1.slots) es) xs ys
+taken_append es (x ∷ xs) ys = taken_append (with_pool x.pool (take_counted x.one.slots) es) xs ys
 
 -- one turn of a loop: what the element at i takes is taken
-pub taken_turn : {X : Type 0} (f : X → List (TaskSpec × Try)) (xs : List X) (i : ℕ) (x : X) (es next : Entries) → slice_get xs i ≡ Some x → next ≡ taken_by (f x) es
+pub taken_turn : {X : Type 0} (f : X → List OpenTry) (xs : List X) (i : ℕ) (x : X) (es next : Entries) → slice_get xs i ≡ Some x → next ≡ taken_by (f x) es
     → taken_by (flat_map f (drop (i + 1) xs)) next ≡ taken_by (flat_map f (drop i xs)) es
 taken_turn f xs i x es next e g =
     rw (g, drop_at xs i x e) (taken_append es (f x) (flat_map f (drop (i + 1) xs)))
 
--- the try beside its task, if it is open
-abbrev pub open_one : TaskSpec → Try → List (TaskSpec × Try)
-open_one t x = cond (is_open x) ((t, x) ∷ []) []
+-- the try with its graph and its task, if it is open
+abbrev pub open_one : List ℕ → TaskSpec → Try → List OpenTry
+open_one id t x = cond (is_open x) (opened id t x ∷ []) []
 
-pub opened : (t : TaskSpec) (xs : List Try) → map (λ (x : Try). (t, x)) (filter is_open xs) ≡ flat_map (open_one t) xs
-opened t [] = refl
-opened t (x ∷ xs) = elim (is_open x) as (λ b. map (λ (y : Try). (t, y)) (cond b (x ∷ filter is_open xs) (filter is_open xs)) ≡ cond b ((t, x) ∷ []) [] ++ flat_map (open_one t) xs) [
-  | true ↦ ap (λ ys. (t, x) ∷ ys) (opened t xs)
-  | false ↦ opened t xs
+pub open_each : (id : List ℕ) (t : TaskSpec) (xs : List Try) → map (opened id t) (filter is_open xs) ≡ flat_map (open_one id t) xs
+open_each id t [] = refl
+open_each id t (x ∷ xs) = elim (is_open x) as (λ b. map (opened id t) (cond b (x ∷ filter is_open xs) (filter is_open xs)) ≡ cond b (opened id t x ∷ []) [] ++ flat_map (open_one id t) xs) [
+  | true ↦ ap (λ ys. opened id t x ∷ ys) (open_each id t xs)
+  | false ↦ open_each id t xs
 ]
 
 -- ---- what is taken
@@ -74,12 +74,12 @@ takes_as : (f g : List ℕ → ℕ) (es : Entries) → ((name : List ℕ) → f 
 takes_as f g es is h name p there = h name p there ∙ ap (λ n. min n most_taken) (is name)
 
 -- the pools stay
-pools_kept : (es : Entries) (ts : List (TaskSpec × Try)) → pools_in (taken_by ts es) ≡ pools_in es
+pools_kept : (es : Entries) (ts : List OpenTry) → pools_in (taken_by ts es) ≡ pools_in es
 pools_kept es [] = refl
 pools_kept es (t ∷ ts) =
-    pools_kept (with_pool t.0.pool (take_counted t.1.slots) es) ts ∙ with_keeps t.0.pool (take_counted t.1.slots) (λ p. refl) es
+    pools_kept (with_pool t.pool (take_counted t.one.slots) es) ts ∙ with_keeps t.pool (take_counted t.one.slots) (λ p. refl) es
 
-slots_taken : (f : List ℕ → ℕ) (es : Entries) (ts : List (TaskSpec × Try)) → Takes (counted f) es → Takes (counted (λ name. f name + sum_by (slots_in name) ts)) (taken_by ts es)
+slots_taken : (f : List ℕ → ℕ) (es : Entries) (ts : List OpenTry) → Takes (counted f) es → Takes (counted (λ name. f name + sum_by (slots_in name) ts)) (taken_by ts es)
 slots_taken f es [] h = takes_as f (λ name. f name + 0) es (λ name. omega arith) h
 slots_taken f es (t ∷ ts) h =
     takes_as (λ name. (f name + slots_in name t) + sum_by (slots_in name) ts) (λ name. f name + sum_by (slots_in name) (t ∷ ts)) (taken_by (t ∷ ts) es)
@@ -87,10 +87,10 @@ slots_taken f es (t ∷ ts) h =
     let s : sum_by (slots_in name) (t ∷ ts) ≡ sum_by (slots_in name) (t ∷ []) + sum_by (slots_in name) ts = sum_by-append (slots_in name) (t ∷ []) ts in
     let one : sum_by (slots_in name) (t ∷ []) ≡ slots_in name t = omega arith in
     omega (arith, s, one))
-    (slots_taken (λ name. f name + slots_in name t) (with_pool t.0.pool (take_counted t.1.slots) es) ts (one_more f t.0.pool t.1.slots es h))
+    (slots_taken (λ name. f name + slots_in name t) (with_pool t.pool (take_counted t.one.slots) es) ts (one_more f t.pool t.one.slots es h))
 
 -- ---- the book of rows
-module _ (xs : List PoolRow) (ts : List (TaskSpec × Try)) (es : Entries) (made : es ≡ taken_by ts (vacant_pools xs)) where
+module _ (xs : List PoolRow) (ts : List OpenTry) (es : Entries) (made : es ≡ taken_by ts (vacant_pools xs)) where
   pub book_pools : pools_in es ≡ map pool_for xs
   book_pools = ap pools_in made ∙ (pools_kept (vacant_pools xs) ts ∙ pools_read xs)
 

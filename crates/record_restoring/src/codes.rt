@@ -5,6 +5,7 @@ ghost use Rattle.record_rules.specs.Numbers.{natural, is_moment_column, is_betwe
 ghost use Rattle.record_rules.specs.Reading as spec;
 ghost use Rattle.trigger_rules.specs.declared.verdicts.Verdict.TheVariants as Verdict;
 
+use graph_file::Bounded;
 use instance_machine::Outcome;
 use moment_core::Moment;
 use sched_state::{RunKind, RunPhase};
@@ -94,4 +95,28 @@ pub fn serial_of(column: i64) -> u64
     ensures { result ≡ natural column }
 {
     column as u64
+}
+
+/// The bound of a graph whose text says none (Airflow 2, the class DAG: max_active_tasks).
+pub const USUAL_BOUND: u32 = 16;
+
+/// The bound of a graph whose text says none, in a record from before there were bounds.
+pub const OLD_BOUND: u32 = 1_000_000;
+
+// The bound of a column; where it is out of the range, the usual one.
+pub fn bound_of(column: i64) -> Bounded<1, 1_000_000>
+    ensures { result ≡ spec.bound_of_column column }
+{
+    if 1 <= column && column <= 1_000_000 {
+        bounded(column)
+    } else {
+        Bounded::new(USUAL_BOUND)
+    }
+}
+
+fn bounded(column: i64) -> Bounded<1, 1_000_000>
+    requires { is_between 1 1000000 column ≡ true }
+    ensures { result ≡ natural column }
+{
+    Bounded::new(column as u32)
 }

@@ -1,23 +1,27 @@
 //! The rule of `dag`, and the graphs that its rows say.
-ghost use Rattle.std.specs.Prelude.{◌≡◌, ◌&&◌, ◌≤◌, IfOk, IfErr, None, Some, [], ◌∷◌, ◌++◌, OnOk, IfSome, is_some, length, nat_le, sum_by};
+ghost use Rattle.std.specs.Prelude.{◌≡◌, ◌&&◌, ◌≤◌, IfOk, IfErr, None, Some, true, [], ◌∷◌, ◌++◌, OnOk, IfSome, is_some, length, nat_le, sum_by};
 ghost use Rattle.std.specs.List.{list_all, list_any};
 ghost use Rattle.graph_file.specs.TaskLists.{upstream_limit};
 ghost use Rattle.graph_file.specs.declared.task_specs.TaskSpec.{TaskSpec as Task};
 ghost use Rattle.record_rows.specs.Rows.{PoolRow as Row};
 ghost use Rattle.record_rows.specs.declared.tables.Table.TheVariants as table;
 ghost use Rattle.sched_state.specs.Lists.{same};
+ghost use Rattle.sched_model.specs.Lists.{rises};
+ghost use Rattle.record_rules.specs.Keys.{dag_limit_row_before};
 ghost use Rattle.record_rules.specs.Numbers.{is_between as spec_between};
 ghost use Rattle.record_rules.specs.Reading.{reads, graph_if, graphs_of};
+ghost use Rattle.record_rules.specs.Reading as reading;
 ghost use Rattle.record_rules.specs.Faults as spec;
 ghost use Rattle.record_restoring.specs.Results.{IsFault, is_memory};
 
-use crate::codes::flag_of;
+use crate::codes::{USUAL_BOUND, bound_of, flag_of};
 use crate::columns::is_between;
 use crate::earlier::{earlier, past_limit};
 use crate::faults::RestoreFault;
+use crate::finding::limit_named;
 use crate::pools::has_pool;
 use dag_check::{DagFault, Graph, check};
-use graph_file::{GraphFault, GraphSpec, TaskSpec, read_graph};
+use graph_file::{Bounded, GraphFault, GraphSpec, TaskSpec, read_graph};
 use record_rows::{DagRow, PoolRow, Rows, Table};
 use sched_state::{GraphText, Limits, LoadedGraph};
 use std::alloc::{AllocError, Global};
@@ -29,7 +33,8 @@ pub fn read_graphs(
     rows: &Rows,
     dags: &[DagRow],
 ) -> Result<Vec<LoadedGraph>, RestoreFault>
-    requires { dags.now ≡ rows.now.dags }
+    requires dags { dags.now ≡ rows.now.dags }
+    requires limits { rises dag_limit_row_before rows.now.dag_limits ≡ true }
     ensures right { IfOk result (λ _. spec.dag_fault (reads limits) limits rows.now ≡ None) }
     ensures graphs { IfOk result (λ graphs. graphs.items ≡ graphs_of (reads limits) rows.now) }
     ensures fault { IfErr result (IsFault (spec.in_table table.Dag
@@ -74,10 +79,12 @@ fn read_row(
     rows: &Rows,
     row: &DagRow,
 ) -> Result<Option<LoadedGraph>, AllocError>
+    requires { rises dag_limit_row_before rows.now.dag_limits ≡ true }
     ensures right { IfOk result (λ graph. is_some graph
         ≡ spec.is_dag_row_right (reads limits) rows.now row.now) }
-    ensures graph { IfOk result (λ graph. IfSome graph (λ g. graph_if row.now
-        (reads limits row.now.body) ≡ g ∷ [])) }
+    ensures graph { IfOk result (λ graph. IfSome graph (λ g.
+        graph_if (reading.bound_in rows.now row.now.dag_id) row.now (reads limits row.now.body)
+        ≡ g ∷ [])) }
 {
     let Some(dag) = read_body(alloc, limits, row.body.as_str())? else {
         return Ok(None);
@@ -89,7 +96,19 @@ fn read_row(
         text: GraphText::new(alloc, row.body.as_str())?,
         dag,
         paused: flag_of(row.paused),
+        max_active_tasks: bound_in(rows, row.dag_id.as_str()),
     }))
+}
+
+// The bound of the graph with this id; where it has no row, the usual one.
+fn bound_in(rows: &Rows, dag_id: &str) -> Bounded<1, 1_000_000>
+    requires { rises dag_limit_row_before rows.now.dag_limits ≡ true }
+    ensures { result ≡ reading.bound_in rows.now dag_id.now }
+{
+    match limit_named(&rows.dag_limits, dag_id) {
+        Some(row) => bound_of(row.max_active_tasks),
+        None => Bounded::new(USUAL_BOUND),
+    }
 }
 
 // Whether the graph of the row's body is the row's, its pools are there, and the pause is a code.

@@ -1,6 +1,6 @@
 //! The way from the rows of the record back to a schedule: which rows are those of one, and the first fault where they are not.
 //!
-//! In come the rows of the six tables. [`KeyedRows`] holds rows of which it is known that they rise by key. Inside, each rule of the record has a
+//! In come the rows of the seven tables. [`KeyedRows`] holds rows of which it is known that they rise by key. Inside, each rule of the record has a
 //! function of its own that goes through the rows of its table once and answers the first at fault; the graphs are read on the way
 //! (`dags.rt`), and the tries are dealt to their instances (`buckets.rt`). Runs are made of rows that pass (`run_making.rt`), and one function
 //! reads their columns for the rule and for the run (`run_columns.rt`). The book of pools is made of the rows of `pool` (`pool_making.rt`), and the tries without an end take their slots of it
@@ -26,6 +26,7 @@ mod finding;
 mod instance_rules;
 mod keyed;
 mod laws;
+mod limit_rules;
 mod making;
 mod metas;
 mod occupying;
@@ -39,6 +40,7 @@ mod run_making;
 mod run_rules;
 mod try_rules;
 
+pub use codes::{OLD_BOUND, USUAL_BOUND};
 pub use dags::is_within;
 pub use faults::RestoreFault;
 pub use keyed::KeyedRows;

@@ -17,11 +17,11 @@ use Rattle.sqlite_rules.specs.Edit.{with_rowid, next_rowid}
 use Rattle.sqlite_rules.proofs.ListLemmas.{all_has}
 use Rattle.sqlite_rules.proofs.PlaceLemmas.{next_is_free}
 use Rattle.sqlite.specs.Rows.{mended}
-use Rattle.record_tables.specs.Schema.{meta_table, pool_table, dag_table, run_table, instance_table, attempt_table, record_schema}
-use Rattle.record_rows.specs.Rows.{MetaRow, PoolRow, DagRow, RunRow, InstanceRow, AttemptRow}
-use Rattle.record_changes.specs.record_rules.Keys.{meta_row_before, pool_row_before, dag_row_before, run_row_before, instance_row_before, attempt_row_before}
-use Rattle.record_tables.specs.Holds.{columns_of, IsRising, or_null, meta_cells, pool_cells, dag_cells, run_cells, instance_cells, attempt_cells}
-use Rattle.record_tables.proofs.OrderLemmas.{meta_tied, pool_tied, dag_tied, run_tied, instance_tied, attempt_tied}
+use Rattle.record_tables.specs.Schema.{meta_table, pool_table, dag_table, dag_limit_table, run_table, instance_table, attempt_table, record_schema}
+use Rattle.record_rows.specs.Rows.{MetaRow, PoolRow, DagRow, DagLimitRow, RunRow, InstanceRow, AttemptRow}
+use Rattle.record_changes.specs.record_rules.Keys.{meta_row_before, pool_row_before, dag_row_before, dag_limit_row_before, run_row_before, instance_row_before, attempt_row_before}
+use Rattle.record_tables.specs.Holds.{columns_of, IsRising, or_null, meta_cells, pool_cells, dag_cells, dag_limit_cells, run_cells, instance_cells, attempt_cells}
+use Rattle.record_tables.proofs.OrderLemmas.{meta_tied, pool_tied, dag_tied, dag_limit_tied, run_tied, instance_tied, attempt_tied}
 use Rattle.record_tables.proofs.RowLemmas.{cast_null, cast_int, cast_or_null, equal_ints, equal_texts, apart, Clash}
 
 -- the row as the table stores it, given the rows that are there
@@ -33,6 +33,9 @@ pool_row rows p = Int (next_rowid rows) ∷ pool_cells p
 
 abbrev pub dag_row : List Row → DagRow → Row
 dag_row rows d = Int (next_rowid rows) ∷ dag_cells d
+
+abbrev pub dag_limit_row : List Row → DagLimitRow → Row
+dag_limit_row rows x = Int (next_rowid rows) ∷ dag_limit_cells x
 
 abbrev pub run_row : List Row → RunRow → Row
 run_row rows r = Int (next_rowid rows) ∷ run_cells r
@@ -53,6 +56,9 @@ pool_stored rows p = rw (cast_null, cast_int p.size)
 pub dag_stored : (rows : List Row) (d : DagRow) → as_stored (dag_table 3) rows (Null ∷ dag_cells d) ≡ dag_row rows d
 dag_stored rows d = rw (cast_null, cast_int d.paused)
 
+pub dag_limit_stored : (rows : List Row) (x : DagLimitRow) → as_stored (dag_limit_table 11) rows (Null ∷ dag_limit_cells x) ≡ dag_limit_row rows x
+dag_limit_stored rows x = rw (cast_null, cast_int x.max_active_tasks)
+
 pub run_stored : (rows : List Row) (r : RunRow) → as_stored (run_table 5) rows (Null ∷ run_cells r) ≡ run_row rows r
 run_stored rows r = rw (cast_null, cast_int r.logical, cast_int r.data_start, cast_int r.data_end, cast_int r.kind, cast_int r.phase)
 
@@ -71,6 +77,9 @@ pool_stable rows p = rw (cast_int (next_rowid rows), cast_int p.size)
 
 pub dag_stable : (rows : List Row) (d : DagRow) → cast_row (dag_table 3) (dag_row rows d) ≡ dag_row rows d
 dag_stable rows d = rw (cast_int (next_rowid rows), cast_int d.paused)
+
+pub dag_limit_stable : (rows : List Row) (x : DagLimitRow) → cast_row (dag_limit_table 11) (dag_limit_row rows x) ≡ dag_limit_row rows x
+dag_limit_stable rows x = rw (cast_int (next_rowid rows), cast_int x.max_active_tasks)
 
 pub run_stable : (rows : List Row) (r : RunRow) → cast_row (run_table 5) (run_row rows r) ≡ run_row rows r
 run_stable rows r = rw (cast_int (next_rowid rows), cast_int r.logical, cast_int r.data_start, cast_int r.data_end, cast_int r.kind, cast_int r.phase)
@@ -113,6 +122,12 @@ unfolding first_key
 dag_clash rows new rising y d has is =
     let apart = apart rows (dag_row rows new) y (next_rowid rows) refl (next_is_free Chosen rows (dag_cells new) rising.0 rising.1) has (all_has _ rows y rising.1 has) in
     rw (apart, tail_at y _ _ 0 is, equal_texts d.dag_id new.dag_id) (key_1 (bytes_eq d.dag_id new.dag_id) ∙ sym (dag_tied d new))
+
+pub dag_limit_clash : (rows : List Row) (new : DagLimitRow) → IsRising rows → Clash dag_limit_cells dag_limit_row_before record_schema (dag_limit_table 11) (dag_limit_row rows new) new refl rows
+unfolding first_key
+dag_limit_clash rows new rising y d has is =
+    let apart = apart rows (dag_limit_row rows new) y (next_rowid rows) refl (next_is_free Chosen rows (dag_limit_cells new) rising.0 rising.1) has (all_has _ rows y rising.1 has) in
+    rw (apart, tail_at y _ _ 0 is, equal_texts d.dag_id new.dag_id) (key_1 (bytes_eq d.dag_id new.dag_id) ∙ sym (dag_limit_tied d new))
 
 -- a key of two columns
 pub run_clash : (rows : List Row) (new : RunRow) → IsRising rows → Clash run_cells run_row_before record_schema (run_table 5) (run_row rows new) new refl rows

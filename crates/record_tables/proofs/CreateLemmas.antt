@@ -1,5 +1,5 @@
 -- What the statements that make the record do to a database whose schema is known.
-use Rattle.std.proofs.Common.{◌≡◌, ℕ, zero, suc, ◌+◌, ◌<◌, List, [], ◌∷◌, ◌++◌, false, None, Ok, Err, Result, OnOk, refl, sym, ap, subst, ◌∙◌, arith}
+use Rattle.std.proofs.Common.{◌≡◌, ℕ, zero, suc, ◌+◌, ◌<◌, List, [], ◌∷◌, ◌++◌, map, false, None, Ok, Err, Result, OnOk, refl, sym, ap, subst, ◌∙◌, arith}
 use Rattle.std.specs.List.{AllByRecursion}
 use Rattle.std.proofs.lemmas.List.Sorted.{IsPermutation-refl}
 use Rattle.sqlite_trees.specs.Tree.{Trees}
@@ -15,11 +15,12 @@ use Rattle.sqlite.specs.Effect.{Database, IsDatabase}
 use Rattle.sqlite.specs.Does.{Tally, Does, Defines, MakesIndex, lacks_sequence}
 use Rattle.sqlite.specs.State.{State, mode_of, Writes, ExecutesInside}
 use Rattle.sqlite.proofs.Callers.{runs_as}
-use Rattle.record_tables.specs.Schema.{meta_table, pool_table, dag_table, run_table, instance_table, attempt_table, by_instance, create_meta, create_pool, create_dag, create_run, create_instance, create_attempt, create_index, no_schema, schema_1, schema_2, schema_3, schema_4, schema_5, schema_6, record_schema, text_at, schema_at}
-use Rattle.record_tables.specs.Holds.{Shows, Stores}
+use Rattle.record_tables.specs.Schema.{meta_table, pool_table, dag_table, dag_limit_table, run_table, instance_table, attempt_table, by_instance, create_meta, create_pool, create_dag, create_dag_limit, create_run, create_instance, create_attempt, create_index, no_schema, schema_1, schema_2, schema_3, schema_4, schema_5, schema_6, first_schema, record_schema, text_at, schema_at}
+use Rattle.record_tables.specs.Holds.{Shows, Stores, StoresFirst, AddsLimits, dag_limit_cells}
 use Rattle.record_tables.specs.Empties.{IsEmpty, Extends, no_rows}
-use Rattle.record_tables.proofs.TextLemmas.{Makes, make_meta, make_pool, make_dag, make_run, make_instance, make_attempt, make_index}
+use Rattle.record_tables.proofs.TextLemmas.{Makes, make_meta, make_pool, make_dag, make_dag_limit, make_run, make_instance, make_attempt, make_index}
 use Rattle.record_tables.proofs.ReplaceLemmas.{went, same_value}
+use Rattle.record_tables.proofs.TableLemmas.{shows_still}
 
 pub creates : (schema after : Schema) (sql : List ℕ) (table : Table) → Makes schema sql table after → lacks_sequence after ≡ false → (old new : State) (r : Result ℕ Error) → old.now.schema ≡ schema
     → ExecutesInside 0 sql [] old new r → OnOk r ((new.now.schema ≡ after) × (new.now.trees (next_tree schema) ≡ []) × KeepsRows schema.tables old.now.trees new.now.trees × IsDatabase new.now)
@@ -40,7 +41,7 @@ creates schema after sql table m unsequenced old new (Ok count) has h =
     )
 
 -- the index leaves the rows of each table
-pub indexes : (old new : State) (count : ℕ) → old.now.schema ≡ schema_6 → ExecutesInside 0 create_index [] old new (Ok count) → (new.now.schema ≡ record_schema) × KeepsRows schema_6.tables old.now.trees new.now.trees × IsDatabase new.now
+pub indexes : (old new : State) (count : ℕ) → old.now.schema ≡ schema_6 → ExecutesInside 0 create_index [] old new (Ok count) → (new.now.schema ≡ first_schema) × KeepsRows schema_6.tables old.now.trees new.now.trees × IsDatabase new.now
 indexes old new count has h =
     let w = subst (λ t. Writes old new None (CreateIndex 5) t [] count) make_index.1 (runs_as create_index [] old new schema_6 has (CreateIndex 5) make_index.0 make_index.2 count h.0) in
     let done = subst (λ s. Does old.step_limit (mode_of old) [] (record old.now { schema = s }) create_index None (CreateIndex 5) (Ok (w.tally, new.now))) has w.changed in
@@ -74,7 +75,7 @@ extends schema after sql table m unsequenced old new (Ok count) h = λ was.
     (record { is = it.0; empty = subst (λ (s : Schema). AreEmpty s.tables new.now.trees) m.4 all }, it.3)
 
 -- each statement takes the empty tables before it to those after it
-pub made : (at : ℕ) → at < 7 → (old new : State) (r : Result ℕ Error) → ExecutesInside 0 (text_at at) [] old new r → OnOk r (Extends (schema_at at) (schema_at (at + 1)) old.now new.now)
+pub made : (at : ℕ) → at < 8 → (old new : State) (r : Result ℕ Error) → ExecutesInside 0 (text_at at) [] old new r → OnOk r (Extends (schema_at at) (schema_at (at + 1)) old.now new.now)
 made zero low = extends no_schema schema_1 create_meta (meta_table 0) make_meta refl
 made (suc zero) low = extends schema_1 schema_2 create_pool (pool_table 0) make_pool refl
 made (suc (suc zero)) low = extends schema_2 schema_3 create_dag (dag_table 0) make_dag refl
@@ -83,12 +84,13 @@ made (suc (suc (suc (suc zero)))) low = extends schema_4 schema_5 create_instanc
 made (suc (suc (suc (suc (suc zero))))) low = extends schema_5 schema_6 create_attempt (attempt_table 0) make_attempt refl
 made (suc (suc (suc (suc (suc (suc zero)))))) low = indexed_empty
   where
-    indexed_empty : (old new : State) (r : Result ℕ Error) → ExecutesInside 0 create_index [] old new r → OnOk r (Extends schema_6 record_schema old.now new.now)
+    indexed_empty : (old new : State) (r : Result ℕ Error) → ExecutesInside 0 create_index [] old new r → OnOk r (Extends schema_6 first_schema old.now new.now)
     indexed_empty old new (Err e) h = tt
     indexed_empty old new (Ok count) h = λ was.
         let it = indexes old new count was.is h in
         (record { is = it.0; empty = still_empty schema_6.tables old.now.trees new.now.trees it.1 was.empty }, it.2)
-made (suc (suc (suc (suc (suc (suc (suc n))))))) low = absurd (omega (arith, low))
+made (suc (suc (suc (suc (suc (suc (suc zero))))))) low = extends first_schema record_schema create_dag_limit (dag_limit_table 0) make_dag_limit refl
+made (suc (suc (suc (suc (suc (suc (suc (suc n)))))))) low = absurd (omega (arith, low))
 
 shows_none : (table : Table) (db : Trees) → db table.tree ≡ [] → Shows table db []
 shows_none table db none = record { rising = rw none (tt, tt); is = rw none (IsPermutation-refl []) }
@@ -101,10 +103,34 @@ stores_none db e is = record {
     metas = shows_none (meta_table 0) db.trees e.empty.0;
     pools = shows_none (pool_table 1) db.trees e.empty.1.0;
     dags = shows_none (dag_table 3) db.trees e.empty.1.1.0;
+    dag_limits = shows_none (dag_limit_table 11) db.trees e.empty.1.1.1.1.1.1.0;
     runs = shows_none (run_table 5) db.trees e.empty.1.1.1.0;
     instances = shows_none (instance_table 7) db.trees e.empty.1.1.1.1.0;
     attempts = shows_none (attempt_table 9) db.trees e.empty.1.1.1.1.1.0;
   };
-  keys = record { metas = refl; pools = refl; dags = refl; runs = refl; instances = refl; attempts = refl };
+  keys = record { metas = refl; pools = refl; dags = refl; dag_limits = refl; runs = refl; instances = refl; attempts = refl };
   sound = is;
 }
+
+-- a record of version 1 keeps its rows, and the table that it lacked is empty
+pub adds_limits : (old new : State) (r : Result ℕ Error) → ExecutesInside 0 create_dag_limit [] old new r → OnOk r (AddsLimits old.now new.now)
+adds_limits old new (Err e) h = tt
+adds_limits old new (Ok count) h = λ rows stored.
+    let it = creates first_schema record_schema create_dag_limit (dag_limit_table 0) make_dag_limit refl old new (Ok count) stored.schema h in
+    let kept = it.2 in
+    let was = old.now.trees in
+    let now = new.now.trees in
+    record {
+      holds = record {
+        schema = it.0;
+        metas = shows_still (meta_table 0) was now _ kept.0 stored.metas;
+        pools = shows_still (pool_table 1) was now _ kept.1.0 stored.pools;
+        dags = shows_still (dag_table 3) was now _ kept.1.1.0 stored.dags;
+        dag_limits = subst (λ l. Shows (dag_limit_table 11) now (map dag_limit_cells l)) (sym stored.none) (shows_none (dag_limit_table 11) now it.1);
+        runs = shows_still (run_table 5) was now _ kept.1.1.1.0 stored.runs;
+        instances = shows_still (instance_table 7) was now _ kept.1.1.1.1.0 stored.instances;
+        attempts = shows_still (attempt_table 9) was now _ kept.1.1.1.1.1.0 stored.attempts;
+      };
+      keys = stored.keys;
+      sound = it.3;
+    }

@@ -1,8 +1,8 @@
 -- Lists of rows that are put one after another.
 use Rattle.std.proofs.Common.{◌≡◌, ap, List, ◌++◌}
-use Rattle.record_rows.specs.Rows.{Rows, MetaRow, PoolRow, DagRow, RunRow, InstanceRow, AttemptRow}
-use Rattle.record_changes.specs.record_rules.Keys.{meta_row_before, pool_row_before, dag_row_before, run_row_before, instance_row_before, attempt_row_before}
-use Rattle.record_tables.specs.Puts.{put_metas, put_pools, put_dags, put_runs, put_instances, put_attempts}
+use Rattle.record_rows.specs.Rows.{Rows, MetaRow, PoolRow, DagRow, DagLimitRow, RunRow, InstanceRow, AttemptRow}
+use Rattle.record_changes.specs.record_rules.Keys.{meta_row_before, pool_row_before, dag_row_before, dag_limit_row_before, run_row_before, instance_row_before, attempt_row_before}
+use Rattle.record_tables.specs.Puts.{put_metas, put_pools, put_dags, put_dag_limits, put_runs, put_instances, put_attempts}
 use Rattle.record_tables.proofs.OrderLemmas.{puts_more}
 
 pub metas_more : (rs ss : List MetaRow) (rows : Rows) → put_metas (rs ++ ss) rows ≡ put_metas ss (put_metas rs rows)
@@ -13,6 +13,9 @@ pools_more rs ss rows = ap (λ xs. let r : Rows = record rows { pools = xs } in 
 
 pub dags_more : (rs ss : List DagRow) (rows : Rows) → put_dags (rs ++ ss) rows ≡ put_dags ss (put_dags rs rows)
 dags_more rs ss rows = ap (λ xs. let r : Rows = record rows { dags = xs } in r) (puts_more dag_row_before rs ss rows.dags)
+
+pub dag_limits_more : (rs ss : List DagLimitRow) (rows : Rows) → put_dag_limits (rs ++ ss) rows ≡ put_dag_limits ss (put_dag_limits rs rows)
+dag_limits_more rs ss rows = ap (λ xs. let r : Rows = record rows { dag_limits = xs } in r) (puts_more dag_limit_row_before rs ss rows.dag_limits)
 
 pub runs_more : (rs ss : List RunRow) (rows : Rows) → put_runs (rs ++ ss) rows ≡ put_runs ss (put_runs rs rows)
 runs_more rs ss rows = ap (λ xs. let r : Rows = record rows { runs = xs } in r) (puts_more run_row_before rs ss rows.runs)

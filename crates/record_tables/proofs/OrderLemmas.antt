@@ -12,12 +12,12 @@ use Rattle.std.proofs.lemmas.Cmp.{nat_list_cmp_total}
 use Rattle.std.proofs.lemmas.Int.{ints}
 use Rattle.std.proofs.lemmas.List.Sorted.{IsPermutation-refl, IsPermutation-trans, IsPermutation-cons, IsPermutation-middle}
 use Rattle.std.proofs.lemmas.Map.Text.{is_eq-slice_cmp}
-use Rattle.record_rows.specs.Rows.{MetaRow, PoolRow, DagRow, RunRow, InstanceRow, AttemptRow}
+use Rattle.record_rows.specs.Rows.{MetaRow, PoolRow, DagRow, DagLimitRow, RunRow, InstanceRow, AttemptRow}
 use Rattle.sched_state.specs.Lists.{name_cmp, is_less}
 use Rattle.sched_state.proofs.OrderLemmas.{and_left, and_right, on_total}
 use Rattle.record_changes.specs.sched_model.Lists.{rises}
 use Rattle.record_changes.proofs.sched_laws.ListLemmas.{all_impl}
-use Rattle.record_changes.specs.record_rules.Keys.{meta_row_before, pool_row_before, dag_row_before, run_row_before, instance_row_before, attempt_row_before}
+use Rattle.record_changes.specs.record_rules.Keys.{meta_row_before, pool_row_before, dag_row_before, dag_limit_row_before, run_row_before, instance_row_before, attempt_row_before}
 use Rattle.record_changes.specs.record_rules.Between.{put, puts, are_tied}
 use Rattle.record_changes.proofs.record_rules.NumberLemmas.{less_itself, less_more, less_alike}
 use Rattle.record_changes.proofs.record_rules.KeyedLemmas.{itself, run_cmp, instance_cmp}
@@ -125,12 +125,15 @@ both_eq Less b = refl
 both_eq Equal b = refl
 both_eq Greater b = refl
 
--- ---- the six orders
+-- ---- the seven orders
 pool_cmp : IsTotalOrder (λ (x y : PoolRow). name_cmp x.name y.name)
 pool_cmp = on_total (λ (x : PoolRow). x.name) nat_list_cmp_total
 
 dag_cmp : IsTotalOrder (λ (x y : DagRow). name_cmp x.dag_id y.dag_id)
 dag_cmp = on_total (λ (x : DagRow). x.dag_id) nat_list_cmp_total
+
+dag_limit_cmp : IsTotalOrder (λ (x y : DagLimitRow). name_cmp x.dag_id y.dag_id)
+dag_limit_cmp = on_total (λ (x : DagLimitRow). x.dag_id) nat_list_cmp_total
 
 pub meta_order : IsOrdered meta_row_before
 meta_order = by_number (λ (x : MetaRow). x.one)
@@ -140,6 +143,9 @@ pool_order = by_order _ pool_cmp
 
 pub dag_order : IsOrdered dag_row_before
 dag_order = by_order _ dag_cmp
+
+pub dag_limit_order : IsOrdered dag_limit_row_before
+dag_limit_order = by_order _ dag_limit_cmp
 
 pub run_order : IsOrdered run_row_before
 run_order = by_order _ run_cmp
@@ -159,6 +165,9 @@ pool_tied x y = order_tied _ pool_cmp x y ∙ is_eq-slice_cmp x.name y.name
 
 pub dag_tied : (x y : DagRow) → are_tied dag_row_before x y ≡ bytes_eq x.dag_id y.dag_id
 dag_tied x y = order_tied _ dag_cmp x y ∙ is_eq-slice_cmp x.dag_id y.dag_id
+
+pub dag_limit_tied : (x y : DagLimitRow) → are_tied dag_limit_row_before x y ≡ bytes_eq x.dag_id y.dag_id
+dag_limit_tied x y = order_tied _ dag_limit_cmp x y ∙ is_eq-slice_cmp x.dag_id y.dag_id
 
 pub run_tied : (x y : RunRow) → are_tied run_row_before x y ≡ (bytes_eq x.dag_id y.dag_id && int_eq x.logical y.logical)
 run_tied x y = order_tied _ run_cmp x y ∙ both_eq (name_cmp x.dag_id y.dag_id) (int_cmp x.logical y.logical) ∙ ap (λ b. b && int_eq x.logical y.logical) (is_eq-slice_cmp x.dag_id y.dag_id)

@@ -17,17 +17,17 @@ use Rattle.sqlite.specs.Listing.{understood}
 use Rattle.sqlite.specs.Rows.{stamped}
 use Rattle.sqlite.specs.State.{State, ExecutesInside}
 use Rattle.sqlite.proofs.Callers.{statement_of, runs_as}
-use Rattle.record_rows.specs.Rows.{Rows, MetaRow, PoolRow, DagRow, RunRow, InstanceRow, AttemptRow}
-use Rattle.record_changes.specs.record_rules.Keys.{meta_row_before, pool_row_before, dag_row_before, run_row_before, instance_row_before, attempt_row_before}
-use Rattle.record_tables.specs.Schema.{meta_table, pool_table, dag_table, run_table, instance_table, attempt_table, record_schema}
-use Rattle.record_tables.specs.Holds.{Shows, Stores, meta_cells, pool_cells, dag_cells, run_cells, instance_cells, attempt_cells}
+use Rattle.record_rows.specs.Rows.{Rows, MetaRow, PoolRow, DagRow, DagLimitRow, RunRow, InstanceRow, AttemptRow}
+use Rattle.record_changes.specs.record_rules.Keys.{meta_row_before, pool_row_before, dag_row_before, dag_limit_row_before, run_row_before, instance_row_before, attempt_row_before}
+use Rattle.record_tables.specs.Schema.{meta_table, pool_table, dag_table, dag_limit_table, run_table, instance_table, attempt_table, record_schema}
+use Rattle.record_tables.specs.Holds.{Shows, Stores, meta_cells, pool_cells, dag_cells, dag_limit_cells, run_cells, instance_cells, attempt_cells}
 use Rattle.record_tables.specs.Puts as spec
 use Rattle.record_tables.specs.Puts.{PutsIn}
 use Rattle.record_tables.proofs.TextLemmas as text
-use Rattle.record_tables.proofs.OrderLemmas.{put_rises, meta_order, pool_order, dag_order, run_order, instance_order, attempt_order}
+use Rattle.record_tables.proofs.OrderLemmas.{put_rises, meta_order, pool_order, dag_order, dag_limit_order, run_order, instance_order, attempt_order}
 use Rattle.record_tables.proofs.ReplaceLemmas.{Replaces, Keeps, replaces}
 use Rattle.record_tables.proofs.RowLemmas.{shows_put}
-use Rattle.record_tables.proofs.ClashLemmas.{as_stored, meta_row, pool_row, dag_row, run_row, instance_row, attempt_row, meta_stored, pool_stored, dag_stored, run_stored, instance_stored, attempt_stored, meta_stable, pool_stable, dag_stable, run_stable, instance_stable, attempt_stable, meta_clash, pool_clash, dag_clash, run_clash, instance_clash, attempt_clash}
+use Rattle.record_tables.proofs.ClashLemmas.{as_stored, meta_row, pool_row, dag_row, dag_limit_row, run_row, instance_row, attempt_row, meta_stored, pool_stored, dag_stored, dag_limit_stored, run_stored, instance_stored, attempt_stored, meta_stable, pool_stable, dag_stable, dag_limit_stable, run_stable, instance_stable, attempt_stable, meta_clash, pool_clash, dag_clash, dag_limit_clash, run_clash, instance_clash, attempt_clash}
 
 -- the statement put the row that the table makes of its values in place of those that it conflicts with
 module _ (sql : List ℕ) (at : ℕ) (table : Table) (terms : List Term) (width : ℕ) (is : text.Replaces record_schema sql at terms width) (found : slice_get record_schema.tables at ≡ Some table)
@@ -56,6 +56,9 @@ module _ (old new : Database) (rows : Rows) (stored : Stores old rows) (table : 
   dag_still : 3 ≢ table.tree → Shows (dag_table 3) new.trees (map dag_cells rows.dags)
   dag_still apart = shows_still (dag_table 3) old.trees new.trees _ (others.1.1.0 apart) stored.holds.dags
 
+  dag_limit_still : 11 ≢ table.tree → Shows (dag_limit_table 11) new.trees (map dag_limit_cells rows.dag_limits)
+  dag_limit_still apart = shows_still (dag_limit_table 11) old.trees new.trees _ (others.1.1.1.1.1.1.0 apart) stored.holds.dag_limits
+
   run_still : 5 ≢ table.tree → Shows (run_table 5) new.trees (map run_cells rows.runs)
   run_still apart = shows_still (run_table 5) old.trees new.trees _ (others.1.1.1.0 apart) stored.holds.runs
 
@@ -78,6 +81,7 @@ meta_put old new x (Ok count) params are h = λ rows stored.
         metas = shows_put meta_cells meta_row_before record_schema (meta_table 0) (meta_row x) x refl meta_order old.now.trees new.now.trees rows.metas stored.keys.metas stored.holds.metas did.1 (meta_clash here x);
         pools = pool_still old.now new.now rows stored (meta_table 0) o (λ e. let e = e in cc);
         dags = dag_still old.now new.now rows stored (meta_table 0) o (λ e. let e = e in cc);
+        dag_limits = dag_limit_still old.now new.now rows stored (meta_table 0) o (λ e. let e = e in cc);
         runs = run_still old.now new.now rows stored (meta_table 0) o (λ e. let e = e in cc);
         instances = instance_still old.now new.now rows stored (meta_table 0) o (λ e. let e = e in cc);
         attempts = attempt_still old.now new.now rows stored (meta_table 0) o (λ e. let e = e in cc);
@@ -86,6 +90,7 @@ meta_put old new x (Ok count) params are h = λ rows stored.
         metas = put_rises meta_order x rows.metas stored.keys.metas;
         pools = stored.keys.pools;
         dags = stored.keys.dags;
+        dag_limits = stored.keys.dag_limits;
         runs = stored.keys.runs;
         instances = stored.keys.instances;
         attempts = stored.keys.attempts;
@@ -106,6 +111,7 @@ pool_put old new x (Ok count) params are h = λ rows stored.
         metas = meta_still old.now new.now rows stored (pool_table 1) o (λ e. let e = e in cc);
         pools = shows_put pool_cells pool_row_before record_schema (pool_table 1) (pool_row here x) x refl pool_order old.now.trees new.now.trees rows.pools stored.keys.pools stored.holds.pools did.1 (pool_clash here x stored.holds.pools.rising);
         dags = dag_still old.now new.now rows stored (pool_table 1) o (λ e. let e = e in cc);
+        dag_limits = dag_limit_still old.now new.now rows stored (pool_table 1) o (λ e. let e = e in cc);
         runs = run_still old.now new.now rows stored (pool_table 1) o (λ e. let e = e in cc);
         instances = instance_still old.now new.now rows stored (pool_table 1) o (λ e. let e = e in cc);
         attempts = attempt_still old.now new.now rows stored (pool_table 1) o (λ e. let e = e in cc);
@@ -114,6 +120,7 @@ pool_put old new x (Ok count) params are h = λ rows stored.
         metas = stored.keys.metas;
         pools = put_rises pool_order x rows.pools stored.keys.pools;
         dags = stored.keys.dags;
+        dag_limits = stored.keys.dag_limits;
         runs = stored.keys.runs;
         instances = stored.keys.instances;
         attempts = stored.keys.attempts;
@@ -134,6 +141,7 @@ dag_put old new x (Ok count) params are h = λ rows stored.
         metas = meta_still old.now new.now rows stored (dag_table 3) o (λ e. let e = e in cc);
         pools = pool_still old.now new.now rows stored (dag_table 3) o (λ e. let e = e in cc);
         dags = shows_put dag_cells dag_row_before record_schema (dag_table 3) (dag_row here x) x refl dag_order old.now.trees new.now.trees rows.dags stored.keys.dags stored.holds.dags did.1 (dag_clash here x stored.holds.dags.rising);
+        dag_limits = dag_limit_still old.now new.now rows stored (dag_table 3) o (λ e. let e = e in cc);
         runs = run_still old.now new.now rows stored (dag_table 3) o (λ e. let e = e in cc);
         instances = instance_still old.now new.now rows stored (dag_table 3) o (λ e. let e = e in cc);
         attempts = attempt_still old.now new.now rows stored (dag_table 3) o (λ e. let e = e in cc);
@@ -142,6 +150,37 @@ dag_put old new x (Ok count) params are h = λ rows stored.
         metas = stored.keys.metas;
         pools = stored.keys.pools;
         dags = put_rises dag_order x rows.dags stored.keys.dags;
+        dag_limits = stored.keys.dag_limits;
+        runs = stored.keys.runs;
+        instances = stored.keys.instances;
+        attempts = stored.keys.attempts;
+      };
+      sound = did.2;
+    }
+
+pub dag_limit_put : (old new : State) (x : DagLimitRow) (r : Result ℕ Error) (params : Row) → params ≡ dag_limit_cells x → ExecutesInside 0 text.put_dag_limit params old new r → OnOk r (PutsIn (spec.put_dag_limits (x ∷ [])) old.now new.now)
+dag_limit_put old new x (Err e) params are h = tt
+dag_limit_put old new x (Ok count) params are h = λ rows stored.
+    let here = old.now.trees 11 in
+    let did = replaced text.put_dag_limit 6 (dag_limit_table 11) text.dag_limit_terms 3 text.put_dag_limit_is refl refl (λ olds. refl) (dag_limit_cells x) (Null ∷ dag_limit_cells x) refl old new count (dag_limit_row here x) stored.holds.schema (dag_limit_stored here x) (dag_limit_stable here x)
+    (subst (λ params. ExecutesInside 0 text.put_dag_limit params old new (Ok count)) are h) in
+    let o = did.1.others in
+    record {
+      holds = record {
+        schema = did.0;
+        metas = meta_still old.now new.now rows stored (dag_limit_table 11) o (λ e. let e = e in cc);
+        pools = pool_still old.now new.now rows stored (dag_limit_table 11) o (λ e. let e = e in cc);
+        dag_limits = shows_put dag_limit_cells dag_limit_row_before record_schema (dag_limit_table 11) (dag_limit_row here x) x refl dag_limit_order old.now.trees new.now.trees rows.dag_limits stored.keys.dag_limits stored.holds.dag_limits did.1 (dag_limit_clash here x stored.holds.dag_limits.rising);
+        dags = dag_still old.now new.now rows stored (dag_limit_table 11) o (λ e. let e = e in cc);
+        runs = run_still old.now new.now rows stored (dag_limit_table 11) o (λ e. let e = e in cc);
+        instances = instance_still old.now new.now rows stored (dag_limit_table 11) o (λ e. let e = e in cc);
+        attempts = attempt_still old.now new.now rows stored (dag_limit_table 11) o (λ e. let e = e in cc);
+      };
+      keys = record {
+        metas = stored.keys.metas;
+        pools = stored.keys.pools;
+        dag_limits = put_rises dag_limit_order x rows.dag_limits stored.keys.dag_limits;
+        dags = stored.keys.dags;
         runs = stored.keys.runs;
         instances = stored.keys.instances;
         attempts = stored.keys.attempts;
@@ -162,6 +201,7 @@ run_put old new x (Ok count) params are h = λ rows stored.
         metas = meta_still old.now new.now rows stored (run_table 5) o (λ e. let e = e in cc);
         pools = pool_still old.now new.now rows stored (run_table 5) o (λ e. let e = e in cc);
         dags = dag_still old.now new.now rows stored (run_table 5) o (λ e. let e = e in cc);
+        dag_limits = dag_limit_still old.now new.now rows stored (run_table 5) o (λ e. let e = e in cc);
         runs = shows_put run_cells run_row_before record_schema (run_table 5) (run_row here x) x refl run_order old.now.trees new.now.trees rows.runs stored.keys.runs stored.holds.runs did.1 (run_clash here x stored.holds.runs.rising);
         instances = instance_still old.now new.now rows stored (run_table 5) o (λ e. let e = e in cc);
         attempts = attempt_still old.now new.now rows stored (run_table 5) o (λ e. let e = e in cc);
@@ -170,6 +210,7 @@ run_put old new x (Ok count) params are h = λ rows stored.
         metas = stored.keys.metas;
         pools = stored.keys.pools;
         dags = stored.keys.dags;
+        dag_limits = stored.keys.dag_limits;
         runs = put_rises run_order x rows.runs stored.keys.runs;
         instances = stored.keys.instances;
         attempts = stored.keys.attempts;
@@ -190,6 +231,7 @@ instance_put old new x (Ok count) params are h = λ rows stored.
         metas = meta_still old.now new.now rows stored (instance_table 7) o (λ e. let e = e in cc);
         pools = pool_still old.now new.now rows stored (instance_table 7) o (λ e. let e = e in cc);
         dags = dag_still old.now new.now rows stored (instance_table 7) o (λ e. let e = e in cc);
+        dag_limits = dag_limit_still old.now new.now rows stored (instance_table 7) o (λ e. let e = e in cc);
         runs = run_still old.now new.now rows stored (instance_table 7) o (λ e. let e = e in cc);
         instances = shows_put instance_cells instance_row_before record_schema (instance_table 7) (instance_row here x) x refl instance_order old.now.trees new.now.trees rows.instances stored.keys.instances stored.holds.instances did.1 (instance_clash here x stored.holds.instances.rising);
         attempts = attempt_still old.now new.now rows stored (instance_table 7) o (λ e. let e = e in cc);
@@ -198,6 +240,7 @@ instance_put old new x (Ok count) params are h = λ rows stored.
         metas = stored.keys.metas;
         pools = stored.keys.pools;
         dags = stored.keys.dags;
+        dag_limits = stored.keys.dag_limits;
         runs = stored.keys.runs;
         instances = put_rises instance_order x rows.instances stored.keys.instances;
         attempts = stored.keys.attempts;
@@ -218,6 +261,7 @@ attempt_put old new x (Ok count) params are h = λ rows stored.
         metas = meta_still old.now new.now rows stored (attempt_table 9) o (λ e. let e = e in cc);
         pools = pool_still old.now new.now rows stored (attempt_table 9) o (λ e. let e = e in cc);
         dags = dag_still old.now new.now rows stored (attempt_table 9) o (λ e. let e = e in cc);
+        dag_limits = dag_limit_still old.now new.now rows stored (attempt_table 9) o (λ e. let e = e in cc);
         runs = run_still old.now new.now rows stored (attempt_table 9) o (λ e. let e = e in cc);
         instances = instance_still old.now new.now rows stored (attempt_table 9) o (λ e. let e = e in cc);
         attempts = shows_put attempt_cells attempt_row_before record_schema (attempt_table 9) (attempt_row x) x refl attempt_order old.now.trees new.now.trees rows.attempts stored.keys.attempts stored.holds.attempts did.1 (attempt_clash here x);
@@ -226,6 +270,7 @@ attempt_put old new x (Ok count) params are h = λ rows stored.
         metas = stored.keys.metas;
         pools = stored.keys.pools;
         dags = stored.keys.dags;
+        dag_limits = stored.keys.dag_limits;
         runs = stored.keys.runs;
         instances = stored.keys.instances;
         attempts = put_rises attempt_order x rows.attempts stored.keys.attempts;

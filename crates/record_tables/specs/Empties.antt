@@ -16,4 +16,4 @@ Extends before after old new = IsEmpty before old → IsEmpty after new × IsDat
 
 -- no rows at all
 abbrev pub no_rows : Rows
-no_rows = record { metas = []; pools = []; dags = []; runs = []; instances = []; attempts = [] }
+no_rows = record { metas = []; pools = []; dags = []; dag_limits = []; runs = []; instances = []; attempts = [] }

@@ -11,9 +11,9 @@ use Rattle.sqlite_trees.specs.Tree.{rowid}
 use Rattle.sqlite_trees.specs.View.{IsShaped}
 use Rattle.sqlite_trees.specs.declared.store.Shape.TheVariants as shape
 use Rattle.record_changes.specs.sched_model.Lists.{rises}
-use Rattle.record_rows.specs.Rows.{Rows, MetaRow, PoolRow, DagRow, RunRow, InstanceRow, AttemptRow}
-use Rattle.record_changes.specs.record_rules.Keys.{meta_row_before, pool_row_before, dag_row_before, run_row_before, instance_row_before, attempt_row_before}
-use Rattle.record_tables.specs.Schema.{meta_table, pool_table, dag_table, run_table, instance_table, attempt_table, record_schema}
+use Rattle.record_rows.specs.Rows.{Rows, MetaRow, PoolRow, DagRow, DagLimitRow, RunRow, InstanceRow, AttemptRow}
+use Rattle.record_changes.specs.record_rules.Keys.{meta_row_before, pool_row_before, dag_row_before, dag_limit_row_before, run_row_before, instance_row_before, attempt_row_before}
+use Rattle.record_tables.specs.Schema.{meta_table, pool_table, dag_table, dag_limit_table, run_table, instance_table, attempt_table, first_schema, record_schema}
 
 -- ---- the values of a row, column by column
 abbrev pub or_null : Option ℤ → Value
@@ -28,6 +28,9 @@ pool_cells p = Text p.name ∷ Int p.size ∷ []
 
 abbrev pub dag_cells : DagRow → Row
 dag_cells d = Text d.dag_id ∷ Text d.body ∷ Int d.paused ∷ []
+
+abbrev pub dag_limit_cells : DagLimitRow → Row
+dag_limit_cells x = Text x.dag_id ∷ Int x.max_active_tasks ∷ []
 
 abbrev pub run_cells : RunRow → Row
 run_cells r = Text r.dag_id ∷ Int r.logical ∷ Int r.data_start ∷ Int r.data_end ∷ Int r.kind ∷ Int r.phase ∷ []
@@ -63,6 +66,7 @@ pub record Holds (db : Database) (rows : Rows) : Type 0 where
   pub metas : Shows (meta_table 0) db.trees (map meta_cells rows.metas)
   pub pools : Shows (pool_table 1) db.trees (map pool_cells rows.pools)
   pub dags : Shows (dag_table 3) db.trees (map dag_cells rows.dags)
+  pub dag_limits : Shows (dag_limit_table 11) db.trees (map dag_limit_cells rows.dag_limits)
   pub runs : Shows (run_table 5) db.trees (map run_cells rows.runs)
   pub instances : Shows (instance_table 7) db.trees (map instance_cells rows.instances)
   pub attempts : Shows (attempt_table 9) db.trees (map attempt_cells rows.attempts)
@@ -72,6 +76,7 @@ pub record RisesByKey (rows : Rows) : Type 0 where
   pub metas : IsTrue (rises meta_row_before rows.metas)
   pub pools : IsTrue (rises pool_row_before rows.pools)
   pub dags : IsTrue (rises dag_row_before rows.dags)
+  pub dag_limits : IsTrue (rises dag_limit_row_before rows.dag_limits)
   pub runs : IsTrue (rises run_row_before rows.runs)
   pub instances : IsTrue (rises instance_row_before rows.instances)
   pub attempts : IsTrue (rises attempt_row_before rows.attempts)
@@ -81,3 +86,19 @@ pub record Stores (db : Database) (rows : Rows) : Type 0 where
   pub holds : Holds db rows
   pub keys : RisesByKey rows
   pub sound : IsDatabase db
+
+-- the database has the tables of a record of version 1 and nothing else, and these rows, each table by its key; of bounds it has none
+pub record StoresFirst (db : Database) (rows : Rows) : Type 0 where
+  pub schema : db.schema ≡ first_schema
+  pub metas : Shows (meta_table 0) db.trees (map meta_cells rows.metas)
+  pub pools : Shows (pool_table 1) db.trees (map pool_cells rows.pools)
+  pub dags : Shows (dag_table 3) db.trees (map dag_cells rows.dags)
+  pub none : rows.dag_limits ≡ []
+  pub runs : Shows (run_table 5) db.trees (map run_cells rows.runs)
+  pub instances : Shows (instance_table 7) db.trees (map instance_cells rows.instances)
+  pub attempts : Shows (attempt_table 9) db.trees (map attempt_cells rows.attempts)
+  pub keys : RisesByKey rows
+
+-- a record of version 1 gets the table that it lacks, empty, and has the rows that it had
+abbrev pub AddsLimits : Database → Database → Type 0
+AddsLimits old new = (rows : Rows) → StoresFirst old rows → Stores new rows

@@ -2,8 +2,8 @@
 use Rattle.std.specs.Prelude.{List, IsTrue}
 use Rattle.sqlite.specs.Effect.{Database}
 use Rattle.sqlite.specs.State.{State, HasCleanDisk, KeepsCommit, Survives}
-use Rattle.record_rows.specs.Rows.{Rows, MetaRow, PoolRow, DagRow, RunRow, InstanceRow, AttemptRow}
-use Rattle.record_changes.specs.record_rules.Keys.{meta_row_before, pool_row_before, dag_row_before, run_row_before, instance_row_before, attempt_row_before}
+use Rattle.record_rows.specs.Rows.{Rows, MetaRow, PoolRow, DagRow, DagLimitRow, RunRow, InstanceRow, AttemptRow}
+use Rattle.record_changes.specs.record_rules.Keys.{meta_row_before, pool_row_before, dag_row_before, dag_limit_row_before, run_row_before, instance_row_before, attempt_row_before}
 use Rattle.record_changes.specs.record_rules.Between.{puts}
 use Rattle.record_tables.specs.Holds.{Stores}
 
@@ -16,6 +16,9 @@ put_pools new old = record old { pools = puts pool_row_before new old.pools }
 
 abbrev pub put_dags : List DagRow → Rows → Rows
 put_dags new old = record old { dags = puts dag_row_before new old.dags }
+
+abbrev pub put_dag_limits : List DagLimitRow → Rows → Rows
+put_dag_limits new old = record old { dag_limits = puts dag_limit_row_before new old.dag_limits }
 
 abbrev pub put_runs : List RunRow → Rows → Rows
 put_runs new old = record old { runs = puts run_row_before new old.runs }

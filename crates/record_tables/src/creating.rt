@@ -2,6 +2,7 @@
 ghost use Rattle.std.specs.Prelude.{◌≡◌, ◌<◌, ◌+◌, OnOk, OnErr};
 ghost use Rattle.sqlite.specs.Held.{state};
 ghost use Rattle.record_tables.specs.Schema as schemas;
+ghost use Rattle.record_tables.specs.Holds.{AddsLimits};
 ghost use Rattle.record_tables.specs.Empties.{Extends};
 ghost use Rattle.record_tables.specs.Puts.{GoesBy, Stops};
 
@@ -27,6 +28,9 @@ const CREATE_ATTEMPT: &str =
 
 const CREATE_INDEX: &str = "CREATE INDEX by_instance ON attempt (dag_id, logical, task_id)";
 
+const CREATE_DAG_LIMIT: &str =
+    "CREATE TABLE dag_limit (dag_id TEXT NOT NULL PRIMARY KEY REFERENCES dag, max_active_tasks INTEGER NOT NULL) STRICT";
+
 /// The statements that make the tables, in turn.
 fn text_at(at: usize) -> &'static str
     ensures { result.now ≡ schemas.text_at at }
@@ -38,12 +42,13 @@ fn text_at(at: usize) -> &'static str
         3 => CREATE_RUN,
         4 => CREATE_INSTANCE,
         5 => CREATE_ATTEMPT,
-        _ => CREATE_INDEX,
+        6 => CREATE_INDEX,
+        _ => CREATE_DAG_LIMIT,
     }
 }
 
 fn define<S: Alter>(tx: &mut Transaction<'_, S>, at: usize) -> Result<usize, Error>
-    requires { at < 7 }
+    requires { at < 8 }
     ensures same_reference { tx.new.conn.ghost_name ≡ tx.old.conn.ghost_name }
     ensures ok { OnOk result (GoesBy (Extends (schemas.schema_at at) (schemas.schema_at (at + 1)))
         (state S.Store tx.old.conn.now) (state S.Store tx.new.conn.now)) }
@@ -62,8 +67,19 @@ pub fn make_tables<S: Alter>(tx: &mut Transaction<'_, S>) -> Result<(), Error>
         (state S.Store tx.new.conn.now)) }
 {
     define(tx, 0)?;
-    for at in 1..7 {
+    for at in 1..8 {
         define(tx, at)?;
     }
     Ok(())
+}
+
+/// Makes the table that a record of version 1 lacks, inside a transaction. It is empty.
+pub fn add_limits<S: Alter>(tx: &mut Transaction<'_, S>) -> Result<usize, Error>
+    ensures same_reference { tx.new.conn.ghost_name ≡ tx.old.conn.ghost_name }
+    ensures ok { OnOk result (GoesBy AddsLimits (state S.Store tx.old.conn.now)
+        (state S.Store tx.new.conn.now)) }
+    ensures err { OnErr result (Stops (state S.Store tx.old.conn.now)
+        (state S.Store tx.new.conn.now)) }
+{
+    tx.execute(CREATE_DAG_LIMIT, &[])
 }

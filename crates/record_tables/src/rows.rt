@@ -4,7 +4,9 @@ ghost use Rattle.sqlite.specs.Held.{state};
 ghost use Rattle.record_changes.specs.Changes as changes;
 ghost use Rattle.record_tables.specs.Puts.{GoesBy, PutsIn, Stops};
 
-use crate::{put_attempts, put_dags, put_instances, put_metas, put_pools, put_runs};
+use crate::{
+    put_attempts, put_dag_limits, put_dags, put_instances, put_metas, put_pools, put_runs,
+};
 use record_rows::Rows;
 use sqlite::{Alter, Error, Transaction};
 
@@ -19,6 +21,7 @@ pub fn put_rows<S: Alter>(tx: &mut Transaction<'_, S>, rows: &Rows) -> Result<()
     put_metas(tx, rows.metas.as_slice())?;
     put_pools(tx, rows.pools.as_slice())?;
     put_dags(tx, rows.dags.as_slice())?;
+    put_dag_limits(tx, rows.dag_limits.as_slice())?;
     put_runs(tx, rows.runs.as_slice())?;
     put_instances(tx, rows.instances.as_slice())?;
     put_attempts(tx, rows.attempts.as_slice())

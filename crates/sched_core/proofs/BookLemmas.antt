@@ -1,5 +1,5 @@
 -- A schedule beside its numbers: what changes leave of them, a pool that gets another size, and rows.
-use Rattle.std.proofs.Common.{◌≡◌, ◌∙◌, refl, sym, ap, subst, ℕ, ◌-ℤ◌, pos, ◌≤◌, List, [], ◌∷◌, Bool, true, false, cond, ◌||◌, length, map, min, filter, find, is_some, sum_by, Option, Some, None, option_map, unwrap_or, arith, leb-true, true≢false}
+use Rattle.std.proofs.Common.{◌≡◌, ◌∙◌, refl, sym, ap, subst, ℕ, ◌-ℤ◌, pos, ◌≤◌, List, [], ◌∷◌, Bool, true, false, cond, ◌||◌, length, map, min, filter, find, is_some, sum_by, count_by, Option, Some, None, option_map, unwrap_or, arith, leb-true, true≢false}
 use Rattle.std.specs.BTreeMap.{insert_entry}
 use Rattle.std.specs.List.{list_all, list_any}
 use Rattle.std.specs.Ordering.{is_eq, match_ordering}
@@ -10,10 +10,8 @@ use Rattle.std.proofs.Math.Nat.{min-eq_left}
 use Rattle.std.proofs.lemmas.Cmp.{nat_list_cmp_total}
 use Rattle.std.proofs.lemmas.Map.Text.{is_eq-slice_cmp}
 use Rattle.graph_file.specs.Names.{is_name}
-use Rattle.graph_file.specs.declared.task_specs.TaskSpec.{TaskSpec}
 use Rattle.instance_machine.specs.Reports.{reported_try}
 use Rattle.instance_machine.specs.declared.tries.Stage.{Stage}
-use Rattle.instance_machine.specs.declared.tries.Try.{Try}
 use Rattle.pool_book.specs.Limits.{most_taken}
 use Rattle.pool_book.specs.Pools.{Entries, PoolUse, pool_of, resized, occupied_of, vacated}
 use Rattle.pool_book.proofs.PoolLemmas.{pool_of-put}
@@ -28,7 +26,7 @@ use Rattle.sched_model.specs.NamedRuns.{NamedRun, add_runs}
 use Rattle.sched_model.specs.Schedule.{Schedule, Pool, has_pool, pool_before}
 use Rattle.sched_model.specs.Settle.{settle}
 use Rattle.sched_model.specs.Sound.{IsSound, is_sound_pool}
-use Rattle.sched_model.specs.States.{in_flight, open_tries, slots_in, occupied}
+use Rattle.sched_model.specs.States.{OpenTry, active_tries, in_flight, is_of, open_tries, slots_in, occupied}
 use Rattle.sched_laws.proofs.OccupyingLemmas.{open_cleared, open_added, open_restarted, ended_by, occupied_reported}
 use Rattle.sched_laws.proofs.SlotLemmas.{open_settled, out_filled, none_occupied}
 use Rattle.sched_laws.proofs.SoundLemmas.{settle_sound}
@@ -37,6 +35,7 @@ use Rattle.sched_events.specs.SettledAndSound.{IsSoundAndSaid, IsSettled}
 use Rattle.sched_events.specs.Rows.{PoolLine}
 use Rattle.sched_draft.specs.Books.{pools_in, Takes, IsBookOf}
 use Rattle.sched_draft.proofs.BookLemmas.{has_is}
+use Rattle.sched_handout.specs.Active.{count_of}
 use Rattle.sched_handout.specs.Occupied.{AreOccupied}
 use Rattle.sched_handout.specs.declared.occupied.Occupied.{Occupied}
 use Rattle.sched_core.specs.Books.{IsCounted, IsHeldWith}
@@ -50,13 +49,14 @@ pub counted_same : (a b : Schedule) → open_tries b ≡ open_tries a → IsCoun
 counted_same a b e counted name = subst (λ n. n ≤ most_taken) (ap (sum_by (slots_in name)) (sym e)) (counted name)
 
 -- and so are the numbers, where the pools are the same
-pub occupied_as : (a b : Schedule) (t u : Occupied) → open_tries b ≡ open_tries a → b.pools ≡ a.pools → u.in_flight ≡ t.in_flight → u.pools.pools ≡ t.pools.pools → AreOccupied a t → AreOccupied b u
-occupied_as a b t u e pools flight book h = record {
-  in_flight = flight ∙ (h.in_flight ∙ ap (λ (es : List (TaskSpec × Try)). length es) (sym e));
+pub occupied_as : (a b : Schedule) (t u : Occupied) → open_tries b ≡ open_tries a → b.pools ≡ a.pools → u.in_flight ≡ t.in_flight → u.pools.pools ≡ t.pools.pools → u.active ≡ t.active → AreOccupied a t → AreOccupied b u
+occupied_as a b t u e pools flight book active h = record {
+  in_flight = flight ∙ (h.in_flight ∙ ap (λ (es : List OpenTry). length es) (sym e));
   pools = subst (IsBookOf b) (sym book) (record {
     pools = h.pools.pools ∙ sym pools;
-    taken = λ name p there. h.pools.taken name p there ∙ ap (λ (es : List (TaskSpec × Try)). min (sum_by (slots_in name) es) most_taken) (sym e);
+    taken = λ name p there. h.pools.taken name p there ∙ ap (λ (es : List OpenTry). min (sum_by (slots_in name) es) most_taken) (sym e);
   });
+  active = λ id. ap (count_of id) active ∙ (h.active id ∙ ap (count_by (is_of id)) (sym e));
 }
 
 pub quiet_held : (a b : Schedule) (t : Occupied) (was : Bool) → IsSoundAndSaid b → IsSettled b → open_tries b ≡ open_tries a → b.pools ≡ a.pools → IsHeldWith was a t → IsHeldWith true b t
@@ -64,7 +64,7 @@ quiet_held a b t was kept still e pools held = record {
   kept = kept;
   settled = λ known. still;
   counted = counted_same a b e held.counted;
-  occupied = occupied_as a b t t e pools refl refl held.occupied;
+  occupied = occupied_as a b t t e pools refl refl refl held.occupied;
 }
 
 -- ---- what events leave
@@ -113,8 +113,9 @@ pub book_taken : (a : Schedule) (es : Entries) → IsCounted a → IsBookOf a es
 book_taken a es counted book name p there = book.taken name p there ∙ min-eq_left (counted name)
 
 -- the numbers of a schedule that was read, whose tries were counted
-pub read_occupied : (a : Schedule) (t : Occupied) → IsCounted a → t.in_flight ≡ in_flight a → pools_in t.pools.pools ≡ a.pools → Takes (occupied a) t.pools.pools → AreOccupied a t
-read_occupied a t counted flight pools taken = record { in_flight = flight; pools = record { pools = pools; taken = λ name p there. taken name p there ∙ sym (min-eq_left (counted name)) } }
+pub read_occupied : (a : Schedule) (t : Occupied) → IsCounted a → t.in_flight ≡ in_flight a → pools_in t.pools.pools ≡ a.pools → Takes (occupied a) t.pools.pools
+    → ((id : List ℕ) → count_of id t.active ≡ active_tries a id) → AreOccupied a t
+read_occupied a t counted flight pools taken active = record { in_flight = flight; pools = record { pools = pools; taken = λ name p there. taken name p there ∙ sym (min-eq_left (counted name)) }; active = active }
 
 -- ---- after a restart nothing is taken
 vacated_pools : (es : Entries) → pools_in (vacated es) ≡ pools_in es
@@ -128,13 +129,14 @@ vacant name p (e ∷ es) f = elim (same name e.0) as (λ b. cond b (Some (record
   | false ↦ λ g. vacant name p es g
 ] f
 
-pub restart_occupied : (lanes : ℕ) (a : Schedule) (t u : Occupied) → pools_in t.pools.pools ≡ a.pools → u.in_flight ≡ 0 → u.pools.pools ≡ vacated t.pools.pools → AreOccupied (restart lanes a) u
-restart_occupied lanes a t u pools flight book = record {
-  in_flight = flight ∙ ap (λ (es : List (TaskSpec × Try)). length es) (sym (open_restarted lanes a));
+pub restart_occupied : (lanes : ℕ) (a : Schedule) (t u : Occupied) → pools_in t.pools.pools ≡ a.pools → u.in_flight ≡ 0 → u.pools.pools ≡ vacated t.pools.pools → u.active ≡ [] → AreOccupied (restart lanes a) u
+restart_occupied lanes a t u pools flight book none = record {
+  in_flight = flight ∙ ap (λ (es : List OpenTry). length es) (sym (open_restarted lanes a));
   pools = subst (IsBookOf (restart lanes a)) (sym book) (record {
     pools = vacated_pools t.pools.pools ∙ pools;
-    taken = λ name p there. vacant name p t.pools.pools there ∙ ap (λ (es : List (TaskSpec × Try)). min (sum_by (slots_in name) es) most_taken) (sym (open_restarted lanes a));
+    taken = λ name p there. vacant name p t.pools.pools there ∙ ap (λ (es : List OpenTry). min (sum_by (slots_in name) es) most_taken) (sym (open_restarted lanes a));
   });
+  active = λ id. ap (count_of id) none ∙ ap (count_by (is_of id)) (sym (open_restarted lanes a));
 }
 
 -- ---- of a pool that is resized as much is taken

@@ -3,14 +3,14 @@ use Rattle.std.proofs.Common.{◌≡◌, refl, sym, ap, subst, ◌∙◌, zero, 
 use Rattle.std.specs.List.{zip}
 use Rattle.std.proofs.lemmas.Bool.{and_from}
 use Rattle.dag_check.specs.Graphs.{Dag}
-use Rattle.record_rows.specs.Rows.{MetaRow, PoolRow, DagRow, RunRow, InstanceRow, AttemptRow}
+use Rattle.record_rows.specs.Rows.{MetaRow, PoolRow, DagRow, DagLimitRow, RunRow, InstanceRow, AttemptRow}
 use Rattle.sched_state.specs.declared.graphs.LoadedGraph.{LoadedGraph}
 use Rattle.sched_state.specs.declared.runs.Run.{Run}
 use Rattle.sched_state.proofs.NameLemmas.{same_itself}
 use Rattle.sched_model.specs.Lists.{rises}
 use Rattle.sched_model.specs.Schedule.{Schedule, dag_among, run_before}
 use Rattle.sched_model.specs.Sound.{IsSound}
-use Rattle.sched_model.specs.Tables.{tables, dag_row, instance_row, instance_rows, attempt_rows, sort_by, task_before, serial_before}
+use Rattle.sched_model.specs.Tables.{tables, dag_row, limit_row, instance_row, instance_rows, attempt_rows, sort_by, task_before, serial_before}
 use Rattle.sched_model.specs.Changes.{with_graph}
 use Rattle.sched_model.specs.Handout.{hand_out}
 use Rattle.sched_model.specs.Settle.{settle}
@@ -20,7 +20,7 @@ use Rattle.sched_laws.proofs.LoadLemmas.{found_after, dags_found}
 use Rattle.sched_laws.proofs.PauseLemmas.{same_dag_paused}
 use Rattle.record_restoring.specs.record_rules.Between.{lacked}
 use Rattle.record_restoring.proofs.record_rules.NumberLemmas.{number_itself}
-use Rattle.record_writing.specs.record_changes.Changes.{rows_between, same_meta_row, same_pool_row, same_dag_row, same_run_row, same_instance_row, same_attempt_row, same_if}
+use Rattle.record_writing.specs.record_changes.Changes.{rows_between, same_meta_row, same_pool_row, same_dag_row, same_dag_limit_row, same_run_row, same_instance_row, same_attempt_row, same_if}
 use Rattle.record_writing.specs.Ranges.{FitsTables}
 use Rattle.record_writing.proofs.LackedLemmas.{lacked_itself}
 use Rattle.sched_draft.specs.Drafts.{HaveSameDags, SameDags}
@@ -79,10 +79,15 @@ attempt_itself x = and_from _ _ (number_itself x.serial) (and_from _ _ (same_its
     (and_from _ _ (number_itself x.slots) (and_from _ _ (if_itself x.started) (and_from _ _ (if_itself x.ended) (if_itself x.outcome))))))))
 
 -- ---- all rows
--- where the rest stays, the rows of graphs alone differ
-pub quiet_rows : (a : Schedule) (hs : List LoadedGraph) (ds : List DagRow) → HaveSameDags a.graphs hs a.runs → ds ≡ lacked same_dag_row (map dag_row a.graphs) (map dag_row hs)
-    → record { metas = []; pools = []; dags = ds; runs = []; instances = []; attempts = [] } ≡ rows_between a (record a { graphs = hs })
-quiet_rows a hs ds h e =
+-- these are the rows of graphs and of bounds that those lack
+pub record AreRowsOf (gs hs : List LoadedGraph) (ds : List DagRow) (ls : List DagLimitRow) : Type 0 where
+  pub dags : ds ≡ lacked same_dag_row (map dag_row gs) (map dag_row hs)
+  pub limits : ls ≡ lacked same_dag_limit_row (map limit_row gs) (map limit_row hs)
+
+-- where the rest stays, these rows alone differ
+pub quiet_rows : (a : Schedule) (hs : List LoadedGraph) (ds : List DagRow) (ls : List DagLimitRow) → HaveSameDags a.graphs hs a.runs → AreRowsOf a.graphs hs ds ls
+    → record { metas = []; pools = []; dags = ds; dag_limits = ls; runs = []; instances = []; attempts = [] } ≡ rows_between a (record a { graphs = hs })
+quiet_rows a hs ds ls h e =
     let ms = lacked_itself same_meta_row meta_itself (tables a).metas in
     let ps = lacked_itself same_pool_row pool_itself (tables a).pools in
     let rs = lacked_itself same_run_row run_itself (tables a).runs in
@@ -90,18 +95,23 @@ quiet_rows a hs ds h e =
     ap (lacked same_instance_row (tables a).instances) (same_instances a hs h) ∙ lacked_itself same_instance_row instance_itself (tables a).instances in
     let ts : lacked same_attempt_row (tables a).attempts (tables (record a { graphs = hs })).attempts ≡ [] =
     ap (lacked same_attempt_row (tables a).attempts) (same_attempts a hs h) ∙ lacked_itself same_attempt_row attempt_itself (tables a).attempts in
-    λ i. record { metas = sym ms i; pools = sym ps i; dags = e i; runs = sym rs i; instances = sym is i; attempts = sym ts i }
+    let d = e.dags in
+    let l = e.limits in
+    λ i. record { metas = sym ms i; pools = sym ps i; dags = d i; dag_limits = l i; runs = sym rs i; instances = sym is i; attempts = sym ts i }
 
--- else those that differ over the graphs of before, and the rows of graphs
-pub rest_rows : (a b : Schedule) (hs : List LoadedGraph) (ds : List DagRow) → HaveSameDags b.graphs hs b.runs → ds ≡ lacked same_dag_row (map dag_row a.graphs) (map dag_row hs)
-    → record (rows_between a b) { dags = ds } ≡ rows_between a (record b { graphs = hs })
-rest_rows a b hs ds h e =
+-- else those that differ over the graphs of before, and these rows
+pub rest_rows : (a b : Schedule) (hs : List LoadedGraph) (ds : List DagRow) (ls : List DagLimitRow) → HaveSameDags b.graphs hs b.runs → AreRowsOf a.graphs hs ds ls
+    → record (rows_between a b) { dags = ds; dag_limits = ls } ≡ rows_between a (record b { graphs = hs })
+rest_rows a b hs ds ls h e =
     let is = ap (lacked same_instance_row (tables a).instances) (same_instances b hs h) in
     let ts = ap (lacked same_attempt_row (tables a).attempts) (same_attempts b hs h) in
+    let d = e.dags in
+    let l = e.limits in
     λ i. record {
       metas = (rows_between a b).metas;
       pools = (rows_between a b).pools;
-      dags = e i;
+      dags = d i;
+      dag_limits = l i;
       runs = (rows_between a b).runs;
       instances = sym is i;
       attempts = sym ts i;
@@ -151,6 +161,6 @@ draft_order g a d over sound = subst (λ (s : Schedule). rises run_before s.runs
 pub draft_fits : (g : GraphChange) (a d : Schedule) → IsOver g a d → IsLast g d → IsSound (completed g d) → FitsTables d
 draft_fits g a d over last sound = fits_over d (changed g a.graphs) (draft_alike g a d over last) (subst FitsTables (completed_over g a d over) (fits_tables (completed g d) sound))
 
-pub draft_rows : (g : GraphChange) (a d : Schedule) (ds : List DagRow) → IsOver g a d → IsLast g d → ds ≡ lacked same_dag_row (map dag_row a.graphs) (map dag_row (changed g a.graphs))
-    → record (rows_between a d) { dags = ds } ≡ rows_between a (completed g d)
-draft_rows g a d ds over last e = rest_rows a d (changed g a.graphs) ds (draft_alike g a d over last) e ∙ ap (rows_between a) (sym (completed_over g a d over))
+pub draft_rows : (g : GraphChange) (a d : Schedule) (ds : List DagRow) (ls : List DagLimitRow) → IsOver g a d → IsLast g d → AreRowsOf a.graphs (changed g a.graphs) ds ls
+    → record (rows_between a d) { dags = ds; dag_limits = ls } ≡ rows_between a (completed g d)
+draft_rows g a d ds ls over last e = rest_rows a d (changed g a.graphs) ds ls (draft_alike g a d over last) e ∙ ap (rows_between a) (sym (completed_over g a d over))

@@ -84,7 +84,7 @@ move_pools : (a b : Schedule) → move a ≡ Some b → b.pools ≡ a.pools
 move_pools a b e = let t = map_some (with_runs a) (move_runs a) b e in ap (λ (c : Schedule). c.pools) (sym t.2)
 
 pub settled_occupied : (b : Schedule) (t : Occupied) → AreOccupied b t → AreOccupied (settle b) t
-settled_occupied b t h = occupied_as b (settle b) t t (open_settled b) (repeat_keeps (λ (c : Schedule). c.pools) move move_pools (moves_left b) b) refl refl h
+settled_occupied b t h = occupied_as b (settle b) t t (open_settled b) (repeat_keeps (λ (c : Schedule). c.pools) move move_pools (moves_left b) b) refl refl refl h
 
 -- and those of the hand-outs are true of what is completed
 pub finished_held : (g : GraphChange) (b : Schedule) (t : Occupied) → IsSound b → IsCounted b → IsLast g b → IsSettledAndSound (completed g (hand_out (settle b))) → AreOccupied (hand_out (settle b)) t
@@ -96,7 +96,7 @@ finished_held g b t sound counted last kept numbers =
       kept = without_settled (completed g end) kept;
       settled = λ known. record { settled = kept.settled; handed = kept.handed };
       counted = counted_same end (completed g end) tries (end_counted b sound counted);
-      occupied = occupied_as end (completed g end) t t tries (completed_pools g end) refl refl numbers;
+      occupied = occupied_as end (completed g end) t t tries (completed_pools g end) refl refl refl numbers;
     }
 
 pub finished_over : (g : GraphChange) (a b : Schedule) → IsOver g a b → IsOver g a (hand_out (settle b))

@@ -10,7 +10,7 @@ use Rattle.sched_state.proofs.OrderLemmas.{and_left, and_right}
 use Rattle.sched_state.proofs.NameLemmas.{same_is, find_any}
 use Rattle.sched_model.specs.Lists.{rises}
 use Rattle.sched_model.specs.Schedule.{Schedule, graph_before, has_runs}
-use Rattle.sched_model.specs.Changes.{reloaded, new_graph, with_graph}
+use Rattle.sched_model.specs.Changes.{with_text, reloaded, new_graph, with_graph}
 use Rattle.sched_model.specs.Sound.{IsSound, is_sound_run}
 use Rattle.sched_laws.proofs.ListLemmas.{all_get, all_impl}
 use Rattle.sched_laws.proofs.GraphLemmas.{reloaded_other}
@@ -18,19 +18,25 @@ use Rattle.sched_laws.proofs.LoadLemmas.{before_apart, others_stay, reloaded_nam
 
 -- a known graph takes the text in at its place, and all others stay
 pub replaced_at : (text : List ℕ) (dag : Dag) (gs : List LoadedGraph) (i : ℕ) (g : LoadedGraph) → slice_get gs i ≡ Some g → same g.dag.spec.dag_id dag.spec.dag_id ≡ true → rises graph_before gs ≡ true
-    → map (reloaded text dag) gs ≡ slice_set gs i (record { text = text; dag = dag; paused = g.paused })
+    → map (reloaded text dag) gs ≡ slice_set gs i (with_text text dag g)
 replaced_at text dag [] i g at named order = absurd (let c : ◌≡◌ {A = Option LoadedGraph} None (Some g) = at in cc)
 replaced_at text dag (h ∷ hs) zero g at named order =
     let c : ◌≡◌ {A = Option LoadedGraph} (Some h) (Some g) = at in
     let is : h ≡ g = cc in
     let here : same h.dag.spec.dag_id dag.spec.dag_id ≡ true = ap (λ (k : LoadedGraph). same k.dag.spec.dag_id dag.spec.dag_id) is ∙ named in
-    ap (λ k. k ∷ map (reloaded text dag) hs) (reloaded_named text dag h here ∙ ap (λ (k : LoadedGraph). let m : LoadedGraph = record { text = text; dag = dag; paused = k.paused } in m) is)
-    ∙ ap (λ ks. record { text = text; dag = dag; paused = g.paused } ∷ ks) (others_stay text dag h here hs (and_left (list_all (graph_before h) hs) _ order))
+    ap (λ k. k ∷ map (reloaded text dag) hs) (reloaded_named text dag h here ∙ ap (with_text text dag) is)
+    ∙ ap (λ ks. with_text text dag g ∷ ks) (others_stay text dag h here hs (and_left (list_all (graph_before h) hs) _ order))
 replaced_at text dag (h ∷ hs) (suc i) g at named order =
     let before : graph_before h g ≡ true = all_get (graph_before h) hs i g (and_left (list_all (graph_before h) hs) _ order) at in
     let apart : same h.dag.spec.dag_id dag.spec.dag_id ≡ false = ap (same h.dag.spec.dag_id) (sym (same_is g.dag.spec.dag_id dag.spec.dag_id named)) ∙ before_apart h g before in
     ap (λ k. k ∷ map (reloaded text dag) hs) (reloaded_other text dag h apart)
     ∙ ap (λ ks. h ∷ ks) (replaced_at text dag hs i g at named (and_right (list_all (graph_before h) hs) _ order))
+
+-- what is put where it stands already changes nothing
+pub set_there : {X : Type 0} (xs : List X) (i : ℕ) (x : X) → slice_get xs i ≡ Some x → slice_set xs i x ≡ xs
+set_there {X} [] i x e = absurd (let c : ◌≡◌ {A = Option X} None (Some x) = e in cc)
+set_there {X} (y ∷ ys) zero x e = let c : ◌≡◌ {A = Option X} (Some y) (Some x) = e in let is : y ≡ x = cc in ap (λ z. z ∷ ys) (sym is)
+set_there (y ∷ ys) (suc i) x e = ap (λ zs. y ∷ zs) (set_there ys i x e)
 
 -- which of the two happens
 pub with_known : (text : List ℕ) (dag : Dag) (gs : List LoadedGraph) → list_any (λ (g : LoadedGraph). same g.dag.spec.dag_id dag.spec.dag_id) gs ≡ true → with_graph text dag gs ≡ map (reloaded text dag) gs

@@ -152,7 +152,7 @@ pub again_change : (a : Schedule) (text : List ℕ) (dag : Dag) (i : ℕ) (g : L
     → slice_get a.graphs i ≡ Some g → same g.dag.spec.dag_id dag.spec.dag_id ≡ true → same g.text text ≡ true → a ≡ add_runs (named_by (Load text) a) (change_by (Load text) a)
 again_change a text dag i g kept said there named text_is =
     let found = found_at dag.spec.dag_id a.graphs i g there named kept.sound.graphs_by_id in
-    sym (load_again text dag a g said kept.sound kept.said found text_is) ∙ load_change a text dag said
+    sym (load_again text dag a g kept.sound found text_is) ∙ load_change a text dag said
 
 -- an accepted event's own change keeps what is held
 pub change_held : (e : Event) (a b : Schedule) → IsInRange e → refused a e ≡ None → IsSoundAndSaid a → b ≡ change_by e a → IsSoundAndSaid b

@@ -20,7 +20,7 @@ use Rattle.sched_state.specs.Lists.{same}
 use Rattle.sched_state.specs.declared.graphs.LoadedGraph.{LoadedGraph}
 use Rattle.sched_state.specs.declared.runs.Run.{Run}
 use Rattle.sched_model.specs.Schedule.{Schedule, has_runs}
-use Rattle.sched_model.specs.Changes.{pause_graph, load_graph}
+use Rattle.sched_model.specs.Changes.{pause_graph, load_graph, new_graph, with_text}
 use Rattle.sched_model.specs.States.{is_open}
 use Rattle.sched_events.specs.Rows.{Row, PoolLine}
 use Rattle.sched_events.specs.declared.refusals.Refusal.{Refusal}
@@ -102,9 +102,17 @@ IsLast (graphs.Pause id paused) b = Unit {0}
 abbrev pub over : Entries → Schedule → Schedule
 over es a = record a { pools = pools_in es }
 
+-- the graph that a text was taken in by, where there was one, or the new one
+abbrev pub taken_among : List ℕ → Dag → Option LoadedGraph → LoadedGraph
+taken_among text dag o = elim o [ Some g ↦ with_text text dag g | None ↦ new_graph text dag ]
+
 -- how many tries of a run are without an end
 abbrev pub open_in : Run → ℕ
 open_in r = sum_by (λ (i : InstanceValue). count_by is_open i.tries) r.instances
+
+-- the same, where the run is of a graph
+abbrev pub open_for : List ℕ → Run → ℕ
+open_for id r = cond (same r.graph id) (open_in r) 0
 
 -- whether a try of a run is without an end
 abbrev pub has_open : Run → Bool

@@ -4,19 +4,20 @@ ghost use Rattle.sched_model.specs.Lists.{rises};
 ghost use Rattle.sched_model.specs.Schedule.{graph_before, graph_among};
 ghost use Rattle.sched_state.specs.declared.graphs.LoadedGraph.{LoadedGraph as Graph};
 ghost use Rattle.sched_model.specs.Sound.{IsSound};
-ghost use Rattle.sched_model.specs.Tables.{dag_row};
+ghost use Rattle.sched_model.specs.Tables.{dag_row, limit_row};
 ghost use Rattle.record_restoring.specs.record_rules.Between.{lacked};
-ghost use Rattle.record_writing.specs.record_changes.Changes.{rows_between, same_dag_row};
+ghost use Rattle.record_writing.specs.record_changes.Changes.{rows_between, same_dag_row, same_dag_limit_row};
 ghost use Rattle.sched_draft.specs.Drafts.{HaveSameDags};
 ghost use Rattle.sched_core.specs.Effects.{changed, with_change};
 ghost use Rattle.sched_core.specs.Inside.{IsOver, IsLast, completed};
 
 use crate::changes::GraphChange;
+use crate::graph_texts::bound_after;
 use crate::lookups::graph_named;
 use crate::schedules::Schedule;
 use graph_file::Name;
-use record_rows::{DagRow, Rows};
-use record_writing::{dag_lacked, rows_of};
+use record_rows::{DagLimitRow, DagRow, Rows};
+use record_writing::{dag_lacked, limit_lacked, rows_of};
 use sched_draft::{Base, Draft};
 use sched_state::LoadedGraph;
 use std::alloc::{AllocError, Global};
@@ -52,7 +53,8 @@ impl Schedule {
             (completed graphs.now draft.now.content)) }
     {
         let dags = dags_changed(alloc, self.graphs.as_slice(), graphs)?;
-        rows_of(alloc, &self.base(), draft, dags)
+        let limits = limits_changed(alloc, self.graphs.as_slice(), graphs)?;
+        rows_of(alloc, &self.base(), draft, dags, limits)
     }
 
     // The rows that it lacks after a change of its graphs alone.
@@ -67,7 +69,8 @@ impl Schedule {
             (with_change graphs.now self.now.content)) }
     {
         let dags = dags_changed(alloc, self.graphs.as_slice(), graphs)?;
-        Ok(only(alloc, dags))
+        let limits = limits_changed(alloc, self.graphs.as_slice(), graphs)?;
+        Ok(only(alloc, dags, limits))
     }
 }
 
@@ -94,6 +97,25 @@ fn dags_changed(
     }
 }
 
+// The rows of the graphs' bounds that these lack after a change.
+fn limits_changed(
+    alloc: Global,
+    graphs: &[LoadedGraph],
+    change: &GraphChange,
+) -> Result<Vec<DagLimitRow>, AllocError>
+    requires { rises graph_before graphs.now ≡ true }
+    ensures { IfOk result (λ rows. rows.items ≡ lacked same_dag_limit_row (map limit_row graphs.now)
+        (map limit_row (changed change.now graphs.now))) }
+{
+    match change {
+        GraphChange::Same | GraphChange::Pause(_, _) => Ok(Vec::new(alloc)),
+        GraphChange::Load(text, dag, _, _) => {
+            let bound = bound_after(graphs, text, dag);
+            limit_lacked(alloc, graphs, &dag.spec().dag_id, bound)
+        }
+    }
+}
+
 // Whether the graph with this id is there and paused.
 fn is_paused(graphs: &[LoadedGraph], id: &Name) -> bool
     ensures { result ≡ unwrap_or (option_map (λ (g : Graph). g.paused)
@@ -105,12 +127,13 @@ fn is_paused(graphs: &[LoadedGraph], id: &Name) -> bool
     }
 }
 
-// The rows of graphs alone.
-fn only(alloc: Global, dags: Vec<DagRow>) -> Rows
+// The rows of graphs and of their bounds alone.
+fn only(alloc: Global, dags: Vec<DagRow>, dag_limits: Vec<DagLimitRow>) -> Rows
     ensures { result ≡ record {
       metas = [];
       pools = [];
       dags = dags.items;
+      dag_limits = dag_limits.items;
       runs = [];
       instances = [];
       attempts = [];
@@ -120,6 +143,7 @@ fn only(alloc: Global, dags: Vec<DagRow>) -> Rows
         metas: Vec::new(alloc),
         pools: Vec::new(alloc),
         dags,
+        dag_limits,
         runs: Vec::new(alloc),
         instances: Vec::new(alloc),
         attempts: Vec::new(alloc),

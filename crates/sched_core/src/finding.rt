@@ -115,7 +115,7 @@ impl Schedule {
             return Ok(occupied);
         };
         let task = graph.dag.task(found.place);
-        occupied.give_back(&task.pool, Slots::of(found.one.slots.get()));
+        occupied.give_back(&run.graph, &task.pool, Slots::of(found.one.slots.get()));
         Ok(occupied)
     }
 }

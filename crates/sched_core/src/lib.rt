@@ -4,16 +4,18 @@
 //! handed out, or a refusal, which changes nothing. What the schedule holds is shown by `runs`, `instances`, `pools` and the other views.
 //! A schedule is made by `Schedule::new`, or of the rows of a record by `Schedule::restore`.
 //!
-//! What events, answers and rows are made of is offered here too, so that a crate above names this one alone.
+//! What events, answers and rows are made of is offered here too, for programs that stand on this crate alone.
 #![tactic(auto)]
 
 mod backfilling;
 mod changed_rows;
 mod changes;
 mod clearing;
+mod counting;
 mod dates;
 mod default_pools;
 mod finding;
+mod graph_texts;
 mod loading;
 mod lookups;
 mod losing;

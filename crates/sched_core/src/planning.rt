@@ -295,6 +295,7 @@ impl Schedule {
         let occupied = Occupied {
             in_flight: self.occupied.in_flight,
             pools: pools.copy(alloc)?,
+            active: self.occupied.active.copy(alloc)?,
         };
         self.finish_with(
             alloc,

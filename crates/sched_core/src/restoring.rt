@@ -8,8 +8,8 @@ ghost use Rattle.record_restoring.specs.record_rules.Reading.{schedule_of};
 ghost use Rattle.record_restoring.specs.record_rules.Faults.{record_fault};
 ghost use Rattle.record_restoring.specs.Results.{IsFault};
 
+use crate::counting::count_open;
 use crate::schedules::Schedule;
-use crate::views::open_in_all;
 use record_restoring::{KeyedRows, RestoreFault, ScheduleParts, restore_parts};
 use run_lists::Runs;
 use run_planner::RunIndex;
@@ -43,7 +43,7 @@ impl Schedule {
             runs,
         } = restore_parts(alloc, limits, rows)?;
         let weights = weigh_graphs(alloc, graphs.as_slice())?;
-        let in_flight = open_in_all(&runs);
+        let counted = count_open(alloc, &runs)?;
         let runs = Runs::of(alloc, runs)?;
         let base = Base {
             limits,
@@ -60,7 +60,11 @@ impl Schedule {
             graphs,
             weights,
             dates,
-            occupied: Occupied { in_flight, pools },
+            occupied: Occupied {
+                in_flight: counted.in_all,
+                pools,
+                active: counted.by_graph,
+            },
             clock,
             lanes,
             next,

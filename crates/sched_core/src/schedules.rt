@@ -19,6 +19,7 @@ ghost use Rattle.sched_core.specs.Inside.{IsLast};
 use crate::changes::{Change, Effect, GraphChange};
 use crate::dates::{note, room_for_dates};
 use crate::default_pools::default_pools;
+use crate::graph_texts::{new_graph, take_text};
 use crate::lookups::{graph_named, position_of};
 use crate::ordering::place_for_graph;
 use crate::pausing::set_paused;
@@ -28,7 +29,7 @@ use moment_core::Moment;
 use run_lists::{RunRows, Runs};
 use run_planner::RunIndex;
 use sched_events::{Answer, Event, Refusal};
-use sched_handout::Occupied;
+use sched_handout::{ActiveTries, Occupied};
 use sched_state::{GraphText, Limits, LoadedGraph};
 use std::alloc::{AllocError, Global};
 use std::marker::Model;
@@ -89,6 +90,7 @@ impl Schedule {
             occupied: Occupied {
                 in_flight: 0,
                 pools: default_pools(alloc)?,
+                active: ActiveTries::new(alloc),
             },
             clock: Moment::at(0),
             lanes: 0,
@@ -261,8 +263,8 @@ fn change_graphs(
     }
 }
 
-// Takes a text in that says this, with these weights and no date: a known graph gets the weights in the place of its own, and a new one is
-// put at its place.
+// Takes a text in that says this, with these weights and no date: a known graph that has another text gets the weights in the place of its
+// own, and a new one is put at its place. The bound is the one that the text says.
 fn take_in(
     graphs: &mut Vec<LoadedGraph>,
     weights: &mut Vec<Vec<u64>>,
@@ -286,17 +288,13 @@ fn take_in(
 {
     match position_of(graphs, &dag.spec().dag_id) {
         Some(place) => {
-            let graph = &mut graphs[place];
-            graph.text = text;
-            graph.dag = dag;
-            weights[place] = row;
+            if !graphs[place].text.is_same(&text) {
+                take_text(&mut graphs[place], text, dag);
+                weights[place] = row;
+            }
         }
         None => {
-            let graph = LoadedGraph {
-                text,
-                dag,
-                paused: false,
-            };
+            let graph = new_graph(text, dag);
             let place = place_for_graph(graphs, &graph);
             let _ = graphs.insert(place, graph);
             let _ = weights.insert(place, row);

@@ -1,11 +1,9 @@
 //! What a schedule shows of its runs and task instances. No view takes memory.
-ghost use Rattle.std.specs.Prelude.{◌≡◌, ◌+◌, ◌≤◌, find, sum_by, count_by, slice_get};
+ghost use Rattle.std.specs.Prelude.{◌≡◌, find, slice_get};
 ghost use Rattle.std.specs.Option.{option_copied};
-ghost use Rattle.sched_model.specs.Handout.{last_serial};
 ghost use Rattle.sched_model.specs.Schedule.{is_at};
-ghost use Rattle.sched_model.specs.States.{active_runs, in_flight, is_open, previous};
+ghost use Rattle.sched_model.specs.States.{active_runs, active_tries, in_flight, previous};
 ghost use Rattle.sched_core.specs.Views.{instance_of};
-ghost use Rattle.sched_core.specs.Inside.{open_in};
 
 use crate::schedules::Schedule;
 use graph_file::Name;
@@ -19,6 +17,13 @@ impl Schedule {
         ensures { result ≡ in_flight self.now.content }
     {
         self.occupied.in_flight
+    }
+
+    /// How many tries of the graph with this id are without an end, over all its runs.
+    pub fn active_tries(&self, id: &Name) -> u64
+        ensures { result ≡ active_tries self.now.content id.now }
+    {
+        self.occupied.active.of(id)
     }
 
     /// The run of a graph with this logical date, if there is one. It is found by a binary search.
@@ -57,40 +62,4 @@ fn instance_at(instances: &[Instance], place: usize) -> Option<&Instance>
     ensures { option_copied result ≡ slice_get instances.now place }
 {
     instances.get(place)
-}
-
-// How many tries of the runs are without an end.
-pub fn open_in_all(runs: &[Run]) -> usize
-    requires { sum_by open_in runs.now ≤ last_serial + 1 }
-    ensures { result ≡ sum_by open_in runs.now }
-{
-    let mut count = 0;
-    for run in runs {
-        count += open_in(run);
-    }
-    count
-}
-
-// How many tries of a run are without an end.
-fn open_in(run: &Run) -> usize
-    requires { open_in run.now ≤ last_serial + 1 }
-    ensures { result ≡ open_in run.now }
-{
-    let instances = run.instances.as_slice();
-    let mut count = 0;
-    for instance in instances {
-        count += open_of(instance);
-    }
-    count
-}
-
-// How many tries of an instance are without an end.
-fn open_of(instance: &Instance) -> usize
-    ensures { result ≡ count_by is_open instance.now.tries }
-{
-    instance
-        .tries()
-        .iter()
-        .filter(|one| one.ended.is_none())
-        .count()
 }

@@ -42,16 +42,25 @@ active_runs a id = count_by (λ (r : Run). same r.graph id && is_running r.phase
 abbrev pub is_open : Try → Bool
 is_open t = is_none t.ended
 
--- the tries of an instance without an end, each beside its task
-abbrev pub open_of : TaskSpec × InstanceValue → List (TaskSpec × Try)
-open_of e = map (λ t. (e.0, t)) (filter is_open e.1.tries)
+-- a try without an end, with the graph of its run and the pool of its task
+pub record OpenTry : Type 0 where
+  pub graph : List ℕ
+  pub pool : List ℕ
+  pub one : Try
 
-abbrev pub open_tries : Schedule → List (TaskSpec × Try)
-open_tries a = flat_map (λ r. flat_map open_of (zip (tasks_of a r) r.instances)) a.runs
+abbrev pub opened : List ℕ → TaskSpec → Try → OpenTry
+opened id t x = record { graph = id; pool = t.pool; one = x }
+
+-- the tries of an instance without an end, each with its graph and its pool
+abbrev pub open_of : List ℕ → TaskSpec × InstanceValue → List OpenTry
+open_of id e = map (opened id e.0) (filter is_open e.1.tries)
+
+abbrev pub open_tries : Schedule → List OpenTry
+open_tries a = flat_map (λ (r : Run). flat_map (open_of r.graph) (zip (tasks_of a r) r.instances)) a.runs
 
 -- the slots that tries without an end take of a pool (Airflow 2, 'Pools')
-abbrev pub slots_in : List ℕ → TaskSpec × Try → ℕ
-slots_in p e = cond (same e.0.pool p) e.1.slots 0
+abbrev pub slots_in : List ℕ → OpenTry → ℕ
+slots_in p e = cond (same e.pool p) e.one.slots 0
 
 abbrev pub occupied : Schedule → List ℕ → ℕ
 occupied a p = sum_by (slots_in p) (open_tries a)
@@ -59,3 +68,10 @@ occupied a p = sum_by (slots_in p) (open_tries a)
 -- how many tries are without an end
 abbrev pub in_flight : Schedule → ℕ
 in_flight a = length (open_tries a)
+
+-- how many tries of a graph are without an end, over all its runs
+abbrev pub is_of : List ℕ → OpenTry → Bool
+is_of id e = same e.graph id
+
+abbrev pub active_tries : Schedule → List ℕ → ℕ
+active_tries a id = count_by (is_of id) (open_tries a)

@@ -169,9 +169,9 @@ module _ {S G O : Type 0} (look : Held S → State) (runs : O → List (Job × O
         begun = c.begun;
         started = λ came. (c.whole came).2;
         stays = stays_open _ _ before _ _ is_open.0 is_open.1 c.followed;
-        stored = λ clean is_open rows stored.
+        stored = λ clean is_open rows has.
             let first = was_clean _ _ _ _ c.followed clean in
-            let keeps : Keeps a (look d.store).now = subst (λ (x : Schedule). Keeps x (look d.store).now) (sym (opened first rows stored).stepped.after) (restarted first rows stored) in
+            let keeps : Keeps a (look d.store).now = subst (λ (x : Schedule). Keeps x (look d.store).now) (sym (opened first rows has).stepped.after) (restarted first rows has) in
             subst (λ (x : Schedule). Keeps x (look conducted.director.store).now) c.stepped (c.followed.stored clean is_open keeps);
         named = named;
         well = λ z. (ends_well _ status conducted.outcome named.ended z).0;

@@ -6,7 +6,6 @@ use Rattle.instance_machine.specs.declared.tries.Outcome.{Outcome}
 use Rattle.sched_state.specs.declared.jobs.Job.{Job}
 use Rattle.operators.specs.declared.kits.Kit.{Kit}
 use Rattle.record_rows.specs.Rows.{Rows}
-use Rattle.record_tables.specs.Holds.{Stores}
 use Rattle.sched_state.specs.Limits.{ceilings}
 use Rattle.sched_model.specs.Schedule.{Schedule}
 use Rattle.sched_model.specs.States.{in_flight}
@@ -15,6 +14,7 @@ use Rattle.sched_events.specs.Steps.{steps, handed_along, AreAccepted}
 use Rattle.sched_events.specs.declared.answers.Answer.{Answer}
 use Rattle.sched_events.specs.declared.events.Event.{Event}
 use Rattle.conduct.specs.sessions.director.Directors.{Keeps, Opens, StaysOpen}
+use Rattle.conduct.specs.sessions.director.meta_store.Stores.{HasRows}
 use Rattle.minutes.specs.Minutes.{BeginWithRestart}
 use Rattle.conduct.specs.sessions.Readings.{Reading}
 use Rattle.conduct.specs.sessions.declared.faults.ConductFault.{ConductFault}
@@ -40,9 +40,10 @@ pub record IsRun {S G O : Type 0} (look : Held S → State) (runs : O → List (
   pub accepted : AreAccepted minutes first
   pub begun : BeginWithRestart lanes minutes
   pub started : came_to_its_end outcome ≡ true → 0 < length minutes
-  -- the record is open, unless its disk failed or refused meanwhile; and where it is, and stored rows, it stores the schedule after the minutes
+  -- the record is open, unless its disk failed or refused meanwhile; and where it is, and had rows, in either version, it stores the schedule after the
+  -- minutes
   pub stays : StaysOpen before (look store)
-  pub stored : HasCleanDisk (look store) → IsTrue (look store).is_open → (rows : Rows) → Stores before.now rows → Keeps (steps minutes first) (look store).now
+  pub stored : HasCleanDisk (look store) → IsTrue (look store).is_open → (rows : Rows) → HasRows before.now rows → Keeps (steps minutes first) (look store).now
   -- those that are no report and no restart, with their answers, are what the script's lines name; what is shown is of these; and the status is that of what
   -- was done and of the end
   pub named : AreNamed bytes sources clock output first minutes outcome status

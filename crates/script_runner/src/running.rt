@@ -7,7 +7,7 @@ ghost use Rattle.operators.specs.Kits.{IsKit};
 ghost use Rattle.sched_state.specs.Limits.{ceilings};
 ghost use Rattle.conduct.specs.sessions.director.Directors.{RestartsIn};
 ghost use Rattle.conduct.specs.sessions.director.Faults.{IsOpenFault, IsRefused};
-ghost use Rattle.conduct.specs.sessions.director.meta_store.Stores.{CommitsBy};
+ghost use Rattle.conduct.specs.sessions.director.meta_store.Stores.{CommitsBy, IsKeptOrMigrated, Migrates, OpensBy};
 ghost use Rattle.script_reader.specs.Ends.{IsEndStatus, end_text};
 ghost use Rattle.script_runner.specs.Runs.{IsRun};
 
@@ -50,7 +50,7 @@ pub struct Ran<S: Alter, G: Gate, O: Operator, F: Sources, W: Write + Drop> {
     pub output: W,
 }
 
-/// A record that was not opened, so that no script was run on it.
+/// A record that was not opened, so that no script was run on it. It is as it was, or of version 2 where it was of version 1.
 #[derive(Drop)]
 pub struct Unopened<S: Alter, R: Read + Drop, W: Write + Drop, F: Sources, P: Console> {
     /// The record.
@@ -61,7 +61,8 @@ pub struct Unopened<S: Alter, R: Read + Drop, W: Write + Drop, F: Sources, P: Co
     pub script: Script<R, W, F, P>,
 }
 
-/// Opens a record within the greatest limits, without lanes, and runs a script on it with workers, one for each crew, each on a thread of its own.
+/// Opens a record within the greatest limits, without lanes, which makes one of version 1 one of version 2, and runs a script on it with workers, one for
+/// each crew, each on a thread of its own.
 ///
 /// The output is flushed before each command is read. The script's console tells a person what the answers do not. Where the record is not opened, it is
 /// given back with the script, and the script, its sources and the clock are as they were.
@@ -95,12 +96,12 @@ pub fn run_on<
         → IsOpenFault ceilings 0 (state S.Store store).now e.fault) }
     ensures kept { IfErr result (λ e. HasCleanDisk (state S.Store e.store)
         → IsTrue (state S.Store e.store).is_open
-        → ((state S.Store e.store).now ≡ (state S.Store store).now)
-        × ((state S.Store e.store).committed ≡ (state S.Store store).committed)) }
+        → IsKeptOrMigrated (state S.Store store) (state S.Store e.store)) }
     ensures crash { IfErr result (λ e. Survives (state S.Store store) (state S.Store e.store)
-        (CommitsBy (RestartsIn ceilings 0) (state S.Store store))) }
+        (CommitsBy (OpensBy (RestartsIn ceilings 0)) (state S.Store store))) }
     ensures refused_crash { IfErr result (λ e. IsRefused e.fault
-        → Survives (state S.Store store) (state S.Store e.store) (λ _. ⊥)) }
+        → Survives (state S.Store store) (state S.Store e.store)
+        (CommitsBy Migrates (state S.Store store))) }
     ensures untouched { IfErr result (λ e. (e.script.input ≡ script.input) × (e.script.output ≡ script.output)
         × (e.script.sources ≡ script.sources) × (e.script.console ≡ script.console) × (clock.new ≡ clock.old)) }
 {

@@ -7,7 +7,7 @@ ghost use Rattle.operators.specs.Kits.{IsKit};
 ghost use Rattle.sched_state.specs.Limits.{ceilings};
 ghost use Rattle.conduct.specs.sessions.director.Directors.{RestartsIn};
 ghost use Rattle.conduct.specs.sessions.director.Faults.{IsOpenFault, IsRefused};
-ghost use Rattle.conduct.specs.sessions.director.meta_store.Stores.{CommitsBy};
+ghost use Rattle.conduct.specs.sessions.director.meta_store.Stores.{CommitsBy, IsKeptOrMigrated, Migrates, OpensBy};
 ghost use Rattle.script_runner.specs.Teams.{AreKitsOf, IsTeamRun, IsWhole};
 
 use crate::running::{Ran, RunOptions, Unopened, run_on};
@@ -53,12 +53,12 @@ pub fn run_team<
         → IsOpenFault ceilings 0 (state S.Store store).now e.fault) }
     ensures kept { IfErr result (λ e. HasCleanDisk (state S.Store e.store)
         → IsTrue (state S.Store e.store).is_open
-        → ((state S.Store e.store).now ≡ (state S.Store store).now)
-        × ((state S.Store e.store).committed ≡ (state S.Store store).committed)) }
+        → IsKeptOrMigrated (state S.Store store) (state S.Store e.store)) }
     ensures crash { IfErr result (λ e. Survives (state S.Store store) (state S.Store e.store)
-        (CommitsBy (RestartsIn ceilings 0) (state S.Store store))) }
+        (CommitsBy (OpensBy (RestartsIn ceilings 0)) (state S.Store store))) }
     ensures refused_crash { IfErr result (λ e. IsRefused e.fault
-        → Survives (state S.Store store) (state S.Store e.store) (λ _. ⊥)) }
+        → Survives (state S.Store store) (state S.Store e.store)
+        (CommitsBy Migrates (state S.Store store))) }
     ensures untouched { IfErr result (λ e. (e.script.input ≡ script.input) × (e.script.output ≡ script.output)
         × (e.script.sources ≡ script.sources) × (e.script.console ≡ script.console) × (clock.new ≡ clock.old)) }
 {

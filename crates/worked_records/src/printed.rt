@@ -6,6 +6,7 @@ use std::io;
 pub fn print_rows<R: Print>(rt: &R, rows: &Rows) -> io::Result<()> {
     print_whole(rt, rows)?;
     print_graphs(rt, rows)?;
+    print_runs(rt, rows)?;
     print_instances(rt, rows)?;
     print_attempts(rt, rows)
 }
@@ -27,6 +28,13 @@ fn print_graphs<R: Print>(rt: &R, rows: &Rows) -> io::Result<()> {
     for d in &rows.dags {
         println!(rt; "dag {}|{}|{}", d.dag_id, d.body, d.paused)?;
     }
+    for x in &rows.dag_limits {
+        println!(rt; "dag_limit {}|{}", x.dag_id, x.max_active_tasks)?;
+    }
+    Ok(())
+}
+
+fn print_runs<R: Print>(rt: &R, rows: &Rows) -> io::Result<()> {
     for r in &rows.runs {
         print!(rt; "run {}|{}|{}|", r.dag_id, r.logical, r.data_start)?;
         println!(rt; "{}|{}|{}", r.data_end, r.kind, r.phase)?;

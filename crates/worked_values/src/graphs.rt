@@ -102,11 +102,21 @@ fn write_schedule(rt: &HostRuntime, timetable: &Timetable, from: Moment) -> io::
     write_interval(rt, timetable.interval_from(from))
 }
 
-// How its runs come, and how many tasks it has.
+// How its runs come, how many of its tries may be active, and how many tasks it has.
 fn write_runs(rt: &HostRuntime, graph: &GraphSpec) -> io::Result<()> {
     let (catchup, most) = (graph.catchup, graph.max_active_runs.get());
     let count = graph.tasks.as_slice().len();
-    print!(rt; ", catchup {catchup}, max_active_runs {most}, tasks {count}")
+    print!(rt; ", catchup {catchup}, max_active_runs {most}")?;
+    write_bound(rt, graph)?;
+    print!(rt; ", tasks {count}")
+}
+
+// How many of its tries may be active, where it says so.
+fn write_bound(rt: &HostRuntime, graph: &GraphSpec) -> io::Result<()> {
+    match graph.max_active_tasks {
+        Some(bound) => print!(rt; ", max_active_tasks {}", bound.get()),
+        None => Ok(()),
+    }
 }
 
 // What each task of a file says, or the fault of the file.

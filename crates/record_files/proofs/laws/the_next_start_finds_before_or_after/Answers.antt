@@ -1,6 +1,6 @@
 use Rattle.director.specs.Directors.{RestartsIn, StepsIn}
-use Rattle.director.specs.meta_store.Stores.{Begins}
-use Rattle.record_files.proofs.Starts.{found_around, stores_by_trees}
+use Rattle.director.specs.meta_store.Stores.{Begins, Migrates, OpensBy}
+use Rattle.record_files.proofs.Starts.{found_around, migrates_by_trees, opens_by_trees, stores_by_trees}
 use Rattle.record_files.proofs.laws.the_next_start_finds_before_or_after.Goals as goal
 
 pub returns-clause-event : goal.returns-clause-event
@@ -9,7 +9,11 @@ returns-clause-event g c a e =
 
 pub returns-clause-opening : goal.returns-clause-opening
 returns-clause-opening g c limits lanes =
-    found_around g.met.D.Disk.seen_may_stay (RestartsIn limits lanes) (λ old new found sound same restarts rows stored. stores_by_trees new found _ sound same (restarts rows stored)) c.args.old.now c.args.new.now c.args.found.now
+    found_around g.met.D.Disk.seen_may_stay (OpensBy (RestartsIn limits lanes))
+    (opens_by_trees (RestartsIn limits lanes) (λ old new found sound same restarts rows has. stores_by_trees new found _ sound same (restarts rows has))) c.args.old.now c.args.new.now c.args.found.now
+
+pub returns-clause-migrating : goal.returns-clause-migrating
+returns-clause-migrating g c = found_around g.met.D.Disk.seen_may_stay Migrates migrates_by_trees c.args.old.now c.args.new.now c.args.found.now
 
 pub returns-clause-making : goal.returns-clause-making
 returns-clause-making g c =

@@ -10,13 +10,13 @@ use Rattle.record_restoring.specs.record_rules.Between.{lacked}
 use Rattle.record_writing.specs.record_changes.Changes.{same_dag_row}
 use Rattle.sched_core.specs.Effects.{changed}
 use Rattle.sched_core.specs.declared.changes.GraphChange.{GraphChange}
-use Rattle.sched_core.proofs.DagRowLemmas.{paused_among, no_rows, text_row, paused_row, unpaused_rows}
+use Rattle.sched_core.proofs.DagRowLemmas.{paused_among, row_itself, no_rows, dag_text_row, paused_row, paused_none}
 use Rattle.sched_core.proofs.changed_rows.dags_changed.Goals as goal
 
 pub returns-in-Same : goal.returns-in-Same
 returns-in-Same c =
     let gs : List LoadedGraph = c.args.graphs.now in
-    c.new.ensures.items ∙ sym (no_rows gs) ∙ ap (λ (g : GraphChange). lacked same_dag_row (map dag_row gs) (map dag_row (changed g gs))) (sym c.in-Same.is)
+    c.new.ensures.items ∙ sym (no_rows same_dag_row dag_row row_itself gs) ∙ ap (λ (g : GraphChange). lacked same_dag_row (map dag_row gs) (map dag_row (changed g gs))) (sym c.in-Same.is)
 
 pub returns-in-Load : goal.returns-in-Load
 returns-in-Load c =
@@ -29,7 +29,7 @@ returns-in-Load c =
     (λ rows e. e
     ∙ ap (λ b. lacked same_dag_row (map dag_row gs) (record { dag_id = c.spec.result.now.dag_id; body = text; paused = pos (flag_code b) } ∷ [])) c.is_paused.ensures
     ∙ ap (λ (s : GraphSpec). lacked same_dag_row (map dag_row gs) (record { dag_id = s.dag_id; body = text; paused = pos (flag_code (paused_among gs s.dag_id)) } ∷ [])) c.spec.ensures.spec
-    ∙ sym (text_row gs text dag c.requires)
+    ∙ sym (dag_text_row gs text dag c.requires)
     ∙ ap (λ (g : GraphChange). lacked same_dag_row (map dag_row gs) (map dag_row (changed g gs))) (sym c.in-Load.is))
     c.dag_lacked.ensures
 
@@ -50,5 +50,5 @@ pub returns-in-None : goal.returns-in-None
 returns-in-None c =
     let gs : List LoadedGraph = c.args.graphs.now in
     c.new-in-None.ensures.items
-    ∙ sym (unpaused_rows gs c.in-Pause.id c.in-Pause.paused (sym c.graph_named.ensures ∙ ap option_copied c.in-None.is))
+    ∙ sym (paused_none same_dag_row dag_row row_itself gs c.in-Pause.id c.in-Pause.paused (sym c.graph_named.ensures ∙ ap option_copied c.in-None.is))
     ∙ ap (λ (h : GraphChange). lacked same_dag_row (map dag_row gs) (map dag_row (changed h gs))) (sym c.in-Pause.is)

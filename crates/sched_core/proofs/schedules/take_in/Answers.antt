@@ -1,4 +1,4 @@
-use Rattle.std.proofs.Common.{◌≡◌, ◌+◌, ◌≤◌, ◌∙◌, ap, subst, sym, ℕ, List, Bool, true, false, cond, insert, length, arith}
+use Rattle.std.proofs.Common.{◌≡◌, ◌+◌, ◌≤◌, ◌∙◌, ap, subst, sym, ℕ, List, Bool, true, false, cond, insert, length, slice_set, arith}
 use Rattle.std.specs.Global.{Vec}
 use Rattle.std.specs.List.{list_any}
 use Rattle.std.specs.Result.{is_ok}
@@ -8,21 +8,33 @@ use Rattle.sched_model.specs.Schedule.{graph_before}
 use Rattle.sched_state.specs.declared.graphs.LoadedGraph.{LoadedGraph}
 use Rattle.sched_model.specs.Changes.{new_graph, with_graph}
 use Rattle.sched_core.specs.Inside.{StandsAt, IsPlaceFor}
-use Rattle.sched_core.proofs.TakeInLemmas.{taken_known, taken_new, length-new}
+use Rattle.sched_core.proofs.TakeInLemmas.{one_there, kept_known, taken_known, taken_new, length-new}
 use Rattle.run_planner.specs.Index.{Index}
 use Rattle.sched_state.proofs.NameLemmas.{same_is}
 use Rattle.sched_creation.specs.Dates.{HaveDates}
-use Rattle.sched_handout.specs.Weighing.{WeighGraphs}
+use Rattle.sched_handout.specs.Weighing.{WeighTasks, WeighGraphs}
 use Rattle.sched_core.proofs.DateLemmas.{dates_set, dates_insert, no_dates}
 use Rattle.sched_core.proofs.WeightLemmas.{weigh_set, weigh_insert}
 use Rattle.sched_core.proofs.schedules.take_in.Goals as goal
 
-pub returns-in-Some-clause-graphs : goal.returns-in-Some-clause-graphs
-returns-in-Some-clause-graphs c =
-    taken_known c.args.text c.args.dag c.args.graphs.now.items c.in-Some.place c.index_mut-graph.result.now
-    (subst (λ (s : GraphSpec). StandsAt s.dag_id c.args.graphs.now.items c.in-Some.place) c.spec.ensures.spec
-    (subst (λ (gs : List LoadedGraph). StandsAt c.spec.result.now.dag_id gs c.in-Some.place) c.deref.ensures.value c.in-Some.ensures))
-    c.index_mut-graph.ensures.value c.requires.order
+pub returns-then-not-is_same-clause-graphs : goal.returns-then-not-is_same-clause-graphs
+returns-then-not-is_same-clause-graphs c =
+    let gs : List LoadedGraph = c.args.graphs.now.items in
+    let stands : StandsAt c.args.dag.spec.dag_id gs c.in-Some.place =
+    subst (λ (s : GraphSpec). StandsAt s.dag_id gs c.in-Some.place) c.spec.ensures.spec
+    (subst (λ (ks : List LoadedGraph). StandsAt c.spec.result.now.dag_id ks c.in-Some.place) c.deref.ensures.value c.in-Some.ensures) in
+    let g : LoadedGraph = c.index_mut.result.now in
+    let read : c.index.result.now ≡ g = one_there gs c.in-Some.place c.index.result.now g stands.below c.index.ensures c.index_mut.ensures.value in
+    let other : same g.text c.args.text ≡ false = ap (λ (k : LoadedGraph). same k.text c.args.text) (sym read) ∙ (sym c.is_same.ensures ∙ c.if-not-is_same.true) in
+    ap (slice_set gs c.in-Some.place) c.take_text.ensures ∙ taken_known c.args.text c.args.dag gs c.in-Some.place g stands c.index_mut.ensures.value c.requires.order other
+
+pub returns-else-not-is_same-clause-graphs : goal.returns-else-not-is_same-clause-graphs
+returns-else-not-is_same-clause-graphs c =
+    let gs : List LoadedGraph = c.args.graphs.now.items in
+    let stands : StandsAt c.args.dag.spec.dag_id gs c.in-Some.place =
+    subst (λ (s : GraphSpec). StandsAt s.dag_id gs c.in-Some.place) c.spec.ensures.spec
+    (subst (λ (ks : List LoadedGraph). StandsAt c.spec.result.now.dag_id ks c.in-Some.place) c.deref.ensures.value c.in-Some.ensures) in
+    kept_known c.args.text c.args.dag gs c.in-Some.place c.index.result.now stands c.index.ensures c.requires.order (sym c.is_same.ensures ∙ c.if-not-is_same.false)
 
 pub returns-in-None-clause-graphs : goal.returns-in-None-clause-graphs
 returns-in-None-clause-graphs c =
@@ -32,18 +44,23 @@ returns-in-None-clause-graphs c =
     (ap (list_any (λ (k : LoadedGraph). same k.dag.spec.dag_id c.spec.result.now.dag_id)) (sym c.deref.ensures.value) ∙ c.in-None.ensures) in
     let long : length (with_graph c.args.text c.args.dag gs) ≡ length gs + 1 = length-new c.args.text c.args.dag gs unknown in
     let ok : is_ok c.insert.result ≡ true = c.insert.ensures.succeeds (omega (arith, long, c.requires.room)) in
+    let placed : IsPlaceFor graph_before new gs c.place_for_graph-place.result =
+    subst (λ (g : LoadedGraph). IsPlaceFor graph_before g gs c.place_for_graph-place.result) c.new_graph-graph.ensures
+    (subst (λ (ks : List LoadedGraph). IsPlaceFor graph_before c.new_graph-graph.result ks c.place_for_graph-place.result) c.deref-in-None.ensures.value c.place_for_graph-place.ensures) in
     c.insert.ensures.items
-    ∙ (ap (λ (b : Bool). cond b (insert gs c.place_for_graph-place.result new) gs) ok
-    ∙ taken_new c.args.text c.args.dag gs c.place_for_graph-place.result unknown
-    (subst (λ (ks : List LoadedGraph). IsPlaceFor graph_before new ks c.place_for_graph-place.result) c.deref-in-None.ensures.value c.place_for_graph-place.ensures))
+    ∙ (ap (λ (b : Bool). cond b (insert gs c.place_for_graph-place.result c.new_graph-graph.result) gs) ok
+    ∙ (ap (insert gs c.place_for_graph-place.result) c.new_graph-graph.ensures
+    ∙ taken_new c.args.text c.args.dag gs c.place_for_graph-place.result unknown placed))
 
-pub returns-in-Some-clause-weights : goal.returns-in-Some-clause-weights
-returns-in-Some-clause-weights c =
+pub returns-then-not-is_same-clause-weights : goal.returns-then-not-is_same-clause-weights
+returns-then-not-is_same-clause-weights c =
     let gs : List LoadedGraph = c.args.graphs.now.items in
+    let ws : List (Vec ℕ) = c.args.weights.now.items in
     let stands : StandsAt c.args.dag.spec.dag_id gs c.in-Some.place =
     subst (λ (s : GraphSpec). StandsAt s.dag_id gs c.in-Some.place) c.spec.ensures.spec
     (subst (λ (ks : List LoadedGraph). StandsAt c.spec.result.now.dag_id ks c.in-Some.place) c.deref.ensures.value c.in-Some.ensures) in
-    weigh_set gs c.args.weights.now.items c.in-Some.place (record { text = c.args.text; dag = c.args.dag; paused = c.index_mut-graph.result.now.paused }) c.args.row stands.below c.requires.weights c.requires.row
+    let weighed : WeighTasks c.take_text.new.graph.dag c.args.row.items = subst (λ (k : LoadedGraph). WeighTasks k.dag c.args.row.items) (sym c.take_text.ensures) c.requires.row in
+    weigh_set gs ws c.in-Some.place c.take_text.new.graph c.args.row stands.below c.requires.weights weighed
 
 pub returns-in-None-clause-weights : goal.returns-in-None-clause-weights
 returns-in-None-clause-weights c =
@@ -56,20 +73,22 @@ returns-in-None-clause-weights c =
     let long : length (with_graph c.args.text c.args.dag gs) ≡ length gs + 1 = length-new c.args.text c.args.dag gs unknown in
     let ok : is_ok c.insert.result ≡ true = c.insert.ensures.succeeds (omega (arith, long, c.requires.room)) in
     let beside : is_ok c.insert-in-None.result ≡ true = c.insert-in-None.ensures.succeeds (omega (arith, long, c.requires.places, c.requires.weights.long)) in
-    let graphs : c.insert.new.self.items ≡ insert gs place new = c.insert.ensures.items ∙ ap (λ (b : Bool). cond b (insert gs place new) gs) ok in
+    let graphs : c.insert.new.self.items ≡ insert gs place new =
+    c.insert.ensures.items ∙ (ap (λ (b : Bool). cond b (insert gs place c.new_graph-graph.result) gs) ok ∙ ap (insert gs place) c.new_graph-graph.ensures) in
     let rows : c.insert-in-None.new.self.items ≡ insert ws place c.args.row = c.insert-in-None.ensures.items ∙ ap (λ (b : Bool). cond b (insert ws place c.args.row) ws) beside in
     let within : place ≤ length gs = subst (λ (ks : List LoadedGraph). place ≤ length ks) c.deref-in-None.ensures.value c.place_for_graph-place.ensures.within in
     subst (λ (ks : List LoadedGraph). WeighGraphs ks c.insert-in-None.new.self.items) (sym graphs)
     (subst (WeighGraphs (insert gs place new)) (sym rows) (weigh_insert gs ws place new c.args.row within c.requires.weights c.requires.row))
 
-pub returns-in-Some-clause-dates : goal.returns-in-Some-clause-dates
-returns-in-Some-clause-dates c a h none =
+pub returns-then-not-is_same-clause-dates : goal.returns-then-not-is_same-clause-dates
+returns-then-not-is_same-clause-dates c a h none =
     let gs : List LoadedGraph = c.args.graphs.now.items in
-    let place : ℕ = c.in-Some.place in
-    let stands : StandsAt c.args.dag.spec.dag_id gs place =
-    subst (λ (s : GraphSpec). StandsAt s.dag_id gs place) c.spec.ensures.spec
-    (subst (λ (ks : List LoadedGraph). StandsAt c.spec.result.now.dag_id ks place) c.deref.ensures.value c.in-Some.ensures) in
-    dates_set gs a.runs c.args.dates.now.items place (record { text = c.args.text; dag = c.args.dag; paused = c.index_mut-graph.result.now.paused }) stands.graph stands.there (sym (same_is stands.graph.dag.spec.dag_id c.args.dag.spec.dag_id stands.named)) h
+    let stands : StandsAt c.args.dag.spec.dag_id gs c.in-Some.place =
+    subst (λ (s : GraphSpec). StandsAt s.dag_id gs c.in-Some.place) c.spec.ensures.spec
+    (subst (λ (ks : List LoadedGraph). StandsAt c.spec.result.now.dag_id ks c.in-Some.place) c.deref.ensures.value c.in-Some.ensures) in
+    let id_is : c.take_text.new.graph.dag.spec.dag_id ≡ stands.graph.dag.spec.dag_id =
+    ap (λ (k : LoadedGraph). k.dag.spec.dag_id) c.take_text.ensures ∙ sym (same_is stands.graph.dag.spec.dag_id c.args.dag.spec.dag_id stands.named) in
+    dates_set gs a.runs c.args.dates.now.items c.in-Some.place c.take_text.new.graph stands.graph stands.there id_is h
 
 pub returns-in-None-clause-dates : goal.returns-in-None-clause-dates
 returns-in-None-clause-dates c a h none =
@@ -82,7 +101,8 @@ returns-in-None-clause-dates c a h none =
     let long : length (with_graph c.args.text c.args.dag gs) ≡ length gs + 1 = length-new c.args.text c.args.dag gs unknown in
     let ok : is_ok c.insert.result ≡ true = c.insert.ensures.succeeds (omega (arith, long, c.requires.room)) in
     let beside : is_ok c.insert-in-None-2.result ≡ true = c.insert-in-None-2.ensures.succeeds (omega (arith, long, c.requires.places, c.requires.long)) in
-    let graphs : c.insert.new.self.items ≡ insert gs place new = c.insert.ensures.items ∙ ap (λ (b : Bool). cond b (insert gs place new) gs) ok in
+    let graphs : c.insert.new.self.items ≡ insert gs place new =
+    c.insert.ensures.items ∙ (ap (λ (b : Bool). cond b (insert gs place c.new_graph-graph.result) gs) ok ∙ ap (insert gs place) c.new_graph-graph.ensures) in
     let rows : c.insert-in-None-2.new.self.items ≡ insert xs place c.args.index = c.insert-in-None-2.ensures.items ∙ ap (λ (b : Bool). cond b (insert xs place c.args.index) xs) beside in
     let within : place ≤ length gs = subst (λ (ks : List LoadedGraph). place ≤ length ks) c.deref-in-None.ensures.value c.place_for_graph-place.ensures.within in
     subst (λ (ks : List LoadedGraph). HaveDates ks a.runs c.insert-in-None-2.new.self.items) (sym graphs)

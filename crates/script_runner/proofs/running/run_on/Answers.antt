@@ -1,7 +1,10 @@
-use Rattle.std.proofs.Common.{map, vec_items, ap}
+use Rattle.std.proofs.Common.{map, vec_items, ap, inl, refl}
 use Rattle.sqlite.specs.Held.{state}
 use Rattle.script_runner.proofs.RunLemmas.{ran}
 use Rattle.script_runner.proofs.running.run_on.Goals as goal
+
+pub returns-in-Err-clause-kept : goal.returns-in-Err-clause-kept
+returns-in-Err-clause-kept g c clean is_open = inl (refl, refl)
 
 pub returns-in-Ok-open-clause-run : goal.returns-in-Ok-open-clause-run
 returns-in-Ok-open-clause-run g c =

@@ -11,5 +11,5 @@ finish_with-requires-clause-counted c =
 
 pub finish_with-requires-clause-occupied : goal.finish_with-requires-clause-occupied
 finish_with-requires-clause-occupied c =
-    occupied_as c.args.self.now.content c.args.draft.content c.self.inside.occupied c.in_ok-occupied.occupied c.requires.open c.requires.pools c.in_ok-occupied.ensures.in_flight c.in_ok-occupied.ensures.pools
+    occupied_as c.args.self.now.content c.args.draft.content c.self.inside.occupied c.in_ok-occupied.occupied c.requires.open c.requires.pools c.in_ok-occupied.ensures.in_flight c.in_ok-occupied.ensures.pools c.in_ok-occupied.ensures.active
     (subst (λ (h : ScheduleValue). AreOccupied h.content c.self.inside.occupied) c.self.view_is c.self.invariant.held.occupied)

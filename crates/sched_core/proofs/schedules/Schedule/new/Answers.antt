@@ -22,5 +22,5 @@ pub invariant_of-result : goal.invariant_of-result
 invariant_of-result c = record {
   held = search rules;
   weights = no_weights c.new.result.items c.new-2.result.items c.new.ensures.items c.new-2.ensures.items;
-  dates = no_dates c.new.result.items c.new-4.result.runs c.new-3.result.items c.new.ensures.items c.new-3.ensures.items;
+  dates = no_dates c.new.result.items c.new-5.result.runs c.new-3.result.items c.new.ensures.items c.new-3.ensures.items;
 }

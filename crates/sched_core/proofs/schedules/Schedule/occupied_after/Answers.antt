@@ -1,4 +1,4 @@
-use Rattle.std.proofs.Common.{◌≡◌, ◌∙◌, ◌<◌, ◌≤◌, refl, ap, sym, subst, is_some, true, List, length, find, Some, None, slice_get, arith}
+use Rattle.std.proofs.Common.{◌≡◌, ◌∙◌, ◌<◌, ◌≤◌, ◌+◌, ℕ, refl, ap, sym, subst, cond, is_some, true, List, length, find, Some, None, slice_get, arith}
 use Rattle.std.specs.Prelude.{IfSome}
 use Rattle.std.specs.Option.{option_copied}
 use Rattle.dag_check.specs.Graphs.{task_of}
@@ -14,12 +14,13 @@ use Rattle.sched_model.specs.Changes.{report}
 use Rattle.sched_model.specs.Schedule.{Schedule, graph_named, tasks_of}
 use Rattle.sched_model.specs.Sound.{IsSound}
 use Rattle.sched_events.specs.SettledAndSound.{IsSoundAndSaid}
+use Rattle.sched_handout.specs.Active.{count_of}
 use Rattle.sched_handout.specs.Occupied.{AreOccupied}
 use Rattle.sched_handout.specs.declared.occupied.Occupied.{Occupied}
 use Rattle.sched_core.specs.Books.{IsCounted}
 use Rattle.sched_core.specs.Changes.{ScheduleValue}
 use Rattle.sched_core.proofs.BookLemmas.{occupied_as}
-use Rattle.sched_core.proofs.EndedLemmas.{CanGiveBack, can_give_back, ended_occupied, started_occupied, known_task, graph_there}
+use Rattle.sched_core.proofs.EndedLemmas.{CanGiveBack, can_give_back, ended_occupied, started_occupied, found_graph, known_task, graph_there}
 use Rattle.sched_core.proofs.ReportLemmas.{found_run}
 use Rattle.sched_core.proofs.schedules.Schedule.occupied_after.Goals.{In_ok-occupied, After-get-run, In-Some, After-task-task}
 use Rattle.sched_core.proofs.schedules.Schedule.occupied_after.Goals as goal
@@ -33,7 +34,7 @@ get-run-requires c =
 copied : (c : In_ok-occupied) → AreOccupied c.args.self.now.content c.in_ok-occupied.occupied
 copied c =
     let a : Schedule = c.args.self.now.content in
-    occupied_as a a c.self.inside.occupied c.in_ok-occupied.occupied refl refl c.in_ok-occupied.ensures.in_flight c.in_ok-occupied.ensures.pools
+    occupied_as a a c.self.inside.occupied c.in_ok-occupied.occupied refl refl c.in_ok-occupied.ensures.in_flight c.in_ok-occupied.ensures.pools c.in_ok-occupied.ensures.active
     (subst (λ (h : ScheduleValue). AreOccupied h.content c.self.inside.occupied) c.self.view_is c.self.invariant.held.occupied)
 
 pub returns-in_default : goal.returns-in_default
@@ -41,7 +42,7 @@ returns-in_default c =
     let a : Schedule = c.args.self.now.content in
     let t : Occupied = c.in_ok-occupied.occupied in
     subst (λ (s : Stage). AreOccupied (report c.args.serial s a) t) (sym c.in_default.is)
-    (started_occupied c.args.serial a t t (copied (goal.at.returns-in_default c).In_ok-occupied) refl refl)
+    (started_occupied c.args.serial a t t (copied (goal.at.returns-in_default c).In_ok-occupied) refl refl refl)
 
 -- the run of the try
 run_is : (c : After-get-run) → slice_get c.args.self.now.content.runs c.args.found.now.position ≡ Some c.get-run.result.now
@@ -72,13 +73,13 @@ task-task-requires c = (let at = goal.at.task-task-requires c in task_is at.In-S
 
 -- it can give back
 ready : (c : After-task-task) → slice_get (tasks_of c.args.self.now.content c.requires.found.run) c.args.found.now.place ≡ Some (task_of c.in-Some.graph.now.dag c.args.found.now.place) → 1 ≤ c.args.found.now.one.slots → AreOccupied c.args.self.now.content c.in_ok-occupied.occupied
-    → CanGiveBack c.task-task.result.now.pool c.args.found.now.one.slots c.in_ok-occupied.occupied
+    → CanGiveBack c.requires.found.run.graph c.task-task.result.now.pool c.args.found.now.one.slots c.in_ok-occupied.occupied
 ready c task some numbers =
     let a : Schedule = c.args.self.now.content in
     let kept : IsSoundAndSaid a = subst (λ (h : ScheduleValue). IsSoundAndSaid h.content) c.self.view_is c.self.invariant.held.kept in
     let counted : IsCounted a = subst (λ (h : ScheduleValue). IsCounted h.content) c.self.view_is c.self.invariant.held.counted in
     let turn : is_some (report_try (Ended c.in-Ended.field-0) a.now c.args.found.now.one) ≡ true = subst (λ (s : Stage). is_some (report_try s a.now c.args.found.now.one) ≡ true) c.in-Ended.is c.requires.turn in
-    subst (λ (t : TaskSpec). CanGiveBack t.pool c.args.found.now.one.slots c.in_ok-occupied.occupied) (sym c.task-task.ensures)
+    subst (λ (t : TaskSpec). CanGiveBack c.requires.found.run.graph t.pool c.args.found.now.one.slots c.in_ok-occupied.occupied) (sym c.task-task.ensures)
     (can_give_back c.args.serial c.in-Ended.field-0 a c.args.found.now (task_of c.in-Some.graph.now.dag c.args.found.now.place) c.in_ok-occupied.occupied kept.sound c.requires.found turn task counted numbers some)
 
 pub give_back-requires-clause-in_flight : goal.give_back-requires-clause-in_flight
@@ -97,6 +98,13 @@ give_back-requires-clause-enough c =
     subst (λ n. IfSome (pool_of c.task-task.result.now.pool c.in_ok-occupied.occupied.pools.pools) (λ p. n ≤ p.occupied)) (sym (c.of.ensures ∙ c.get.ensures.value))
     (ready at.After-task-task (task_is at.In-Some (run_is at.After-get-run)).1 (omega (arith, c.get.ensures.low, c.get.ensures.value)) (copied at.In_ok-occupied)).enough
 
+pub give_back-requires-clause-active : goal.give_back-requires-clause-active
+give_back-requires-clause-active c =
+    let at = goal.at.give_back-requires-clause-active c in
+    let a : Schedule = c.args.self.now.content in
+    subst (λ (id : List ℕ). 1 ≤ count_of id c.in_ok-occupied.occupied.active) (found_graph c.args.serial a c.args.found.now c.get-run.result.now c.requires.found (run_is at.After-get-run))
+    (ready at.After-task-task (task_is at.In-Some (run_is at.After-get-run)).1 (omega (arith, c.get.ensures.low, c.get.ensures.value)) (copied at.In_ok-occupied)).active
+
 pub returns : goal.returns
 returns c =
     let at = goal.at.returns c in
@@ -108,5 +116,7 @@ returns c =
     let book : c.give_back.new.self.pools.pools ≡ with_pool t.pool (give_back c.args.found.now.one.slots) c.in_ok-occupied.occupied.pools.pools =
     c.give_back.ensures.pools ∙ (ap (λ n. with_pool c.task-task.result.now.pool (give_back n) c.in_ok-occupied.occupied.pools.pools) (c.of.ensures ∙ c.get.ensures.value)
     ∙ ap (λ (u : TaskSpec). with_pool u.pool (give_back c.args.found.now.one.slots) c.in_ok-occupied.occupied.pools.pools) c.task-task.ensures) in
+    let active : (id : List ℕ) → count_of id c.give_back.new.self.active + cond (same c.requires.found.run.graph id) 1 0 ≡ count_of id c.in_ok-occupied.occupied.active =
+    λ id. ap (λ (g : List ℕ). count_of id c.give_back.new.self.active + cond (same g id) 1 0) (found_graph c.args.serial a c.args.found.now c.get-run.result.now c.requires.found (run_is at.After-get-run)) ∙ c.give_back.ensures.active id in
     subst (λ (s : Stage). AreOccupied (report c.args.serial s a) c.give_back.new.self) (sym c.in-Ended.is)
-    (ended_occupied c.args.serial c.in-Ended.field-0 a c.args.found.now t c.in_ok-occupied.occupied c.give_back.new.self kept.sound c.requires.found turn (task_is at.In-Some (run_is at.After-get-run)).1 counted (copied at.In_ok-occupied) c.give_back.ensures.in_flight book)
+    (ended_occupied c.args.serial c.in-Ended.field-0 a c.args.found.now t c.in_ok-occupied.occupied c.give_back.new.self kept.sound c.requires.found turn (task_is at.In-Some (run_is at.After-get-run)).1 counted (copied at.In_ok-occupied) c.give_back.ensures.in_flight book active)

@@ -1,4 +1,4 @@
-use Rattle.std.proofs.Common.{◌≡◌, ◌∙◌, ap, sym, subst}
+use Rattle.std.proofs.Common.{◌≡◌, ◌∙◌, ap, sym, subst, ℕ, List}
 use Rattle.std.proofs.lemmas.Result.{IfOk-weaker}
 use Rattle.sched_model.specs.Handout.{hand_out}
 use Rattle.sched_model.specs.Jobs.{handed}
@@ -6,9 +6,10 @@ use Rattle.sched_model.specs.Schedule.{Schedule}
 use Rattle.sched_model.specs.Settle.{settle}
 use Rattle.sched_model.specs.Sound.{IsSound}
 use Rattle.sched_draft.specs.Books.{pools_in, IsBookOf}
+use Rattle.sched_handout.specs.Active.{count_of}
 use Rattle.sched_handout.specs.Occupied.{AreOccupied}
 use Rattle.sched_handout.specs.declared.occupied.Occupied.{Occupied}
-use Rattle.sched_model.specs.States.{in_flight}
+use Rattle.sched_model.specs.States.{active_tries, in_flight}
 use Rattle.sched_draft.specs.Drafts.{DraftValue}
 use Rattle.sched_events.specs.SettledAndSound.{IsSettledAndSound}
 use Rattle.sched_core.specs.Books.{IsCounted}
@@ -42,10 +43,12 @@ pub finish_with-requires-clause-occupied : goal.finish_with-requires-clause-occu
 finish_with-requires-clause-occupied c =
     let a : Schedule = c.args.self.now.content in
     let b : Schedule = over c.args.pools.now.pools a in
-    let t : Occupied = record { in_flight = c.self.inside.occupied.in_flight; pools = c.in_ok-copy.field-0 } in
+    let t : Occupied = record { in_flight = c.self.inside.occupied.in_flight; pools = c.in_ok-copy.field-0; active = c.in_ok-copy-2.field-0 } in
+    let active : (id : List ℕ) → count_of id c.in_ok-copy-2.field-0 ≡ active_tries a id =
+    λ id. ap (count_of id) c.in_ok-copy-2.ensures ∙ (c.self.invariant.held.occupied.active id ∙ ap (λ (h : ScheduleValue). active_tries h.content id) c.self.view_is) in
     let flight : c.self.inside.occupied.in_flight ≡ in_flight a = c.self.invariant.held.occupied.in_flight ∙ ap (λ (h : ScheduleValue). in_flight h.content) c.self.view_is in
     subst (λ (s : Schedule). AreOccupied s t) (sym (content (goal.at.finish_with-requires-clause-occupied c).After-set_pools))
-    (record { in_flight = flight; pools = subst (IsBookOf b) (sym c.in_ok-copy.ensures) c.requires.book })
+    (record { in_flight = flight; pools = subst (IsBookOf b) (sym c.in_ok-copy.ensures) c.requires.book; active = active })
 
 pub returns : goal.returns
 returns c =

@@ -56,7 +56,7 @@ finish_with-requires-clause-occupied c =
     let a : Schedule = c.args.self.now.content in
     let pools = ap (λ (h : ScheduleValue). h.content.pools) c.self.view_is in
     subst (λ (s : Schedule). AreOccupied s c.in_ok-occupied.occupied) (sym (restarted (goal.at.finish_with-requires-clause-occupied c).After-set_lanes))
-    (restart_occupied c.args.lanes a c.self.inside.occupied c.in_ok-occupied.occupied pools c.in_ok-occupied.ensures.in_flight c.in_ok-occupied.ensures.pools)
+    (restart_occupied c.args.lanes a c.self.inside.occupied c.in_ok-occupied.occupied pools c.in_ok-occupied.ensures.in_flight c.in_ok-occupied.ensures.pools c.in_ok-occupied.ensures.active)
 
 pub returns-clause-accepted : goal.returns-clause-accepted
 returns-clause-accepted c = draft_planned c.quiet_answer.result c.in_ok-finish_with.field-0 (drafted (goal.at.returns-clause-accepted c).After-set_lanes) c.quiet_answer.ensures c.in_ok-finish_with.ensures

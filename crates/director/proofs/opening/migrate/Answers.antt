@@ -1,0 +1,31 @@
+use Rattle.std.proofs.Common.{◌≡◌, rules, inl, inr, refl, true, false}
+use Rattle.sqlite.specs.Held.{state}
+use Rattle.meta_store.specs.Schedules.{has_limits}
+use Rattle.director.proofs.ListLemmas.{survives_itself}
+use Rattle.director.proofs.OpenLemmas.{did_migrate, did_settle, migration_fails}
+use Rattle.director.proofs.opening.migrate.Goals as goal
+
+pub returns-then-has_limits-clause-done : goal.returns-then-has_limits-clause-done
+returns-then-has_limits-clause-done g c clean =
+    let has : has_limits c.args.store.now.schema ≡ true = search rules in
+    inl (has, refl)
+
+pub returns-then-has_limits-clause-settled : goal.returns-then-has_limits-clause-settled
+returns-then-has_limits-clause-settled g c clean = inl (refl, refl)
+
+pub returns-then-has_limits-clause-crash : goal.returns-then-has_limits-clause-crash
+returns-then-has_limits-clause-crash g c = survives_itself (state g.S.Store c.args.store.now)
+
+pub returns-in_err-_did-clause-fault : goal.returns-in_err-_did-clause-fault
+returns-in_err-_did-clause-fault g c clean =
+    migration_fails (state g.S.Store c.args.store.now).now c.in_err-_did.field-0.0 c.from_residual.result (c.in_err-_did.ensures.fault clean) c.from_residual.ensures.1
+
+pub returns-clause-done : goal.returns-clause-done
+returns-clause-done g c clean =
+    let lacks : has_limits c.args.store.now.schema ≡ false = search rules in
+    inr (did_migrate c.in_ok-_did._did (state g.S.Store c.args.store.now) (state g.S.Store c.migrate.new.self) lacks c.in_ok-_did.ensures.which (c.in_ok-_did.ensures.done clean))
+
+pub returns-clause-settled : goal.returns-clause-settled
+returns-clause-settled g c clean =
+    let lacks : has_limits c.args.store.now.schema ≡ false = search rules in
+    did_settle c.in_ok-_did._did (state g.S.Store c.args.store.now) (state g.S.Store c.migrate.new.self) lacks c.in_ok-_did.ensures.which (c.in_ok-_did.ensures.settled clean) (c.in_ok-_did.ensures.done clean)

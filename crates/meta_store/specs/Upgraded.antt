@@ -1,0 +1,16 @@
+-- A record of version 1 as version 2 has it.
+use Rattle.std.specs.Prelude.{pos, map}
+use Rattle.record_rows.specs.Rows.{Rows, MetaRow, DagRow, DagLimitRow}
+use Rattle.sched_model.specs.Schedule.{old_bound}
+
+-- the bound of a graph from before there were bounds
+abbrev pub old_limit : DagRow → DagLimitRow
+old_limit d = record { dag_id = d.dag_id; max_active_tasks = pos old_bound }
+
+-- the row of `meta`, of version 2
+abbrev pub second : MetaRow → MetaRow
+second m = record m { version = pos 2 }
+
+-- the rows of a record of version 1, as version 2 has them
+abbrev pub upgraded : Rows → Rows
+upgraded old = record old { metas = map second old.metas; dag_limits = map old_limit old.dags }
