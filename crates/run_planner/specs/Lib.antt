@@ -4,3 +4,4 @@ pub mod Latest
 pub mod Walks
 pub mod ByHand
 pub mod Spans
+pub mod Anew

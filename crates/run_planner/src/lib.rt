@@ -4,7 +4,7 @@
 //! [`due`] plans: it lists the intervals of a graph that have ended and have no run, the oldest first and no more than a limit.
 //! [`manual`] gives the interval of a run by hand, [`backfill`] the intervals of a span, with and without a run. A [`RunIndex`] is the
 //! set of the logical dates of a graph's runs; where it was [settled](RunIndex::settle) for the graph, `due` passes over the starts
-//! that have a run.
+//! that have a run. [`makes_anew`] tells whether another text of a graph would make runs of the past.
 //!
 //! ```text
 //! let mut index = RunIndex::new(rt.alloc());
@@ -19,6 +19,7 @@ mod by_hand;
 mod catchup;
 mod laws;
 mod planning;
+mod replanning;
 mod run_index;
 mod spans;
 mod walking;
@@ -31,5 +32,6 @@ pub use laws::{
     due_intervals_rise,
 };
 pub use planning::{Planned, due};
+pub use replanning::makes_anew;
 pub use run_index::RunIndex;
 pub use spans::Backfill;

@@ -9,9 +9,10 @@ use Rattle.sched_laws.specs.sched_model.Schedule.{Schedule}
 use Rattle.sched_laws.specs.sched_model.NamedRuns.{NamedRun, named_by_tick, named_by_hand, named_by_backfill, present_in, leaves_more}
 use Rattle.sched_laws.specs.sched_model.Clearing.{Selection, cleared_by, reset_by, clear, count_cleared}
 use Rattle.sched_laws.specs.sched_model.Changes.{load_graph, set_now, set_paused, new_pool, resize, report, restart}
+use Rattle.sched_laws.specs.sched_model.Replacing.{replace_graph}
 use Rattle.sched_laws.specs.sched_model.Sound.{is_moment, is_sound_pool}
 use Rattle.sched_events.specs.declared.events.Event.{Event}
-use Rattle.sched_events.specs.declared.events.Event.TheVariants.{Load, Tick, Trigger, Backfill, Clear, Pause, Unpause, Resize, Report, Restart}
+use Rattle.sched_events.specs.declared.events.Event.TheVariants.{Load, Tick, Trigger, Backfill, Clear, Pause, Unpause, Resize, Report, Restart, Replace}
 
 -- the runs that an event names
 abbrev pub named_by : Event → Schedule → List NamedRun
@@ -25,6 +26,7 @@ named_by (Unpause id) a = []
 named_by (Resize name size) a = []
 named_by (Report serial stage) a = []
 named_by (Restart lanes) a = []
+named_by (Replace text) a = []
 
 -- whether it leaves some for the next event of its kind
 abbrev pub leaves_more_by : Event → Schedule → Bool
@@ -52,6 +54,11 @@ abbrev pub load_result : List ℕ → Result GraphSpec GraphFault → Schedule �
 load_result text (Ok spec) a = elim (first_fault spec.tasks) [ None ↦ load_graph text (dag_of spec) a | Some fault ↦ a ]
 load_result text (Err fault) a = a
 
+-- and so is another one for a graph that is there, whose runs go on by it
+abbrev pub replace_result : List ℕ → Result GraphSpec GraphFault → Schedule → Schedule
+replace_result text (Ok spec) a = elim (first_fault spec.tasks) [ None ↦ replace_graph text (dag_of spec) a | Some fault ↦ a ]
+replace_result text (Err fault) a = a
+
 -- the event's own change
 abbrev pub change_by : Event → Schedule → Schedule
 change_by (Load text) a = load_result text (graph_of text) a
@@ -64,6 +71,7 @@ change_by (Unpause id) a = set_paused id false a
 change_by (Resize name size) a = resize name size a
 change_by (Report serial stage) a = report serial stage a
 change_by (Restart lanes) a = restart lanes a
+change_by (Replace text) a = replace_result text (graph_of text) a
 
 -- the moment of a tick is one, and the pool of a resize: it has a name, and no more slots than a pool may have
 abbrev pub IsInRange : Event → Type 0
@@ -77,3 +85,4 @@ IsInRange (Unpause id) = Unit {0}
 IsInRange (Resize name size) = IsTrue (is_sound_pool (new_pool name size))
 IsInRange (Report serial stage) = Unit {0}
 IsInRange (Restart lanes) = Unit {0}
+IsInRange (Replace text) = Unit {0}

@@ -1,5 +1,5 @@
 -- Why an event is refused, as it is shown, and the outcome of a step.
-use Rattle.std.specs.Prelude.{◌≡◌, ◌⊎◌, None, Some, Ok}
+use Rattle.std.specs.Prelude.{◌≡◌, ◌⊎◌, ℕ, List, None, Some, Ok}
 use Rattle.graph_file.specs.Graphs.{graph_of}
 use Rattle.graph_file.specs.declared.graph_specs.GraphSpec.{GraphSpec}
 use Rattle.dag_check.specs.Faults.{Stands, without_names}
@@ -15,7 +15,7 @@ use Rattle.sched_events.specs.Events.{IsInRange}
 use Rattle.sched_events.specs.Steps.{step, answer_to}
 use Rattle.sched_events.specs.declared.answers.Answer.{Answer}
 use Rattle.sched_events.specs.declared.events.Event.{Event}
-use Rattle.sched_events.specs.declared.events.Event.TheVariants.{Load}
+use Rattle.sched_events.specs.declared.events.Event.TheVariants.{Load, Replace}
 use Rattle.sched_events.specs.declared.refusals.Refusal.{Refusal}
 use Rattle.sched_events.specs.declared.refusals.Refusal.TheVariants as refusal
 
@@ -63,11 +63,18 @@ unnamed (refusal.OutOfTurn serial) = refusal.OutOfTurn serial
 unnamed (refusal.PoolFault fault) = refusal.PoolFault fault
 unnamed refusal.LanesTooMany = refusal.LanesTooMany
 unnamed refusal.RecordFull = refusal.RecordFull
+unnamed (refusal.OtherTasks task) = refusal.OtherTasks task
+unnamed (refusal.OtherSlots task) = refusal.OtherSlots task
+unnamed (refusal.Redoes moment) = refusal.Redoes moment
 unnamed refusal.Memory = refusal.Memory
 
 -- the fault of a graph stands in the file that the text says, with the cycle that it shows
+abbrev pub StandsIn : List ℕ → DagFault → Type 0
+StandsIn text fault = (spec : GraphSpec) × (graph_of text ≡ Ok spec) × Stands spec.tasks fault
+
 abbrev pub IsShown : Event → Refusal → Type 0
-IsShown (Load text) (refusal.DagFault fault) = (spec : GraphSpec) × (graph_of text ≡ Ok spec) × Stands spec.tasks fault
+IsShown (Load text) (refusal.DagFault fault) = StandsIn text fault
+IsShown (Replace text) (refusal.DagFault fault) = StandsIn text fault
 IsShown e r = Unit {0}
 
 -- the refusal is the first cause that stands against the event

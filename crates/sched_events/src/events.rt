@@ -43,6 +43,9 @@ pub enum Event {
     Report(u64, Stage),
     /// The scheduler was restarted, with so many lanes: tries without an end are lost (Airflow 2, "Tasks": zombie tasks).
     Restart(u32),
+    /// The graph that is there with the id of this text takes the text, whether it has runs or not, and its runs go on by it: what has
+    /// finished stays finished, and a task instance that has not goes by the new task of its id (Airflow 2, "DAGs").
+    Replace(GraphText),
 }
 
 impl Event {
@@ -71,6 +74,7 @@ impl Event {
             Event::Resize(pool, size) => Ok(Event::Resize(pool.copy(alloc)?, *size)),
             Event::Report(serial, stage) => Ok(Event::Report(*serial, *stage)),
             Event::Restart(lanes) => Ok(Event::Restart(*lanes)),
+            Event::Replace(text) => Ok(Event::Replace(text.copy(alloc)?)),
         }
     }
 }

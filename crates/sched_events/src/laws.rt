@@ -11,7 +11,7 @@ ghost use Rattle.sched_state.specs.declared.clearings.Clearing.{Clearing};
 ghost use Rattle.sched_state.specs.Limits.{Bounds};
 ghost use Rattle.sched_state.specs.Lists.{same};
 ghost use Rattle.sched_state.specs.declared.graphs.LoadedGraph.{LoadedGraph};
-ghost use Rattle.sched_laws.specs.sched_model.Schedule.{Schedule, empty_schedule, graph_named, has_pool, has_run_at, size_of};
+ghost use Rattle.sched_laws.specs.sched_model.Schedule.{Schedule, empty_schedule, graph_named, has_pool, has_run_at, has_runs, size_of};
 ghost use Rattle.sched_laws.specs.sched_model.Settle.{move};
 ghost use Rattle.sched_laws.specs.sched_model.Handout.{hand_one};
 ghost use Rattle.sched_laws.specs.sched_model.Jobs.{handed};
@@ -19,14 +19,14 @@ ghost use Rattle.sched_laws.specs.sched_model.Clearing.{cleared_by, named_pairs}
 ghost use Rattle.sched_laws.specs.sched_model.NamedRuns.{is_for, named_by_backfill, spanned};
 ghost use Rattle.sched_laws.specs.sched_model.Changes.{set_paused, resize};
 ghost use Rattle.sched_laws.specs.Runs.{runs_named};
-ghost use Rattle.sched_laws.specs.Tries.{GoesOn, try_at};
+ghost use Rattle.sched_laws.specs.Tries.{GoesOn, try_of};
 ghost use Rattle.sched_events.specs.Events.{named_by, IsInRange};
 ghost use Rattle.sched_events.specs.Causes.{refused};
 ghost use Rattle.sched_events.specs.Promises.{serials_in, AreDistinct, IsReached, KeepsPromises};
 ghost use Rattle.sched_events.specs.Steps.{step, steps, named_along, handed_along, AreAccepted};
 ghost use Rattle.sched_events.specs.SettledAndSound.{IsSoundAndSaid, IsSettledAndSound};
 ghost use Rattle.sched_events.specs.declared.events.Event.{Event};
-ghost use Rattle.sched_events.specs.declared.events.Event.TheVariants.{Load, Backfill, Clear, Pause, Unpause, Resize};
+ghost use Rattle.sched_events.specs.declared.events.Event.TheVariants.{Load, Backfill, Clear, Pause, Unpause, Resize, Replace};
 
 /// After each step neither a move nor a hand-out is possible, and the step of an accepted event keeps a schedule: it stays sound, and
 /// each graph is what its text says. Nothing more is asked of the schedule before it, so one that was read from a record may be unsettled.
@@ -84,11 +84,17 @@ pub fn repairs_of_nothing_change_nothing()
         → named_pairs a (cleared_by a c) ≡ [] → step (Clear c) a ≡ a }
 {}
 
-/// The text that a graph has already changes nothing.
+/// The text that a graph has already changes nothing, and one for a graph without runs changes what a load would.
 pub fn the_same_text_changes_nothing()
-    ensures { (a : Schedule) (text : List ℕ) (spec : GraphSpec) (g : LoadedGraph)
+    ensures loaded { (a : Schedule) (text : List ℕ) (spec : GraphSpec) (g : LoadedGraph)
         → IsSettledAndSound a → graph_of text ≡ Ok spec → graph_named a spec.dag_id ≡ Some g
         → IsTrue (same g.text text) → step (Load text) a ≡ a }
+    ensures replaced { (a : Schedule) (text : List ℕ) (spec : GraphSpec) (g : LoadedGraph)
+        → IsSettledAndSound a → graph_of text ≡ Ok spec → graph_named a spec.dag_id ≡ Some g
+        → IsTrue (same g.text text) → step (Replace text) a ≡ a }
+    ensures without_runs { (a : Schedule) (text : List ℕ) (spec : GraphSpec)
+        → graph_of text ≡ Ok spec → has_runs a spec.dag_id ≡ false
+        → step (Replace text) a ≡ step (Load text) a }
 {}
 
 /// A list of accepted events keeps the schedule.
@@ -108,15 +114,17 @@ pub fn lists_of_steps_add_their_runs()
         ≡ (list_any (is_for id date) (named_along es a) || has_run_at a id date) }
 {}
 
-/// Each try that is there stays, in its run and its instance and with its number: with its serial and its slots, and with its start and its
+/// Each try that is there stays, in its run and of its task and with its number: with its serial and its slots, and with its start and its
 /// end once they are there.
 pub fn tries_go_on()
-    ensures step { (e : Event) (a : Schedule) (id : List ℕ) (date place n : ℕ) (t : Try)
-        → IsInRange e → refused a e ≡ None → IsSoundAndSaid a → try_at a id date place n ≡ Some t
-        → (u : Try) × (try_at (step e a) id date place n ≡ Some u) × GoesOn t u }
-    ensures steps { (es : List Event) (a : Schedule) (id : List ℕ) (date place n : ℕ) (t : Try)
-        → AreAccepted es a → IsSoundAndSaid a → try_at a id date place n ≡ Some t
-        → (u : Try) × (try_at (steps es a) id date place n ≡ Some u) × GoesOn t u }
+    ensures step { (e : Event) (a : Schedule) (id : List ℕ) (date : ℕ) (task : List ℕ) (n : ℕ)
+        (t : Try) → IsInRange e → refused a e ≡ None → IsSoundAndSaid a
+        → try_of a id date task n ≡ Some t
+        → (u : Try) × (try_of (step e a) id date task n ≡ Some u) × GoesOn t u }
+    ensures steps { (es : List Event) (a : Schedule) (id : List ℕ) (date : ℕ) (task : List ℕ)
+        (n : ℕ) (t : Try) → AreAccepted es a → IsSoundAndSaid a
+        → try_of a id date task n ≡ Some t
+        → (u : Try) × (try_of (steps es a) id date task n ≡ Some u) × GoesOn t u }
 {}
 
 /// The next serial never falls, and the serials of the tries that accepted events hand out are those that were next, one after another. So a

@@ -31,7 +31,8 @@ pub enum Refusal {
     RunExists,
     /// No interval of the graph's timetable has ended.
     NoInterval,
-    /// A task instance that would be set back has a try without an end; this is the least serial of such tries.
+    /// A task instance that would be set back, or whose task would take slots of another pool, has a try without an end; this is the least
+    /// serial of such tries.
     InFlight(u64),
     /// No try without an end has this serial.
     NotInFlight(u64),
@@ -43,6 +44,13 @@ pub enum Refusal {
     LanesTooMany,
     /// There would be more runs than the limit.
     RecordFull,
+    /// The graph has runs, and this task, which the text lacks.
+    OtherTasks(Name),
+    /// The task has tries, and would take another number of slots.
+    OtherSlots(Name),
+    /// The runs of the graph reach up to this moment, and by the text a tick would make one before it that it would not make by the text
+    /// that the graph has.
+    Redoes(Moment),
     /// Memory ran out. This comes at any point before.
     Memory,
 }

@@ -4,7 +4,8 @@ use Rattle.sched_model.specs.instance_machine.Instances.{InstanceValue}
 use Rattle.sched_model.specs.instance_machine.declared.tries.Try.{Try}
 use Rattle.sched_model.specs.instance_machine.declared.tries.End.{End}
 use Rattle.sched_model.specs.sched_state.declared.runs.Run.{Run}
-use Rattle.sched_model.specs.Schedule.{Schedule, is_at}
+use Rattle.sched_model.specs.Schedule.{Schedule, dag_named, is_at}
+use Rattle.sched_model.specs.Clearing.{place_of}
 
 -- a try stays, perhaps begun or ended by now: its serial and its slots are the same, and so are its start and its end once they are there
 pub record GoesOn (t u : Try) : Type 0 where
@@ -24,3 +25,7 @@ try_in place n r = option_and_then (λ (i : InstanceValue). slice_get i.tries n)
 -- the same of the run of a graph with a logical date
 abbrev pub try_at : Schedule → List ℕ → ℕ → ℕ → ℕ → Option Try
 try_at a id date place n = option_and_then (try_in place n) (run_at id date a.runs)
+
+-- the same of the instance of a task
+abbrev pub try_of : Schedule → List ℕ → ℕ → List ℕ → ℕ → Option Try
+try_of a id date task n = option_and_then (λ p. try_at a id date p n) (place_of (dag_named a id).tasks task)

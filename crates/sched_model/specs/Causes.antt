@@ -1,16 +1,22 @@
 -- Why an event may be refused, each cause by itself: this project's own profile. Their order comes with the events.
-use Rattle.std.specs.Prelude.{ℕ, ◌+◌, Bool, false, not, ◌&&◌, ◌==◌, List, length, map, flat_map, find, filter, Option, Some, None, option_and_then, is_none, nat_lt, nat_le}
+use Rattle.std.specs.Prelude.{ℕ, ◌+◌, Bool, false, not, ◌&&◌, ◌||◌, ◌==◌, List, [], ◌∷◌, length, map, flat_map, find, filter, Option, Some, None, option_and_then, option_map, is_none, nat_lt, nat_le, max}
+use Rattle.std.specs.List.{list_any}
 use Rattle.sched_state.specs.instance_machine.Instances.{InstanceValue}
 use Rattle.sched_state.specs.instance_machine.Reports.{report_try}
 use Rattle.sched_state.specs.graph_file.declared.task_specs.TaskSpec.{TaskSpec}
 use Rattle.sched_state.specs.instance_machine.declared.tries.Try.{Try}
 use Rattle.sched_state.specs.instance_machine.declared.tries.Stage.{Stage}
+use Rattle.sched_state.specs.graph_file.declared.graph_specs.GraphSpec.{GraphSpec}
+use Rattle.sched_state.specs.graph_file.Lists.{when, holds_at}
+use Rattle.sched_state.specs.dag_check.Graphs.{Dag}
+use Rattle.sched_state.specs.Lists.{same}
+use Rattle.run_planner.specs.Anew.{wanted_anew}
 use Rattle.sched_model.specs.Lists.{least}
-use Rattle.sched_model.specs.Schedule.{Schedule, dag_named, graph_named, has_pool}
+use Rattle.sched_model.specs.Schedule.{Schedule, dag_named, dates_of, graph_named, has_pool}
 use Rattle.sched_state.specs.declared.runs.Run.{Run}
 use Rattle.sched_model.specs.States.{is_open}
 use Rattle.sched_state.specs.declared.clearings.Clearing.{Clearing}
-use Rattle.sched_model.specs.Clearing.{Selection, named_pairs, place_of}
+use Rattle.sched_model.specs.Clearing.{Selection, named_pairs, pairs_of, place_of}
 use Rattle.sched_model.specs.NamedRuns.{NamedRun}
 
 -- ---- a report
@@ -63,3 +69,49 @@ has_too_many_pools a name = not (has_pool a name) && nat_le a.limits.pools (leng
 
 abbrev pub is_full_with : Schedule → List NamedRun → Bool
 is_full_with a ns = nat_lt a.limits.runs (length a.runs + length ns)
+
+-- ---- another text for a graph that has runs
+-- the runs of a graph, and of all of them the pairs, each of a task and its instance
+abbrev pub runs_of : Schedule → List ℕ → List Run
+runs_of a id = filter (λ (r : Run). same r.graph id) a.runs
+
+abbrev pub pairs_named : Schedule → List ℕ → List (TaskSpec × InstanceValue)
+pairs_named a id = flat_map (pairs_of a) (runs_of a id)
+
+-- the task of this id
+abbrev pub task_named : List TaskSpec → List ℕ → Option TaskSpec
+task_named tasks id = find (λ (t : TaskSpec). same t.task_id id) tasks
+
+-- the task of the new graph with the id of this one takes as many slots, and takes them of the same pool
+abbrev pub has_slots_of : Dag → TaskSpec → Bool
+has_slots_of dag t = holds_at (λ (u : TaskSpec). u.pool_slots == t.pool_slots) (task_named dag.tasks t.task_id)
+
+abbrev pub has_pool_of : Dag → TaskSpec → Bool
+has_pool_of dag t = holds_at (λ (u : TaskSpec). same u.pool t.pool) (task_named dag.tasks t.task_id)
+
+-- the least serial among the tries without an end whose task would take other slots, if there is one
+abbrev pub least_moved : Schedule → Dag → Option ℕ
+least_moved a dag = least (open_serials (flat_map (λ (e : TaskSpec × InstanceValue). e.1.tries) (filter (λ (e : TaskSpec × InstanceValue). not (has_slots_of dag e.0 && has_pool_of dag e.0)) (pairs_named a dag.spec.dag_id))))
+
+-- the first task of the graph, by place, that the new graph lacks
+abbrev pub lost_task : Schedule → Dag → Option (List ℕ)
+lost_task a dag = option_map (λ (t : TaskSpec). t.task_id) (find (λ (t : TaskSpec). is_none (task_named dag.tasks t.task_id)) (dag_named a dag.spec.dag_id).tasks)
+
+-- the first task, by runs and places, that has a try and would take another number of slots: each try takes the slots of its task
+abbrev pub resized_task : Schedule → Dag → Option (List ℕ)
+resized_task a dag = option_map (λ (e : TaskSpec × InstanceValue). e.0.task_id) (find (λ (e : TaskSpec × InstanceValue). nat_lt 0 (length e.1.tries) && not (has_slots_of dag e.0)) (pairs_named a dag.spec.dag_id))
+
+-- up to where the runs of a graph reach: the greatest end of their intervals, 0 where there are none
+abbrev pub greatest : List ℕ → ℕ
+greatest [] = 0
+greatest (x ∷ xs) = max x (greatest xs)
+
+abbrev pub reached : Schedule → List ℕ → ℕ
+reached a id = greatest (map (λ (r : Run). r.interval.end) (runs_of a id))
+
+-- up to there, where a tick at that moment would make a run by the new file that it would not make by the file as it is
+abbrev pub redone : Schedule → GraphSpec → Option ℕ
+redone a spec =
+    let old : GraphSpec = (dag_named a spec.dag_id).spec in
+    let anew = wanted_anew old spec (reached a spec.dag_id) (dates_of a spec.dag_id) in
+    when (nat_lt 0 (length anew)) (reached a spec.dag_id)
