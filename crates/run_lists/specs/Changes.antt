@@ -1,10 +1,14 @@
 -- What is changed in one run.
 use Rattle.std.specs.Prelude.{ℕ, List, length, option_map, unwrap_or, slice_get}
+use Rattle.instance_machine.specs.Instances.{InstanceValue}
 use Rattle.sched_state.specs.declared.runs.Run.{Run}
 use Rattle.sched_state.specs.declared.runs.RunPhase.{RunPhase}
 
 abbrev pub in_phase : RunPhase → Run → Run
 in_phase ph r = record r { phase = ph }
+
+abbrev pub with_instances : List InstanceValue → Run → Run
+with_instances is r = record r { instances = is }
 
 -- how many instances the run at the position has: 0 where there is none
 abbrev pub instances_at : ℕ → List Run → ℕ

@@ -12,7 +12,7 @@ ghost use Rattle.dag_check.specs.Orders.{is_in};
 ghost use Rattle.sched_state.specs.declared.runs.Run.{Run};
 ghost use Rattle.sched_model.specs.Lists.{at, rises};
 ghost use Rattle.sched_model.specs.Schedule.{run_before, is_at};
-ghost use Rattle.run_lists.specs.Changes.{in_phase, instances_at};
+ghost use Rattle.run_lists.specs.Changes.{in_phase, instances_at, with_instances};
 ghost use Rattle.run_lists.specs.Edits.{AreEditsOf, edited, positions_in};
 ghost use Rattle.run_lists.specs.Overlays.{IsOwned, IsAdded, IsInstanceAt, AreAllTouched};
 ghost use Rattle.run_lists.specs.Positions.{positions_where, stands};
@@ -21,6 +21,7 @@ ghost use Rattle.run_lists.specs.Touched.{touched_with};
 use crate::edits::{Edit, Edits, all_added, base_position, find, move_up, place_of, positions};
 use crate::positions::place_edit;
 use crate::runs::Runs;
+use graph_file::Sequence;
 use instance_machine::Instance;
 use sched_state::{Run, RunPhase};
 use std::alloc::{AllocError, Global};
@@ -132,6 +133,17 @@ impl<'a> Overlay<'a> {
         let place = place_of(&self.edits, position);
         let edit = &mut self.edits[place];
         edit.run.phase = phase;
+    }
+
+    /// The run at a touched position gets other instances. This takes no memory.
+    pub fn set_instances(&mut self, position: usize, instances: Sequence<Instance>)
+        requires { is_in self.old.touched position ≡ true }
+        ensures { self.new ≡ record self.old
+            { runs = at (with_instances instances) position self.old.runs } }
+    {
+        let place = place_of(&self.edits, position);
+        let edit = &mut self.edits[place];
+        edit.run.instances = instances;
     }
 
     /// The instance at a place of the run at a touched position, to be changed. This takes no memory.

@@ -1,5 +1,6 @@
 pub mod IndexLemmas
 pub mod RiseLemmas
+pub mod AnewLemmas
 pub mod PlanLemmas
 pub mod MemberLemmas
 pub mod TriggerLemmas

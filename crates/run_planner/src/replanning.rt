@@ -44,7 +44,11 @@ fn all_wanted(
 ) -> Result<Vec<Interval>, AllocError>
     ensures { IfOk result (λ is. is.items ≡ wanted_intervals graph.now.spec now index.now.dates) }
 {
-    Ok(due(alloc, graph, now, index, usize::MAX)?.intervals)
+    let planned = due(alloc, graph, now, index, usize::MAX)?;
+    if planned.more {
+        return Err(AllocError);
+    }
+    Ok(planned.intervals)
 }
 
 // The starts of intervals, as an index.

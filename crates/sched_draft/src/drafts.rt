@@ -21,11 +21,11 @@ ghost use Rattle.run_lists.specs.sched_model.Changes.{set_now};
 ghost use Rattle.run_lists.specs.sched_model.Handout.{in_instance, last_serial};
 ghost use Rattle.sched_draft.specs.Books.{pools_in};
 ghost use Rattle.sched_draft.specs.Drafts.{IsOwn};
-ghost use Rattle.sched_draft.specs.Parts.{decided_as, in_phase, instances_at, handed_at, with_pause};
+ghost use Rattle.sched_draft.specs.Parts.{decided_as, in_phase, instances_at, handed_at, with_instances, with_other, with_pause};
 
 use crate::bases::Base;
-use graph_file::{Bounded, Name};
-use instance_machine::Stage;
+use graph_file::{Bounded, Name, Sequence};
+use instance_machine::{Instance, Stage};
 use moment_core::Moment;
 use pool_book::Pools;
 use run_lists::{Edits, Overlay, Runs};
@@ -35,8 +35,9 @@ use std::marker::Model;
 use std::ops::Range;
 use trigger_rules::Verdict;
 
-/// A schedule that is being made over one that is there. Its graphs are those of that schedule, of which one may have another pause, and
-/// its pools those of a book; of the runs it holds the changed and added ones. What the book has of taken slots is not looked at.
+/// A schedule that is being made over one that is there. Its graphs are those of that schedule, of which one may have another pause, or may
+/// be another one with its id, and its pools those of a book; of the runs it holds the changed and added ones. What the book has of taken
+/// slots is not looked at.
 #[derive(Drop)]
 pub struct Draft<'a> {
     base: Base<'a>,
@@ -45,6 +46,8 @@ pub struct Draft<'a> {
     // The graph with this id is paused or not as `paused` says, whatever it says itself.
     pub(crate) named: Option<&'a Name>,
     pub(crate) paused: bool,
+    // The graph with the id of this one is this one.
+    pub(crate) other: Option<&'a LoadedGraph>,
     pools: &'a Pools,
     clock: Moment,
     lanes: u32,
@@ -56,7 +59,7 @@ impl<'a> Model for Draft<'a> {
     ghost use Rattle.std.specs.Option.{option_copied};
     ghost use Rattle.sched_draft.specs.Books.{pools_in};
     ghost use Rattle.sched_draft.specs.Drafts.{DraftValue};
-    ghost use Rattle.sched_draft.specs.Parts.{with_pause};
+    ghost use Rattle.sched_draft.specs.Parts.{with_other, with_pause};
 
     ghost Value = { DraftValue };
 
@@ -64,7 +67,7 @@ impl<'a> Model for Draft<'a> {
       base = record d.base { runs = d.runs.base };
       content = record {
         limits = d.limits;
-        graphs = with_pause (option_copied d.named) d.paused d.graphs.now;
+        graphs = with_pause (option_copied d.named) d.paused (with_other (option_copied d.other) d.graphs.now);
         pools = pools_in d.pools.now.pools;
         now = d.clock;
         lanes = d.lanes;
@@ -91,12 +94,29 @@ impl<'a> Draft<'a> {
             graphs: base.graphs,
             named,
             paused,
+            other: None,
             pools: base.pools,
             clock: base.clock,
             lanes: base.lanes,
             next: base.next,
             runs,
             base,
+        }
+    }
+
+    /// The schedule that is there, in which the graph with the id of this one is this one. Its runs are as they are. This takes no memory.
+    pub fn over_with(alloc: Global, base: Base<'a>, other: &'a LoadedGraph) -> Draft<'a>
+        ensures { result ≡ record {
+          base = base.entry;
+          content = record base.entry
+              { graphs = with_other (Some other.entry.now) base.entry.graphs };
+          touched = [];
+        } }
+    {
+        let draft = Draft::over(alloc, base, None, false);
+        Draft {
+            other: Some(other),
+            ..draft
         }
     }
 
@@ -253,6 +273,17 @@ impl<'a> Draft<'a> {
         } }
     {
         self.runs.set_phase(position, phase);
+    }
+
+    /// The run at a position gets other instances.
+    pub fn set_instances(&mut self, position: usize, instances: Sequence<Instance>)
+        requires { IsOwn position self.old }
+        ensures { self.new ≡ record self.old {
+          content = record self.old.content
+              { runs = at (with_instances instances) position self.old.content.runs };
+        } }
+    {
+        self.runs.set_instances(position, instances);
     }
 
     /// The instance at a place of a run is decided.
