@@ -2,6 +2,10 @@
 use Rattle.std.proofs.Common.{◌≡◌, refl, List, ◌∷◌, Bool, true, false, is_some, is_none, Option, Some, None, option_map, true≢false}
 use Rattle.graph_file.specs.Lists.{when, first_some}
 
+pub no_cause : {X : Type 0} (o : Option X) (os : List (Option X)) → first_some (o ∷ os) ≡ None → (o ≡ None) × (first_some os ≡ None)
+no_cause {X} (Some x) os e = absurd (let c : ◌≡◌ {A = Option X} (Some x) None = e in cc)
+no_cause None os e = (refl, e)
+
 pub no_when : {X : Type 0} (b : Bool) (x : X) (os : List (Option X)) → first_some (when b x ∷ os) ≡ None → (b ≡ false) × (first_some os ≡ None)
 no_when {X} true x os e = absurd (let c : ◌≡◌ {A = Option X} (Some x) None = e in cc)
 no_when false x os e = (refl, e)
