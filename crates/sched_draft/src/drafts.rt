@@ -88,20 +88,7 @@ impl<'a> Draft<'a> {
           touched = [];
         } }
     {
-        let runs = Overlay::new(alloc, base.runs);
-        Draft {
-            limits: base.limits,
-            graphs: base.graphs,
-            named,
-            paused,
-            other: None,
-            pools: base.pools,
-            clock: base.clock,
-            lanes: base.lanes,
-            next: base.next,
-            runs,
-            base,
-        }
+        Draft::made(alloc, base, named, paused, None)
     }
 
     /// The schedule that is there, in which the graph with the id of this one is this one. Its runs are as they are. This takes no memory.
@@ -113,10 +100,39 @@ impl<'a> Draft<'a> {
           touched = [];
         } }
     {
-        let draft = Draft::over(alloc, base, None, false);
+        Draft::made(alloc, base, None, false, Some(other))
+    }
+
+    // The schedule that is there, with another pause of one graph, and another graph in the place of one.
+    fn made(
+        alloc: Global,
+        base: Base<'a>,
+        named: Option<&'a Name>,
+        paused: bool,
+        other: Option<&'a LoadedGraph>,
+    ) -> Draft<'a>
+        ensures { result ≡ record {
+          base = base.entry;
+          content = record base.entry {
+            graphs = with_pause (option_copied named.entry) paused
+                (with_other (option_copied other.entry) base.entry.graphs);
+          };
+          touched = [];
+        } }
+    {
+        let runs = Overlay::new(alloc, base.runs);
         Draft {
-            other: Some(other),
-            ..draft
+            limits: base.limits,
+            graphs: base.graphs,
+            named,
+            paused,
+            other,
+            pools: base.pools,
+            clock: base.clock,
+            lanes: base.lanes,
+            next: base.next,
+            runs,
+            base,
         }
     }
 
