@@ -40,4 +40,5 @@ pub mod RuleLemmas
 pub mod KeptLemmas
 pub mod FittedLemmas
 pub mod ReplaceLemmas
+pub mod RefitLemmas
 pub use Rattle.sched_model.proofs.sched_state as sched_state
