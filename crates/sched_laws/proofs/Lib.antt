@@ -41,4 +41,5 @@ pub mod KeptLemmas
 pub mod FittedLemmas
 pub mod ReplaceLemmas
 pub mod RefitLemmas
+pub mod ReplaceSoundLemmas
 pub use Rattle.sched_model.proofs.sched_state as sched_state

@@ -128,7 +128,7 @@ graph_after text dag a r taken e is =
       is = ap dag_by found ∙ reloaded_dag text dag g.0 own (taken g.0 g.1);
     }
 
-other_after : (text : List ℕ) (dag : Dag) (a : Schedule) (id : List ℕ) → same id dag.spec.dag_id ≡ false → dag_among (with_graph text dag a.graphs) id ≡ dag_among a.graphs id
+pub other_after : (text : List ℕ) (dag : Dag) (a : Schedule) (id : List ℕ) → same id dag.spec.dag_id ≡ false → dag_among (with_graph text dag a.graphs) id ≡ dag_among a.graphs id
 other_after text dag a id other = dag_found a.graphs (with_graph text dag a.graphs) id (find_loaded text dag a.graphs id (flip_same id dag.spec.dag_id other))
 
 -- ---- each try

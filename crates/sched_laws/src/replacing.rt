@@ -42,7 +42,8 @@ pub fn what_has_finished_stays_finished()
         → state_of new (kept_as old new i) ≡ state.Running }
 {}
 
-/// A text that no task of the graph is lost by, and that changes the slots of no task with a try, keeps a sound schedule sound.
+/// A text that no task of the graph is lost by, and that changes the slots of no task with a try, keeps a sound schedule sound. Here and
+/// below each graph is what its text says, so that the text that a graph has already does not bring other tasks.
 pub fn replacing_keeps_soundness()
     ensures { (text : List ℕ) (dag : Dag) (a : Schedule)
         → IsTrue (is_sound_graph a (new_graph text dag)) → IsTrue (is_bounded (new_graph text dag))
