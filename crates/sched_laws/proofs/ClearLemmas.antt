@@ -26,7 +26,7 @@ use Rattle.std.proofs.lemmas.Bool.{and_from}
 abbrev all_over : List (TaskSpec × InstanceValue) → Bool
 all_over es = list_all (λ (e : TaskSpec × InstanceValue). list_all has_end e.1.tries) es
 
-best_empty : {X : Type 0} (before : X → X → Bool) (xs : List X) → best_by before xs ≡ None → xs ≡ []
+pub best_empty : {X : Type 0} (before : X → X → Bool) (xs : List X) → best_by before xs ≡ None → xs ≡ []
 best_empty before [] e = refl
 best_empty before (x ∷ xs) e = absurd (some_of_cons before x (best_by before xs) e)
 
@@ -34,7 +34,7 @@ closed_end : (o : Option End) → is_none o ≡ false → is_some o ≡ true
 closed_end None e = absurd (true≢false e)
 closed_end (Some x) e = refl
 
-none_open : (ts : List Try) → open_serials ts ≡ [] → list_all has_end ts ≡ true
+pub none_open : (ts : List Try) → open_serials ts ≡ [] → list_all has_end ts ≡ true
 none_open [] e = refl
 none_open (t ∷ ts) e = elim (is_open t) as (λ b. is_open t ≡ b → map (λ (u : Try). u.serial) (cond b (t ∷ filter is_open ts) (filter is_open ts)) ≡ [] → list_all has_end (t ∷ ts) ≡ true) [
   | true ↦ λ q f. absurd (let c : ◌≡◌ {A = List ℕ} (t.serial ∷ map (λ (u : Try). u.serial) (filter is_open ts)) [] = f in cc)

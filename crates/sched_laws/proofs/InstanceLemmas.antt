@@ -74,7 +74,7 @@ decided_sound t s ts v w e =
     })
 
 -- ---- handed out
-failed_end : (t : Try) → has_failed t ≡ true → has_end t ≡ true
+pub failed_end : (t : Try) → has_failed t ≡ true → has_end t ≡ true
 failed_end t e = ended_of t.ended e
   where
     ended_of : (o : Option End) → is_failure_if o ≡ true → is_some o ≡ true
@@ -245,17 +245,21 @@ changed_finished f q t i s e =
     ap (λ (ts : List Try). is_finished (state_by i.verdict (nat_le (length ts) t.retries) (last_of ts))) r ∙ e
 
 -- ---- cleared
-pub cleared_sound : (t : TaskSpec) (i : InstanceValue) → is_sound_instance t i ≡ true → list_all has_end i.tries ≡ true → is_sound_instance t (cleared i) ≡ true
-cleared_sound t i e o =
-    let p = parts_of t i e in
-    let r : recent (cleared i) ≡ [] = drop-length i.tries in
-    let m : length (recent (cleared i)) ≡ 0 = ap length r in
-    of_parts t (cleared i) (record {
-      decided = refl;
+-- all tries have an end, and none of them counts
+pub over_sound : (t : TaskSpec) (v : Option Verdict) (ts : List Try) → not (is_wait v) ≡ true → list_all (is_sound_try t.pool_slots) ts ≡ true → list_all has_end ts ≡ true
+    → is_sound_instance t (record { verdict = v; since = length ts; tries = ts }) ≡ true
+over_sound t v ts decided sound o =
+    let r : drop (length ts) ts ≡ [] = drop-length ts in
+    let m : length (drop (length ts) ts) ≡ 0 = ap length r in
+    of_parts t (record { verdict = v; since = length ts; tries = ts }) (record {
+      decided = decided;
       within = omega arith;
-      tries = p.tries;
-      over = ap (list_all has_end) (take-length i.tries) ∙ o;
+      tries = sound;
+      over = ap (list_all has_end) (take-length ts) ∙ o;
       let_run = or_left _ _ (ap is_empty r);
       few = omega arith;
-      failed = ap (λ ts. list_all has_failed (but_last ts)) r;
+      failed = ap (λ us. list_all has_failed (but_last us)) r;
     })
+
+pub cleared_sound : (t : TaskSpec) (i : InstanceValue) → is_sound_instance t i ≡ true → list_all has_end i.tries ≡ true → is_sound_instance t (cleared i) ≡ true
+cleared_sound t i e o = let p = parts_of t i e in over_sound t None i.tries refl p.tries o

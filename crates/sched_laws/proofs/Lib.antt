@@ -37,4 +37,9 @@ pub mod ByHandLemmas
 pub mod GoingLemmas
 pub mod SerialLemmas
 pub mod RuleLemmas
+pub mod KeptLemmas
+pub mod FittedLemmas
+pub mod ReplaceLemmas
+pub mod RefitLemmas
+pub mod ReplaceSoundLemmas
 pub use Rattle.sched_model.proofs.sched_state as sched_state

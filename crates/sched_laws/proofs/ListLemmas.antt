@@ -143,7 +143,7 @@ but_last_map f [] = refl
 but_last_map f (y ∷ []) = refl
 but_last_map f (y ∷ z ∷ xs) = ap (λ ws. f y ∷ ws) (but_last_map f (z ∷ xs))
 
-last_more : {X : Type 0} (y z : X) (xs : List X) → last_of (y ∷ z ∷ xs) ≡ last_of (z ∷ xs)
+pub last_more : {X : Type 0} (y z : X) (xs : List X) → last_of (y ∷ z ∷ xs) ≡ last_of (z ∷ xs)
 last_more y z xs =
     let e : length (y ∷ z ∷ xs) - 1 ≡ suc (length xs) = omega arith in
     let f : length (z ∷ xs) - 1 ≡ length xs = omega arith in

@@ -16,12 +16,12 @@ in_append x [] zs i = inr i
 in_append x (y ∷ ys) zs (inl e) = inl (inl e)
 in_append x (y ∷ ys) zs (inr i) = elim (in_append x ys zs i) [ inl j ↦ inl (inr j) | inr j ↦ inr j ]
 
-append_left : {X : Type 0} (x : X) (ys zs : List X) → In x ys → In x (ys ++ zs)
+pub append_left : {X : Type 0} (x : X) (ys zs : List X) → In x ys → In x (ys ++ zs)
 append_left x [] zs i = absurd i
 append_left x (y ∷ ys) zs (inl e) = inl e
 append_left x (y ∷ ys) zs (inr i) = inr (append_left x ys zs i)
 
-append_right : {X : Type 0} (x : X) (ys zs : List X) → In x zs → In x (ys ++ zs)
+pub append_right : {X : Type 0} (x : X) (ys zs : List X) → In x zs → In x (ys ++ zs)
 append_right x [] zs i = i
 append_right x (y ∷ ys) zs i = inr (append_right x ys zs i)
 

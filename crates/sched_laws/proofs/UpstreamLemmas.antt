@@ -26,7 +26,7 @@ nothing : IsDistinct eqb []
 unfolding IsDistinct
 nothing = tt
 
-distinct : (xs : List ℕ) → repeated xs ≡ false → IsDistinct eqb xs
+pub distinct : (xs : List ℕ) → repeated xs ≡ false → IsDistinct eqb xs
 distinct [] e = nothing
 distinct (x ∷ xs) e = let parts = or_parts (is_in xs x) (repeated xs) e in IsDistinct-cons eqb x xs (none_equal x xs parts.0) (distinct xs parts.1)
 

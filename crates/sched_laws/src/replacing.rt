@@ -42,12 +42,14 @@ pub fn what_has_finished_stays_finished()
         → state_of new (kept_as old new i) ≡ state.Running }
 {}
 
-/// A text that no task of the graph is lost by, and that changes the slots of no task with a try, keeps a sound schedule sound.
+/// A text that no task of the graph is lost by, and that changes the slots of no task with a try, keeps a sound schedule sound. Here and
+/// below each graph is what its text says, so that the text that a graph has already does not bring other tasks.
 pub fn replacing_keeps_soundness()
     ensures { (text : List ℕ) (dag : Dag) (a : Schedule)
         → IsTrue (is_sound_graph a (new_graph text dag)) → IsTrue (is_bounded (new_graph text dag))
         → is_unknown_graph a dag.spec.dag_id ≡ false → lost_task a dag ≡ None
-        → resized_task a dag ≡ None → IsSound a → IsSound (replace_graph text dag a) }
+        → resized_task a dag ≡ None → IsSound a → AllSay a.graphs → Says text dag
+        → IsSound (replace_graph text dag a) }
 {}
 
 /// Where the graph has no run, a text is taken in as by a load. The text that a graph has already changes nothing.
@@ -75,7 +77,8 @@ pub fn replacing_keeps_the_tries()
         → IsPermutation (tries_of a) (tries_of (replace_graph text dag a)) }
     ensures each { (text : List ℕ) (dag : Dag) (a : Schedule) (id : List ℕ) (date : ℕ)
         (task : List ℕ) (n : ℕ) (t : Try) → IsTrue (is_sound_graph a (new_graph text dag))
-        → lost_task a dag ≡ None → IsSound a → try_of a id date task n ≡ Some t
+        → lost_task a dag ≡ None → IsSound a → AllSay a.graphs → Says text dag
+        → try_of a id date task n ≡ Some t
         → try_of (replace_graph text dag a) id date task n ≡ Some t }
 {}
 
@@ -83,12 +86,13 @@ pub fn replacing_keeps_the_tries()
 pub fn replacing_keeps_what_is_taken()
     ensures occupied { (text : List ℕ) (dag : Dag) (a : Schedule) (p : List ℕ)
         → IsTrue (is_sound_graph a (new_graph text dag)) → lost_task a dag ≡ None
-        → least_moved a dag ≡ None → IsSound a
+        → least_moved a dag ≡ None → IsSound a → AllSay a.graphs → Says text dag
         → occupied (replace_graph text dag a) p ≡ occupied a p }
     ensures active { (text : List ℕ) (dag : Dag) (a : Schedule) (id : List ℕ)
         → IsTrue (is_sound_graph a (new_graph text dag)) → lost_task a dag ≡ None → IsSound a
+        → AllSay a.graphs → Says text dag
         → active_tries (replace_graph text dag a) id ≡ active_tries a id }
     ensures in_flight { (text : List ℕ) (dag : Dag) (a : Schedule)
         → IsTrue (is_sound_graph a (new_graph text dag)) → lost_task a dag ≡ None → IsSound a
-        → in_flight (replace_graph text dag a) ≡ in_flight a }
+        → AllSay a.graphs → Says text dag → in_flight (replace_graph text dag a) ≡ in_flight a }
 {}

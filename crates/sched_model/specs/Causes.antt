@@ -1,6 +1,5 @@
 -- Why an event may be refused, each cause by itself: this project's own profile. Their order comes with the events.
-use Rattle.std.specs.Prelude.{ℕ, ◌+◌, Bool, false, not, ◌&&◌, ◌||◌, ◌==◌, List, [], ◌∷◌, length, map, flat_map, find, filter, Option, Some, None, option_and_then, option_map, is_none, nat_lt, nat_le, max}
-use Rattle.std.specs.List.{list_any}
+use Rattle.std.specs.Prelude.{ℕ, ◌+◌, Bool, false, not, ◌&&◌, ◌==◌, List, [], ◌∷◌, length, map, flat_map, find, filter, Option, Some, None, option_and_then, option_map, is_none, nat_lt, nat_le, max}
 use Rattle.sched_state.specs.instance_machine.Instances.{InstanceValue}
 use Rattle.sched_state.specs.instance_machine.Reports.{report_try}
 use Rattle.sched_state.specs.graph_file.declared.task_specs.TaskSpec.{TaskSpec}
