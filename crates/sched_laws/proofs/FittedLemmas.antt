@@ -71,7 +71,7 @@ found_once {X} key (y ∷ ys) x id once (inr i) e =
 
 -- ---- gathered by id
 -- what each task makes of the pair with its id
-abbrev pub gathered : {A : Type 0} → (TaskSpec → Option Pair → List A) → List Pair → List TaskSpec → List A
+abbrev gathered : {A : Type 0} → (TaskSpec → Option Pair → List A) → List Pair → List TaskSpec → List A
 gathered f es ns = flat_map (λ (n : TaskSpec). f n (pair_of n.task_id es)) ns
 
 nothing : {A : Type 0} (f : TaskSpec → Option Pair → List A) → ((n : TaskSpec) → f n None ≡ []) → (ns : List TaskSpec) → gathered f [] ns ≡ []

@@ -1,7 +1,7 @@
 -- Each try that is there goes on: in its run and its instance, at its position.
 use Rattle.std.proofs.Common.{◌≡◌, ◌∙◌, refl, sym, ap, subst, ℕ, zero, suc, List, [], ◌∷◌, ◌++◌, Bool, true, false, not, ◌||◌, ◌==◌, if◌then◌else◌, cond, find, map, Option, Some, None, option_map, option_and_then, slice_get, unwrap_or, is_some, true≢false}
 use Rattle.std.specs.List.{list_any}
-use Rattle.std.proofs.lemmas.Bool.{eqb-true}
+use Rattle.std.proofs.lemmas.Bool.{eqb-true, or_left, or_right}
 use Rattle.std.proofs.lemmas.Option.{slice_get-map}
 use Rattle.sched_model.specs.instance_machine.Instances.{InstanceValue, map_tries}
 use Rattle.sched_model.specs.instance_machine.Reports.{report_try, reported_try, lost_if, lost_try}
@@ -16,15 +16,15 @@ use Rattle.sched_model.proofs.sched_state.NameLemmas.{same_is}
 use Rattle.sched_model.proofs.sched_state.OrderLemmas.{and_left, and_right, not_false}
 use Rattle.sched_model.proofs.sched_state.RepeatLemmas.{repeat_done, repeat_more}
 use Rattle.sched_model.specs.Changes.{advance, map_tries_of, map_all_tries}
-use Rattle.sched_model.specs.Clearing.{Selection, clear, clear_run}
+use Rattle.sched_model.specs.Clearing.{Selection, clear, clear_run, place_of}
 use Rattle.sched_model.specs.Handout.{new_try, with_try, in_instance, hand, hand_one, best_offer, serials_left}
 use Rattle.sched_model.specs.Lists.{at}
 use Rattle.sched_model.specs.NamedRuns.{NamedRun, is_for, queued_run, add_runs}
-use Rattle.sched_model.specs.Schedule.{Schedule, is_at, run_before, graph_named, has_run_at}
+use Rattle.sched_model.specs.Schedule.{Schedule, is_at, run_before, dag_named, graph_named, has_runs, has_run_at}
 use Rattle.sched_model.specs.Settle.{move, move_runs, with_runs, settle, moves_left}
 use Rattle.sched_model.specs.Sound.{IsSound, is_new, are_new}
 use Rattle.sched_laws.specs.Runs.{named_as}
-use Rattle.sched_laws.specs.Tries.{GoesOn, run_at, try_in, try_at}
+use Rattle.sched_laws.specs.Tries.{GoesOn, run_at, try_in, try_at, try_of}
 use Rattle.sched_laws.proofs.AddLemmas.{added}
 use Rattle.sched_laws.proofs.ClearLemmas.{all_keys, all_tries}
 use Rattle.sched_laws.proofs.KeyLemmas.{is_key}
@@ -32,10 +32,10 @@ use Rattle.sched_laws.proofs.RunLemmas.{try_lists, move_kin}
 use Rattle.sched_laws.proofs.SettleLemmas.{map_some}
 
 -- ---- a try
-goes_still : (t : Try) → GoesOn t t
+pub goes_still : (t : Try) → GoesOn t t
 goes_still t = record { serial = refl; slots = refl; started = λ m e. e; ended = λ x e. e }
 
-goes_further : (t u v : Try) → GoesOn t u → GoesOn u v → GoesOn t v
+pub goes_further : (t u v : Try) → GoesOn t u → GoesOn u v → GoesOn t v
 goes_further t u v f g = record {
   serial = g.serial ∙ f.serial;
   slots = g.slots ∙ f.slots;
@@ -43,11 +43,11 @@ goes_further t u v f g = record {
   ended = λ x e. g.ended x (f.ended x e);
 }
 
-abbrev try_of : ℕ → ℕ → Option ℕ → Option End → Try
-try_of s k b e = record { serial = s; slots = k; started = b; ended = e }
+abbrev made_try : ℕ → ℕ → Option ℕ → Option End → Try
+made_try s k b e = record { serial = s; slots = k; started = b; ended = e }
 
 -- what has not begun, or has not ended
-begins : (s k now : ℕ) → GoesOn (try_of s k None None) (try_of s k (Some now) None)
+begins : (s k now : ℕ) → GoesOn (made_try s k None None) (made_try s k (Some now) None)
 begins s k now = record {
   serial = refl;
   slots = refl;
@@ -55,7 +55,7 @@ begins s k now = record {
   ended = λ x e. absurd (let c : ◌≡◌ {A = Option End} None (Some x) = e in cc);
 }
 
-ends : (s k : ℕ) (b : Option ℕ) (y : End) → GoesOn (try_of s k b None) (try_of s k b (Some y))
+ends : (s k : ℕ) (b : Option ℕ) (y : End) → GoesOn (made_try s k b None) (made_try s k b (Some y))
 ends s k b y = record {
   serial = refl;
   slots = refl;
@@ -63,15 +63,15 @@ ends s k b y = record {
   ended = λ x e. absurd (let c : ◌≡◌ {A = Option End} None (Some x) = e in cc);
 }
 
-reports : (stage : Stage) (now s k : ℕ) (b : Option ℕ) (e : Option End) → GoesOn (try_of s k b e) (unwrap_or (report_try stage now (try_of s k b e)) (try_of s k b e))
-reports stage now s k b (Some x) = goes_still (try_of s k b (Some x))
+reports : (stage : Stage) (now s k : ℕ) (b : Option ℕ) (e : Option End) → GoesOn (made_try s k b e) (unwrap_or (report_try stage now (made_try s k b e)) (made_try s k b e))
+reports stage now s k b (Some x) = goes_still (made_try s k b (Some x))
 reports Started now s k None None = begins s k now
-reports Started now s k (Some m) None = goes_still (try_of s k (Some m) None)
-reports (Ended o) now s k None None = goes_still (try_of s k None None)
+reports Started now s k (Some m) None = goes_still (made_try s k (Some m) None)
+reports (Ended o) now s k None None = goes_still (made_try s k None None)
 reports (Ended Success) now s k (Some m) None = ends s k (Some m) (record { moment = now; outcome = Success })
 reports (Ended Failed) now s k (Some m) None = ends s k (Some m) (record { moment = now; outcome = Failed })
 reports (Ended Skipped) now s k (Some m) None = ends s k (Some m) (record { moment = now; outcome = Skipped })
-reports (Ended Lost) now s k (Some m) None = goes_still (try_of s k (Some m) None)
+reports (Ended Lost) now s k (Some m) None = goes_still (made_try s k (Some m) None)
 
 goes_if : (b : Bool) (t u : Try) → GoesOn t u → GoesOn t (if b then u else t)
 goes_if true t u g = g
@@ -80,9 +80,9 @@ goes_if false t u g = goes_still t
 pub report_goes : (serial : ℕ) (stage : Stage) (now : ℕ) (t : Try) → GoesOn t (reported_try serial stage now t)
 report_goes serial stage now t = goes_if (t.serial == serial) t (unwrap_or (report_try stage now t) t) (reports stage now t.serial t.slots t.started t.ended)
 
-lost_goes_if : (now s k : ℕ) (b : Option ℕ) (e : Option End) → GoesOn (try_of s k b e) (lost_if now e (try_of s k b e))
+lost_goes_if : (now s k : ℕ) (b : Option ℕ) (e : Option End) → GoesOn (made_try s k b e) (lost_if now e (made_try s k b e))
 lost_goes_if now s k b None = ends s k b (record { moment = now; outcome = Lost })
-lost_goes_if now s k b (Some x) = goes_still (try_of s k b (Some x))
+lost_goes_if now s k b (Some x) = goes_still (made_try s k b (Some x))
 
 pub lost_goes : (now : ℕ) (t : Try) → GoesOn t (lost_try now t)
 lost_goes now t = lost_goes_if now t.serial t.slots t.started t.ended
@@ -268,4 +268,30 @@ try_goes a b h id date p n t e = elim (run_at id date a.runs) as (λ o. run_at i
       let goes = q.2 in
       let u = goes.tries p n t g in
       (u.0, ap (option_and_then (try_in p n)) q.1 ∙ u.1, u.2)
+] refl e
+
+-- ---- a try by the id of its task
+run_there : (id : List ℕ) (date : ℕ) (rs : List Run) (r : Run) → run_at id date rs ≡ Some r → list_any (λ (q : Run). same q.graph id) rs ≡ true
+run_there id date [] r e = absurd (let c : ◌≡◌ {A = Option Run} None (Some r) = e in cc)
+run_there id date (q ∷ qs) r e = elim (is_at id date q) as (λ b. is_at id date q ≡ b → cond b (Some q) (run_at id date qs) ≡ Some r → (same q.graph id || list_any (λ (w : Run). same w.graph id) qs) ≡ true) [
+  | true ↦ λ f g. or_left (same q.graph id) _ (and_left (same q.graph id) (q.logical == date) f)
+  | false ↦ λ f g. or_right (same q.graph id) _ (run_there id date qs r g)
+] refl e
+
+-- the graph of a try has a run
+try_run : (a : Schedule) (id : List ℕ) (date p n : ℕ) (t : Try) → try_at a id date p n ≡ Some t → has_runs a id ≡ true
+try_run a id date p n t e = elim (run_at id date a.runs) as (λ o. run_at id date a.runs ≡ o → option_and_then (try_in p n) o ≡ Some t → has_runs a id ≡ true) [
+  | None ↦ λ f g. absurd (let c : ◌≡◌ {A = Option Try} None (Some t) = g in cc)
+  | Some r ↦ λ f g. run_there id date a.runs r f
+] refl e
+
+-- where a graph that has runs keeps its tasks
+pub task_goes : (a b : Schedule) → AllGoOn a.runs b.runs → (id : List ℕ) → (has_runs a id ≡ true → (dag_named b id).tasks ≡ (dag_named a id).tasks) → (date : ℕ) (task : List ℕ) (n : ℕ) (t : Try) → try_of a id date task n ≡ Some t
+    → (u : Try) × (try_of b id date task n ≡ Some u) × GoesOn t u
+task_goes a b h id tasks date task n t e = elim (place_of (dag_named a id).tasks task) as (λ o. place_of (dag_named a id).tasks task ≡ o → option_and_then (λ (p : ℕ). try_at a id date p n) o ≡ Some t → (u : Try) × (try_of b id date task n ≡ Some u) × GoesOn t u) [
+  | None ↦ λ f g. absurd (let c : ◌≡◌ {A = Option Try} None (Some t) = g in cc)
+  | Some p ↦ λ f g.
+      let u = try_goes a b h id date p n t g in
+      let place : place_of (dag_named b id).tasks task ≡ Some p = ap (λ ts. place_of ts task) (tasks (try_run a id date p n t g)) ∙ f in
+      (u.0, ap (option_and_then (λ (q : ℕ). try_at b id date q n)) place ∙ u.1, u.2)
 ] refl e

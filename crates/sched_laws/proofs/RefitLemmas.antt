@@ -41,10 +41,10 @@ use Rattle.sched_laws.proofs.RunLemmas.{Key, map_flat, pairs_of_run}
 
 -- ---- what stands by id
 -- the tasks of a run, and those of another text, are told apart by id, and none of the first is lost
-pub record Fits (dag : Dag) (es : List Pair) : Type 0 where
-  pub once : repeats (ids_of dag.tasks) ≡ false
-  pub apart : repeats (pair_ids es) ≡ false
-  pub there : list_all (λ (x : Pair). is_some (task_named dag.tasks x.0.task_id)) es ≡ true
+record Fits (dag : Dag) (es : List Pair) : Type 0 where
+  once : repeats (ids_of dag.tasks) ≡ false
+  apart : repeats (pair_ids es) ≡ false
+  there : list_all (λ (x : Pair). is_some (task_named dag.tasks x.0.task_id)) es ≡ true
 
 pub unmapped : {X Y : Type 0} (f : X → Y) (o : Option X) → option_map f o ≡ None → o ≡ None
 unmapped f None e = refl
@@ -58,7 +58,7 @@ all_there {X} {Y} f (x ∷ xs) e = elim (f x) as (λ o. cond (is_none o) (Some x
   | Some y ↦ λ g. all_there f xs g
 ] e
 
-pub run_fits : (text : List ℕ) (dag : Dag) (a : Schedule) (r : Run) → is_sound_graph a (new_graph text dag) ≡ true → lost_task a dag ≡ None → IsSound a → is_sound_run a.graphs r ≡ true → same r.graph dag.spec.dag_id ≡ true → Fits dag (pairs_of a r)
+run_fits : (text : List ℕ) (dag : Dag) (a : Schedule) (r : Run) → is_sound_graph a (new_graph text dag) ≡ true → lost_task a dag ≡ None → IsSound a → is_sound_run a.graphs r ≡ true → same r.graph dag.spec.dag_id ≡ true → Fits dag (pairs_of a r)
 run_fits text dag a r new lost s e is =
     let ts : List TaskSpec = tasks_of a r in
     let none : find (λ (t : TaskSpec). is_none (task_named dag.tasks t.task_id)) ts ≡ None =
@@ -202,7 +202,7 @@ abbrev opens_of : Schedule → Run → List OpenTry
 opens_of a r = flat_map (open_of r.graph) (pairs_of a r)
 
 -- what is looked at of a pair's tries without an end is the same beside the new task
-abbrev pub IsAlike : {A : Type 0} → (OpenTry → A) → Dag → Schedule → Type 0
+abbrev IsAlike : {A : Type 0} → (OpenTry → A) → Dag → Schedule → Type 0
 IsAlike look dag a =
     (r : Run) → In r a.runs → same r.graph dag.spec.dag_id ≡ true → (n : TaskSpec) (x : Pair) → In n dag.tasks → In x (pairs_of a r) → same x.0.task_id n.task_id ≡ true
     → map look (map (opened r.graph n) (filter is_open x.1.tries)) ≡ map look (map (opened r.graph x.0) (filter is_open x.1.tries))

@@ -28,11 +28,8 @@ use Rattle.sched_laws.proofs.OfferLemmas.{In}
 use Rattle.sched_laws.proofs.RunLemmas.{Key, key, pairs_of_run}
 
 -- ---- the runs
-pub refitted_other : (a : Schedule) (dag : Dag) (r : Run) → same r.graph dag.spec.dag_id ≡ false → refitted a dag r ≡ r
+refitted_other : (a : Schedule) (dag : Dag) (r : Run) → same r.graph dag.spec.dag_id ≡ false → refitted a dag r ≡ r
 refitted_other a dag r e = ap (λ b. cond b (with_fitted a dag r) r) e
-
-pub refitted_this : (a : Schedule) (dag : Dag) (r : Run) → same r.graph dag.spec.dag_id ≡ true → refitted a dag r ≡ with_fitted a dag r
-refitted_this a dag r e = ap (λ b. cond b (with_fitted a dag r) r) e
 
 pub refitted_key : (a : Schedule) (dag : Dag) (r : Run) → key (refitted a dag r) ≡ key r
 refitted_key a dag r = chosen (same r.graph dag.spec.dag_id)

@@ -1,6 +1,6 @@
 //! Laws of replacing: what another text makes of a graph that has runs. What has finished stays finished; no run, no try and no serial goes;
 //! and what is taken of the pools stays as it is.
-ghost use Rattle.std.specs.Prelude.{◌≡◌, ℕ, Bool, List, None, Some, IsTrue, true, false, not, is_none};
+ghost use Rattle.std.specs.Prelude.{◌≡◌, ℕ, List, None, Some, IsTrue, true, false};
 ghost use Rattle.std.specs.List.Sorted.{IsPermutation};
 ghost use Rattle.graph_file.specs.declared.task_specs.TaskSpec.{TaskSpec};
 ghost use Rattle.dag_check.specs.Graphs.{Dag};
@@ -10,7 +10,7 @@ ghost use Rattle.sched_model.specs.instance_machine.declared.tries.Try.{Try};
 ghost use Rattle.sched_model.specs.sched_state.Lists.{same};
 ghost use Rattle.sched_model.specs.sched_state.declared.graphs.LoadedGraph.{LoadedGraph};
 ghost use Rattle.sched_model.specs.sched_state.declared.runs.Run.{Run};
-ghost use Rattle.sched_model.specs.trigger_rules.States.{is_bad, is_failed, is_finished};
+ghost use Rattle.sched_model.specs.trigger_rules.States.{is_failed, is_finished};
 ghost use Rattle.sched_model.specs.trigger_rules.declared.states.State.TheVariants as state;
 ghost use Rattle.sched_model.specs.Causes.{is_unknown_graph, least_moved, lost_task, resized_task, tries_of};
 ghost use Rattle.sched_model.specs.Changes.{new_graph, load_graph};
@@ -19,7 +19,7 @@ ghost use Rattle.sched_model.specs.Schedule.{Schedule, dates_of, graph_named, ha
 ghost use Rattle.sched_model.specs.Sound.{IsSound, is_bounded, is_sound_graph, Says, AllSay};
 ghost use Rattle.sched_model.specs.States.{active_tries, in_flight, occupied};
 ghost use Rattle.sched_laws.specs.Runs.{runs_named};
-ghost use Rattle.sched_laws.specs.Tries.{GoesOn, try_of};
+ghost use Rattle.sched_laws.specs.Tries.{try_of};
 
 /// An instance keeps its tries, and what has finished stays finished: a success, a skip and `upstream_failed` as they are, and a failure as
 /// a failure, or as `upstream_failed` where the new task has tries left for it. A try that is at work is at work.
@@ -42,8 +42,8 @@ pub fn what_has_finished_stays_finished()
         → state_of new (kept_as old new i) ≡ state.Running }
 {}
 
-/// A text that no task of the graph is lost by, and that changes the slots of no task with a try, keeps a sound schedule sound. Here and
-/// below each graph is what its text says, so that the text that a graph has already does not bring other tasks.
+/// A text that no task of the graph is lost by, and that changes the slots of no task with a try, keeps a sound schedule sound. Here, and
+/// of tries below, each graph is what its text says: a text that is there already is not taken in, so it may not bring other tasks.
 pub fn replacing_keeps_soundness()
     ensures { (text : List ℕ) (dag : Dag) (a : Schedule)
         → IsTrue (is_sound_graph a (new_graph text dag)) → IsTrue (is_bounded (new_graph text dag))
