@@ -80,6 +80,27 @@ one_more id rs low n r there own all m q behind before here = elim (eq-or-lt_of_
   | inr less ↦ all m q behind less here
 ]
 
+-- ---- which runs are of the graph
+pub own_inside : (id : List ℕ) (rs : List Run) (low high n : ℕ) (r : Run) → AreRunsOf id rs low high → low ≤ n → n < high → slice_get rs n ≡ Some r → same r.graph id ≡ true
+own_inside id rs low high n r span behind before there =
+    let from : nat_le low n ≡ true = grind (arith, nat_tests, behind) in
+    let to : nat_lt n high ≡ true = grind (arith, nat_tests, before) in
+    span.inside n r there ∙ (ap (λ b. b && nat_lt n high) from ∙ to)
+
+pub other_before : (id : List ℕ) (rs : List Run) (low high n : ℕ) (r : Run) → AreRunsOf id rs low high → n < low → slice_get rs n ≡ Some r → same r.graph id ≡ false
+other_before id rs low high n r span before there =
+    let from : nat_le low n ≡ false = grind (arith, nat_tests, before) in
+    span.inside n r there ∙ ap (λ b. b && nat_lt n high) from
+
+and_none : (b : Bool) → (b && false) ≡ false
+and_none true = refl
+and_none false = refl
+
+pub other_behind : (id : List ℕ) (rs : List Run) (low high n : ℕ) (r : Run) → AreRunsOf id rs low high → high ≤ n → slice_get rs n ≡ Some r → same r.graph id ≡ false
+other_behind id rs low high n r span behind there =
+    let to : nat_lt n high ≡ false = grind (arith, nat_tests, behind) in
+    span.inside n r there ∙ (ap (λ b. nat_le low n && b) to ∙ and_none (nat_le low n))
+
 -- ---- the test of a graph
 pub equal_by : (b c : Bool) → b ≡ not c → b ≡ false → c ≡ true
 equal_by b true e f = refl
