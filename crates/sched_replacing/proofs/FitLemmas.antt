@@ -1,5 +1,5 @@
 -- One run of the graph after another gets its instances.
-use Rattle.std.proofs.Common.{◌≡◌, ◌∙◌, refl, sym, ap, ℕ, suc, ◌+◌, ◌<◌, ◌≤◌, List, [], ◌∷◌, Bool, true, false, cond, map, length, Some, slice_get, arith, zip}
+use Rattle.std.proofs.Common.{◌≡◌, ◌∙◌, refl, sym, ap, ℕ, suc, ◌+◌, ◌<◌, ◌≤◌, List, [], ◌∷◌, true, false, cond, map, length, Some, slice_get, arith, zip}
 use Rattle.graph_file.proofs.WriteLemmas.{written, written_begins, written_all}
 use Rattle.dag_check.specs.Graphs.{Dag}
 use Rattle.instance_machine.specs.Instances.{InstanceValue}

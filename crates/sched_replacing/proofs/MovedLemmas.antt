@@ -1,5 +1,5 @@
 -- The instances at the marked places are those whose task would take other slots.
-use Rattle.std.proofs.Common.{◌≡◌, ◌∙◌, refl, sym, ap, ℕ, suc, ◌+◌, List, [], ◌∷◌, ◌++◌, Bool, true, false, cond, not, ◌&&◌, map, filter, flat_map, Option, Some, option_map, slice_get, unwrap_or, arith, zip}
+use Rattle.std.proofs.Common.{◌≡◌, ◌∙◌, refl, sym, ap, ℕ, suc, ◌+◌, List, [], ◌∷◌, ◌++◌, Bool, true, false, cond, ◌&&◌, map, filter, flat_map, Option, Some, option_map, slice_get, unwrap_or, arith, zip}
 use Rattle.std.specs.List.{enumerate_from}
 use Rattle.std.proofs.lemmas.Option.{slice_get-map}
 use Rattle.graph_file.specs.declared.task_specs.TaskSpec.{TaskSpec}
@@ -9,7 +9,7 @@ use Rattle.sched_state.specs.Lists.{same}
 use Rattle.sched_state.specs.declared.runs.Run.{Run}
 use Rattle.sched_state.proofs.NameLemmas.{same_is}
 use Rattle.sched_model.specs.Causes.{least_in_flight, least_moved, moved_by, open_serials}
-use Rattle.sched_model.specs.Clearing.{Selection, named_in, named_pairs, pairs_of}
+use Rattle.sched_model.specs.Clearing.{Selection, named_in, pairs_of}
 use Rattle.sched_model.specs.Lists.{least}
 use Rattle.sched_model.specs.Schedule.{Schedule, dag_named}
 use Rattle.sched_laws.proofs.FittedLemmas.{Pair}

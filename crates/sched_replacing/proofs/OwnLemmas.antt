@@ -1,5 +1,5 @@
 -- What is read of the runs of a graph, one after another: the first task that takes another number of slots, and the greatest end.
-use Rattle.std.proofs.Common.{◌≡◌, ◌∙◌, refl, sym, ap, ℕ, zero, suc, ◌+◌, ◌<◌, ◌≤◌, List, [], ◌∷◌, ◌++◌, Bool, true, false, cond, not, ◌&&◌, map, filter, flat_map, find, drop, length, max, min, Option, Some, None, option_map, slice_get, get_or, nat_lt, arith, zip}
+use Rattle.std.proofs.Common.{◌≡◌, ◌∙◌, refl, sym, ap, ℕ, zero, suc, ◌+◌, ◌<◌, ◌≤◌, List, [], ◌∷◌, Bool, true, false, cond, not, ◌&&◌, map, filter, flat_map, find, drop, length, max, Option, Some, None, option_map, slice_get, get_or, nat_lt, arith, zip}
 use Rattle.std.specs.Option.{option_or}
 use Rattle.std.proofs.lemmas.List.{drop_all}
 use Rattle.std.proofs.lemmas.List.Folds.{find-append}
@@ -10,7 +10,7 @@ use Rattle.sched_state.specs.Lists.{same}
 use Rattle.sched_state.specs.declared.runs.Run.{Run}
 use Rattle.sched_state.proofs.ElementLemmas.{drop_at}
 use Rattle.sched_state.proofs.NameLemmas.{same_is}
-use Rattle.sched_model.specs.Causes.{greatest, has_slots_of, pairs_named, reached, resized_task, runs_of}
+use Rattle.sched_model.specs.Causes.{greatest, has_slots_of, reached, resized_task}
 use Rattle.sched_model.specs.Clearing.{pairs_of}
 use Rattle.sched_model.specs.Schedule.{Schedule, dag_named}
 use Rattle.sched_laws.proofs.FittedLemmas.{Pair}

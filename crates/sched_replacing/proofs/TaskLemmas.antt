@@ -1,5 +1,5 @@
 -- The new task with the id of an old one, as its place says, and the first old task that has none.
-use Rattle.std.proofs.Common.{◌≡◌, ◌∙◌, refl, sym, ap, ℕ, ◌+◌, ◌<◌, ◌≤◌, ◌==◌, List, Bool, true, false, not, drop, find, length, Option, Some, None, option_map, is_none, is_some, slice_get, true≢false, position}
+use Rattle.std.proofs.Common.{◌≡◌, ◌∙◌, refl, sym, ap, ℕ, ◌+◌, ◌<◌, ◌≤◌, ◌==◌, Bool, true, false, not, drop, find, length, Option, Some, None, option_map, is_none, is_some, slice_get, true≢false, position}
 use Rattle.std.proofs.lemmas.Option.{slice_get-get_or}
 use Rattle.graph_file.specs.Lists.{holds_at}
 use Rattle.graph_file.specs.declared.task_specs.TaskSpec.{TaskSpec}

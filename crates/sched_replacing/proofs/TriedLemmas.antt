@@ -1,9 +1,8 @@
 -- The first marked place whose instance has a try.
-use Rattle.std.proofs.Common.{◌≡◌, ◌∙◌, refl, sym, ap, ℕ, zero, suc, ◌+◌, ◌<◌, ◌≤◌, List, [], ◌∷◌, Bool, true, false, cond, ◌&&◌, drop, length, min, Option, Some, None, slice_get, nat_lt, arith}
-use Rattle.std.proofs.lemmas.List.{drop_all}
+use Rattle.std.proofs.Common.{◌≡◌, ◌∙◌, refl, ap, ℕ, zero, suc, ◌+◌, ◌<◌, ◌≤◌, List, [], ◌∷◌, Bool, true, false, cond, ◌&&◌, drop, length, min, Option, Some, None, slice_get, nat_lt, arith}
 use Rattle.instance_machine.specs.Instances.{InstanceValue}
 use Rattle.sched_state.proofs.ElementLemmas.{drop_at}
-use Rattle.sched_replacing.specs.Marking.{first_tried, tried_from}
+use Rattle.sched_replacing.specs.Marking.{tried_from}
 
 abbrev pub tried_at : List Bool → List InstanceValue → ℕ → Option ℕ
 tried_at ms hs n = tried_from n (drop n ms) (drop n hs)

@@ -16,11 +16,7 @@ use sched_state::Run;
 use std::alloc::{AllocError, Global};
 
 // For each new task, by place, the place of the old one with its id.
-fn sources_of(
-    alloc: Global,
-    old: &Graph,
-    new: &Graph,
-) -> Result<Vec<Option<usize>>, AllocError>
+fn sources_of(alloc: Global, old: &Graph, new: &Graph) -> Result<Vec<Option<usize>>, AllocError>
     ensures { IfOk result (λ sources. sources.items ≡ sources_of old.now.tasks new.now.tasks) }
 {
     let mut sources = Vec::new(alloc);

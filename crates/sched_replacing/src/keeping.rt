@@ -17,11 +17,7 @@ fn is_failed(state: State) -> bool
 }
 
 // The instance, of whose tries no more count than this task may have.
-fn bounded_to(
-    alloc: Global,
-    task: &TaskSpec,
-    instance: &Instance,
-) -> Result<Instance, AllocError>
+fn bounded_to(alloc: Global, task: &TaskSpec, instance: &Instance) -> Result<Instance, AllocError>
     ensures { IfOk result (λ i. i ≡ model.bounded_to task.now.retries instance.now) }
 {
     let mut bounded = instance.copy(alloc)?;

@@ -1,6 +1,4 @@
-use Rattle.std.proofs.Common.{◌≡◌, ◌∙◌, ◌<◌, ap, arith, ℕ, length, max, Some, slice_get}
-use Rattle.sched_state.specs.declared.runs.Run.{Run}
-use Rattle.sched_model.specs.Schedule.{Schedule}
+use Rattle.std.proofs.Common.{arith}
 use Rattle.sched_replacing.proofs.OwnLemmas.{end_begin, end_next, end_over}
 use Rattle.sched_replacing.proofs.causes.reached.Goals as goal
 

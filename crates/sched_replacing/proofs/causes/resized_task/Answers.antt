@@ -1,10 +1,9 @@
-use Rattle.std.proofs.Common.{◌≡◌, ◌∙◌, sym, ap, subst, arith, ℕ, List, Bool, Option, None, Some, map, slice_get}
+use Rattle.std.proofs.Common.{◌≡◌, ◌∙◌, sym, ap, subst, arith, List, Bool, None, Some, map}
 use Rattle.std.proofs.lemmas.List.{length-map}
 use Rattle.graph_file.specs.declared.task_specs.TaskSpec.{TaskSpec}
 use Rattle.graph_file.specs.declared.graph_specs.GraphSpec.{GraphSpec}
 use Rattle.dag_check.specs.Graphs.{Dag}
 use Rattle.sched_state.specs.declared.runs.Run.{Run}
-use Rattle.sched_model.specs.Schedule.{Schedule}
 use Rattle.sched_clearing.specs.Spans.{AreRunsOf}
 use Rattle.sched_replacing.specs.Marking.{first_tried, is_resized}
 use Rattle.sched_replacing.proofs.OwnLemmas.{resized_begin, resized_hit, resized_next, resized_over}

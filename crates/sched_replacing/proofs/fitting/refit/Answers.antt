@@ -1,5 +1,4 @@
-use Rattle.std.proofs.Common.{◌≡◌, ◌∙◌, ◌<◌, refl, ap, subst, arith, ℕ, List, length, map}
-use Rattle.dag_check.specs.Graphs.{Dag}
+use Rattle.std.proofs.Common.{◌∙◌, ◌<◌, refl, ap, subst, arith, ℕ, List, length}
 use Rattle.graph_file.specs.declared.graph_specs.GraphSpec.{GraphSpec}
 use Rattle.sched_state.specs.declared.runs.Run.{Run}
 use Rattle.sched_state.proofs.ElementLemmas.{element_at}
@@ -12,9 +11,9 @@ pub loop-position-init : goal.loop-position-init
 loop-position-init c =
     let span = subst (λ (s : GraphSpec). AreRunsOf s.dag_id c.args.draft.now.content.runs c.span_of_all-span.result.start c.span_of_all-span.result.end) c.spec.ensures.spec c.span_of_all-span.ensures in
     record {
-  base = refl;
-  content = refit_begins c.args.old.now c.args.new.now c.args.draft.now.content c.span_of_all-span.result.start c.span_of_all-span.result.end span;
-}
+      base = refl;
+      content = refit_begins c.args.old.now c.args.new.now c.args.draft.now.content c.span_of_all-span.result.start c.span_of_all-span.result.end span;
+    }
 
 pub refit_run-requires-clause-within : goal.refit_run-requires-clause-within
 refit_run-requires-clause-within c =
@@ -31,7 +30,7 @@ loop-position-preserved c =
     record {
       base = c.in_ok-refit_run.ensures.base ∙ c.loop-position.invariant.base;
       content = refit_turn c.args.old.now c.args.new.now a c.loop-position.draft.content _ c.span_of_all-span.result.start c.span_of_all-span.result.end n r.0 span c.loop-position.auto.position c.loop-position-test.true r.1
-      c.loop-position.invariant.content c.in_ok-refit_run.ensures.draft;
+          c.loop-position.invariant.content c.in_ok-refit_run.ensures.draft;
     }
 
 pub returns-clause-draft : goal.returns-clause-draft
