@@ -88,9 +88,13 @@ has_slots_of dag t = holds_at (λ (u : TaskSpec). u.pool_slots == t.pool_slots) 
 abbrev pub has_pool_of : Dag → TaskSpec → Bool
 has_pool_of dag t = holds_at (λ (u : TaskSpec). same u.pool t.pool) (task_named dag.tasks t.task_id)
 
--- the least serial among the tries without an end whose task would take other slots, if there is one
+-- the instances of the graph's runs whose task would take other slots
+abbrev pub moved_by : Dag → Selection
+moved_by dag r p e = same r.graph dag.spec.dag_id && not (has_slots_of dag e.0 && has_pool_of dag e.0)
+
+-- the least serial among their tries without an end, if there is one
 abbrev pub least_moved : Schedule → Dag → Option ℕ
-least_moved a dag = least (open_serials (flat_map (λ (e : TaskSpec × InstanceValue). e.1.tries) (filter (λ (e : TaskSpec × InstanceValue). not (has_slots_of dag e.0 && has_pool_of dag e.0)) (pairs_named a dag.spec.dag_id))))
+least_moved a dag = least_in_flight a (moved_by dag)
 
 -- the first task of the graph, by place, that the new graph lacks
 abbrev pub lost_task : Schedule → Dag → Option (List ℕ)
