@@ -4,6 +4,7 @@ pub mod SortLemmas
 pub mod AmongLemmas
 pub mod BeforeLemmas
 pub mod NamedLemmas
+pub mod PremiseLemmas
 pub mod InsertLemmas
 pub mod CollectLemmas
 pub mod FitLemmas

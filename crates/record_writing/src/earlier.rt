@@ -47,13 +47,14 @@ impl<'a> Earlier<'a> {
         Earlier { run, dag }
     }
 
-    /// The instance of the task with this id. The task is looked for at a place first, where it mostly stands: that costs one comparison of
-    /// names, and a search among all tasks of the graph where it stands elsewhere.
+    /// The instance of the task with this id. The task is looked for at a place first, where it mostly stands, which costs one comparison of
+    /// ids; where it stands elsewhere it is searched for among all tasks of the graph. Where there was no run nothing is looked for.
     pub fn instance(&self, id: &Name, place: usize) -> Option<&'a Instance>
         ensures { option_copied result ≡ instance_named self.now id.now }
     {
+        let run = self.run?;
         let place = place_near(self.dag, id, place)?;
-        self.run?.instances.as_slice().get(place)
+        run.instances.as_slice().get(place)
     }
 }
 
@@ -76,7 +77,7 @@ pub struct TouchedRun<'a> {
     pub was: Earlier<'a>,
 }
 
-/// The draft's run at a position. There is no answer where its graph is not there. The graph is found by a binary search.
+/// The draft's run at a position; none where its graph is not there. One binary search finds the graph in both, another one the run that there was.
 pub fn touched_run<'a>(
     before: &'a Base<'_>,
     draft: &'a Draft<'_>,
