@@ -8,14 +8,13 @@ use Rattle.instance_machine.specs.Instances.{InstanceValue}
 use Rattle.sched_state.specs.Lists.{same}
 use Rattle.sched_state.specs.declared.runs.Run.{Run}
 use Rattle.sched_state.proofs.NameLemmas.{same_is}
-use Rattle.sched_model.specs.Causes.{least_in_flight, least_moved, moved_by, open_serials}
+use Rattle.sched_model.specs.Causes.{least_in_flight, least_moved, moved_by, open_serials, takes_others}
 use Rattle.sched_model.specs.Clearing.{Selection, named_in, pairs_of}
 use Rattle.sched_model.specs.Lists.{least}
 use Rattle.sched_model.specs.Schedule.{Schedule, dag_named}
 use Rattle.sched_laws.proofs.FittedLemmas.{Pair}
 use Rattle.sched_clearing.specs.Selections.{placed_by}
 use Rattle.sched_clearing.specs.Passing.{passing_from}
-use Rattle.sched_replacing.specs.Marking.{is_moved}
 
 -- those of a run that pass, by the marks of their places or by their tasks
 abbrev marked_at : List Bool → ℕ → Pair → Bool
@@ -38,13 +37,13 @@ marks_pass f all i (t ∷ ts) (h ∷ hs) e =
       | false ↦ rest
     ]
 
-run_named : (a : Schedule) (old new : Dag) (r : Run) → dag_named a new.spec.dag_id ≡ old → named_in a (placed_by new.spec.dag_id (map (is_moved new) old.tasks)) r ≡ named_in a (moved_by new) r
+run_named : (a : Schedule) (old new : Dag) (r : Run) → dag_named a new.spec.dag_id ≡ old → named_in a (placed_by new.spec.dag_id (map (takes_others new) old.tasks)) r ≡ named_in a (moved_by new) r
 run_named a old new r is = elim (same r.graph new.spec.dag_id) as (λ b. same r.graph new.spec.dag_id ≡ b
-    → passing_from (λ p e. b && marked_at (map (is_moved new) old.tasks) p e) 0 (pairs_of a r) ≡ passing_from (λ p e. b && is_moved new e.0) 0 (pairs_of a r)) [
+    → passing_from (λ p e. b && marked_at (map (takes_others new) old.tasks) p e) 0 (pairs_of a r) ≡ passing_from (λ p e. b && takes_others new e.0) 0 (pairs_of a r)) [
       | true ↦ λ e.
           let graph : old ≡ dag_named a r.graph = sym is ∙ ap (dag_named a) (sym (same_is r.graph new.spec.dag_id e)) in
-          ap (λ (g : Dag). passing_from (marked_at (map (is_moved new) g.tasks)) 0 (pairs_of a r)) graph
-          ∙ marks_pass (is_moved new) (dag_named a r.graph).tasks 0 (dag_named a r.graph).tasks r.instances (λ k. let z : 0 + k ≡ k = omega arith in ap (slice_get (dag_named a r.graph).tasks) z)
+          ap (λ (g : Dag). passing_from (marked_at (map (takes_others new) g.tasks)) 0 (pairs_of a r)) graph
+          ∙ marks_pass (takes_others new) (dag_named a r.graph).tasks 0 (dag_named a r.graph).tasks r.instances (λ k. let z : 0 + k ≡ k = omega arith in ap (slice_get (dag_named a r.graph).tasks) z)
       | false ↦ λ e. refl
     ] refl
 
@@ -52,7 +51,7 @@ runs_named : (a : Schedule) (f g : Selection) (rs : List Run) → ((r : Run) →
 runs_named a f g [] h = refl
 runs_named a f g (r ∷ rs) h = ap (λ (es : List Pair). es ++ flat_map (named_in a f) rs) (h r) ∙ ap (λ (es : List Pair). named_in a g r ++ es) (runs_named a f g rs h)
 
-pub moved_is : (a : Schedule) (old new : Dag) → dag_named a new.spec.dag_id ≡ old → least_in_flight a (placed_by new.spec.dag_id (map (is_moved new) old.tasks)) ≡ least_moved a new
+pub moved_is : (a : Schedule) (old new : Dag) → dag_named a new.spec.dag_id ≡ old → least_in_flight a (placed_by new.spec.dag_id (map (takes_others new) old.tasks)) ≡ least_moved a new
 moved_is a old new is =
     ap (λ (es : List Pair). least (open_serials (flat_map (λ (e : Pair). e.1.tries) es)))
-    (runs_named a (placed_by new.spec.dag_id (map (is_moved new) old.tasks)) (moved_by new) a.runs (λ r. run_named a old new r is))
+    (runs_named a (placed_by new.spec.dag_id (map (takes_others new) old.tasks)) (moved_by new) a.runs (λ r. run_named a old new r is))

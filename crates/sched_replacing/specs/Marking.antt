@@ -3,13 +3,9 @@ use Rattle.std.specs.Prelude.{ℕ, ◌+◌, Bool, not, ◌&&◌, cond, List, [],
 use Rattle.graph_file.specs.declared.task_specs.TaskSpec.{TaskSpec}
 use Rattle.dag_check.specs.Graphs.{Dag}
 use Rattle.instance_machine.specs.Instances.{InstanceValue}
-use Rattle.sched_model.specs.Causes.{has_pool_of, has_slots_of}
+use Rattle.sched_model.specs.Causes.{has_slots_of}
 
--- the task takes other slots by the new graph, or those of another pool
-abbrev pub is_moved : Dag → TaskSpec → Bool
-is_moved dag t = not (has_slots_of dag t && has_pool_of dag t)
-
--- it takes another number of them
+-- the task takes another number of slots by the new graph
 abbrev pub is_resized : Dag → TaskSpec → Bool
 is_resized dag t = not (has_slots_of dag t)
 

@@ -1,11 +1,12 @@
 //! What in the runs of a graph stands against another text for it.
-ghost use Rattle.std.specs.Prelude.{◌≡◌, ◌&&◌, length, max, map, nat_lt, true, IfOk};
+ghost use Rattle.std.specs.Prelude.{◌≡◌, ◌==◌, ◌&&◌, length, max, map, nat_lt, true, IfOk};
 ghost use Rattle.std.specs.Option.{option_copied};
 ghost use Rattle.sched_model.specs.Causes as model;
-ghost use Rattle.sched_model.specs.Causes.{has_pool_of, has_slots_of};
+ghost use Rattle.sched_model.specs.Causes.{has_slots_of, takes_others};
 ghost use Rattle.sched_model.specs.Lists.{rises};
 ghost use Rattle.sched_model.specs.Schedule.{Schedule, dag_named, run_before};
-ghost use Rattle.sched_replacing.specs.Marking.{first_tried, is_moved, is_resized};
+ghost use Rattle.sched_replacing.specs.Marking.{first_tried, is_resized};
+ghost use Rattle.sched_state.specs.Lists.{same};
 
 use dag_check::Graph;
 use graph_file::{Name, TaskSpec};
@@ -26,30 +27,30 @@ fn has_slots_of(new: &Graph, task: &TaskSpec) -> bool
     }
 }
 
-// Whether it takes them of the same pool.
-fn has_pool_of(new: &Graph, task: &TaskSpec) -> bool
-    ensures { result ≡ has_pool_of new.now task.now }
+// Whether it takes another number of slots, or those of another pool.
+fn takes_others(new: &Graph, task: &TaskSpec) -> bool
+    ensures { result ≡ takes_others new.now task.now }
 {
     match new.place(&task.task_id) {
-        Some(place) => new.task(place).pool == task.pool,
+        Some(place) => !takes_same(new.task(place), task),
         None => false,
     }
 }
 
-// Whether the task takes other slots by the new graph, or those of another pool.
-fn is_moved(new: &Graph, task: &TaskSpec) -> bool
-    ensures { result ≡ is_moved new.now task.now }
+// Whether the tasks take as many slots, and of the same pool.
+fn takes_same(one: &TaskSpec, other: &TaskSpec) -> bool
+    ensures { result ≡ (one.now.pool_slots == other.now.pool_slots && same one.now.pool other.now.pool) }
 {
-    !(has_slots_of(new, task) && has_pool_of(new, task))
+    one.pool_slots.get() == other.pool_slots.get() && one.pool == other.pool
 }
 
 // The same of each old task, by place.
 fn moved_places(alloc: Global, old: &Graph, new: &Graph) -> Result<Vec<bool>, AllocError>
-    ensures { IfOk result (λ marks. marks.items ≡ map (is_moved new.now) old.now.tasks) }
+    ensures { IfOk result (λ marks. marks.items ≡ map (takes_others new.now) old.now.tasks) }
 {
     let mut marks = Vec::new(alloc);
     for place in 0..old.len() {
-        marks.push(is_moved(new, old.task(place)))?;
+        marks.push(takes_others(new, old.task(place)))?;
     }
     Ok(marks)
 }

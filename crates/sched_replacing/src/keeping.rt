@@ -58,8 +58,7 @@ pub fn newcomer(alloc: Global, phase: RunPhase) -> Instance
 {
     match phase {
         RunPhase::Queued | RunPhase::Running => Instance::new(alloc),
-        RunPhase::Success | RunPhase::Failed => {
-            Instance::of(Some(Verdict::Skip), 0, Vec::new(alloc))
-        }
+        RunPhase::Success => Instance::of(Some(Verdict::Skip), 0, Vec::new(alloc)),
+        RunPhase::Failed => Instance::of(Some(Verdict::UpstreamFailed), 0, Vec::new(alloc)),
     }
 }
