@@ -70,7 +70,7 @@ class Other:
             self.add_task(draw.choice("klmn"), [it["task_id"] for it in tasks])
         elif name == "order":
             draw.shuffle(tasks)
-        elif name == "fewer":
+        elif name == "fewer" and len(tasks) > 1:
             gone = tasks.pop(draw.randrange(len(tasks)))["task_id"]
             for it in tasks:
                 it["upstream"] = [each for each in it.get("upstream", []) if each != gone]
@@ -82,7 +82,7 @@ class Other:
             row[name] = draw.choice(SCHEDULES if name == "schedule" else ["interval", "trigger"])
             if draw.random() < 0.6:
                 self.start_at(self.reached + draw.choice([0, 1]))
-        else:
+        elif name != "fewer":
             row[name] = {"max_active_runs": draw.randint(1, 16), "max_active_tasks": draw.choice([1, 2, 4, 16]), "catchup": draw.random() < 0.7, "dag_id": "d"}[name]
         if row["schedule"] in ("None", "@once"):
             row.pop("timetable", None)
