@@ -208,10 +208,10 @@ class Schedule:
         return [], []
 
     def refuse_change(self, old, new):
-        """What the runs of a graph have against another text of it."""
+        """What the runs of a graph have against another text of it. Of tries in flight only those of tasks that stay are asked: for a task that goes it is no help to wait."""
         runs = self.runs_of(old.name)
         takes = [(task, new.tasks.get(task.name), one) for run in runs for task in old.tasks.values() for one in run.instances[task.name].tries]
-        moved = [one.serial for was, its, one in takes if one.ended is None and not (its and (its.pool, its.slots) == (was.pool, was.slots))]
+        moved = [one.serial for was, its, one in takes if one.ended is None and its and (its.pool, its.slots) != (was.pool, was.slots)]
         if moved:
             raise Refused(f"12 InFlight {min(moved)}")
         gone = [name for name in old.tasks if name not in new.tasks]
@@ -226,12 +226,12 @@ class Schedule:
 
     @staticmethod
     def go_on(run, old, new):
-        """A task that is new is skipped in a run that has finished. What failed for good, and has fewer tries than its task may have now, is set aside. Of any other no more tries
-        count than its task may have now."""
+        """A task that is new is skipped in a run that was a success, and upstream_failed in one that failed. What failed for good, and has fewer tries than its task may have now,
+        is set aside. Of any other no more tries count than its task may have now."""
         for name, task in new.tasks.items():
             one = run.instances[name]
             if name not in old.tasks:
-                one.verdict = "skip" if run.phase in ("success", "failed") else None
+                one.verdict = {"success": "skip", "failed": "upstream_failed"}.get(run.phase)
             elif one.state(old.tasks[name]) == "failed" and len(one.tries) - one.since < 1 + task.retries:
                 one.verdict, one.since = "upstream_failed", len(one.tries)
             else:
