@@ -1,12 +1,13 @@
 #!/usr/bin/env python3
-"""Puts the lists of hand.txt, and one that is drawn, into the page of worked_schedules: once."""
+"""Puts the lists of hand.txt, and one that is drawn, into the page of worked_schedules, in the place of those that are there."""
 import re
 import subprocess
 
 HERE, CRATE = "/work/h8/notes", "/work/h8/crates/worked_schedules"
 SEED = ["--replace", "586", "110"]
+SAID = " ".join(SEED)
 run = lambda *words, **more: subprocess.run(words, stdout=subprocess.PIPE, text=True, check=True, **more).stdout
-title = "== other texts that were drawn\n# `tools/bounded_days --replace 586 110` draws this list and answers it, by rules of its own.\n"
+title = f"== other texts that were drawn\n# `tools/bounded_days {SAID}` draws this list and answers it, by rules of its own.\n"
 drawn = title + run("/work/h8/tools/bounded_days", *SEED)
 pages = {}
 for kind in ("stdin", "stdout"):
@@ -14,10 +15,12 @@ for kind in ("stdin", "stdout"):
     mine = drawn if kind == "stdin" else run("/work/h8/tools/bounded_days", "--answers", input=drawn)
     with open(f"{CRATE}/{kind}", encoding="utf-8") as it:
         page = it.read()
+    was = page.count("\n== ")
+    page = re.sub(r"(?ms)^== (replace: |other texts that were drawn\n).*?(?=^== (?!replace: ))", "", page)
     head, mark, tail = page.partition("== a list that was drawn\n")
     first, second, rest = tail.partition("== a new record that was changed by SQL\n")
     page = head + hand.rstrip("\n") + "\n\n" + mark + first + mine.rstrip("\n") + "\n\n" + second + rest
-    added = hand.count("\n== ") + 1 + 1
+    added = page.count("\n== ") - was
     page = re.sub(r"(\d+) of (\d+) records are", lambda it: f"{int(it[1]) + added} of {int(it[2]) + added} records are", page)
     with open(f"{CRATE}/{kind}", "w", encoding="utf-8") as it:
         it.write(page)
