@@ -1,5 +1,5 @@
 -- The tries of the runs of a graph that takes another text: each is that of its task, with its number, and what is taken of the pools stays.
-use Rattle.std.proofs.Common.{◌≡◌, refl, sym, ap, subst, ◌∙◌, ℕ, ◌+◌, List, [], ◌∷◌, Bool, true, false, cond, not, ◌&&◌, inl, inr, map, filter, flat_map, find, Option, Some, None, option_map, option_and_then, is_some, is_none, slice_get, nat_lt, arith, true≢false, zip, sum_by}
+use Rattle.std.proofs.Common.{◌≡◌, ◌==◌, refl, sym, ap, subst, ◌∙◌, ℕ, ◌+◌, List, [], ◌∷◌, Bool, true, false, cond, not, ◌&&◌, inl, inr, map, filter, flat_map, find, Option, Some, None, option_map, option_and_then, is_some, is_none, slice_get, nat_lt, arith, true≢false, zip, sum_by}
 use Rattle.std.specs.List.{list_all, enumerate_from}
 use Rattle.std.specs.List.Sorted.{IsPermutation}
 use Rattle.std.proofs.lemmas.List.{length-map}
