@@ -18,11 +18,13 @@ use Rattle.sched_draft.specs.Parts.{IsFirstOf, graph_below}
 use Rattle.sched_clearing.specs.Spans.{AreRunsOf}
 
 -- ---- runs of other graphs
+-- what is less is not equal
 less_apart : (o : Ordering) → is_less o ≡ true → is_eq o ≡ false
 less_apart Less e = refl
 less_apart Equal e = absurd (true≢false (sym e))
 less_apart Greater e = absurd (true≢false (sym e))
 
+-- a run of an earlier graph is of another
 below_apart : (id : List ℕ) (r : Run) → graph_below id r ≡ true → same r.graph id ≡ false
 below_apart id r e = sym (is_eq-slice_cmp r.graph id) ∙ less_apart (name_cmp r.graph id) e
 
@@ -32,6 +34,7 @@ later_by Less p e f = absurd (true≢false f)
 later_by Equal p e f = refl
 later_by Greater p e f = absurd (true≢false (sym e))
 
+-- so a run behind one of a later graph is of another
 later_apart : (id : List ℕ) (r q : Run) → run_before r q ≡ true → graph_below id r ≡ false → same r.graph id ≡ false → same q.graph id ≡ false
 later_apart id r q before above apart = false_from_ne_true (same q.graph id) (λ e.
     let is : q.graph ≡ id = same_is q.graph id e in
@@ -48,6 +51,7 @@ AreAllOf id rs low high = (n : ℕ) (r : Run) → low ≤ n → n < high → sli
 abbrev NoneFrom : List ℕ → List Run → ℕ → Type 0
 NoneFrom id rs high = (n : ℕ) (r : Run) → high ≤ n → slice_get rs n ≡ Some r → same r.graph id ≡ false
 
+-- the positions between are those of the graph
 runs_are : (id : List ℕ) (rs : List Run) (low high : ℕ) → IsFirstOf id rs low → high ≤ length rs → AreAllOf id rs low high → NoneFrom id rs high → AreRunsOf id rs low high
 runs_are id rs low high first within all none = record {
   within = within;
@@ -81,31 +85,37 @@ one_more id rs low n r there own all m q behind before here = elim (eq-or-lt_of_
 ]
 
 -- ---- which runs are of the graph
+-- a run between the two positions
 pub own_inside : (id : List ℕ) (rs : List Run) (low high n : ℕ) (r : Run) → AreRunsOf id rs low high → low ≤ n → n < high → slice_get rs n ≡ Some r → same r.graph id ≡ true
 own_inside id rs low high n r span behind before there =
     let from : nat_le low n ≡ true = grind (arith, nat_tests, behind) in
     let to : nat_lt n high ≡ true = grind (arith, nat_tests, before) in
     span.inside n r there ∙ (ap (λ b. b && nat_lt n high) from ∙ to)
 
+-- one before the first
 pub other_before : (id : List ℕ) (rs : List Run) (low high n : ℕ) (r : Run) → AreRunsOf id rs low high → n < low → slice_get rs n ≡ Some r → same r.graph id ≡ false
 other_before id rs low high n r span before there =
     let from : nat_le low n ≡ false = grind (arith, nat_tests, before) in
     span.inside n r there ∙ ap (λ b. b && nat_lt n high) from
 
+-- nothing and anything
 and_none : (b : Bool) → (b && false) ≡ false
 and_none true = refl
 and_none false = refl
 
+-- one from the second on
 pub other_behind : (id : List ℕ) (rs : List Run) (low high n : ℕ) (r : Run) → AreRunsOf id rs low high → high ≤ n → slice_get rs n ≡ Some r → same r.graph id ≡ false
 other_behind id rs low high n r span behind there =
     let to : nat_lt n high ≡ false = grind (arith, nat_tests, behind) in
     span.inside n r there ∙ (ap (λ b. nat_le low n && b) to ∙ and_none (nat_le low n))
 
 -- ---- the test of a graph
+-- the graphs are the same where they do not differ
 pub equal_by : (b c : Bool) → b ≡ not c → b ≡ false → c ≡ true
 equal_by b true e f = refl
 equal_by b false e f = absurd (true≢false (sym e ∙ f))
 
+-- and differ where they are not the same
 pub other_by : (b c : Bool) → b ≡ not c → b ≡ true → c ≡ false
 other_by b true e f = absurd (true≢false (sym f ∙ e))
 other_by b false e f = refl

@@ -17,12 +17,15 @@ use Rattle.sched_clearing.proofs.SpanLemmas.{other_before, other_behind, own_ins
 use Rattle.sched_replacing.specs.Fitting.{refitted_from, with_fitted_from}
 
 -- ---- one run
+-- a run of the graph gets its instances
 own_fits : (old new : Dag) (r : Run) → same r.graph new.spec.dag_id ≡ true → with_fitted_from old new r ≡ refitted_from old new r
 own_fits old new r own = ap (λ b. cond b (with_fitted_from old new r) r) (sym own)
 
+-- one of another graph stays
 other_stays : (old new : Dag) (r : Run) → same r.graph new.spec.dag_id ≡ false → refitted_from old new r ≡ r
 other_stays old new r other = ap (λ b. cond b (with_fitted_from old new r) r) other
 
+-- the run at a position gets its instances
 pub refit_one : (old new : Dag) (a d b : Schedule) (n : ℕ) (r : Run) (hs : List InstanceValue) → slice_get a.runs n ≡ Some r → hs ≡ map (fitted r.phase (zip old.tasks r.instances)) new.tasks → d ≡ a
     → b ≡ record d { runs = at (with_instances hs) n d.runs } → b ≡ record a { runs = at (with_fitted_from old new) n a.runs }
 refit_one old new a d b n r hs there made is set_is =
@@ -33,14 +36,17 @@ refit_one old new a d b n r hs there made is set_is =
 abbrev pub refitted_to : Dag → Dag → ℕ → Schedule → Schedule
 refitted_to old new n a = record a { runs = written (refitted_from old new) a.runs n }
 
+-- the runs before those of the graph stay
 pub refit_begins : (old new : Dag) (a : Schedule) (low high : ℕ) → AreRunsOf new.spec.dag_id a.runs low high → a ≡ refitted_to old new low a
 refit_begins old new a low high span =
     let f : Run → Run = refitted_from old new in
     ap (λ rs. record a { runs = rs }) (written_begins f a.runs ∙ written_passed f a.runs 0 low (omega arith) (λ j r x y there. other_stays old new r (other_before new.spec.dag_id a.runs low high j r span y there)))
 
+-- no run comes or goes
 pub refit_long : (old new : Dag) (a d : Schedule) (n : ℕ) → d ≡ refitted_to old new n a → length d.runs ≡ length a.runs
 refit_long old new a d n is = ap (λ (x : Schedule). length x.runs) is ∙ written_long (refitted_from old new) a.runs n
 
+-- one run more
 pub refit_turn : (old new : Dag) (a d b : Schedule) (low high n : ℕ) (r : Run) → AreRunsOf new.spec.dag_id a.runs low high → low ≤ n → n < high → slice_get a.runs n ≡ Some r → d ≡ refitted_to old new n a
     → b ≡ record d { runs = at (with_fitted_from old new) n d.runs } → b ≡ refitted_to old new (n + 1) a
 refit_turn old new a d b low high n r span behind before there is set_is =
@@ -52,6 +58,7 @@ refit_turn old new a d b low high n r span behind before there is set_is =
     ∙ ap (λ qs. record a { runs = qs }) (at_same (with_fitted_from old new) f rs n r (written_get f a.runs n ∙ there) (own_fits old new r (own_inside new.spec.dag_id a.runs low high n r span behind before there))
     ∙ (written_at f a.runs n inside ∙ ap (written f a.runs) s)))
 
+-- the runs behind those of the graph stay
 pub refit_over : (old new : Dag) (a d : Schedule) (low high n : ℕ) → AreRunsOf new.spec.dag_id a.runs low high → high ≤ n → d ≡ refitted_to old new n a → d ≡ record a { runs = map (refitted_from old new) a.runs }
 refit_over old new a d low high n span over is =
     let f : Run → Run = refitted_from old new in
@@ -60,6 +67,7 @@ refit_over old new a d low high n span over is =
     ∙ written_all f a.runs m (omega arith))
 
 -- ---- as the model has it
+-- one run
 run_is : (a : Schedule) (old new : Dag) (r : Run) → dag_named a new.spec.dag_id ≡ old → refitted_from old new r ≡ refitted a new r
 run_is a old new r is = elim (same r.graph new.spec.dag_id) as (λ b. same r.graph new.spec.dag_id ≡ b → cond b (with_fitted_from old new r) r ≡ cond b (with_fitted a new r) r) [
   | true ↦ λ e.
@@ -68,6 +76,7 @@ run_is a old new r is = elim (same r.graph new.spec.dag_id) as (λ b. same r.gra
   | false ↦ λ e. refl
 ] refl
 
+-- one run after another
 pub runs_are : (a : Schedule) (old new : Dag) (rs : List Run) → dag_named a new.spec.dag_id ≡ old → map (refitted_from old new) rs ≡ map (refitted a new) rs
 runs_are a old new [] is = refl
 runs_are a old new (r ∷ rs) is = ap (λ q. q ∷ map (refitted_from old new) rs) (run_is a old new r is) ∙ ap (λ qs. refitted a new r ∷ qs) (runs_are a old new rs is)

@@ -20,6 +20,7 @@ use Rattle.sched_clearing.specs.Passing.{passing_from}
 abbrev marked_at : List Bool → ℕ → Pair → Bool
 marked_at marks p e = unwrap_or (slice_get marks p) false
 
+-- both are the same, where each mark is that of its task
 marks_pass : (f : TaskSpec → Bool) (all : List TaskSpec) (i : ℕ) (ts : List TaskSpec) (hs : List InstanceValue) → ((k : ℕ) → slice_get all (i + k) ≡ slice_get ts k)
     → passing_from (marked_at (map f all)) i (zip ts hs) ≡ passing_from (λ p (e : Pair). f e.0) i (zip ts hs)
 marks_pass f all i [] hs e = refl
@@ -37,6 +38,7 @@ marks_pass f all i (t ∷ ts) (h ∷ hs) e =
       | false ↦ rest
     ]
 
+-- of each run the same instances are named
 run_named : (a : Schedule) (old new : Dag) (r : Run) → dag_named a new.spec.dag_id ≡ old → named_in a (placed_by new.spec.dag_id (map (takes_others new) old.tasks)) r ≡ named_in a (moved_by new) r
 run_named a old new r is = elim (same r.graph new.spec.dag_id) as (λ b. same r.graph new.spec.dag_id ≡ b
     → passing_from (λ p e. b && marked_at (map (takes_others new) old.tasks) p e) 0 (pairs_of a r) ≡ passing_from (λ p e. b && takes_others new e.0) 0 (pairs_of a r)) [
@@ -47,10 +49,12 @@ run_named a old new r is = elim (same r.graph new.spec.dag_id) as (λ b. same r.
       | false ↦ λ e. refl
     ] refl
 
+-- so of all runs
 runs_named : (a : Schedule) (f g : Selection) (rs : List Run) → ((r : Run) → named_in a f r ≡ named_in a g r) → flat_map (named_in a f) rs ≡ flat_map (named_in a g) rs
 runs_named a f g [] h = refl
 runs_named a f g (r ∷ rs) h = ap (λ (es : List Pair). es ++ flat_map (named_in a f) rs) (h r) ∙ ap (λ (es : List Pair). named_in a g r ++ es) (runs_named a f g rs h)
 
+-- the least serial among them is that of the model
 pub moved_is : (a : Schedule) (old new : Dag) → dag_named a new.spec.dag_id ≡ old → least_in_flight a (placed_by new.spec.dag_id (map (takes_others new) old.tasks)) ≡ least_moved a new
 moved_is a old new is =
     ap (λ (es : List Pair). least (open_serials (flat_map (λ (e : Pair). e.1.tries) es)))

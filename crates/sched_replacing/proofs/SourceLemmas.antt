@@ -13,6 +13,7 @@ use Rattle.sched_model.specs.Replacing.{fitted, fitted_if, kept_as, newcomer}
 use Rattle.sched_laws.proofs.FittedLemmas.{Pair}
 use Rattle.sched_replacing.specs.Fitting.{instance_from, source_of, sources_of}
 
+-- without instances there are no pairs
 zip_none : (ts : List TaskSpec) → zip {K = TaskSpec} {X = InstanceValue} ts [] ≡ []
 zip_none [] = refl
 zip_none (t ∷ ts) = refl
@@ -41,19 +42,23 @@ source_fits r old u =
     (ap (option_and_then (slice_get es)) (position_from-zero own old) ∙ placed_from own 0 old r.instances es (λ k. let z : 0 + k ≡ k = omega arith in ap (slice_get es) z))
 
 -- ---- as it is read
+-- the pair at the place goes on by the new task
 pub source_kept : (r : Run) (old : List TaskSpec) (n : ℕ) (t u : TaskSpec) (h : InstanceValue) → slice_get old n ≡ Some t → slice_get r.instances n ≡ Some h → instance_from r old (Some n) u ≡ kept_as t u h
 source_kept r old n t u h task item = ap (λ (o : Option Pair). fitted_if r.phase o u) (slice_get-zip_some old r.instances n t h task item)
 
+-- a place past the pairs gives what a new task gets
 pub source_over : (r : Run) (old : List TaskSpec) (n : ℕ) (u : TaskSpec) → min (length old) (length r.instances) ≤ n → instance_from r old (Some n) u ≡ newcomer r.phase
 source_over r old n u over =
     let long = length-zip old r.instances in
     ap (λ (o : Option Pair). fitted_if r.phase o u) (slice_get_past (zip old r.instances) n (omega (arith, long, over)))
 
+-- what is read of the places is the place of the task
 pub source_read : (old news : List TaskSpec) (sources : List (Option ℕ)) (n : ℕ) (o : Option ℕ) (u : TaskSpec) → sources ≡ sources_of old news → slice_get sources n ≡ Some o → slice_get news n ≡ Some u → o ≡ source_of old u
 source_read old news sources n o u is source task =
     let c : ◌≡◌ {A = Option (Option ℕ)} (Some o) (Some (source_of old u)) =
     sym source ∙ (ap (λ (xs : List (Option ℕ)). slice_get xs n) is ∙ (slice_get-map (source_of old) news n ∙ ap (option_map (source_of old)) task)) in cc
 
+-- so what is made by it is what the task gets
 pub source_gives : (r : Run) (old news : List TaskSpec) (sources : List (Option ℕ)) (n : ℕ) (o : Option ℕ) (u : TaskSpec) (i : InstanceValue) → sources ≡ sources_of old news → slice_get sources n ≡ Some o → slice_get news n ≡ Some u
     → i ≡ instance_from r old o u → i ≡ fitted r.phase (zip old r.instances) u
 source_gives r old news sources n o u i is source task made = made ∙ (ap (λ (s : Option ℕ). instance_from r old s u) (source_read old news sources n o u is source task) ∙ source_fits r old u)

@@ -7,22 +7,27 @@ use Rattle.sched_replacing.specs.Marking.{tried_from}
 abbrev pub tried_at : List Bool → List InstanceValue → ℕ → Option ℕ
 tried_at ms hs n = tried_from n (drop n ms) (drop n hs)
 
+-- the place is the first, or the search goes on
 tried_first : (ms : List Bool) (hs : List InstanceValue) (n : ℕ) (m : Bool) (h : InstanceValue) (b : Bool) → slice_get ms n ≡ Some m → slice_get hs n ≡ Some h → (nat_lt 0 (length h.tries) && m) ≡ b
     → tried_at ms hs n ≡ cond b (Some n) (tried_at ms hs (n + 1))
 tried_first ms hs n m h b mark item e =
     ap (λ (xs : List Bool). tried_from n xs (drop n hs)) (drop_at ms n m mark)
     ∙ (ap (tried_from n (m ∷ drop (n + 1) ms)) (drop_at hs n h item) ∙ ap (λ c. cond c (Some n) (tried_at ms hs (n + 1))) e)
 
+-- a marked place with a try ends the search
 pub tried_hit : (ms : List Bool) (hs : List InstanceValue) (n : ℕ) (m : Bool) (h : InstanceValue) → slice_get ms n ≡ Some m → slice_get hs n ≡ Some h → (nat_lt 0 (length h.tries) && m) ≡ true → tried_at ms hs n ≡ Some n
 tried_hit ms hs n m h mark item e = tried_first ms hs n m h true mark item e
 
+-- another is passed over
 pub tried_next : (ms : List Bool) (hs : List InstanceValue) (n : ℕ) (m : Bool) (h : InstanceValue) → slice_get ms n ≡ Some m → slice_get hs n ≡ Some h → (nat_lt 0 (length h.tries) && m) ≡ false → tried_at ms hs n ≡ tried_at ms hs (n + 1)
 tried_next ms hs n m h mark item e = tried_first ms hs n m h false mark item e
 
+-- without instances there is none
 tried_empty : (i : ℕ) (ms : List Bool) → tried_from i ms [] ≡ None
 tried_empty i [] = refl
 tried_empty i (m ∷ ms) = refl
 
+-- past the end of one of the two lists there is none
 none_from : (i n : ℕ) (ms : List Bool) (hs : List InstanceValue) → min (length ms) (length hs) ≤ n → tried_from i (drop n ms) (drop n hs) ≡ None
 none_from i zero [] hs b = refl
 none_from i (suc n) [] hs b = refl
@@ -31,6 +36,7 @@ none_from i (suc n) (m ∷ ms) [] b = tried_empty i (drop n ms)
 none_from i zero (m ∷ ms) (h ∷ hs) b = absurd (omega arith)
 none_from i (suc n) (m ∷ ms) (h ∷ hs) b = none_from i n ms hs (omega arith)
 
+-- so there is none behind the last place
 pub tried_over : (ms : List Bool) (hs : List InstanceValue) (n : ℕ) → min (length ms) (length hs) ≤ n → tried_at ms hs n ≡ None
 tried_over ms hs n b = none_from n n ms hs b
 

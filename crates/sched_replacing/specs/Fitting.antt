@@ -8,10 +8,11 @@ use Rattle.sched_state.specs.Lists.{same}
 use Rattle.sched_state.specs.declared.runs.Run.{Run}
 use Rattle.sched_model.specs.Replacing.{fitted, fitted_if}
 
--- for each new task the place of the old one with its id
+-- the place of the old task with the id of a new one
 abbrev pub source_of : List TaskSpec → TaskSpec → Option ℕ
 source_of old new = position (λ (t : TaskSpec). same t.task_id new.task_id) old
 
+-- and of each of them
 abbrev pub sources_of : List TaskSpec → List TaskSpec → List (Option ℕ)
 sources_of old new = map (source_of old) new
 
@@ -19,9 +20,10 @@ sources_of old new = map (source_of old) new
 abbrev pub instance_from : Run → List TaskSpec → Option ℕ → TaskSpec → InstanceValue
 instance_from r old source new = fitted_if r.phase (option_and_then (slice_get (zip old r.instances)) source) new
 
--- a run with the instances of the new tasks, which it has where it is of the graph
+-- a run with the instances of the new tasks
 abbrev pub with_fitted_from : Dag → Dag → Run → Run
 with_fitted_from old new r = record r { instances = map (fitted r.phase (zip old.tasks r.instances)) new.tasks }
 
+-- a run of the graph gets the instances of the new tasks, of those that it has by the old ones; another stays
 abbrev pub refitted_from : Dag → Dag → Run → Run
 refitted_from old new r = if same r.graph new.spec.dag_id then with_fitted_from old new r else r
