@@ -95,9 +95,13 @@ pub(crate) fn resize_command<'a>(alloc: Global) -> Result<Command<'a>, AllocErro
     with_argument(command, size_word(alloc))
 }
 
-/// `load PATH`, of scripts alone.
-pub(crate) fn load_command<'a>(alloc: Global) -> Result<Command<'a>, AllocError>
-    ensures app { IfOk result (λ c. app_of c ≡ spec.load) }
+/// `NAME PATH`, of scripts alone.
+pub(crate) fn of_path<'a>(
+    alloc: Global,
+    name: &'a str,
+    about: &'a str,
+) -> Result<Command<'a>, AllocError>
+    ensures app { IfOk result (λ c. app_of c ≡ spec.of_path name.entry.now) }
     ensures globals { IfOk result (λ c. (fields_of c).has_globals ≡ false) }
 {
     let path = word(
@@ -106,9 +110,7 @@ pub(crate) fn load_command<'a>(alloc: Global) -> Result<Command<'a>, AllocError>
         "PATH",
         "The graph file, or `inline` for the lines up to one that is `.` alone",
     );
-    let command = Command::new(alloc, "load")
-        .about("In a script: takes in a graph file")
-        .hide(true);
+    let command = Command::new(alloc, name).about(about).hide(true);
     let command = command.arg(path)?;
     Ok(command)
 }

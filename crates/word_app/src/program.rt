@@ -6,8 +6,8 @@ ghost use Rattle.word_app.specs.App as spec;
 
 use crate::adding::with_command;
 use crate::commands::{
-    drain_command, explain_command, list_command, load_command, of_dag, resize_command,
-    run_command, tick_command,
+    drain_command, explain_command, list_command, of_dag, of_path, resize_command, run_command,
+    tick_command,
 };
 use crate::repairs::{backfill_command, clear_command};
 use crate::rules::option;
@@ -27,7 +27,7 @@ fn start<'a>(alloc: Global) -> Result<Command<'a>, AllocError>
         .about("Schedules graphs of tasks as Airflow 2 does")
         .version(VERSION)
         .after_help(
-            "A script of run also takes load FILE, tick MOMENT, tick now and drain.\nA moment is 2024-02-29, which is its first second, or 2024-02-29T12:30:00Z, in UTC.",
+            "A script of run also takes load FILE, replace FILE, tick MOMENT, tick now and drain.\nA moment is 2024-02-29, which is its first second, or 2024-02-29T12:30:00Z, in UTC.",
         )
         .no_binary_name(true)
         .subcommand_required(true)
@@ -91,7 +91,14 @@ fn with_script_words<'a>(alloc: Global, command: Command<'a>) -> Result<Command<
     ensures app { IfOk result (λ c. app_of c ≡ spec.with_script_words (app_of command.entry)) }
     ensures globals { IfOk result (λ c. (fields_of c).has_globals ≡ false) }
 {
-    let command = with_command(Ok(command), load_command(alloc));
+    let load = of_path(alloc, "load", "In a script: takes in a graph file");
+    let command = with_command(Ok(command), load);
+    let replace = of_path(
+        alloc,
+        "replace",
+        "In a script: gives a graph that has runs another text",
+    );
+    let command = with_command(command, replace);
     let command = with_command(command, tick_command(alloc));
     with_command(command, drain_command(alloc))
 }
