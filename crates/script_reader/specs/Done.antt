@@ -144,8 +144,8 @@ asked_from names false known = commands_in names known
 -- What was done of a script, of whose bytes these were there at first, and where a drain waited for its answer at first or not: commands one after
 -- another, that drain before those of the bytes, with what the sources answered, and with these exchanges; what was shown of them; this line waits for its
 -- answer; and these bytes are left. What is left and what was shown is not said where the script could not be read or answered further; there one command
--- of a file more may have been read, whose answer was not written. Where the script has ended, no command is left. The status is the greatest of what was done and of the one
--- before.
+-- of a file more may have been read, whose answer was not written. Where the script has ended, no command is left. The status is the greatest of what was
+-- done and of the one before.
 pub record HasDone (names : Texts) (before : ℕ) (drained : Bool) (first : Option (List ℕ)) (gives : List FileAnswer → Type 0) (shows : List ℕ → Type 0) (exchanges : List Exchange) (waits : Option Line) (left : Option (List ℕ)) (status : ℕ) (is_broken has_ended : Bool) : Type 0 where
   pub done : List Done
   pub open_asked : List Request
