@@ -5,7 +5,7 @@ use Rattle.moment_core.specs.Printing.{text_of}
 use Rattle.pool_book.specs.declared.pools.PoolFault.{PoolFault as FaultOfPool}
 use Rattle.pool_book.specs.declared.pools.PoolFault.TheVariants as pool
 use Rattle.sched_events.specs.declared.refusals.Refusal.{Refusal}
-use Rattle.sched_events.specs.declared.refusals.Refusal.TheVariants.{GraphFault, DagFault, UnknownPool, TooManyGraphs, GraphDiffers, UnknownGraph, UnknownTask, ClockBack, BadSpan, RunExists, NoInterval, InFlight, NotInFlight, OutOfTurn, PoolFault, LanesTooMany, RecordFull, Memory}
+use Rattle.sched_events.specs.declared.refusals.Refusal.TheVariants.{GraphFault, DagFault, UnknownPool, TooManyGraphs, GraphDiffers, UnknownGraph, UnknownTask, ClockBack, BadSpan, RunExists, NoInterval, InFlight, NotInFlight, OutOfTurn, PoolFault, LanesTooMany, RecordFull, OtherTasks, OtherSlots, Redoes, Memory}
 use Rattle.answer_lines.specs.GraphFaults.{graph_fault_text}
 use Rattle.answer_lines.specs.DagFaults.{dag_fault_text}
 
@@ -33,4 +33,7 @@ refusal_text (OutOfTurn serial) = codes "refused 14 OutOfTurn " ++ decimal seria
 refusal_text (PoolFault fault) = pool_fault_text fault
 refusal_text LanesTooMany = codes "refused 16 LanesTooMany\n"
 refusal_text RecordFull = codes "refused 17 RecordFull\n"
+refusal_text (OtherTasks task) = codes "refused 18 OtherTasks " ++ task ++ codes "\n"
+refusal_text (OtherSlots task) = codes "refused 19 OtherSlots " ++ task ++ codes "\n"
+refusal_text (Redoes moment) = codes "refused 20 Redoes " ++ text_of moment ++ codes "\n"
 refusal_text Memory = codes "memory\n"

@@ -43,6 +43,15 @@ pub(crate) fn put_refusal<W: Write>(output: &mut W, refusal: &Refusal) -> io::Re
         Refusal::PoolFault(fault) => put_pool_fault(output, *fault),
         Refusal::LanesTooMany => output.write_all(b"refused 16 LanesTooMany\n"),
         Refusal::RecordFull => output.write_all(b"refused 17 RecordFull\n"),
+        Refusal::OtherTasks(task) => {
+            let task = task.as_str();
+            writeln!(output, "refused 18 OtherTasks {task}")
+        }
+        Refusal::OtherSlots(task) => {
+            let task = task.as_str();
+            writeln!(output, "refused 19 OtherSlots {task}")
+        }
+        Refusal::Redoes(moment) => writeln!(output, "refused 20 Redoes {moment}"),
         Refusal::Memory => output.write_all(b"memory\n"),
     }
 }

@@ -17,8 +17,8 @@ use std::io::Write;
 ///
 /// `trigger`, `backfill`, `clear`, `pause`, `unpause` and `resize` open the record within the greatest limits, without lanes, which makes one of version 1
 /// one of version 2, and step their event. `list` and `explain` look at what the record holds, of either version, and leave it as it is. `run` is the
-/// caller's; it and what is for scripts alone, `load`, `tick` and `drain`, have no place here. The console is given what came of an event, or why a question
-/// was not answered, and may tell of it before the output is flushed.
+/// caller's; it and what is for scripts alone, `load`, `replace`, `tick` and `drain`, have no place here. The console is given what came of an event, or why
+/// a question was not answered, and may tell of it before the output is flushed.
 pub fn run_command<S: Alter + Drop, W: Write, P: Console>(
     alloc: Global,
     store: Store<S>,
@@ -32,7 +32,7 @@ pub fn run_command<S: Alter + Drop, W: Write, P: Console>(
         Command::Step(event) => step_event(alloc, store, event, output, console),
         Command::List(listing) => show_rows(alloc, store, *listing, output, console),
         Command::Explain(question) => answer_question(alloc, store, question, output, console),
-        Command::Run(_) | Command::Load(_) | Command::Tick(_) | Command::Drain => {
+        Command::Run(_) | Command::Take(_, _) | Command::Tick(_) | Command::Drain => {
             let fault = CommandFault::Usage(UsageFault::NotHere);
             let put = put(output, Shown::NoCommand(fault));
             (store, status_after(2, put))

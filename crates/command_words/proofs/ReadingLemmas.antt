@@ -91,6 +91,7 @@ command_fine kind.Clear rows = span_fine rows (λ d f t. after (some_name (first
 command_fine kind.Resize rows =
     name_fine (codes "pool") rows (λ p. Ok (command.Step (event.Resize p (number_at 0 1000000 (codes "size") rows)))) (λ p. refl)
 command_fine kind.Load rows = refl
+command_fine kind.Replace rows = refl
 command_fine kind.Tick rows =
     after_fine (time_of (text_at (codes "moment") rows)) (λ t. Ok (command.Tick t)) (time_not (text_at (codes "moment") rows)) (λ t. refl)
 command_fine kind.Drain rows = refl

@@ -14,6 +14,8 @@ use Rattle.command_words.specs.declared.commands.Command.{Command}
 use Rattle.command_words.specs.declared.commands.Command.TheVariants as command
 use Rattle.command_words.specs.declared.kinds.CommandKind.{CommandKind}
 use Rattle.command_words.specs.declared.kinds.CommandKind.TheVariants as kind
+use Rattle.command_words.specs.declared.takings.Taking.{Taking}
+use Rattle.command_words.specs.declared.takings.Taking.TheVariants as taking
 use Rattle.command_words.specs.Values.{after, text_at, flag_at, number_at, name_at, moment_at, moment_of, some_name}
 
 -- `list ROWS`
@@ -22,9 +24,17 @@ listing_of text =
     if bytes_eq text (codes "dags") then listing.Dags
     else (if bytes_eq text (codes "runs") then listing.Runs else (if bytes_eq text (codes "tasks") then listing.Tasks else listing.Pools))
 
--- `load PATH`; `inline` is no path
+-- the event that takes in a text so
+abbrev pub taken : Taking → List ℕ → Event
+taken taking.Load text = event.Load text
+taken taking.Replace text = event.Replace text
+
+-- `load PATH`, `replace PATH`; `inline` is no path
 abbrev pub source_of : Text → GraphSource
 source_of text = if bytes_eq text (codes "inline") then Inline else File text
+
+abbrev pub take_in : Taking → List Row → Command
+take_in how rows = command.Take how (source_of (text_at (codes "path") rows))
 
 -- `tick MOMENT`; `now` is no moment
 abbrev pub time_of : Text → Result TickTime UsageFault
@@ -86,8 +96,9 @@ later_kind name =
     else (if bytes_eq name (codes "clear") then Some kind.Clear
     else (if bytes_eq name (codes "resize") then Some kind.Resize
     else (if bytes_eq name (codes "load") then Some kind.Load
+    else (if bytes_eq name (codes "replace") then Some kind.Replace
     else (if bytes_eq name (codes "tick") then Some kind.Tick
-    else (if bytes_eq name (codes "drain") then Some kind.Drain else None)))))
+    else (if bytes_eq name (codes "drain") then Some kind.Drain else None))))))
 
 abbrev pub kind_named : Text → Option CommandKind
 kind_named name =
@@ -110,7 +121,8 @@ command_in kind.Unpause rows = of_dag event.Unpause rows
 command_in kind.Backfill rows = backfill_in rows
 command_in kind.Clear rows = clear_in rows
 command_in kind.Resize rows = resize_in rows
-command_in kind.Load rows = Ok (command.Load (source_of (text_at (codes "path") rows)))
+command_in kind.Load rows = Ok (take_in taking.Load rows)
+command_in kind.Replace rows = Ok (take_in taking.Replace rows)
 command_in kind.Tick rows = tick_of (text_at (codes "moment") rows)
 command_in kind.Drain rows = Ok command.Drain
 

@@ -1,5 +1,6 @@
 //! What words ask for, and why words ask for nothing.
 use crate::paths::FilePath;
+use crate::takings::Taking;
 use graph_file::{Bounded, Name};
 use moment_core::{Moment, MomentFault};
 use sched_events::Event;
@@ -95,8 +96,8 @@ pub enum Command {
     Explain(Question),
     /// An event for the schedule: `trigger`, `backfill`, `clear`, `pause`, `unpause` or `resize`.
     Step(Event),
-    /// `load`, in a script: a graph file is taken in.
-    Load(GraphSource),
+    /// `load` or `replace`, in a script: a graph file is taken in.
+    Take(Taking, GraphSource),
     /// `tick`, in a script: the clock has reached a moment.
     Tick(TickTime),
     /// `drain`, in a script: waits until no try is in flight.

@@ -15,6 +15,7 @@ pub(crate) enum CommandKind {
     Clear,
     Resize,
     Load,
+    Replace,
     Tick,
     Drain,
 }
@@ -45,6 +46,7 @@ fn later_kind(name: &str) -> Option<CommandKind>
         "clear" => Some(CommandKind::Clear),
         "resize" => Some(CommandKind::Resize),
         "load" => Some(CommandKind::Load),
+        "replace" => Some(CommandKind::Replace),
         "tick" => Some(CommandKind::Tick),
         "drain" => Some(CommandKind::Drain),
         _ => None,

@@ -22,6 +22,7 @@ mod lines;
 mod paths;
 mod readers;
 mod readings;
+mod takings;
 mod values;
 
 pub use commands::{
@@ -30,3 +31,4 @@ pub use commands::{
 pub use laws::{words_ask_for_no_report, words_come_from_clap};
 pub use paths::FilePath;
 pub use readers::{CommandReader, help_text, read_command, refusal_text};
+pub use takings::Taking;

@@ -7,6 +7,7 @@ use crate::commands::{
     Command, GraphSource, Listing, Question, ScriptOptions, TickTime, UsageFault,
 };
 use crate::kinds::CommandKind;
+use crate::takings::Taking;
 use crate::values::{
     flag_at, moment_at, moment_of, name_at, number_at, path_of, some_name, some_path, text_at,
     value_at,
@@ -38,6 +39,14 @@ fn source_of(alloc: Global, text: &str) -> Result<GraphSource, UsageFault>
     }
     let path = path_of(alloc, text)?;
     Ok(GraphSource::File(path))
+}
+
+fn take_in(alloc: Global, matches: &ArgMatches<'_>, taking: Taking) -> Result<Command, UsageFault>
+    ensures ok { IfOk result (λ c. spec.take_in taking (rows_of (found_of matches.now)) ≡ c) }
+    ensures refused { IfErr result (λ e. e ≡ UsageFault.Memory) }
+{
+    let source = source_of(alloc, text_at(matches, "path"))?;
+    Ok(Command::Take(taking, source))
 }
 
 fn time_of(text: &str) -> Result<TickTime, UsageFault>
@@ -148,7 +157,8 @@ pub(crate) fn command_in(
         CommandKind::Backfill => backfill_in(alloc, matches),
         CommandKind::Clear => clear_in(alloc, matches),
         CommandKind::Resize => resize_in(alloc, matches),
-        CommandKind::Load => Ok(Command::Load(source_of(alloc, text_at(matches, "path"))?)),
+        CommandKind::Load => take_in(alloc, matches, Taking::Load),
+        CommandKind::Replace => take_in(alloc, matches, Taking::Replace),
         CommandKind::Tick => Ok(Command::Tick(time_of(text_at(matches, "moment"))?)),
         CommandKind::Drain => Ok(Command::Drain),
     }

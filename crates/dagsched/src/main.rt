@@ -110,6 +110,6 @@ fn do_line<T: Threads + Wait + Sync>(
 fn is_of_scripts(command: &Command) -> bool {
     matches!(
         command,
-        Command::Load(_) | Command::Tick(_) | Command::Drain
+        Command::Take(_, _) | Command::Tick(_) | Command::Drain
     )
 }

@@ -19,7 +19,8 @@ impl<'a> Asked<'a> {
         }
     }
 
-    /// The value after the first, where it is that of a file. A `load inline` has none: it is asked for by its last line, the `.`.
+    /// The value after the first, where it is that of a file. One of `load inline` and `replace inline` has none: it is asked for by its last
+    /// line, the `.`.
     pub fn path(self, alloc: Global) -> Result<Option<&'a str>, AllocError> {
         let values = self.values(alloc)?;
         Ok(values.as_slice().get(1).copied())

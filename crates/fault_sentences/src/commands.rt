@@ -53,11 +53,12 @@ fn place_sentence(alloc: Global, asked: Asked<'_>) -> Result<Option<String>, All
     let values = asked.values(alloc)?;
     let line = match values.as_slice().first().copied() {
         Some("load") => "load FILE",
+        Some("replace") => "replace FILE",
         Some("drain") => "drain",
         _ => "tick now",
     };
     Ok(Some(format!(in alloc;
-        "load, tick and drain stand in a script: echo \"{line}\" | dagsched --record PATH run"
+        "load, replace, tick and drain stand in a script: echo \"{line}\" | dagsched --record PATH run"
     )?))
 }
 
@@ -71,7 +72,7 @@ fn words_sentence(alloc: Global, asked: Asked<'_>) -> Result<Option<String>, All
     if let (true, ["help" | "?" | "quit" | "exit", ..]) = (asked.is_in_script(), parts.as_slice()) {
         return told(
             alloc,
-            "the commands are load, tick, drain, list, explain, trigger, backfill, clear, pause, unpause and resize; a script ends where its input does, on a terminal by Ctrl-D",
+            "the commands are load, replace, tick, drain, list, explain, trigger, backfill, clear, pause, unpause and resize; a script ends where its input does, on a terminal by Ctrl-D",
         );
     }
     if !asked.is_in_script() {
@@ -248,7 +249,7 @@ fn source_sentence(
         )?)),
         SourceFault::NoEnd => told(
             alloc,
-            "the script ends within the graph's text that load inline began: a line that is . alone ends it",
+            "the script ends within the graph's text that load inline or replace inline began: a line that is . alone ends it",
         ),
         SourceFault::Memory => Ok(None),
     }

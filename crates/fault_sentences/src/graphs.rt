@@ -249,10 +249,17 @@ fn cycle_sentence(
     Ok(Some(text))
 }
 
-// What is to be told of a graph that was loaded: an argument that is probably not meant so, and a pool that is too small.
-pub fn load_note(alloc: Global, text: &str) -> Result<Option<Note>, AllocError> {
+// What is to be told of a text that was taken in: an argument that is probably not meant so, and a pool that is too small; and of one that was put in the
+// place of another, up to which moment there are runs.
+pub fn taken_note(alloc: Global, text: &str, is_change: bool) -> Result<Option<Note>, AllocError> {
     let Ok(spec) = read_graph(alloc, text) else {
         return Ok(None);
+    };
+    let id = spec.dag_id.copy(alloc)?;
+    let rest = if is_change {
+        Rest::Change(id)
+    } else {
+        Rest::Slots(id)
     };
     let text = match spec.tasks.as_slice().iter().find(|task| has_braces(task)) {
         Some(task) => {
@@ -263,10 +270,7 @@ pub fn load_note(alloc: Global, text: &str) -> Result<Option<Note>, AllocError> 
         }
         None => String::new(alloc),
     };
-    Ok(Some(Note {
-        text,
-        rest: Rest::Slots(spec.dag_id.copy(alloc)?),
-    }))
+    Ok(Some(Note { text, rest }))
 }
 
 // Whether an argument looks like a template of Airflow.

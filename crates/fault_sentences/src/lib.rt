@@ -16,6 +16,7 @@
 
 mod airflow;
 mod asked;
+mod changes;
 mod commands;
 mod console;
 mod graphs;

@@ -1,7 +1,8 @@
 //! What is to be told of a command.
 use crate::asked::Asked;
+use crate::changes::{push_old_slots, push_reach};
 use crate::commands::command_sentence;
-use crate::graphs::load_note;
+use crate::graphs::taken_note;
 use crate::idle::{Idle, done_note};
 use crate::keys::hint_of;
 use crate::records::{clock_sentence, end_sentence, store_sentence};
@@ -9,7 +10,6 @@ use crate::refusals::{refusal_note, unexplained_note};
 use graph_file::Name;
 use moment_core::Moment;
 use sched_events::{Answer, Event};
-use sched_state::LoadedGraph;
 use script_reader::{Fault, Schedule, Shown};
 use std::alloc::{AllocError, Global};
 use std::io;
@@ -33,6 +33,10 @@ pub enum Rest {
     Try(u64),
     /// The first task of this graph that needs more slots than its pool has.
     Slots(Name),
+    /// The same of this graph, which has another text now, and how far its runs reach.
+    Change(Name),
+    /// The number of slots that a task of this graph has.
+    OldSlots(Name, Name),
     /// Which graph was probably meant by this word.
     Near(String),
     /// Why a command changed nothing.
@@ -49,7 +53,8 @@ pub fn note_of(
     shown: Shown<'_>,
 ) -> Result<Option<Note>, AllocError> {
     match shown {
-        Shown::Answer(Event::Load(text), _) => load_note(alloc, text.as_str()),
+        Shown::Answer(Event::Load(text), _) => taken_note(alloc, text.as_str(), false),
+        Shown::Answer(Event::Replace(text), _) => taken_note(alloc, text.as_str(), true),
         Shown::Answer(Event::Trigger(graph), answer) => trigger_note(alloc, graph, answer),
         Shown::Answer(done, answer) => done_note(alloc, done, answer),
         Shown::Failure(fault) => failure_note(alloc, asked, event, fault),
@@ -137,10 +142,12 @@ impl Note {
             Rest::Nothing => Ok(()),
             Rest::Clock => push_clock(sentence, schedule),
             Rest::Try(serial) => push_try(sentence, schedule, *serial),
-            Rest::Slots(graph) => match schedule.graph_of(graph) {
-                Some(graph) => push_slots(sentence, schedule, graph),
-                None => Ok(()),
-            },
+            Rest::Slots(graph) => push_slots(sentence, schedule, graph),
+            Rest::Change(graph) => {
+                push_slots(sentence, schedule, graph)?;
+                push_reach(sentence, schedule, graph)
+            }
+            Rest::OldSlots(graph, task) => push_old_slots(sentence, schedule, graph, task),
             Rest::Near(word) => push_near(alloc, sentence, schedule, word.as_str()),
             Rest::Idle(idle) => idle.push_why(sentence, schedule),
             Rest::Paused(graph) => push_paused(sentence, schedule, graph),
@@ -220,11 +227,10 @@ fn place_of(schedule: &Schedule, serial: u64) -> Option<(&Name, Moment, &Name)> 
 }
 
 // Adds the first task that needs more slots than its pool has.
-fn push_slots(
-    sentence: &mut String,
-    schedule: &Schedule,
-    graph: &LoadedGraph,
-) -> Result<(), AllocError> {
+fn push_slots(sentence: &mut String, schedule: &Schedule, graph: &Name) -> Result<(), AllocError> {
+    let Some(graph) = schedule.graph_of(graph) else {
+        return Ok(());
+    };
     for task in graph.dag.spec().tasks.as_slice() {
         let needed = task.pool_slots.get();
         let size = size_of(schedule, &task.pool);

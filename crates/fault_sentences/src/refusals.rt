@@ -1,5 +1,6 @@
 //! Sentences on events that are refused, and on questions without an answer.
 use crate::asked::Asked;
+use crate::changes::{change_rest, change_sentence};
 use crate::graphs::{dag_sentence, graph_sentence, pool_sentence};
 use crate::moments::DATES_HINT;
 use crate::notes::{Note, Rest};
@@ -27,6 +28,7 @@ pub fn refusal_note(
 // What the schedule says beside it.
 fn rest_of(alloc: Global, event: Option<&Event>, refusal: &Refusal) -> Result<Rest, AllocError> {
     match (refusal, event) {
+        (refusal, Some(Event::Replace(text))) => change_rest(alloc, text.as_str(), refusal),
         (Refusal::RunExists | Refusal::NoInterval, _) => Ok(Rest::Clock),
         (Refusal::InFlight(serial), _) => Ok(Rest::Try(*serial)),
         (Refusal::UnknownGraph, Some(event)) => match graph_of(event) {
@@ -49,14 +51,12 @@ fn sentence_of(
     refusal: &Refusal,
 ) -> Result<Option<String>, AllocError> {
     match (refusal, event) {
-        (Refusal::GraphFault(fault), Some(Event::Load(text))) => {
-            graph_sentence(alloc, asked, text.as_str(), *fault)
-        }
-        (Refusal::DagFault(fault), Some(Event::Load(text))) => {
-            dag_sentence(alloc, asked, text.as_str(), fault)
-        }
-        (Refusal::UnknownPool(pool), Some(Event::Load(text))) => {
-            pool_sentence(alloc, asked, text.as_str(), pool)
+        (refusal, Some(Event::Load(text))) => text_sentence(alloc, asked, text.as_str(), refusal),
+        (refusal, Some(Event::Replace(text))) => {
+            match change_sentence(alloc, text.as_str(), refusal)? {
+                Some(sentence) => Ok(Some(sentence)),
+                None => text_sentence(alloc, asked, text.as_str(), refusal),
+            }
         }
         (Refusal::ClockBack(now), _) => Ok(Some(format!(in alloc;
             "the moment lies before {now}, which the record's clock has reached: it never goes back"
@@ -65,10 +65,29 @@ fn sentence_of(
         (Refusal::UnknownTask, Some(Event::Clear(clearing))) => {
             missing(alloc, clearing.task.as_ref(), "task")
         }
-        (refusal, _) => match plain(refusal) {
-            Some(text) => Ok(Some(String::from_str(alloc, text)?)),
-            None => Ok(None),
-        },
+        (refusal, _) => plain_sentence(alloc, refusal),
+    }
+}
+
+// Why a text is not taken in.
+fn text_sentence(
+    alloc: Global,
+    asked: Asked<'_>,
+    text: &str,
+    refusal: &Refusal,
+) -> Result<Option<String>, AllocError> {
+    match refusal {
+        Refusal::GraphFault(fault) => graph_sentence(alloc, asked, text, *fault),
+        Refusal::DagFault(fault) => dag_sentence(alloc, asked, text, fault),
+        Refusal::UnknownPool(pool) => pool_sentence(alloc, asked, text, pool),
+        _ => plain_sentence(alloc, refusal),
+    }
+}
+
+fn plain_sentence(alloc: Global, refusal: &Refusal) -> Result<Option<String>, AllocError> {
+    match plain(refusal) {
+        Some(text) => Ok(Some(String::from_str(alloc, text)?)),
+        None => Ok(None),
     }
 }
 
@@ -79,7 +98,7 @@ fn plain(refusal: &Refusal) -> Option<&'static str> {
             Some("there are 256 graphs, and none is ever taken out: another record has room")
         }
         Refusal::GraphDiffers => Some(
-            "the graph has runs, so its text stays as it is: load the new one under another dag_id",
+            "the graph has runs, and load leaves its text as it is: say replace in the place of load",
         ),
         Refusal::BadSpan => Some("TO lies before FROM: the order is FROM TO"),
         Refusal::RunExists => Some(

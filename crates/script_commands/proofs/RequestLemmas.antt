@@ -7,6 +7,7 @@ use Rattle.script_commands.specs.Commands.Place.{Outside, Inside}
 use Rattle.script_commands.specs.declared.meanings.LineMeaning.{LineMeaning}
 use Rattle.script_commands.specs.declared.meanings.LineMeaning.TheVariants as means
 use Rattle.command_words.specs.declared.commands.UsageFault.{UsageFault}
+use Rattle.command_words.specs.declared.takings.Taking.{Taking}
 use Rattle.script_commands.specs.declared.commands.ScriptCommand.{ScriptCommand}
 use Rattle.script_commands.specs.declared.commands.CommandFault.TheVariants.{Usage}
 
@@ -61,14 +62,14 @@ module _ (names : Texts) where
   }
 
   -- a graph's text
-  pub left-text : (rest rest' rest'' : Option (List ℕ)) (commands : List Request) (given : Request) (l : Left rest commands) → Asks l.left means.Text rest' → ((bytes : List ℕ) → rest' ≡ Some bytes → IsFirst names (commands_from names (Inside (Some [])) (lines_of bytes)) given rest'') → IsFirst names commands given rest''
+  pub left-text : (rest rest' rest'' : Option (List ℕ)) (commands : List Request) (given : Request) (taking : Taking) (l : Left rest commands) → Asks l.left (means.Text taking) rest' → ((bytes : List ℕ) → rest' ≡ Some bytes → IsFirst names (commands_from names (Inside taking (Some [])) (lines_of bytes)) given rest'') → IsFirst names commands given rest''
   unfolding commands_in
-  left-text rest rest' rest'' commands given l (line, first, e) text =
+  left-text rest rest' rest'' commands given taking l (line, first, e) text =
       let at = text first.left first.known in
       record {
         wanted = at.wanted;
         left = at.left;
         known = at.known;
-        first = l.same ∙ (commands-next l.left line first.left means.Text first.lines e ∙ at.first);
+        first = l.same ∙ (commands-next l.left line first.left (means.Text taking) first.lines e ∙ at.first);
         same = at.same;
       }

@@ -5,7 +5,7 @@ use Rattle.text_words.specs.Words.{words}
 use Rattle.word_app.specs.App.{Texts}
 use Rattle.sched_events.specs.declared.events.Event.{Event}
 use Rattle.sched_events.specs.declared.events.Event.TheVariants.{Report, Restart}
-use Rattle.command_words.specs.Commands.{is_of_words}
+use Rattle.command_words.specs.Commands.{is_of_words, taken}
 use Rattle.command_words.specs.Lines.{line_of}
 use Rattle.command_words.specs.declared.commands.Command.{Command}
 use Rattle.command_words.specs.declared.commands.Command.TheVariants as says
@@ -13,6 +13,8 @@ use Rattle.command_words.specs.declared.commands.CommandLine.{CommandLine}
 use Rattle.command_words.specs.declared.commands.GraphSource.TheVariants.{File, Inline}
 use Rattle.command_words.specs.declared.commands.TickTime.TheVariants.{At, Now}
 use Rattle.command_words.specs.declared.commands.UsageFault.{UsageFault}
+use Rattle.command_words.specs.declared.takings.Taking.{Taking}
+use Rattle.command_words.specs.declared.takings.Taking.TheVariants as takings
 use Rattle.script_commands.specs.Commands.{is_bad, is_skipped, meaning_of}
 use Rattle.script_commands.specs.Meanings.{asks_of_script, is_of_script, IsReadAs, meaning_by, of_command, of_parts, of_reading}
 use Rattle.script_commands.specs.declared.commands.ScriptCommand.TheVariants.{Step}
@@ -26,6 +28,11 @@ either : (b : Bool) (x y : LineMeaning) → Good x → Good y → Good (cond b x
 either true x y gx gy = gx
 either false x y gx gy = gy
 
+-- a text that is taken in
+pub good_text : (taking : Taking) (text : List ℕ) → is_of_script (Step (taken taking text)) ≡ true
+good_text takings.Load text = refl
+good_text takings.Replace text = refl
+
 good_event : (e : Event) → is_of_words (says.Step e) ≡ true → is_of_script (Step e) ≡ true
 good_event (Report serial stage) given = given
 good_event (Restart lanes) given = given
@@ -36,8 +43,8 @@ good_command (says.Run options) given = refl
 good_command (says.List listing) given = refl
 good_command (says.Explain question) given = refl
 good_command (says.Step e) given = good_event e given
-good_command (says.Load (File path)) given = refl
-good_command (says.Load Inline) given = refl
+good_command (says.Take taking (File path)) given = refl
+good_command (says.Take taking Inline) given = refl
 good_command (says.Tick (At moment)) given = refl
 good_command (says.Tick Now) given = refl
 good_command says.Drain given = refl

@@ -3,8 +3,9 @@ use Rattle.std.specs.Prelude.{◌≡◌, ◌⊎◌, ℕ, Bool, true, not, ◌==�
 use Rattle.std.specs.Str.{bytes_eq, is_utf8}
 use Rattle.text_words.specs.Words.{words}
 use Rattle.script_lines.specs.Lines.{lines_of, line_limit, newline, IsFirstLine}
-use Rattle.sched_events.specs.declared.events.Event.TheVariants.{Load}
 use Rattle.word_app.specs.App.{Texts}
+use Rattle.command_words.specs.Commands.{taken}
+use Rattle.command_words.specs.declared.takings.Taking.{Taking}
 use Rattle.command_words.specs.declared.commands.UsageFault.TheVariants.{BadLine}
 use Rattle.script_commands.specs.Meanings.{meaning_by, is_of_script, IsReadAs}
 use Rattle.script_commands.specs.declared.meanings.LineMeaning.{LineMeaning}
@@ -37,10 +38,10 @@ meaning_of names line =
     if is_skipped line then means.Nothing
     else (if is_bad line then means.Fault BadLine else meaning_by names (words line))
 
--- where a script stands: outside of a graph's text, or inside of one, with what it has so far, or none after a bad line
+-- where a script stands: outside of a graph's text, or inside of one that is taken in so, with what it has so far, or none after a bad line
 pub data Place : Type 0 where
   Outside : Place
-  Inside : Option (List ℕ) → Place
+  Inside : Taking → Option (List ℕ) → Place
 
 -- one more line of a graph's text, with its newline
 abbrev pub with_newline : Option (List ℕ) → List ℕ → Option (List ℕ)
@@ -50,15 +51,15 @@ with_newline text line = option_map (λ t. t ++ (line ++ newline ∷ [])) text
 abbrev pub with_line : Option (List ℕ) → List ℕ → Option (List ℕ)
 with_line text line = if is_bad line then None else with_newline text line
 
--- what a graph's text asks for
-abbrev pub load_of : Option (List ℕ) → Request
-load_of (Some text) = Ok (Step (Load text))
-load_of None = Err (Usage BadLine)
+-- what a graph's text asks for that is taken in so
+abbrev pub take_of : Taking → Option (List ℕ) → Request
+take_of taking (Some text) = Ok (Step (taken taking text))
+take_of taking None = Err (Usage BadLine)
 
 -- what an asking line gives, before what the lines after it give from a place on
 abbrev pub given_by : LineMeaning → (Place → List Request) → List Request
 given_by means.Nothing after = after Outside
-given_by means.Text after = after (Inside (Some []))
+given_by (means.Text taking) after = after (Inside taking (Some []))
 given_by (means.This command) after = Ok command ∷ after Outside
 given_by (means.Fault fault) after = Err (Usage fault) ∷ after Outside
 
@@ -69,10 +70,10 @@ ends_text line = bytes_eq line (codes ".")
 -- the commands of lines from a place on
 abbrev pub commands_from : Texts → Place → List (List ℕ) → List Request
 commands_from names Outside [] = []
-commands_from names (Inside text) [] = Err (Source NoEnd) ∷ []
+commands_from names (Inside taking text) [] = Err (Source NoEnd) ∷ []
 commands_from names Outside (l ∷ ls) = given_by (meaning_of names l) (λ place. commands_from names place ls)
-commands_from names (Inside text) (l ∷ ls) =
-    if ends_text l then load_of text ∷ commands_from names Outside ls else commands_from names (Inside (with_line text l)) ls
+commands_from names (Inside taking text) (l ∷ ls) =
+    if ends_text l then take_of taking text ∷ commands_from names Outside ls else commands_from names (Inside taking (with_line text l)) ls
 
 -- the commands of a script's bytes, in order, where these are the words that `list` takes
 unfoldable pub commands_in : Texts → List ℕ → List Request
@@ -85,7 +86,7 @@ IsMeaning names bytes next rest = MatchOption next ((bytes ≡ []) × (rest ≡ 
 
 -- want of memory can come in the place of a graph's text, and of nothing else
 abbrev pub IsGiven : Request → Request → Type 0
-IsGiven wanted given = (given ≡ wanted) ⊎ ((given ≡ Err (Source Memory)) × ((text : List ℕ) × (wanted ≡ Ok (Step (Load text)))))
+IsGiven wanted given = (given ≡ wanted) ⊎ ((given ≡ Err (Source Memory)) × ((taking : Taking) × (text : List ℕ) × (wanted ≡ Ok (Step (taken taking text)))))
 
 -- of these commands the first is given; the others are those of the bytes that are left
 pub record IsFirst (names : Texts) (commands : List Request) (given : Request) (rest : Option (List ℕ)) : Type 0 where

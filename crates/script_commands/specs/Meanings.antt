@@ -11,17 +11,18 @@ use Rattle.command_words.specs.declared.commands.GraphSource.{GraphSource}
 use Rattle.command_words.specs.declared.commands.GraphSource.TheVariants.{File, Inline}
 use Rattle.command_words.specs.declared.commands.TickTime.{TickTime}
 use Rattle.command_words.specs.declared.commands.TickTime.TheVariants.{At, Now}
+use Rattle.command_words.specs.declared.takings.Taking.{Taking}
 use Rattle.command_words.specs.declared.commands.UsageFault.{UsageFault}
 use Rattle.command_words.specs.declared.commands.UsageFault.TheVariants.{NotHere}
 use Rattle.script_commands.specs.declared.meanings.LineMeaning.{LineMeaning}
 use Rattle.script_commands.specs.declared.meanings.LineMeaning.TheVariants.{Nothing, Text as TextFollows, This, Fault}
 use Rattle.script_commands.specs.declared.commands.ScriptCommand.{ScriptCommand}
-use Rattle.script_commands.specs.declared.commands.ScriptCommand.TheVariants.{Step, LoadFile, TickNow, Drain, List as ListRows, Explain}
+use Rattle.script_commands.specs.declared.commands.ScriptCommand.TheVariants.{Step, TakeFile, TickNow, Drain, List as ListRows, Explain}
 
--- `load inline`, whose text follows, and `load PATH`
-abbrev pub of_source : GraphSource → LineMeaning
-of_source Inline = TextFollows
-of_source (File path) = This (LoadFile path)
+-- `load inline` and `replace inline`, whose text follows, and `load PATH` and `replace PATH`
+abbrev pub of_source : Taking → GraphSource → LineMeaning
+of_source taking Inline = TextFollows taking
+of_source taking (File path) = This (TakeFile taking path)
 
 -- `tick MOMENT`, `tick now`
 abbrev pub of_time : TickTime → LineMeaning
@@ -34,7 +35,7 @@ of_command (says.Run options) = Fault NotHere
 of_command (says.List listing) = This (ListRows listing)
 of_command (says.Explain question) = This (Explain question)
 of_command (says.Step event) = This (Step event)
-of_command (says.Load source) = of_source source
+of_command (says.Take taking source) = of_source taking source
 of_command (says.Tick time) = of_time time
 of_command says.Drain = This Drain
 

@@ -1,14 +1,15 @@
 //! What a script asks for, and why a line is no command.
-use command_words::{FilePath, Listing, Question, UsageFault};
+use command_words::{FilePath, Listing, Question, Taking, UsageFault};
 use sched_events::Event;
 
 /// What a script asks for.
 #[derive(Debug, Drop)]
 pub enum ScriptCommand {
-    /// An event for the schedule: `load inline` with its text, `tick MOMENT`, `trigger`, `backfill`, `clear`, `pause`, `unpause` or `resize`.
+    /// An event for the schedule: `load inline` or `replace inline` with its text, `tick MOMENT`, `trigger`, `backfill`, `clear`, `pause`, `unpause` or
+    /// `resize`.
     Step(Event),
-    /// `load PATH`: the graph file at this path is loaded.
-    LoadFile(FilePath),
+    /// `load PATH` or `replace PATH`: the graph file at this path is taken in.
+    TakeFile(Taking, FilePath),
     /// `tick now`: a tick at the moment that it is.
     TickNow,
     /// `drain`: waits until no try is in flight.

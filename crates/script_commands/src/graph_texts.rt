@@ -6,14 +6,13 @@ ghost use Rattle.std.specs.Prelude.{◌≡◌, ℕ, true, List, [], ◌∷◌, �
 ghost use Rattle.word_app.specs.App.{Texts};
 ghost use Rattle.script_lines.specs.Lines.{line_limit, lines_of};
 ghost use Rattle.script_commands.specs.Commands as spec;
-ghost use Rattle.script_commands.specs.Commands.{IsFirst, IsGiven, commands_from, is_asked, load_of, with_line, with_newline};
+ghost use Rattle.script_commands.specs.Commands.{IsFirst, IsGiven, commands_from, is_asked, take_of, with_line, with_newline};
 ghost use Rattle.script_commands.specs.Commands.Place.{Inside};
 ghost use Rattle.script_commands.specs.Gathered.{Gathers};
 
 use crate::commands::{CommandFault, ScriptCommand, SourceFault};
 use crate::requests::{MOST_LINES, text_of};
-use command_words::UsageFault;
-use sched_events::Event;
+use command_words::{Taking, UsageFault};
 use sched_state::GraphText;
 use script_lines::{Found, LineReader};
 use std::alloc::{AllocError, Global};
@@ -58,15 +57,16 @@ impl Gathered {
         }
     }
 
-    // The command that loads it.
-    fn load(self) -> Result<ScriptCommand, CommandFault>
-        ensures load { (text : Option (List ℕ)) → Gathers text self → IsGiven (load_of text) result }
+    // The command that takes it in.
+    fn take(self, taking: Taking) -> Result<ScriptCommand, CommandFault>
+        ensures take { (text : Option (List ℕ)) → Gathers text self → IsGiven (take_of taking text) result }
         ensures asked { is_asked result ≡ true }
     {
         match self {
-            Gathered::Text(text) => Ok(ScriptCommand::Step(Event::Load(GraphText::from_string(
-                text,
-            )))),
+            Gathered::Text(text) => {
+                let event = taking.event(GraphText::from_string(text));
+                Ok(ScriptCommand::Step(event))
+            }
             Gathered::BadLine => Err(CommandFault::Usage(UsageFault::BadLine)),
             Gathered::Memory => Err(CommandFault::Source(SourceFault::Memory)),
         }
@@ -81,20 +81,21 @@ fn push_line(text: &mut String, line: &str) -> Result<(), AllocError>
     text.push('\n')
 }
 
-// Reads a graph's text to its end, and the command that loads it.
+// Reads a graph's text to its end, and the command that takes it in.
 pub(crate) fn read_text<R: Read>(
     alloc: Global,
     lines: &mut LineReader,
     input: &mut R,
+    taking: Taking,
 ) -> io::Result<Result<ScriptCommand, CommandFault>>
     ensures first { IfOk result (λ given. (names : Texts) (bytes : List ℕ) → R.remaining input.old ≡ Some bytes
-        → IsFirst names (commands_from names (Inside (Some [])) (lines_of bytes)) given (R.remaining input.new)) }
+        → IsFirst names (commands_from names (Inside taking (Some [])) (lines_of bytes)) given (R.remaining input.new)) }
     ensures asked { IfOk result (λ given. is_asked given ≡ true) }
 {
     let mut gathered = Gathered::Text(String::new(alloc));
     for _line in 0..MOST_LINES {
         match lines.read(input)? {
-            Found::Line if ends_text(lines.line()) => return Ok(gathered.load()),
+            Found::Line if ends_text(lines.line()) => return Ok(gathered.take(taking)),
             Found::Line => gathered = gathered.with_line(lines.line()),
             Found::LongLine { .. } => gathered = Gathered::BadLine,
             Found::End => return Ok(Err(CommandFault::Source(SourceFault::NoEnd))),

@@ -1,7 +1,7 @@
 //! The commands of a script: what its lines ask for, in order.
 //!
 //! A script is read line by line. [`next_command`] reads the next command of an input: a line of its own, whose words `command_words` reads, or a
-//! graph's text that stands between `load inline` and a line that is `.` alone. A line that is no command is answered by its fault, and reading goes
+//! graph's text that stands between `load inline` or `replace inline` and a line that is `.` alone. A line that is no command is answered by its fault, and reading goes
 //! on after it. Lines are read in bounded memory; a line's words and the text of a graph want more.
 //!
 //! ```text
@@ -23,6 +23,7 @@
 //! list pools
 //! tick now
 //! drain
+//! replace graphs/hourly.toml
 //! ```
 #![tactic(auto)]
 

@@ -6,7 +6,9 @@ ghost use Rattle.script_commands.specs.Meanings as spec;
 ghost use Rattle.script_commands.specs.Meanings.{IsReadAs, meaning_by};
 
 use crate::commands::ScriptCommand;
-use command_words::{Command, CommandLine, CommandReader, GraphSource, TickTime, UsageFault};
+use command_words::{
+    Command, CommandLine, CommandReader, GraphSource, Taking, TickTime, UsageFault,
+};
 use sched_events::Event;
 use std::alloc::{AllocError, Global};
 use std::str;
@@ -17,8 +19,8 @@ use text_words::next_word;
 pub(crate) enum LineMeaning {
     // Nothing: it is passed over.
     Nothing,
-    // `load inline`: the lines that follow are a graph's text.
-    Text,
+    // `load inline` or `replace inline`: the lines that follow are a graph's text.
+    Text(Taking),
     // A command of one line.
     This(ScriptCommand),
     // It is no command.
@@ -98,18 +100,18 @@ fn meaning_of_command(command: Command) -> LineMeaning
         Command::List(listing) => LineMeaning::This(ScriptCommand::List(listing)),
         Command::Explain(question) => LineMeaning::This(ScriptCommand::Explain(question)),
         Command::Step(event) => LineMeaning::This(ScriptCommand::Step(event)),
-        Command::Load(source) => meaning_of_source(source),
+        Command::Take(taking, source) => meaning_of_source(taking, source),
         Command::Tick(time) => meaning_of_time(time),
         Command::Drain => LineMeaning::This(ScriptCommand::Drain),
     }
 }
 
-fn meaning_of_source(source: GraphSource) -> LineMeaning
-    ensures { result ≡ spec.of_source source }
+fn meaning_of_source(taking: Taking, source: GraphSource) -> LineMeaning
+    ensures { result ≡ spec.of_source taking source }
 {
     match source {
-        GraphSource::File(path) => LineMeaning::This(ScriptCommand::LoadFile(path)),
-        GraphSource::Inline => LineMeaning::Text,
+        GraphSource::File(path) => LineMeaning::This(ScriptCommand::TakeFile(taking, path)),
+        GraphSource::Inline => LineMeaning::Text(taking),
     }
 }
 

@@ -25,8 +25,8 @@ pub(crate) const MOST_LINES: u64 = 1 << 40;
 
 /// Reads the next command of a script: the command, or why there is none in its place; `None` at the end of the input.
 ///
-/// Lines that begin with `#` and lines of blanks alone are passed over. After `load inline` the lines up to one that is `.` alone are
-/// the graph's text, each with a newline; no line of it is passed over, and where one is too long or not UTF-8 the answer is
+/// Lines that begin with `#` and lines of blanks alone are passed over. After `load inline` and `replace inline` the lines up to one that is `.` alone
+/// are the graph's text, each with a newline; no line of it is passed over, and where one is too long or not UTF-8 the answer is
 /// `BadLine`, at the end of the text. Where memory runs out for a text that is good, the answer is `Memory`, at its end. `lines` holds the line
 /// that was read last. An error is the reader's, or that memory ran out for the words of a line; then a part of the script may be lost.
 pub fn next_command<R: Read>(
@@ -43,7 +43,9 @@ pub fn next_command<R: Read>(
         match next_meaning(alloc, reader, lines, input)? {
             None => return Ok(None),
             Some(Ok(LineMeaning::Nothing)) => {}
-            Some(Ok(LineMeaning::Text)) => return Ok(Some(read_text(alloc, lines, input)?)),
+            Some(Ok(LineMeaning::Text(taking))) => {
+                return Ok(Some(read_text(alloc, lines, input, taking)?));
+            }
             Some(Ok(LineMeaning::This(command))) => return Ok(Some(Ok(command))),
             Some(Ok(LineMeaning::Fault(fault))) => return Ok(Some(Err(CommandFault::Usage(fault)))),
             Some(Err(_)) => return Err(io::Error::from(ErrorKind::OutOfMemory)),

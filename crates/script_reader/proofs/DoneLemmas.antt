@@ -10,10 +10,13 @@ use Rattle.sched_events.specs.declared.answers.Answer.{Answer}
 use Rattle.sched_events.specs.declared.events.Event.{Event}
 use Rattle.script_commands.specs.Commands.{Request, IsNext, IsFirst, IsGiven, commands_in}
 use Rattle.word_app.specs.App.{Texts}
-use Rattle.script_commands.specs.declared.commands.ScriptCommand.TheVariants.{Step, LoadFile, TickNow, Drain, List as ListRows, Explain}
+use Rattle.command_words.specs.Commands.{taken}
+use Rattle.command_words.specs.declared.takings.Taking.{Taking}
+use Rattle.command_words.specs.declared.takings.Taking.TheVariants as takings
+use Rattle.script_commands.specs.declared.commands.ScriptCommand.TheVariants.{Step, TakeFile, TickNow, Drain, List as ListRows, Explain}
 use Rattle.script_commands.specs.declared.commands.SourceFault.{SourceFault}
 use Rattle.answer_lines.specs.sessions.Exchanges.{heard_where, looks, Asked, Exchange, Looked, Heard, Told}
-use Rattle.answer_lines.specs.sessions.Lines.{before_answer, Takes}
+use Rattle.answer_lines.specs.sessions.Lines.{before_answer, may_be_read, Takes}
 use Rattle.answer_lines.specs.sessions.declared.clocks.ClockFault.{ClockFault}
 use Rattle.answer_lines.specs.sessions.declared.line_reading.Line.{Line}
 use Rattle.answer_lines.specs.sessions.declared.line_reading.Line.TheVariants as Says
@@ -51,6 +54,11 @@ one_more f xs x = flat_map-append f xs (x ∷ []) ∙ ap (λ l. flat_map f xs ++
 asked_more : (done : List Done) (d : Done) (rest : List Request) → asked_in (done ++ d ∷ []) ++ rest ≡ asked_in done ++ (d.asked ∷ rest)
 asked_more done d rest = ap (λ l. l ++ rest) (map-append (λ (x : Done). x.asked) done (d ∷ [])) ∙ append_assoc (asked_in done) (d.asked ∷ []) rest
 
+-- the event that takes in a text may be read
+pub taken_may_be_read : (taking : Taking) (text : List ℕ) → may_be_read (Says.Event (taken taking text)) ≡ true
+taken_may_be_read takings.Load text = refl
+taken_may_be_read takings.Replace text = refl
+
 -- ---- what was read and is not done
 -- where the script did not break off it waits for its answer
 pub kept_open : (broke_off : Bool) (waits : Option Line) (asked : List Request) (texts : List FileAnswer) → broke_off ≡ false → IsUndone broke_off waits asked texts → IsOpen waits asked texts
@@ -67,9 +75,9 @@ undone_less : (b e e' : Bool) (waits : Option Line) (asked : List Request) (text
 undone_less b e e' waits asked texts less (inl opens) = inl opens
 undone_less b e e' waits asked texts less (inr (broke, none, lost)) = inr (still_broken b e e' less broke, none, lost)
 
--- what could not be answered is a load of a file that is not read, or the sources were not asked
-lost_file : (r : Request) (texts : List FileAnswer) → IsLost r texts → (texts ≡ []) ⊎ ((path : List ℕ) × (fault : SourceFault) × (r ≡ Ok (LoadFile path)) × (texts ≡ (path, Err fault) ∷ []))
-lost_file (Ok (LoadFile path)) texts (fault, asked) = inr (path, fault, refl, asked)
+-- what could not be answered is the command of a file that is not read, or the sources were not asked
+lost_file : (r : Request) (texts : List FileAnswer) → IsLost r texts → (texts ≡ []) ⊎ ((taking : Taking) × (path : List ℕ) × (fault : SourceFault) × (r ≡ Ok (TakeFile taking path)) × (texts ≡ (path, Err fault) ∷ []))
+lost_file (Ok (TakeFile taking path)) texts (fault, asked) = inr (taking, path, fault, refl, asked)
 lost_file (Ok (Step e)) texts none = inl none
 lost_file (Ok TickNow) texts none = inl none
 lost_file (Ok Drain) texts none = inl none
@@ -77,10 +85,10 @@ lost_file (Ok (ListRows listing)) texts none = inl none
 lost_file (Ok (Explain question)) texts none = inl none
 lost_file (Err fault) texts none = inl none
 
--- a load of a file is given for no other command
-file_given : (wanted given : Request) (path : List ℕ) → IsGiven wanted given → given ≡ Ok (LoadFile path) → wanted ≡ Ok (LoadFile path)
-file_given wanted given path (inl same) is = sym same ∙ is
-file_given wanted given path (inr (memory, lack)) is = absurd (true≢false (sym (ap is_err memory) ∙ ap is_err is))
+-- the command of a file is given for no other command
+file_given : (wanted given : Request) (taking : Taking) (path : List ℕ) → IsGiven wanted given → given ≡ Ok (TakeFile taking path) → wanted ≡ Ok (TakeFile taking path)
+file_given wanted given taking path (inl same) is = sym same ∙ is
+file_given wanted given taking path (inr (memory, lack)) is = absurd (true≢false (sym (ap is_err memory) ∙ ap is_err is))
 
 module _ (names : Texts) (drained : Bool) where
   -- ---- the command that comes next: what is given for it, and what is left
@@ -194,17 +202,17 @@ module _ (names : Texts) (before : ℕ) (drained : Bool) where
             output = λ _. show (h.output refl);
           }
 
-      -- a load of a file that is not read, whose answer could not be written
-      pub unwritten_more : (gives' : List FileAnswer → Type 0) (shows' : List ℕ → Type 0) (status' : ℕ) (texts : List FileAnswer) (path : List ℕ) (fault : SourceFault) → given ≡ Ok (LoadFile path) → texts ≡ (path, Err fault) ∷ [] → (gives (texts_in h.done) → gives' (texts_in h.done ++ texts)) → status' ≡ status
+      -- the command of a file that is not read, whose answer could not be written
+      pub unwritten_more : (gives' : List FileAnswer → Type 0) (shows' : List ℕ → Type 0) (status' : ℕ) (texts : List FileAnswer) (taking : Taking) (path : List ℕ) (fault : SourceFault) → given ≡ Ok (TakeFile taking path) → texts ≡ (path, Err fault) ∷ [] → (gives (texts_in h.done) → gives' (texts_in h.done ++ texts)) → status' ≡ status
           → HasDone names before drained first gives' shows' told None left' status' true false
-      unwritten_more gives' shows' status' texts path fault file asked to same =
+      unwritten_more gives' shows' status' texts taking path fault file asked to same =
           let n = after in
           record {
             done = h.done;
             open_asked = n.wanted ∷ [];
             open_texts = texts;
             each = h.each;
-            opens = inr (refl, refl, (path, fault, ap (λ (r : Request). r ∷ []) (file_given n.wanted given path n.same file), asked));
+            opens = inr (refl, refl, (taking, path, fault, ap (λ (r : Request). r ∷ []) (file_given n.wanted given taking path n.same file), asked));
             texts = to none_open;
             exchanged = h.exchanged;
             read = λ known e. let r = n.read known e in (commands_in names r.0, r.2, (λ no. absurd (true≢false (sym no))), λ no. absurd (true≢false no));
@@ -219,7 +227,7 @@ module _ (names : Texts) (before : ℕ) (drained : Bool) where
 
   left_to_run : (r : Request) (texts : List FileAnswer) (line : Line) → Leaves r texts line → IsOpen (Some line) (r ∷ []) texts
   left_to_run (Ok (Step e)) texts line (none, is) = subst (λ (l : Line). IsOpen (Some l) (Ok (Step e) ∷ []) texts) (sym is) (inl (refl, none))
-  left_to_run (Ok (LoadFile path)) texts line (text, asked, is) = subst (λ (l : Line). IsOpen (Some l) (Ok (LoadFile path) ∷ []) texts) (sym is) (inr (path, text, refl, asked, refl))
+  left_to_run (Ok (TakeFile taking path)) texts line (text, asked, is) = subst (λ (l : Line). IsOpen (Some l) (Ok (TakeFile taking path) ∷ []) texts) (sym is) (inr (taking, path, text, refl, asked, refl))
   left_to_run (Ok TickNow) texts line (none, is) = subst (λ (l : Line). IsOpen (Some l) (Ok TickNow ∷ []) texts) (sym is) (refl, none)
   left_to_run (Ok Drain) texts line (none, is) = subst (λ (l : Line). IsOpen (Some l) (Ok Drain ∷ []) texts) (sym is) (refl, none)
   left_to_run (Ok (ListRows listing)) texts line is = absurd is
@@ -244,11 +252,11 @@ module _ (names : Texts) (before : ℕ) (drained : Bool) where
         answered_more first gives shows told left status ended h left' given is gives' shows' texts (looks 1 a) status' own text (to (texts_in h.done)) (show (shown_in h.done)) more (at_once a given texts own text at)
 
     -- it cannot be answered
-    lost_more : (texts : List FileAnswer) → (texts ≡ []) ⊎ ((path : List ℕ) × (fault : SourceFault) × (given ≡ Ok (LoadFile path)) × (texts ≡ (path, Err fault) ∷ [])) → ((xs : List FileAnswer) → gives xs → gives' (xs ++ texts)) → status' ≡ status → HasDone names before drained first gives' shows' told None left' status' true false
+    lost_more : (texts : List FileAnswer) → (texts ≡ []) ⊎ ((taking : Taking) × (path : List ℕ) × (fault : SourceFault) × (given ≡ Ok (TakeFile taking path)) × (texts ≡ (path, Err fault) ∷ [])) → ((xs : List FileAnswer) → gives xs → gives' (xs ++ texts)) → status' ≡ status → HasDone names before drained first gives' shows' told None left' status' true false
     lost_more texts (inl none) to same =
         let xs = texts_in h.done in
         broken first gives shows told left status ended h gives' shows' left' status' (λ g. subst gives' (ap (λ l. xs ++ l) none ∙ append-nil xs) (to xs g)) same
-    lost_more texts (inr (path, fault, file, asked)) to same = unwritten_more first gives shows told left status ended h left' given is gives' shows' status' texts path fault file asked (to (texts_in h.done)) same
+    lost_more texts (inr (taking, path, fault, file, asked)) to same = unwritten_more first gives shows told left status ended h left' given is gives' shows' status' texts taking path fault file asked (to (texts_in h.done)) same
 
     pub fault_more : (texts : List FileAnswer) → IsLost given texts → ((xs : List FileAnswer) → gives xs → gives' (xs ++ texts)) → status' ≡ status → HasDone names before drained first gives' shows' told None left' status' true false
     fault_more texts lost to same = lost_more texts (lost_file given texts lost) to same
@@ -269,10 +277,10 @@ module _ (names : Texts) (before : ℕ) (drained : Bool) where
     is = one;
     done = (none, inl (subst (λ (y : Event). IsPerhaps y (Told e q ∷ []) (status_of q) (shown_for e q)) (sym same) (perhaps e q)));
   }
-  closed (Says.Event x) asked texts e q (inr (path, text, one, read, loads)) same = record {
-    one = Ok (LoadFile path);
+  closed (Says.Event x) asked texts e q (inr (taking, path, text, one, read, takes)) same = record {
+    one = Ok (TakeFile taking path);
     is = one;
-    done = inr (text, read, subst (λ (y : Event). IsPerhaps y (Told e q ∷ []) (status_of q) (shown_for e q)) (sym same ∙ loads) (perhaps e q));
+    done = inr (text, read, subst (λ (y : Event). IsPerhaps y (Told e q ∷ []) (status_of q) (shown_for e q)) (sym same ∙ takes) (perhaps e q));
   }
   closed Says.TickNow asked texts e q (one, none) (moment, same) = record {
     one = Ok TickNow;

@@ -3,18 +3,19 @@ use Rattle.std.proofs.Common.{◌≡◌, ◌∙◌, ◌≢◌, ◌==◌, ◌<◌
 use Rattle.std.proofs.lemmas.List.Elements.{All-cons, All-head, All-nil, All-tail}
 use Rattle.sched_model.specs.Schedule.{Schedule}
 use Rattle.sched_events.specs.declared.events.Event.{Event}
-use Rattle.sched_events.specs.declared.events.Event.TheVariants.{Load, Tick}
+use Rattle.sched_events.specs.declared.events.Event.TheVariants.{Tick}
 use Rattle.sched_events.specs.declared.refusals.Refusal.{Refusal}
 use Rattle.sched_events.specs.declared.refusals.Refusal.TheVariants as refusal
 use Rattle.answer_lines.specs.sessions.Faults.{Fault}
 use Rattle.answer_lines.specs.sessions.Faults.failed
+use Rattle.command_words.specs.Commands.{taken}
 use Rattle.command_words.specs.declared.commands.UsageFault.{UsageFault}
 use Rattle.command_words.specs.declared.commands.UsageFault.TheVariants as usage
 use Rattle.script_commands.specs.Commands.{Request, IsGiven}
 use Rattle.script_commands.specs.declared.commands.CommandFault.{CommandFault}
 use Rattle.script_commands.specs.declared.commands.CommandFault.TheVariants.{Usage, Source}
 use Rattle.script_commands.specs.declared.commands.SourceFault.TheVariants as source
-use Rattle.script_commands.specs.declared.commands.ScriptCommand.TheVariants.{Step, LoadFile, TickNow, Drain, List as ListRows, Explain}
+use Rattle.script_commands.specs.declared.commands.ScriptCommand.TheVariants.{Step, TakeFile, TickNow, Drain, List as ListRows, Explain}
 use Rattle.answer_lines.specs.sessions.Exchanges.{looks, told_in, Exchange}
 use Rattle.answer_lines.specs.CommandFaults.{source_text}
 use Rattle.answer_lines.specs.sessions.declared.faults.ConductFault.{ConductFault}
@@ -58,9 +59,9 @@ accepted e exchanges status shown (Err fault, is, own, text) z = let some : 0 < 
 
 done_whole : (r : Request) (texts : List FileAnswer) (exchanges : List Exchange) (status : ℕ) (shown : List ℕ) → MayBeDone r texts exchanges status shown → status ≡ 0 → is_whole r exchanges ≡ true
 done_whole (Ok (Step e)) texts exchanges status shown (none, inl may) z = accepted e exchanges status shown may z
-done_whole (Ok (Step e)) texts exchanges status shown (none, inr (text, loads, seen, four, said)) z = absurd (omega arith)
-done_whole (Ok (LoadFile path)) texts exchanges status shown (inl (fault, none, nothing, four, text)) z = absurd (omega arith)
-done_whole (Ok (LoadFile path)) texts exchanges status shown (inr (text, read, may)) z = accepted (Load text) exchanges status shown may z
+done_whole (Ok (Step e)) texts exchanges status shown (none, inr (taking, text, takes, seen, four, said)) z = absurd (omega arith)
+done_whole (Ok (TakeFile taking path)) texts exchanges status shown (inl (fault, none, nothing, four, text)) z = absurd (omega arith)
+done_whole (Ok (TakeFile taking path)) texts exchanges status shown (inr (text, read, may)) z = accepted (taken taking text) exchanges status shown may z
 done_whole (Ok TickNow) texts exchanges status shown (none, inl (fault, untold, four, text)) z = absurd (omega arith)
 done_whole (Ok TickNow) texts exchanges status shown (none, inr (moment, told, heard, may)) z =
     ap (λ (xs : List Exchange). length (told_in xs) == 1) heard ∙ accepted (Tick moment) told status shown may z
@@ -80,7 +81,7 @@ all_whole (d ∷ ds) each z =
 -- ---- a command that is answered when it is read is done so
 pub at_once : (a : Schedule) (r : Request) (texts : List FileAnswer) (status : ℕ) (shown : List ℕ) → IsAnswered a r texts status shown → MayBeDone r texts (looks 1 a) status shown
 at_once a (Ok (Step e)) texts status shown is = absurd is
-at_once a (Ok (LoadFile path)) texts status shown (fault, asked, four, text) = inl (fault, asked, (a, refl), four, text)
+at_once a (Ok (TakeFile taking path)) texts status shown (fault, asked, four, text) = inl (fault, asked, (a, refl), four, text)
 at_once a (Ok TickNow) texts status shown is = absurd is
 at_once a (Ok Drain) texts status shown is = absurd is
 at_once a (Ok (ListRows listing)) texts status shown is = (a, refl, is)
@@ -94,9 +95,9 @@ unhad texts exchanges status shown (a, seen, at) = (at.0, (a, seen), at.1, at.2)
 -- what is done as it was given is done as it is wanted
 pub given_done : (wanted given : Request) (texts : List FileAnswer) (exchanges : List Exchange) (status : ℕ) (shown : List ℕ) → IsGiven wanted given → MayBeDone given texts exchanges status shown → MayBeDone wanted texts exchanges status shown
 given_done wanted given texts exchanges status shown (inl same) may = subst (λ (r : Request). MayBeDone r texts exchanges status shown) same may
-given_done wanted given texts exchanges status shown (inr (memory, (text, loads))) may =
+given_done wanted given texts exchanges status shown (inr (memory, (taking, text, takes))) may =
     let lack = unhad texts exchanges status shown (subst (λ (r : Request). MayBeDone r texts exchanges status shown) memory may) in
-    subst (λ (r : Request). MayBeDone r texts exchanges status shown) (sym loads) (lack.0, inr (text, refl, lack.1, lack.2, lack.3))
+    subst (λ (r : Request). MayBeDone r texts exchanges status shown) (sym takes) (lack.0, inr (taking, text, refl, lack.1, lack.2, lack.3))
 
 -- ---- the greatest status of one command more
 grown : (ds : List Done) (d : Done) → greatest_status (ds ++ d ∷ []) ≡ max (greatest_status ds) d.status

@@ -2,9 +2,9 @@
 use Rattle.std.specs.Prelude.{◌≡◌, ℕ, max, Bool, true, false, List, [], ◌∷◌, ◌++◌, Option, Some, None, Result, Ok, Err}
 use Rattle.std.specs.Io.KnownBytes.{Appends}
 use Rattle.sched_model.specs.Schedule.{Schedule}
-use Rattle.sched_events.specs.declared.events.Event.TheVariants.{Load}
+use Rattle.command_words.specs.Commands.{taken}
 use Rattle.script_commands.specs.Commands.{Request}
-use Rattle.script_commands.specs.declared.commands.ScriptCommand.TheVariants.{Step, LoadFile, TickNow, Drain}
+use Rattle.script_commands.specs.declared.commands.ScriptCommand.TheVariants.{Step, TakeFile, TickNow, Drain}
 use Rattle.script_commands.specs.declared.commands.SourceFault.{SourceFault}
 use Rattle.script_reader.specs.Done.{FileAnswer, IsAnswered}
 use Rattle.answer_lines.specs.sessions.declared.line_reading.Line.{Line}
@@ -14,17 +14,17 @@ use Rattle.answer_lines.specs.sessions.declared.line_reading.Line.TheVariants as
 abbrev pub AnswersMore : {F : Type 0} → (F → List FileAnswer → F → Type 0) → List FileAnswer → F → F → Type 0
 AnswersMore {F} gives texts old new = (s : F) (given : List FileAnswer) → gives s given old → gives s (given ++ texts) new
 
--- the line that a command leaves to the run, and what the sources answered for it: for a file its text, which the line loads
+-- the line that a command leaves to the run, and what the sources answered for it: for a file its text, which the line takes in
 abbrev pub Leaves : Request → List FileAnswer → Line → Type 0
 Leaves (Ok (Step e)) texts line = (texts ≡ []) × (line ≡ Says.Event e)
-Leaves (Ok (LoadFile path)) texts line = (text : List ℕ) × (texts ≡ (path, Ok text) ∷ []) × (line ≡ Says.Event (Load text))
+Leaves (Ok (TakeFile taking path)) texts line = (text : List ℕ) × (texts ≡ (path, Ok text) ∷ []) × (line ≡ Says.Event (taken taking text))
 Leaves (Ok TickNow) texts line = (texts ≡ []) × (line ≡ Says.TickNow)
 Leaves (Ok Drain) texts line = (texts ≡ []) × (line ≡ Says.Drain)
 Leaves _ texts line = ⊥
 
 -- what the sources answered for a command that could not be answered: for a file why it is not read
 abbrev pub IsLost : Request → List FileAnswer → Type 0
-IsLost (Ok (LoadFile path)) texts = (fault : SourceFault) × (texts ≡ (path, Err fault) ∷ [])
+IsLost (Ok (TakeFile taking path)) texts = (fault : SourceFault) × (texts ≡ (path, Err fault) ∷ [])
 IsLost _ texts = texts ≡ []
 
 -- the line that was read, if one was

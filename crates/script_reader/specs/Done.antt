@@ -6,13 +6,15 @@ use Rattle.sched_model.specs.Schedule.{Schedule}
 use Rattle.sched_model.specs.States.{in_flight}
 use Rattle.sched_events.specs.declared.answers.Answer.{Answer}
 use Rattle.sched_events.specs.declared.events.Event.{Event}
-use Rattle.sched_events.specs.declared.events.Event.TheVariants.{Load, Tick}
+use Rattle.sched_events.specs.declared.events.Event.TheVariants.{Tick}
 use Rattle.answer_lines.specs.explain.Reasons.{IsUnexplained, explained}
 use Rattle.answer_lines.specs.explain.declared.reasons.ExplainFault.{ExplainFault}
 use Rattle.answer_lines.specs.explain.declared.reasons.Reason.{Reason}
 use Rattle.word_app.specs.App.{Texts}
+use Rattle.command_words.specs.Commands.{taken}
+use Rattle.command_words.specs.declared.takings.Taking.{Taking}
 use Rattle.script_commands.specs.Commands.{Request, commands_in}
-use Rattle.script_commands.specs.declared.commands.ScriptCommand.TheVariants.{Step, LoadFile, TickNow, Drain, List as ListRows, Explain}
+use Rattle.script_commands.specs.declared.commands.ScriptCommand.TheVariants.{Step, TakeFile, TickNow, Drain, List as ListRows, Explain}
 use Rattle.script_commands.specs.declared.commands.SourceFault.{SourceFault}
 use Rattle.script_commands.specs.declared.commands.SourceFault.TheVariants.{Memory as NoMemory}
 use Rattle.answer_lines.specs.sessions.Exchanges.{looks, told_in, Asked, Exchange, Heard, Told}
@@ -47,17 +49,17 @@ abbrev pub IsPerhaps : Event → List Exchange → ℕ → List ℕ → Type 0
 IsPerhaps e exchanges status shown =
     (answer : Result Answer Fault) × (exchanges ≡ Told e answer ∷ []) × (status ≡ status_of answer) × (shown ≡ shown_for e answer)
 
--- the text that a line loads could not be had, for want of memory, so the line was answered when it was read
+-- the text that a line takes in could not be had, for want of memory, so the line was answered when it was read
 abbrev pub IsUnhad : Event → List Exchange → ℕ → List ℕ → Type 0
 IsUnhad e exchanges status shown =
-    (text : List ℕ) × (e ≡ Load text) × ((a : Schedule) × (exchanges ≡ looks 1 a)) × (status ≡ 4) × (shown ≡ source_text NoMemory)
+    (taking : Taking) × (text : List ℕ) × (e ≡ taken taking text) × ((a : Schedule) × (exchanges ≡ looks 1 a)) × (status ≡ 4) × (shown ≡ source_text NoMemory)
 
--- the sources were asked once, for this path: they gave a text, and its load was accepted or not; or they gave a fault, and the command was answered with
--- it when it was read
-abbrev pub IsLoadPerhaps : List ℕ → List FileAnswer → List Exchange → ℕ → List ℕ → Type 0
-IsLoadPerhaps path texts exchanges status shown =
+-- the sources were asked once, for this path: they gave a text, and the event that takes it in was accepted or not; or they gave a fault, and the command
+-- was answered with it when it was read
+abbrev pub IsTakePerhaps : Taking → List ℕ → List FileAnswer → List Exchange → ℕ → List ℕ → Type 0
+IsTakePerhaps taking path texts exchanges status shown =
     ((fault : SourceFault) × (texts ≡ (path, Err fault) ∷ []) × ((a : Schedule) × (exchanges ≡ looks 1 a)) × (status ≡ 4) × (shown ≡ source_text fault))
-    ⊎ ((text : List ℕ) × (texts ≡ (path, Ok text) ∷ []) × IsPerhaps (Load text) exchanges status shown)
+    ⊎ ((text : List ℕ) × (texts ≡ (path, Ok text) ∷ []) × IsPerhaps (taken taking text) exchanges status shown)
 
 -- reports were heard, and then the clock was asked: it gave none; or it gave a moment, and then the tick at it was accepted or not
 abbrev pub IsTickPerhaps : List Exchange → ℕ → List ℕ → Type 0
@@ -79,7 +81,7 @@ IsAnswered a (Ok (Explain q)) texts status shown =
     (texts ≡ [])
     × (((reasons : List Reason) × (explained a q.graph q.logical q.task ≡ Ok reasons) × (status ≡ 0) × (shown ≡ reasons_text reasons))
     ⊎ ((fault : ExplainFault) × IsUnexplained a q.graph q.logical q.task fault × (status ≡ explain_status fault) × (shown ≡ explain_fault_text fault)))
-IsAnswered a (Ok (LoadFile path)) texts status shown = (fault : SourceFault) × (texts ≡ (path, Err fault) ∷ []) × (status ≡ 4) × (shown ≡ source_text fault)
+IsAnswered a (Ok (TakeFile taking path)) texts status shown = (fault : SourceFault) × (texts ≡ (path, Err fault) ∷ []) × (status ≡ 4) × (shown ≡ source_text fault)
 IsAnswered a (Ok (Step e)) texts status shown = ⊥
 IsAnswered a (Ok TickNow) texts status shown = ⊥
 IsAnswered a (Ok Drain) texts status shown = ⊥
@@ -89,7 +91,7 @@ IsAnswered a (Err fault) texts status shown = (texts ≡ []) × (status ≡ comm
 -- looked at, and so is a drain.
 abbrev pub MayBeDone : Request → List FileAnswer → List Exchange → ℕ → List ℕ → Type 0
 MayBeDone (Ok (Step e)) texts exchanges status shown = (texts ≡ []) × (IsPerhaps e exchanges status shown ⊎ IsUnhad e exchanges status shown)
-MayBeDone (Ok (LoadFile path)) texts exchanges status shown = IsLoadPerhaps path texts exchanges status shown
+MayBeDone (Ok (TakeFile taking path)) texts exchanges status shown = IsTakePerhaps taking path texts exchanges status shown
 MayBeDone (Ok TickNow) texts exchanges status shown = (texts ≡ []) × IsTickPerhaps exchanges status shown
 MayBeDone (Ok Drain) texts exchanges status shown = (texts ≡ []) × IsDrained exchanges status shown
 MayBeDone asked texts exchanges status shown = (a : Schedule) × (exchanges ≡ looks 1 a) × IsAnswered a asked texts status shown
@@ -105,7 +107,7 @@ greatest_status (d ∷ ds) = max d.status (greatest_status ds)
 -- all is done of a command, where it names an event: the event was accepted; what is no command is not done
 abbrev pub is_whole : Request → List Exchange → Bool
 is_whole (Ok (Step e)) exchanges = length (told_in exchanges) == 1
-is_whole (Ok (LoadFile path)) exchanges = length (told_in exchanges) == 1
+is_whole (Ok (TakeFile taking path)) exchanges = length (told_in exchanges) == 1
 is_whole (Ok TickNow) exchanges = length (told_in exchanges) == 1
 is_whole (Ok _) exchanges = true
 is_whole (Err fault) exchanges = false
@@ -115,16 +117,16 @@ abbrev pub IsOpen : Option Line → List Request → List FileAnswer → Type 0
 IsOpen None asked texts = (asked ≡ []) × (texts ≡ [])
 IsOpen (Some (Says.Event e)) asked texts =
     ((asked ≡ Ok (Step e) ∷ []) × (texts ≡ []))
-    ⊎ ((path text : List ℕ) × (asked ≡ Ok (LoadFile path) ∷ []) × (texts ≡ (path, Ok text) ∷ []) × (e ≡ Load text))
+    ⊎ ((taking : Taking) × (path text : List ℕ) × (asked ≡ Ok (TakeFile taking path) ∷ []) × (texts ≡ (path, Ok text) ∷ []) × (e ≡ taken taking text))
 IsOpen (Some Says.TickNow) asked texts = (asked ≡ Ok TickNow ∷ []) × (texts ≡ [])
 IsOpen (Some Says.Drain) asked texts = (asked ≡ Ok Drain ∷ []) × (texts ≡ [])
 
--- the load of a file that is not read, whose answer was not written, and the fault that the sources gave for its path
+-- the command of a file that is not read, whose answer was not written, and the fault that the sources gave for its path
 abbrev pub IsUnwritten : List Request → List FileAnswer → Type 0
-IsUnwritten asked texts = (path : List ℕ) × (fault : SourceFault) × (asked ≡ Ok (LoadFile path) ∷ []) × (texts ≡ (path, Err fault) ∷ [])
+IsUnwritten asked texts = (taking : Taking) × (path : List ℕ) × (fault : SourceFault) × (asked ≡ Ok (TakeFile taking path) ∷ []) × (texts ≡ (path, Err fault) ∷ [])
 
 -- the command that was read and is not done, if there is one, and what the sources answered for it: it waits for its answer with this line; or, where the
--- script broke off, no line waits, and it is a load whose answer was not written
+-- script broke off, no line waits, and it is that of a file whose answer was not written
 abbrev pub IsUndone : Bool → Option Line → List Request → List FileAnswer → Type 0
 IsUndone broke_off waits asked texts = IsOpen waits asked texts ⊎ ((broke_off ≡ true) × (waits ≡ None) × IsUnwritten asked texts)
 
@@ -141,9 +143,9 @@ asked_from names false known = commands_in names known
 
 -- What was done of a script, of whose bytes these were there at first, and where a drain waited for its answer at first or not: commands one after
 -- another, that drain before those of the bytes, with what the sources answered, and with these exchanges; what was shown of them; this line waits for its
--- answer; and these bytes are left. What is left and what was shown is not said where the script could not be read or answered further; there one load more
--- may have been read, whose answer was not written. Where the script has ended, no command is left. The status is the greatest of what was done and of the one
--- before.
+-- answer; and these bytes are left. What is left and what was shown is not said where the script could not be read or answered further; there one command
+-- of a file more may have been read, whose answer was not written. Where the script has ended, no command is left. The status is the greatest of what was
+-- done and of the one before.
 pub record HasDone (names : Texts) (before : ℕ) (drained : Bool) (first : Option (List ℕ)) (gives : List FileAnswer → Type 0) (shows : List ℕ → Type 0) (exchanges : List Exchange) (waits : Option Line) (left : Option (List ℕ)) (status : ℕ) (is_broken has_ended : Bool) : Type 0 where
   pub done : List Done
   pub open_asked : List Request

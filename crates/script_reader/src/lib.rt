@@ -2,8 +2,8 @@
 //!
 //! A [`ScriptReader`] reads the commands of an input and writes their answers. What asks for rows is answered when it is read, and what is no
 //! command by its fault; an event, a tick at the moment that it is and a drain are left to whoever runs the schedule, by the calls of `Lines`. What
-//! was written is flushed before the next command is read. The texts of `load PATH` come from [`Sources`]; what a person is told beside the answers goes
-//! to a [`Console`].
+//! was written is flushed before the next command is read. The texts of `load PATH` and `replace PATH` come from [`Sources`]; what a person is told
+//! beside the answers goes to a [`Console`].
 //!
 //! ```text
 //! let script = Script { input, output, sources, console: NoConsole };

@@ -4,7 +4,7 @@ ghost use Rattle.std.specs.Io.KnownBytes.{Appends};
 ghost use Rattle.sched_model.specs.Schedule.{Schedule as ScheduleModel};
 ghost use Rattle.sched_model.specs.States.{in_flight};
 ghost use Rattle.script_commands.specs.Commands.{is_asked};
-ghost use Rattle.script_commands.specs.declared.commands.ScriptCommand.TheVariants.{LoadFile, Explain};
+ghost use Rattle.script_commands.specs.declared.commands.ScriptCommand.TheVariants.{TakeFile, Explain};
 ghost use Rattle.answer_lines.specs.CommandFaults.{command_fault_text};
 ghost use Rattle.command_words.specs.Lines.{IsListed};
 ghost use Rattle.word_app.specs.App.{Texts};
@@ -20,8 +20,7 @@ use crate::scripts::Script;
 use crate::sources::Sources;
 use crate::statuses::{command_status, explain_status};
 use answer_lines::{Line, LineFault, Schedule, Shown, explain, put, put_listing, put_reasons};
-use command_words::{CommandReader, FilePath, Question};
-use sched_events::Event;
+use command_words::{CommandReader, FilePath, Question, Taking};
 use sched_state::GraphText;
 use script_commands::{CommandFault, ScriptCommand, next_command};
 use script_lines::LineReader;
@@ -176,7 +175,7 @@ impl<R: Read + Drop, W: Write + Drop, F: Sources, P: Console> ScriptReader<R, W,
     {
         match request {
             Ok(ScriptCommand::Step(event)) => Ok(Some(Line::Event(event))),
-            Ok(ScriptCommand::LoadFile(path)) => self.load(&path),
+            Ok(ScriptCommand::TakeFile(taking, path)) => self.take(taking, &path),
             Ok(ScriptCommand::TickNow) => Ok(Some(Line::TickNow)),
             Ok(ScriptCommand::Drain) => {
                 self.has_drained = true;
@@ -191,10 +190,10 @@ impl<R: Read + Drop, W: Write + Drop, F: Sources, P: Console> ScriptReader<R, W,
         }
     }
 
-    // The event that loads the file at this path.
-    fn load(&mut self, path: &FilePath) -> io::Result<Option<Line>>
+    // The event that takes in the file at this path.
+    fn take(&mut self, taking: Taking, path: &FilePath) -> io::Result<Option<Line>>
         ensures does { (texts : List FileAnswer) × AnswersMore F.gives texts self.old.sources self.new.sources
-            × ((a : ScheduleModel) → Does a (Ok (LoadFile path.now)) texts result self.old.status self.new.status
+            × ((a : ScheduleModel) → Does a (Ok (TakeFile taking path.now)) texts result self.old.status self.new.status
             (W.contents self.old.output) (W.contents self.new.output)) }
         ensures input { self.new.input ≡ self.old.input }
         ensures words { self.new.words ≡ self.old.words }
@@ -204,7 +203,10 @@ impl<R: Read + Drop, W: Write + Drop, F: Sources, P: Console> ScriptReader<R, W,
         ensures line { IfOk result (λ next. IfSome next (λ line. may_be_read line ≡ true)) }
     {
         match self.sources.text(path.as_str()) {
-            Ok(text) => Ok(Some(Line::Event(Event::Load(GraphText::from_string(text))))),
+            Ok(text) => {
+                let event = taking.event(GraphText::from_string(text));
+                Ok(Some(Line::Event(event)))
+            }
             Err(fault) => self.refuse(CommandFault::Source(fault)),
         }
     }

@@ -1,4 +1,4 @@
-//! Where the texts of `load PATH` come from.
+//! Where the texts of `load PATH` and `replace PATH` come from.
 ghost use Rattle.std.specs.Prelude.{List, ◌∷◌, [], Ok, Err, MatchResult, string_bytes};
 ghost use Rattle.script_reader.specs.Commands.{AnswersMore};
 ghost use Rattle.script_reader.specs.Done.{FileAnswer};

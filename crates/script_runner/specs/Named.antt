@@ -24,13 +24,13 @@ may_break_off _ = false
 -- The events that are answered in these minutes, from this schedule on, are, in order, those that the commands of a script name, of these bytes, where they
 -- are known, by the words that `list` takes. A command that is answered when it is read is answered of the schedule of the minutes up to it, and an event
 -- that was not accepted has its cause there; a drain is answered of the schedule of minutes up to it in which no try is in flight. All of this is behind the
--- restart. Reports stand in the minutes where a drain waited, before a `tick now`, and behind the last command, and nowhere else. For each `load PATH` the
--- sources were asked once, for its path, and for nothing else: the text that is loaded, or the fault that is shown, is the next that they gave. A moment of
--- `tick now` is the next that the clock gave. Where the run came to its end, all commands are done; where it did not, one that was read may still wait for
--- its answer, or, where the script could not be read or answered further, be a `load PATH` for which the sources gave a fault that could not be shown. Where
--- it ended well, the output has grown by what shows each command, in their order; where it did not, and the status is not 4, then by the line of its fault
--- too. The status is the greatest of what was done, where the run ended well, and that of its fault otherwise; where it is 0, the event of each command is
--- there.
+-- restart. Reports stand in the minutes where a drain waited, before a `tick now`, and behind the last command, and nowhere else. For each `load PATH` and
+-- `replace PATH` the sources were asked once, for its path, and for nothing else: the text that is taken in, or the fault that is shown, is the next that
+-- they gave. A moment of `tick now` is the next that the clock gave. Where the run came to its end, all commands are done; where it did not, one that was
+-- read may still wait for its answer, or, where the script could not be read or answered further, be one of a file for which the sources gave a fault that
+-- could not be shown. Where it ended well, the output has grown by what shows each command, in their order; where it did not, and the status is not 4, then
+-- by the line of its fault too. The status is the greatest of what was done, where the run ended well, and that of its fault otherwise; where it is 0, the
+-- event of each command is there.
 pub record AreNamed {T : Type 0} (bytes : Option (List ℕ)) (sources : List FileAnswer → Type 0) (clock : List Reading → Type 0) (output : List ℕ → Type 0) (first : Schedule) (minutes : List Event) (outcome : Result T ConductFault) (status : ℕ) : Type 0 where
   pub words : Texts
   pub listed : IsListed words

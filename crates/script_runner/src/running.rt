@@ -44,7 +44,7 @@ pub struct Ran<S: Alter, G: Gate, O: Operator, F: Sources, W: Write + Drop> {
     pub ends: Vec<WorkerEnd<G, O>>,
     /// What the desk held, or why the run ended otherwise.
     pub outcome: Result<Total, ConductFault>,
-    /// Where the texts of `load PATH` came from.
+    /// Where the texts of `load PATH` and `replace PATH` came from.
     pub sources: F,
     /// Where the answers went.
     pub output: W,

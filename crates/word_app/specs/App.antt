@@ -1,4 +1,4 @@
--- The command line of the program, as clap reads it: one command with twelve commands under it.
+-- The command line of the program, as clap reads it: one command with thirteen commands under it.
 use Rattle.std.specs.Prelude.{codes, true, List, []}
 use Rattle.std.specs.Borrow.{Bor}
 use Rattle.clap.specs.Words.{App, Shape, Text, new_app, with_rule, with_subcommand}
@@ -42,8 +42,9 @@ clear = with_rule (with_rule clear_span (flag (codes "downstream"))) (flag (code
 abbrev pub resize : App
 resize = with_rule (with_rule (new_app (codes "resize")) pool_word) size_word
 
-abbrev pub load : App
-load = with_rule (new_app (codes "load")) (word (codes "path"))
+-- `NAME PATH`
+abbrev pub of_path : Text → App
+of_path name = with_rule (new_app name) (word (codes "path"))
 
 abbrev pub tick : App
 tick = with_rule (new_app (codes "tick")) (word (codes "moment"))
@@ -73,9 +74,13 @@ with_dags app = with_dag (with_dag (with_dag app (codes "trigger")) (codes "paus
 abbrev pub with_repairs : App → App
 with_repairs app = with_subcommand (with_subcommand (with_subcommand app backfill.top) clear.top) resize.top
 
+-- with a command of a graph file
+abbrev pub with_path : App → Text → App
+with_path app name = with_subcommand app (of_path name).top
+
 -- with the commands of scripts alone
 abbrev pub with_script_words : App → App
-with_script_words app = with_subcommand (with_subcommand (with_subcommand app load.top) tick.top) drain.top
+with_script_words app = with_subcommand (with_subcommand (with_path (with_path app (codes "load")) (codes "replace")) tick.top) drain.top
 
 -- the program's command, where these are the words that `list` takes
 abbrev pub dagsched : Texts → App

@@ -78,6 +78,7 @@ pub fn name_of(event: &Event) -> &'static str {
         Event::Resize(_, _) => "resize",
         Event::Report(_, _) => "report",
         Event::Restart(_) => "restart",
+        Event::Replace(_) => "replace",
     }
 }
 

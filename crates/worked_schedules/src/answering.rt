@@ -20,7 +20,7 @@ pub fn answer<W: Write>(
         Ok(ScriptCommand::Explain(question)) => {
             answer_question(alloc, played.schedule(), &question, output)
         }
-        Ok(ScriptCommand::LoadFile(_) | ScriptCommand::TickNow | ScriptCommand::Drain) =>
+        Ok(ScriptCommand::TakeFile(_, _) | ScriptCommand::TickNow | ScriptCommand::Drain) =>
             output.write_all(b"not here\n"),
         Err(fault) => put(output, Shown::NoCommand(fault)),
     }

@@ -1,7 +1,7 @@
 //! What words ask for, in one plain line.
 use crate::events::write_event;
 use command_words::{
-    Command, CommandLine, GraphSource, Listing, Question, ScriptOptions, TickTime,
+    Command, CommandLine, GraphSource, Listing, Question, ScriptOptions, Taking, TickTime,
 };
 use std::io;
 
@@ -24,7 +24,7 @@ fn write_command(rt: &HostRuntime, command: Command) -> io::Result<()> {
         Command::List(listing) => write_listing(rt, listing),
         Command::Explain(question) => write_question(rt, &question),
         Command::Step(event) => write_event(rt, event),
-        Command::Load(source) => write_source(rt, source),
+        Command::Take(taking, source) => write_source(rt, taking, source),
         Command::Tick(time) => write_time(rt, time),
         Command::Drain => rt.print("drain"),
     }
@@ -57,13 +57,17 @@ fn write_question(rt: &HostRuntime, question: &Question) -> io::Result<()> {
     print!(rt; "explain {graph} {logical} {task}")
 }
 
-fn write_source(rt: &HostRuntime, source: GraphSource) -> io::Result<()> {
+fn write_source(rt: &HostRuntime, taking: Taking, source: GraphSource) -> io::Result<()> {
+    let name = match taking {
+        Taking::Load => "load",
+        Taking::Replace => "replace",
+    };
     match source {
         GraphSource::File(path) => {
             let path = path.as_str();
-            print!(rt; "load file '{path}'")
+            print!(rt; "{name} file '{path}'")
         }
-        GraphSource::Inline => rt.print("load inline"),
+        GraphSource::Inline => print!(rt; "{name} inline"),
     }
 }
 

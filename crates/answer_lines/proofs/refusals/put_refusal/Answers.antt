@@ -48,3 +48,12 @@ returns-in-UnknownTask g c = rw c.in-UnknownTask.is c.write_all-in-UnknownTask.e
 
 pub returns-in-BadSpan : goal.returns-in-BadSpan
 returns-in-BadSpan g c = rw c.in-BadSpan.is c.write_all-in-BadSpan.ensures.bytes
+
+pub returns-in-OtherTasks : goal.returns-in-OtherTasks
+returns-in-OtherTasks g c = rw c.in-OtherTasks.is (rw c.as_str-task.ensures.text at c.writeln-in-OtherTasks.ensures.bytes)
+
+pub returns-in-OtherSlots : goal.returns-in-OtherSlots
+returns-in-OtherSlots g c = rw c.in-OtherSlots.is (rw c.as_str-task-in-OtherSlots.ensures.text at c.writeln-in-OtherSlots.ensures.bytes)
+
+pub returns-in-Redoes : goal.returns-in-Redoes
+returns-in-Redoes g c = rw c.in-Redoes.is (simp append_assoc (let h = simp append_assoc at c.writeln-in-Redoes.ensures.bytes in h))

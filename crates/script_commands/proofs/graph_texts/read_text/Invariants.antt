@@ -8,4 +8,4 @@ use Rattle.script_commands.proofs.graph_texts.read_text.Given as goal
 
 abbrev pub invariant-loop-line : goal.invariant-loop-line
 invariant-loop-line g l = (names : Texts) (bytes : List ℕ) → g.R.Read.remaining l.fn.input ≡ Some bytes
-    → Stands names (g.R.Read.remaining l.input) l.gathered (commands_from names (Inside (Some [])) (lines_of bytes))
+    → Stands names l.fn.taking (g.R.Read.remaining l.input) l.gathered (commands_from names (Inside l.fn.taking (Some [])) (lines_of bytes))

@@ -11,7 +11,7 @@ pub returns-in-Some-Ok-Text-clause-next : goal.returns-in-Some-Ok-Text-clause-ne
 returns-in-Some-Ok-Text-clause-next g c = λ bytes known.
     let l = c.loop-line.invariant bytes known in
     let asked = rw (c.in-Some-Ok-Text.is, c.in-Some-Ok-Text.field-0-is, c.in-Some-Ok-Text.field-0-0-is) at (c.in_ok-next_meaning.ensures.next l.left l.known) in
-    left-text c.args.reader.now.names _ _ _ _ _ l asked (c.in_ok-read_text-in-Some-Ok-Text.ensures.first c.args.reader.now.names)
+    left-text c.args.reader.now.names _ _ _ _ _ c.in-Some-Ok-Text.taking l asked (c.in_ok-read_text-in-Some-Ok-Text.ensures.first c.args.reader.now.names)
 
 pub returns-in-Some-Ok-This-clause-next : goal.returns-in-Some-Ok-This-clause-next
 returns-in-Some-Ok-This-clause-next g c = λ bytes known.
