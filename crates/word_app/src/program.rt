@@ -1,6 +1,6 @@
 //! The program's command, with all commands under it.
-ghost use Rattle.std.specs.Prelude.{◌≡◌, false, IfOk};
-ghost use Rattle.clap.specs.Words.{app_of};
+ghost use Rattle.std.specs.Prelude.{◌≡◌, false, IfOk, IsOkAnd};
+ghost use Rattle.clap.specs.Words.{app_of, with_subcommand};
 ghost use Rattle.clap.specs.declared.builder.command.Command.TheViews.{out-Command as fields_of};
 ghost use Rattle.word_app.specs.App as spec;
 
@@ -21,14 +21,8 @@ fn start<'a>(alloc: Global) -> Result<Command<'a>, AllocError>
     ensures app { IfOk result (λ c. app_of c ≡ spec.start) }
     ensures globals { IfOk result (λ c. (fields_of c).has_globals ≡ false) }
 {
-    let record = option(
-        alloc,
-        "record",
-        "PATH",
-        "The file of the record; without it the record is in memory",
-    );
-    let command = Command::new(alloc, "dagsched")
-        .bin_name("dagsched")?
+    let command = Command::new(alloc, "dagsched").bin_name("dagsched")?;
+    let command = command
         .about("Schedules graphs of tasks as Airflow 2 does")
         .version(VERSION)
         .after_help(
@@ -36,8 +30,29 @@ fn start<'a>(alloc: Global) -> Result<Command<'a>, AllocError>
         )
         .no_binary_name(true)
         .subcommand_required(true)
-        .disable_help_subcommand(true)
-        .arg(record)?;
+        .disable_help_subcommand(true);
+    let record = option(
+        alloc,
+        "record",
+        "PATH",
+        "The file of the record; without it the record is in memory",
+    );
+    let command = command.arg(record)?;
+    Ok(command)
+}
+
+// With a command under it, if that could be built. Only here a command is dropped where memory runs out.
+fn with<'a>(
+    command: Command<'a>,
+    built: Result<Command<'a>, AllocError>,
+) -> Result<Command<'a>, AllocError>
+    requires globals { (fields_of command).has_globals ≡ false }
+    requires local { IfOk built (λ c. (fields_of c).has_globals ≡ false) }
+    ensures app { IfOk result (λ c. IsOkAnd built.entry (λ b. app_of c ≡ with_subcommand (app_of command.entry) (app_of b).top)) }
+    ensures globals { IfOk result (λ c. (fields_of c).has_globals ≡ false) }
+{
+    let built = built?;
+    let command = command.subcommand(built)?;
     Ok(command)
 }
 
@@ -46,29 +61,10 @@ fn with_looks<'a>(alloc: Global, names: &'a [&'a str]) -> Result<Command<'a>, Al
     ensures app { IfOk result (λ c. app_of c ≡ spec.with_looks names.entry) }
     ensures globals { IfOk result (λ c. (fields_of c).has_globals ≡ false) }
 {
-    let run = run_command(alloc)?;
     let command = start(alloc)?;
-    let command = command.subcommand(run)?;
-    let list = list_command(alloc, names)?;
-    let command = command.subcommand(list)?;
-    let explain = explain_command(alloc)?;
-    let command = command.subcommand(explain)?;
-    Ok(command)
-}
-
-// With a command of a graph.
-fn with_dag<'a>(
-    alloc: Global,
-    command: Command<'a>,
-    name: &'a str,
-    about: &'a str,
-) -> Result<Command<'a>, AllocError>
-    requires globals { (fields_of command).has_globals ≡ false }
-    ensures app { IfOk result (λ c. app_of c ≡ spec.with_dag (app_of command.entry) name.entry.now) }
-    ensures globals { IfOk result (λ c. (fields_of c).has_globals ≡ false) }
-{
-    let added = of_dag(alloc, name, about)?;
-    let command = command.subcommand(added)?;
+    let command = with(command, run_command(alloc))?;
+    let command = with(command, list_command(alloc, names))?;
+    let command = with(command, explain_command(alloc))?;
     Ok(command)
 }
 
@@ -78,19 +74,20 @@ fn with_dags<'a>(alloc: Global, command: Command<'a>) -> Result<Command<'a>, All
     ensures app { IfOk result (λ c. app_of c ≡ spec.with_dags (app_of command.entry)) }
     ensures globals { IfOk result (λ c. (fields_of c).has_globals ≡ false) }
 {
-    let command = with_dag(
+    let trigger = of_dag(
         alloc,
-        command,
         "trigger",
         "Makes a run of a graph by hand, at the moment of the record's clock",
-    )?;
-    let command = with_dag(
+    );
+    let command = with(command, trigger)?;
+    let pause = of_dag(
         alloc,
-        command,
         "pause",
         "Pauses a graph: its timetable makes no runs, no run of it starts, and no try of it is handed out",
-    )?;
-    let command = with_dag(alloc, command, "unpause", "Lets a paused graph go on")?;
+    );
+    let command = with(command, pause)?;
+    let unpause = of_dag(alloc, "unpause", "Lets a paused graph go on");
+    let command = with(command, unpause)?;
     Ok(command)
 }
 
@@ -100,11 +97,9 @@ fn with_repairs<'a>(alloc: Global, command: Command<'a>) -> Result<Command<'a>, 
     ensures app { IfOk result (λ c. app_of c ≡ spec.with_repairs (app_of command.entry)) }
     ensures globals { IfOk result (λ c. (fields_of c).has_globals ≡ false) }
 {
-    let backfill = backfill_command(alloc)?;
-    let clear = clear_command(alloc)?;
-    let resize = resize_command(alloc)?;
-    let command = command.subcommand(backfill)?.subcommand(clear)?;
-    let command = command.subcommand(resize)?;
+    let command = with(command, backfill_command(alloc))?;
+    let command = with(command, clear_command(alloc))?;
+    let command = with(command, resize_command(alloc))?;
     Ok(command)
 }
 
@@ -114,12 +109,9 @@ fn with_script_words<'a>(alloc: Global, command: Command<'a>) -> Result<Command<
     ensures app { IfOk result (λ c. app_of c ≡ spec.with_script_words (app_of command.entry)) }
     ensures globals { IfOk result (λ c. (fields_of c).has_globals ≡ false) }
 {
-    let load = load_command(alloc)?;
-    let command = command.subcommand(load)?;
-    let tick = tick_command(alloc)?;
-    let command = command.subcommand(tick)?;
-    let drain = drain_command(alloc)?;
-    let command = command.subcommand(drain)?;
+    let command = with(command, load_command(alloc))?;
+    let command = with(command, tick_command(alloc))?;
+    let command = with(command, drain_command(alloc))?;
     Ok(command)
 }
 
