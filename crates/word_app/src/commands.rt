@@ -6,6 +6,7 @@ ghost use Rattle.clap.specs.Words.{app_of};
 ghost use Rattle.clap.specs.declared.builder.command.Command.TheViews.{out-Command as fields_of};
 ghost use Rattle.word_app.specs.App as spec;
 
+use crate::adding::with_argument;
 use crate::rules::{
     dag_word, lanes_option, logs_option, pool_word, scratch_option, size_word, word, workers_option,
 };
@@ -17,9 +18,7 @@ pub(crate) fn run_command<'a>(alloc: Global) -> Result<Command<'a>, AllocError>
     ensures app { IfOk result (λ c. app_of c ≡ spec.run) }
     ensures globals { IfOk result (λ c. (fields_of c).has_globals ≡ false) }
 {
-    let command = unlogged_run_command(alloc)?;
-    let command = command.arg(logs_option(alloc))?;
-    Ok(command)
+    with_argument(unlogged_run_command(alloc), logs_option(alloc))
 }
 
 // `run [--workers N] [--lanes N] [--scratch DIR]`.
@@ -30,10 +29,9 @@ fn unlogged_run_command<'a>(alloc: Global) -> Result<Command<'a>, AllocError>
     let command = Command::new(alloc, "run").about(
         "Runs a script: commands from standard input, a line each",
     );
-    let command = command.arg(workers_option(alloc))?;
-    let command = command.arg(lanes_option(alloc))?;
-    let command = command.arg(scratch_option(alloc))?;
-    Ok(command)
+    let command = with_argument(Ok(command), workers_option(alloc));
+    let command = with_argument(command, lanes_option(alloc));
+    with_argument(command, scratch_option(alloc))
 }
 
 /// `list ROWS`, where a word of `names` must stand for the rows.
@@ -75,17 +73,16 @@ pub(crate) fn explain_command<'a>(alloc: Global) -> Result<Command<'a>, AllocErr
         alloc,
         "explain",
         "Says why a task instance stands where it does, a reason a line",
-    )?;
+    );
     let logical = word(alloc, "logical", "LOGICAL", "The run's logical date");
-    let command = command.arg(logical)?;
+    let command = with_argument(command, logical);
     let task = word(
         alloc,
         "task",
         "TASK",
         "The task's id, as `task_id` in the graph's file",
     );
-    let command = command.arg(task)?;
-    Ok(command)
+    with_argument(command, task)
 }
 
 /// `resize POOL SIZE`.
@@ -94,9 +91,8 @@ pub(crate) fn resize_command<'a>(alloc: Global) -> Result<Command<'a>, AllocErro
     ensures globals { IfOk result (λ c. (fields_of c).has_globals ≡ false) }
 {
     let command = Command::new(alloc, "resize").about("Gives a pool its number of slots");
-    let command = command.arg(pool_word(alloc))?;
-    let command = command.arg(size_word(alloc))?;
-    Ok(command)
+    let command = with_argument(Ok(command), pool_word(alloc));
+    with_argument(command, size_word(alloc))
 }
 
 /// `load PATH`, of scripts alone.

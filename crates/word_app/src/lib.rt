@@ -9,6 +9,7 @@
 //! ```
 #![tactic(auto)]
 
+mod adding;
 mod commands;
 mod program;
 mod repairs;

@@ -1,9 +1,10 @@
 //! The program's command, with all commands under it.
-ghost use Rattle.std.specs.Prelude.{◌≡◌, false, IfOk, IsOkAnd};
-ghost use Rattle.clap.specs.Words.{app_of, with_subcommand};
+ghost use Rattle.std.specs.Prelude.{◌≡◌, false, IfOk};
+ghost use Rattle.clap.specs.Words.{app_of};
 ghost use Rattle.clap.specs.declared.builder.command.Command.TheViews.{out-Command as fields_of};
 ghost use Rattle.word_app.specs.App as spec;
 
+use crate::adding::with_command;
 use crate::commands::{
     drain_command, explain_command, list_command, load_command, of_dag, resize_command,
     run_command, tick_command,
@@ -41,31 +42,14 @@ fn start<'a>(alloc: Global) -> Result<Command<'a>, AllocError>
     Ok(command)
 }
 
-// With a command under it, if that could be built. Only here a command is dropped where memory runs out.
-fn with<'a>(
-    command: Command<'a>,
-    built: Result<Command<'a>, AllocError>,
-) -> Result<Command<'a>, AllocError>
-    requires globals { (fields_of command).has_globals ≡ false }
-    requires local { IfOk built (λ c. (fields_of c).has_globals ≡ false) }
-    ensures app { IfOk result (λ c. IsOkAnd built.entry (λ b. app_of c ≡ with_subcommand (app_of command.entry) (app_of b).top)) }
-    ensures globals { IfOk result (λ c. (fields_of c).has_globals ≡ false) }
-{
-    let built = built?;
-    let command = command.subcommand(built)?;
-    Ok(command)
-}
-
 // With the commands that change no graph.
 fn with_looks<'a>(alloc: Global, names: &'a [&'a str]) -> Result<Command<'a>, AllocError>
     ensures app { IfOk result (λ c. app_of c ≡ spec.with_looks names.entry) }
     ensures globals { IfOk result (λ c. (fields_of c).has_globals ≡ false) }
 {
-    let command = start(alloc)?;
-    let command = with(command, run_command(alloc))?;
-    let command = with(command, list_command(alloc, names))?;
-    let command = with(command, explain_command(alloc))?;
-    Ok(command)
+    let command = with_command(start(alloc), run_command(alloc));
+    let command = with_command(command, list_command(alloc, names));
+    with_command(command, explain_command(alloc))
 }
 
 // With the commands of a graph alone.
@@ -79,16 +63,15 @@ fn with_dags<'a>(alloc: Global, command: Command<'a>) -> Result<Command<'a>, All
         "trigger",
         "Makes a run of a graph by hand, at the moment of the record's clock",
     );
-    let command = with(command, trigger)?;
+    let command = with_command(Ok(command), trigger);
     let pause = of_dag(
         alloc,
         "pause",
         "Pauses a graph: its timetable makes no runs, no run of it starts, and no try of it is handed out",
     );
-    let command = with(command, pause)?;
+    let command = with_command(command, pause);
     let unpause = of_dag(alloc, "unpause", "Lets a paused graph go on");
-    let command = with(command, unpause)?;
-    Ok(command)
+    with_command(command, unpause)
 }
 
 // With the commands that repair, and that of pools.
@@ -97,10 +80,9 @@ fn with_repairs<'a>(alloc: Global, command: Command<'a>) -> Result<Command<'a>, 
     ensures app { IfOk result (λ c. app_of c ≡ spec.with_repairs (app_of command.entry)) }
     ensures globals { IfOk result (λ c. (fields_of c).has_globals ≡ false) }
 {
-    let command = with(command, backfill_command(alloc))?;
-    let command = with(command, clear_command(alloc))?;
-    let command = with(command, resize_command(alloc))?;
-    Ok(command)
+    let command = with_command(Ok(command), backfill_command(alloc));
+    let command = with_command(command, clear_command(alloc));
+    with_command(command, resize_command(alloc))
 }
 
 // With the commands of scripts alone.
@@ -109,10 +91,9 @@ fn with_script_words<'a>(alloc: Global, command: Command<'a>) -> Result<Command<
     ensures app { IfOk result (λ c. app_of c ≡ spec.with_script_words (app_of command.entry)) }
     ensures globals { IfOk result (λ c. (fields_of c).has_globals ≡ false) }
 {
-    let command = with(command, load_command(alloc))?;
-    let command = with(command, tick_command(alloc))?;
-    let command = with(command, drain_command(alloc))?;
-    Ok(command)
+    let command = with_command(Ok(command), load_command(alloc));
+    let command = with_command(command, tick_command(alloc));
+    with_command(command, drain_command(alloc))
 }
 
 /// The program's command, where `names` are the words that `list` takes. Its words stand without the program's name before them.

@@ -4,6 +4,7 @@ ghost use Rattle.clap.specs.Words.{app_of};
 ghost use Rattle.clap.specs.declared.builder.command.Command.TheViews.{out-Command as fields_of};
 ghost use Rattle.word_app.specs.App as spec;
 
+use crate::adding::with_argument;
 use crate::commands::of_dag;
 use crate::rules::{flag, option, word};
 use clap::Command;
@@ -14,17 +15,16 @@ fn spanned<'a>(alloc: Global, name: &'a str, about: &'a str) -> Result<Command<'
     ensures app { IfOk result (λ c. app_of c ≡ spec.spanned name.entry.now) }
     ensures globals { IfOk result (λ c. (fields_of c).has_globals ≡ false) }
 {
-    let command = of_dag(alloc, name, about)?;
+    let command = of_dag(alloc, name, about);
     let from = word(alloc, "from", "FROM", "The first moment of the span");
-    let command = command.arg(from)?;
+    let command = with_argument(command, from);
     let to = word(
         alloc,
         "to",
         "TO",
         "The last moment of the span, which is part of it",
     );
-    let command = command.arg(to)?;
-    Ok(command)
+    with_argument(command, to)
 }
 
 /// `backfill DAG FROM TO [--reset]`.
@@ -36,14 +36,13 @@ pub(crate) fn backfill_command<'a>(alloc: Global) -> Result<Command<'a>, AllocEr
         alloc,
         "backfill",
         "Makes the runs of past intervals that a graph lacks",
-    )?;
+    );
     let reset = flag(
         alloc,
         "reset",
         "Also sets back all task instances of the runs that are there",
     );
-    let command = command.arg(reset)?;
-    Ok(command)
+    with_argument(command, reset)
 }
 
 // The command that clears, but for its last two flags.
@@ -55,21 +54,20 @@ fn clear_span<'a>(alloc: Global) -> Result<Command<'a>, AllocError>
         alloc,
         "clear",
         "Sets task instances back, with a fresh allowance of tries",
-    )?;
+    );
     let task = option(
         alloc,
         "task",
         "TASK",
         "Only this task; without it all tasks",
     );
-    let command = command.arg(task)?;
+    let command = with_argument(command, task);
     let upstream = flag(
         alloc,
         "upstream",
         "With --task, also all that it depends on",
     );
-    let command = command.arg(upstream)?;
-    Ok(command)
+    with_argument(command, upstream)
 }
 
 /// `clear DAG FROM TO [--task TASK] [--upstream] [--downstream] [--only-failed]`.
@@ -77,18 +75,17 @@ pub(crate) fn clear_command<'a>(alloc: Global) -> Result<Command<'a>, AllocError
     ensures app { IfOk result (λ c. app_of c ≡ spec.clear) }
     ensures globals { IfOk result (λ c. (fields_of c).has_globals ≡ false) }
 {
-    let command = clear_span(alloc)?;
+    let command = clear_span(alloc);
     let downstream = flag(
         alloc,
         "downstream",
         "With --task, also all that depends on it",
     );
-    let command = command.arg(downstream)?;
+    let command = with_argument(command, downstream);
     let only_failed = flag(
         alloc,
         "only-failed",
         "Of these the failed and upstream_failed alone",
     );
-    let command = command.arg(only_failed)?;
-    Ok(command)
+    with_argument(command, only_failed)
 }

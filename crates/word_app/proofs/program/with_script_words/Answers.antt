@@ -1,13 +1,13 @@
-use Rattle.std.proofs.Common.{refl}
-use Rattle.clap.specs.Words.{app_of}
+use Rattle.std.proofs.Common.{refl, Ok}
+use Rattle.clap.specs.Words.{app_of, with_subcommand}
 use Rattle.word_app.specs.App as spec
-use Rattle.word_app.proofs.Adding.{adds}
+use Rattle.word_app.proofs.AddLemmas.{holds}
 use Rattle.word_app.proofs.program.with_script_words.Goals as goal
 
 pub returns-clause-app : goal.returns-clause-app
 returns-clause-app c =
-    adds app_of c.drain_command.result spec.drain
-    (adds app_of c.tick_command.result spec.tick
-    (adds app_of c.load_command.result spec.load {old = app_of c.args.command} refl c.load_command.ensures.app c.in_ok-command.ensures.app)
-    c.tick_command.ensures.app c.in_ok-command-2.ensures.app)
-    c.drain_command.ensures.app c.in_ok-command-3.ensures.app
+    holds app_of c.with_command-command-2.result c.drain_command.result c.with_command.result (with_subcommand (with_subcommand (app_of c.args.command) spec.load.top) spec.tick.top) spec.drain
+    (holds app_of c.with_command-command.result c.tick_command.result c.with_command-command-2.result (with_subcommand (app_of c.args.command) spec.load.top) spec.tick
+    (holds app_of (Ok c.args.command) c.load_command.result c.with_command-command.result (app_of c.args.command) spec.load refl c.load_command.ensures.app c.with_command-command.ensures.app)
+    c.tick_command.ensures.app c.with_command-command-2.ensures.app)
+    c.drain_command.ensures.app c.with_command.ensures.app
