@@ -166,13 +166,13 @@ def temporary_folder(place=None):
 
 
 @contextlib.contextmanager
-def rows_of(path):
-    """The rows of a record at a path, of one moment: those of a copy, in which nobody writes."""
+def rows_of(path, seconds=LONGEST):
+    """The rows of a record at a path, of one moment: those of a copy, in which nobody writes, and which is made for so many seconds at most."""
     record = file_of(path)
     sweep()
     try:
         with temporary_folder() as folder:
-            rows = copied(record, folder)
+            rows = copied(record, folder, seconds)
     except OSError as error:
         room = error.errno in (errno.ENOSPC, errno.EDQUOT)
         where = f": {tempfile.gettempdir()} has no room for a copy of it; TMPDIR names another folder" if room else f": {error.strerror}"

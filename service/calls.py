@@ -9,8 +9,8 @@ from typing import NamedTuple
 import service
 from stops import Pace
 
-FAILED = """SELECT r.dag_id, r.logical, (SELECT coalesce(max(serial), 0) FROM attempt a WHERE a.dag_id = r.dag_id AND a.logical = r.logical), r.data_start, r.data_end,
- r.kind FROM run r WHERE r.phase = 3 ORDER BY r.dag_id, r.logical"""
+FAILED = """SELECT r.dag_id, r.logical, (SELECT coalesce(max(serial), 0) FROM attempt a WHERE a.dag_id = r.dag_id AND a.logical = r.logical),
+ r.data_start, r.data_end, r.kind FROM run r WHERE r.phase = 3 ORDER BY r.dag_id, r.logical"""
 # so many programs at once, and so many seconds for each, which timeout(1) counts, since it does so where serve is killed too
 MOST, LIMIT = 8, 60
 TIMED_OUT = (124, 137, -signal.SIGKILL)
@@ -79,8 +79,9 @@ class Calls:
         self.trouble, self.troubled = Pace(60), False
 
     def take(self, rows):
-        """Takes the failed runs of a record."""
-        self.failures = [Failure(*it) for it in rows.execute(FAILED)]
+        """Takes the failed runs of a record that were not told."""
+        told = self.told.keys or ()
+        self.failures = [it for it in map(Failure._make, rows.execute(FAILED)) if it.key() not in told]
 
     def call(self):
         """Calls the program for each failed run that it was not called for; none is waited for."""

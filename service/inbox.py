@@ -50,16 +50,18 @@ class Inbox:
         self.folder, self.log, self.watch, self.held, self.days = folder, log, watch, held, days
         self.told, self.unread, self.hourly = {}, Pace(60), Pace(3600)
 
+    def do_left(self, scheduler):
+        """Does what an earlier service took and did not end, before anything else is done."""
+        for name in self.insist(lambda: sorted(os.listdir(self.folder.at("doing"))), "doing cannot be read"):
+            if not name.startswith("."):
+                self.do(name, scheduler, again=True)
+
     def do_all(self, scheduler, is_over):
         """Does the scripts that are there, by name, until it is over; returns whether there was one."""
         if self.hourly.is_due():
             self.sweep()
-        left = [it for it in self.names("doing") if not it.startswith(".")]
-        for name in left:
-            self.do(name, scheduler, again=True)
-        waiting = iter([it for it in self.names("inbox") if not self.is_hidden(it)])
-        any_done = bool(left)
-        for name in waiting:
+        any_done = False
+        for name in [it for it in self.names("inbox") if not self.is_hidden(it)]:
             taken = self.take(name)
             if taken:
                 self.do(taken, scheduler)
@@ -93,8 +95,6 @@ class Inbox:
             if len(os.fsencode(name)) > LONGEST_NAME:
                 raise NoScript(f"its name has more than {LONGEST_NAME} bytes")
             commands = commands_of(read_file(path))
-        except FileNotFoundError:  # it was withdrawn
-            return None
         except (NoScript, OSError) as error:
             why = getattr(error, "strerror", error)
             self.tell(path, f"inbox/{name} cannot be read ({why}), and stays there: make it a file that the user {os.geteuid()} may read, or remove it")
@@ -103,10 +103,9 @@ class Inbox:
         goal, taken = ("refused", free) if commands is None else ("doing", f"0,{free}")
         try:
             os.rename(path, self.folder.at(goal, taken))
-        except FileNotFoundError:
-            return None
         except OSError as error:
-            self.tell(path, f"inbox/{name} cannot be moved to {goal} ({error.strerror}), and is not done: give the user {os.geteuid()} the right to write both folders, or make room")
+            what = f"inbox/{name} cannot be moved to {goal} ({error.strerror}), and is not done"
+            self.tell(path, f"{what}: give the user {os.geteuid()} the right to write both folders, or make room")
             return None
         if commands is not None:
             return taken
@@ -116,7 +115,7 @@ class Inbox:
         return None
 
     def tell(self, path, text):
-        """Says it once for a file as it is."""
+        """Says it once for a file as it is; one that was withdrawn is none."""
         with contextlib.suppress(OSError):
             found = os.lstat(path)
             if self.told.get(path) != (found.st_ino, found.st_ctime_ns):
@@ -135,7 +134,8 @@ class Inbox:
         """Does what is not yet answered of a script in `doing`; `again` says that an earlier service took it."""
         match, commands = TAKEN.fullmatch(taken), None
         with contextlib.suppress(NoScript, FileNotFoundError):
-            commands = match and commands_of(self.insist(lambda: read_file(self.folder.at("doing", taken)), f"doing/{taken} cannot be read"))
+            text = match and self.insist(lambda: read_file(self.folder.at("doing", taken)), f"doing/{taken} cannot be read")
+            commands = match and commands_of(text)
         if commands is None:
             self.log.warn(f"doing/{taken} is no script that this service took; it goes to refused")
             self.move(("doing", taken), ("refused", self.free_name(taken)))
@@ -155,8 +155,7 @@ class Inbox:
     def do_one(self, command, name, taken, scheduler, again):
         """Gives a command to the scheduler, and keeps its answer; `again` says that it may have been given before."""
         shown = [f"> {it.decode(errors='replace')}" for it in command]
-        for line in shown:
-            self.log.say(line)
+        self.log.say(*shown)
         if again and self.is_set_back(taken):
             rows, last, sentences = [], "ok", [f"{AGAIN}; it was done, so it is not given again, and what it printed is not known"]
         else:
@@ -166,20 +165,18 @@ class Inbox:
             if again and last.startswith("refused 10 "):
                 sentences.append("the first time it was done, or refused for the same reason")
         only_looks = command[0].split()[0] in (b"list", b"explain")
-        for row in [f"{len(rows)} lines are in answers/{name}"] if only_looks else rows:
-            self.log.say(row)
-        if not only_looks:
+        if only_looks:
+            self.log.say(f"{len(rows)} lines are in answers/{name}", last)
+        else:
             self.watch.printed(rows)
-        self.log.say(last)
-        for line in sentences:
-            self.log.put(2, line)
+            self.log.say(*rows, last)
+        self.log.put(2, *sentences)
         self.answer(name, [*shown, *rows, last, *(f"# {it}" for it in sentences)])
 
     def give(self, command, taken, scheduler):
         """Returns the rows of the answer, its last line, and the sentences on it."""
         scheduler.occupied()
-        for line in scheduler.said():  # on what was done before
-            self.log.put(2, line)
+        self.log.put(2, *scheduler.said())  # on what was done before
         before = scheduler.fed
         self.note(command, taken)
         rows, last = scheduler.do(command)
@@ -252,12 +249,7 @@ class Inbox:
         with contextlib.suppress(FileNotFoundError):  # somebody took it away
             self.insist(rename, f"{'/'.join(old)} cannot be moved to {'/'.join(new)}")
         for place in {old[0], new[0]}:
-            with contextlib.suppress(OSError):
-                file = os.open(self.folder.at(place), os.O_RDONLY)
-                try:
-                    os.fsync(file)
-                finally:
-                    os.close(file)
+            service.sync_folder(self.folder.at(place))
 
     def sweep(self):
         """Removes scripts and answers that are older than so many days, and what a `copy` that was killed has left."""

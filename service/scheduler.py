@@ -28,8 +28,8 @@ def words_of(line):
 
 
 def begins_graph(words):
-    """Whether a graph stands in the lines below; clap takes a word -- away."""
-    return words[:1] == [b"load"] and [it for it in words if it != b"--"] == [b"load", b"inline"]
+    """Whether a graph stands in the lines below; a first word -- behind the command ends its options."""
+    return words in ([b"load", b"inline"], [b"load", b"--", b"inline"], [b"load", b"inline", b"--"])
 
 
 def commands_of(text):

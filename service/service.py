@@ -33,10 +33,14 @@ def run_id(kind, logical):
     return f"{KINDS[kind]}__{moment_text(logical)}"
 
 
-def complain(text):
+def remark(text):
     """Says a sentence on standard error; where nobody takes it, it is dropped."""
     with contextlib.suppress(OSError):
-        print(f"{os.path.basename(sys.argv[0])}: {text}", file=sys.stderr, flush=True)
+        print(text, file=sys.stderr, flush=True)
+
+
+def complain(text):
+    remark(f"{os.path.basename(sys.argv[0])}: {text}")
 
 
 def run(main):
@@ -52,7 +56,7 @@ def run(main):
             status = main(words)
         sys.stdout.flush()
     except Usage:
-        complain(text)
+        remark(text)
         status = 2
     except OSError as error:
         # nothing is written at the end then
@@ -91,6 +95,16 @@ def remove(path):
     with contextlib.suppress(OSError):
         os.unlink(path)
     return not os.path.lexists(path)
+
+
+def sync_folder(path):
+    """Brings to the disk which names a folder has."""
+    with contextlib.suppress(OSError):
+        file = os.open(path, os.O_RDONLY)
+        try:
+            os.fsync(file)
+        finally:
+            os.close(file)
 
 
 def state_of(process):

@@ -97,7 +97,8 @@ class Start:
             if pace.is_due():
                 self.lock.mark(ENDING)
                 self.folder.wake()
-                self.log.warn(f"the scheduler of a serve that was killed, process {self.folder.scheduler()}, is at work until its tries have ended; waits for it")
+                orphan = f"the scheduler of a serve that was killed, process {self.folder.scheduler()},"
+                self.log.warn(f"{orphan} is at work until its tries have ended; waits for it")
                 for line in programs.lines(self.folder):
                     self.log.warn(f"waits for {line}")
             if self.stops.asked():
@@ -122,6 +123,5 @@ class Start:
             time.sleep(0.3)
         if it.returncode == 0:
             return None
-        for line in (it.stdout + it.stderr).decode(errors="replace").splitlines():
-            self.log.put(2, line)
+        self.log.put(2, *(it.stdout + it.stderr).decode(errors="replace").splitlines())
         return it.returncode if it.returncode > 0 else 128 - it.returncode

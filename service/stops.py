@@ -17,8 +17,11 @@ class Log:
     def __init__(self):
         self.dropped, self.unheard = 0, False
 
-    def put(self, file, text):
-        line = f"{service.stamp()} {CONTROL.sub('?', text)}\n"
+    def put(self, file, *texts):
+        for text in texts:
+            self.write(file, f"{service.stamp()} {CONTROL.sub('?', text)}\n")
+
+    def write(self, file, line):
         if self.dropped:
             line = f"{service.stamp()} {self.dropped} lines could not be written\n{line}"
         rest = line.encode(errors="surrogateescape")
@@ -30,15 +33,15 @@ class Log:
             self.dropped += 1
             self.unheard |= file == 1 and error.errno in NOBODY_READS
 
-    def say(self, text):
-        self.put(1, text)
+    def say(self, *texts):
+        self.put(1, *texts)
 
     def warn(self, text):
         self.put(2, f"serve: {text}")
 
 
 class Stops:
-    """Counts the requests to end: signals, the file FOLDER/stop, and a log that nobody reads any more. A signal within a second of another is the same request."""
+    """Counts the requests to end: signals, the file FOLDER/stop, and a log that nobody reads any more. Signals within a second are one request."""
 
     def __init__(self, folder, log):
         self.folder, self.log = folder, log
@@ -58,9 +61,9 @@ class Stops:
             self.again = True
 
     def asked(self):
-        if self.first is None and (self.log.unheard or os.path.lexists(self.folder.at("stop"))):
+        if self.first is None and os.path.lexists(self.folder.at("stop")):
             self.first = time.monotonic()
-        return self.first is not None
+        return self.first is not None or self.log.unheard
 
 
 class Pace:

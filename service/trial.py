@@ -2,6 +2,7 @@
 import contextlib
 import os
 import signal
+import sqlite3
 import subprocess
 import time
 
@@ -10,6 +11,7 @@ import service
 import snapshot
 
 HERE = os.path.dirname(os.path.realpath(__file__))
+KNOWN = {"answers", "dagsched-scratch", "doing", "done", "inbox", "lock", "logs", "record.db", "record.db-wal", "refused", "told"}
 GRAPH = 'dag_id = "{0}"\nschedule = "None"\nstart_date = "2024-01-01"\n'
 TASK = '[[task]]\ntask_id = "{0}"\noperator = "command"\nargv = ["sh", "-c", "{1}"]\nupstream = [{2}]\nretries = {3}\nretry_delay = 1\n'
 
@@ -32,18 +34,36 @@ def until(seconds, test, what):
 
 
 class Trial:
-    """A folder, and the service on it."""
+    """A folder, and the service on it. Files whose names end with .toml, .out and .sh are those of the trial."""
 
     def __init__(self, program, work, name):
-        self.program, self.path = program, os.path.join(work, name)
+        self.program, self.work, self.path = program, work, os.path.join(work, name)
         os.makedirs(self.path, exist_ok=True)
-        self.folder, self.serve, self.log = service.Folder(self.path), None, os.path.join(work, f"{name}.log")
+        self.folder, self.serve, self.log = service.Folder(self.path), None, f"{self.path}.log"
+
+    def beside(self, name):
+        return os.path.join(self.work, name)
+
+    def touch(self, name, path=None):
+        with open(path or self.folder.at(name), "w"):
+            pass
+
+    def text(self, *names):
+        with open(self.folder.at(*names), errors="replace") as it:
+            return it.read()
+
+    def put(self, name, text, mode=0o644):
+        """Puts a script into the inbox."""
+        with open(self.folder.at("inbox", ".put"), "w") as it:
+            os.fchmod(it.fileno(), mode)
+            it.write(text)
+        os.rename(self.folder.at("inbox", ".put"), self.folder.at("inbox", name))
 
     def begin(self, *options, seconds="1", before=(), at_work=True, environment=None):
+        words = [*before, f"{HERE}/serve", self.program, self.path, seconds, *options]
         with open(self.log, "ab") as log:
-            self.serve = subprocess.Popen(
-                [*before, f"{HERE}/serve", self.program, self.path, seconds, *options], stdin=subprocess.DEVNULL, stdout=log, stderr=log,
-                env={**os.environ, **(environment or {})}, start_new_session=True)
+            environment = {**os.environ, **(environment or {})}
+            self.serve = subprocess.Popen(words, stdin=subprocess.DEVNULL, stdout=log, stderr=log, env=environment, start_new_session=True)
         if at_work:
             until(20, lambda: self.began() or self.serve.poll() is not None, lambda: f"no service began:\n{self.said()}")
 
@@ -77,16 +97,18 @@ class Trial:
         with snapshot.rows_of(self.folder.record) as rows:
             return rows.execute(query).fetchall()
 
+    def now(self):
+        """The record's clock, 0 where there is no record yet, or none with tables."""
+        with contextlib.suppress(sqlite3.OperationalError, snapshot.NoRecord):
+            return self.rows("SELECT now FROM meta")[0][0]
+        return 0
+
     def outcomes(self):
         return [service.OUTCOMES[it[0]] if it[0] is not None else None for it in self.rows("SELECT outcome FROM attempt ORDER BY serial")]
 
-    def all_gone(self):
+    def check_gone(self):
         """Nothing of the service is left: no process, no file that is not its own."""
         until(20, lambda: not self.folder.scheduler() and not programs.programs(self.folder), "a process is left")
-        left = [f"{place}/{it}" for place in ("inbox", "doing", "answers") for it in os.listdir(self.folder.at(place)) if place != "answers" or it.startswith(".")]
+        left = [f"{place}/{it}" for place in ("inbox", "doing") for it in os.listdir(self.folder.at(place))]
+        left += [it for it in os.listdir(self.path) if it not in KNOWN and not it.endswith((".toml", ".out", ".sh"))]
         expect(not left, f"left is {left}")
-        known = {"answers", "dagsched-scratch", "doing", "done", "inbox", "lock", "logs", "record.db", "record.db-wal", "refused", "told"}
-        found = {it for it in os.listdir(self.path) if not it.endswith((".toml", ".out", ".sh"))} - known
-        expect(not found, f"left is {found}")
-        scratch = self.folder.at("dagsched-scratch")
-        return scratch

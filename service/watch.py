@@ -7,7 +7,8 @@ import snapshot
 from stops import Pace
 
 TRIES = "SELECT serial, dag_id, logical, task_id, try_number, outcome FROM attempt WHERE serial > ? OR serial IN ({}) ORDER BY serial"
-SHARE = 20  # looks take the twentieth part of the time at most
+# looks take the twentieth part of the time at most, and one is given up after so many seconds
+SHARE, SECONDS = 20, 2
 
 
 def words(it):
@@ -54,7 +55,7 @@ class Watch:
         if seen == self.seen:
             return None
         try:
-            with snapshot.rows_of(self.folder.record) as rows:
+            with snapshot.rows_of(self.folder.record, SECONDS) as rows:
                 self.say_tries(rows)
                 if self.calls:
                     self.calls.take(rows)

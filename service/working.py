@@ -26,7 +26,9 @@ class Service:
         self.inbox, self.seconds = inbox, seconds
         self.scheduler = Scheduler(arguments, self.folder, self.stops.wakened, self.during)
         self.keep_pid()
+        self.log.say(f"begins, with the scheduler as process {self.scheduler.process.pid}")
         try:
+            self.inbox.do_left(self.scheduler)
             while not self.stops.asked() and not self.stuck:
                 self.step()
             self.lock.mark(ENDING)
@@ -71,8 +73,7 @@ class Service:
         moment = int(time.time())
         rows, last = self.scheduler.do([b"tick now"])
         occupied = self.scheduler.occupied()
-        for row in rows:
-            self.log.say(row)
+        self.log.say(*rows)
         self.watch.printed(rows)
         if last == "ok":
             self.clock.reached, self.refusal = max(self.clock.reached, moment), None
@@ -89,10 +90,8 @@ class Service:
         if last != self.refusal:
             self.refusal, self.refused_since, self.refusals = last, time.monotonic(), Pace(60)
         if self.refusals.is_due():
-            for line in ("> tick now", last):
-                self.log.say(line)
-            for line in sentences:
-                self.log.put(2, line)
+            self.log.say("> tick now", last)
+            self.log.put(2, *sentences)
             if last.startswith("refused 8 "):
                 self.log.warn(f"the record's clock is ahead of the system's until {last.split()[-1]}: until then no run is made")
         if last.startswith("store ") and time.monotonic() - self.refused_since >= STUCK and self.has_room():
@@ -116,8 +115,7 @@ class Service:
             self.clock.reached, self.behind = reached, False
 
     def say_sentences(self):
-        for line in self.scheduler.said():
-            self.log.put(2, line)
+        self.log.put(2, *self.scheduler.said())
 
     def say_waits(self):
         self.waits.begin_anew()
@@ -163,8 +161,7 @@ class Service:
                 self.say_waits()
         status = self.scheduler.status()
         self.scheduler.read_sentences()
-        for line in self.scheduler.lines:
-            self.log.say(line)
+        self.log.say(*self.scheduler.lines)
         self.say_sentences()
         self.watch.look(force=True)
         if self.watch.calls:
@@ -180,6 +177,7 @@ class Service:
         if self.log.unheard:
             return service.NOT_TAKEN
         # else it says that a command of some day was refused
-        status = 0 if status <= self.scheduler.worst or self.ended else status
+        broke_off = status > self.scheduler.worst or any(it.startswith("conduct ") for it in self.scheduler.lines)
+        status = status if broke_off and not self.ended else 0
         self.log.say(f"ended with status {status}")
         return status
