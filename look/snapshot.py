@@ -27,7 +27,7 @@ import tempfile
 import time
 from typing import NamedTuple, Optional
 
-ENDING = {signal.SIGHUP, signal.SIGINT, signal.SIGTERM}
+ENDING = {signal.SIGHUP, signal.SIGINT, signal.SIGQUIT, signal.SIGTERM, signal.SIGALRM, signal.SIGUSR1, signal.SIGUSR2}
 LONGEST, PAUSE, SETTLED = 15, 0.02, 0.05
 HEAD, EMPTY_LOG = 32, 41
 # folders have names of their own, and are those of a killed program after so many seconds
@@ -36,6 +36,10 @@ PREFIX, LEFT = "dagsched-copy-", 60
 
 class NoRecord(Exception):
     """Why there is no record that can be read."""
+
+
+class Unsettled(NoRecord):
+    """A checkpoint fell into each copy."""
 
 
 class Mark(NamedTuple):
@@ -97,7 +101,7 @@ def copied_once(record, to):
 
 
 def connected(copy):
-    """The rows of a copy, whose files have no names from then on."""
+    """The rows of a copy."""
     has_log = beside(copy, "-wal").exists() and beside(copy, "-wal").stat().st_size > EMPTY_LOG
     rows = sqlite3.connect(copy, isolation_level=None)
     try:
@@ -110,14 +114,12 @@ def connected(copy):
     except sqlite3.Error:
         rows.close()
         raise
-    for it in copy.parent.iterdir():
-        it.unlink()
     return rows
 
 
-def copied(record, folder):
-    """The rows of a copy of a record, made in a folder of its own."""
-    faults, until = [], time.monotonic() + LONGEST
+def copied(record, folder, seconds=LONGEST):
+    """The rows of a copy of a record, made as record.db in a folder of its own."""
+    faults, until = [], time.monotonic() + seconds
     while time.monotonic() < until:
         if copied_once(record, folder / "record.db"):
             try:
@@ -127,12 +129,12 @@ def copied(record, folder):
         if len(faults) == 3:
             raise NoRecord(f"{record}: this is no record: {faults[-1]}")
         time.sleep(PAUSE)
-    raise NoRecord(f"{record}: it is written so fast that no whole copy could be made in {LONGEST} seconds: try again, or copy it by the service's `copy`")
+    raise Unsettled(f"{record}: it is written so fast that no whole copy could be made in {seconds} seconds: try again, or copy it by the service's `copy`")
 
 
-def sweep():
+def sweep(place=None):
     """Removes folders of programs that were killed while they copied: those that nobody holds, and that were not made just now."""
-    for it in pathlib.Path(tempfile.gettempdir()).glob(f"{PREFIX}*"):
+    for it in pathlib.Path(place or tempfile.gettempdir()).glob(f"{PREFIX}*"):
         with contextlib.suppress(OSError):
             held = os.open(it, os.O_RDONLY | os.O_DIRECTORY | os.O_NOFOLLOW)
             try:
@@ -145,11 +147,11 @@ def sweep():
 
 
 @contextlib.contextmanager
-def temporary_folder():
+def temporary_folder(place=None):
     """A folder that is gone at the end, also where a signal comes: none is taken while it is made or removed."""
     folder, held, waiting = None, None, signal.pthread_sigmask(signal.SIG_BLOCK, ENDING)
     try:
-        folder = tempfile.mkdtemp(prefix=PREFIX)
+        folder = tempfile.mkdtemp(prefix=PREFIX, dir=place)
         held = os.open(folder, os.O_RDONLY)
         fcntl.flock(held, fcntl.LOCK_SH)
         signal.pthread_sigmask(signal.SIG_SETMASK, waiting)
@@ -164,13 +166,13 @@ def temporary_folder():
 
 
 @contextlib.contextmanager
-def rows_of(path):
-    """The rows of a record at a path, of one moment: those of a copy, in which nobody writes."""
+def rows_of(path, seconds=LONGEST):
+    """The rows of a record at a path, of one moment: those of a copy, in which nobody writes, and which is made for so many seconds at most."""
     record = file_of(path)
     sweep()
     try:
         with temporary_folder() as folder:
-            rows = copied(record, folder)
+            rows = copied(record, folder, seconds)
     except OSError as error:
         room = error.errno in (errno.ENOSPC, errno.EDQUOT)
         where = f": {tempfile.gettempdir()} has no room for a copy of it; TMPDIR names another folder" if room else f": {error.strerror}"
