@@ -29,7 +29,8 @@ def words_of(line):
 
 def begins_graph(words):
     """Whether a graph stands in the lines below; a first word -- behind the command ends its options."""
-    return words in ([b"load", b"inline"], [b"load", b"--", b"inline"], [b"load", b"inline", b"--"])
+    shapes = ([b"inline"], [b"--", b"inline"], [b"inline", b"--"])
+    return words[:1] in ([b"load"], [b"replace"]) and words[1:] in shapes
 
 
 def commands_of(text):
