@@ -5,6 +5,7 @@ use Rattle.run_lists.specs.Edits.{AreEditsOf, edited}
 use Rattle.sched_model.specs.Schedule.{Schedule, has_runs}
 use Rattle.sched_model.specs.Changes.{with_graph, pause_graph}
 use Rattle.sched_draft.specs.Books.{pools_in}
+use Rattle.sched_draft.specs.Drafts.{DraftValue}
 use Rattle.sched_handout.specs.Weighing.{WeighTasks}
 use Rattle.sched_handout.specs.declared.occupied.Occupied.{Occupied}
 use Rattle.record_rows.specs.Rows.{Rows}
@@ -30,6 +31,12 @@ with_change g a = record a { graphs = changed g a.graphs }
 abbrev pub with_rest : Option Rest → Schedule → Schedule
 with_rest None a = a
 with_rest (Some n) a = record a { pools = pools_in n.occupied.pools.pools; now = n.clock; lanes = n.lanes; next = n.serial; runs = edited n.edits a.runs }
+
+-- what a draft leaves, with these numbers: its edits are of the runs that were there, and with its limits and its graphs it is what the draft has
+pub record IsRestOf (d : DraftValue) (t : Occupied) (n : Rest) : Type 0 where
+  pub numbers : n.occupied ≡ t
+  pub edits : AreEditsOf d.base.runs n.edits
+  pub made : with_rest (Some n) (record d.base { limits = d.content.limits; graphs = d.content.graphs }) ≡ d.content
 
 -- its edits are of the runs that are there
 abbrev pub AreOfRuns : Option Rest → Schedule → Type 0

@@ -14,7 +14,7 @@ ghost use Rattle.sched_model.specs.States.{open_tries};
 ghost use Rattle.sched_handout.specs.Occupied.{AreOccupied};
 ghost use Rattle.sched_draft.specs.Books.{IsBookOf};
 ghost use Rattle.sched_core.specs.Books.{IsCounted};
-ghost use Rattle.sched_core.specs.Effects.{with_change, IsQuiet, IsWeighed};
+ghost use Rattle.sched_core.specs.Effects.{applied, with_change, IsEffect, IsQuiet, IsRestOf, IsWeighed};
 ghost use Rattle.sched_core.specs.Inside.{IsOver, IsLast, completed, drafted_as, over};
 
 use crate::changes::{Change, Effect, GraphChange, Rest};
@@ -25,6 +25,7 @@ use graph_file::{Name, Sequence};
 use instance_machine::Stage;
 use moment_core::Moment;
 use pool_book::{PoolFault, Pools, Slots};
+use record_rows::Rows;
 use sched_creation::{add, named_by_tick};
 use sched_draft::Draft;
 use sched_events::{Answer, Event, Refusal, RunId};
@@ -76,12 +77,8 @@ impl Schedule {
         }) }
     {
         let rows = self.rows_of_graphs(alloc, &graphs)?;
-        Ok(Change {
-            before: Snapshot::of(self),
-            effect: Effect { graphs, rest: None },
-            answer: quiet_answer(alloc),
-            rows,
-        })
+        let effect = Effect { graphs, rest: None };
+        Ok(self.change_of(effect, quiet_answer(alloc), rows))
     }
 
     // The change that makes this of the graphs, and what follows of it: nothing where the schedule is settled.
@@ -194,22 +191,28 @@ impl Schedule {
         self.settle_draft(alloc, &mut draft)?;
         let jobs = hand_out(alloc, &mut draft, self.weights.as_slice(), &mut occupied)?;
         let rows = self.rows_changed(alloc, &draft, &graphs)?;
-        let rest = Rest {
-            occupied,
-            clock: draft.clock(),
-            lanes: draft.lanes(),
-            serial: draft.next_serial(),
-            edits: draft.into_edits(),
+        let effect = Effect {
+            graphs,
+            rest: Some(rest_of(draft, occupied)),
         };
-        Ok(Change {
+        Ok(self.change_of(effect, Answer { jobs, ..answer }, rows))
+    }
+
+    // The change that has this effect and this answer, and brings these rows.
+    pub(crate) fn change_of(&self, effect: Effect, answer: Answer, rows: Rows) -> Change
+        requires { IsEffect effect rows self.now.content }
+        ensures { result ≡ record {
+          before = self.now.content;
+          after = applied effect self.now.content;
+          answer = answer;
+        } }
+    {
+        Change {
             before: Snapshot::of(self),
-            effect: Effect {
-                graphs,
-                rest: Some(rest),
-            },
-            answer: Answer { jobs, ..answer },
+            effect,
+            answer,
             rows,
-        })
+        }
     }
 
     fn plan_tick(&self, alloc: Global, moment: Moment) -> Result<Change, Refusal>
@@ -347,6 +350,20 @@ impl Schedule {
             GraphChange::Same,
             quiet_answer(alloc),
         )?)
+    }
+}
+
+// What a draft leaves, but for the graphs: these are the numbers of its tries without an end.
+pub(crate) fn rest_of(draft: Draft<'_>, occupied: Occupied) -> Rest
+    requires { AreOccupied draft.content occupied }
+    ensures { IsRestOf draft.entry occupied result }
+{
+    Rest {
+        occupied,
+        clock: draft.clock(),
+        lanes: draft.lanes(),
+        serial: draft.next_serial(),
+        edits: draft.into_edits(),
     }
 }
 
