@@ -46,16 +46,19 @@ completed_by : (g : GraphChange) (a : Schedule) (qs : List Pool) (now lanes next
 completed_by graphs.Same a qs now lanes next runs = refl
 completed_by (graphs.Load text dag weights dates) a qs now lanes next runs = refl
 completed_by (graphs.Pause id paused) a qs now lanes next runs = refl
+completed_by (graphs.Replace graph weights) a qs now lanes next runs = refl
 
 completed_open : (g : GraphChange) (b : Schedule) → IsLast g b → open_tries (completed g (hand_out (settle b))) ≡ open_tries (hand_out (settle b))
 completed_open graphs.Same b last = refl
 completed_open (graphs.Load text dag weights dates) b last = load_open text dag (hand_out (settle b)) (no_runs_after b dag.spec.dag_id ∙ last)
 completed_open (graphs.Pause id paused) b last = refl
+completed_open (graphs.Replace graph weights) b last = refl
 
 completed_pools : (g : GraphChange) (b : Schedule) → (completed g b).pools ≡ b.pools
 completed_pools graphs.Same b = refl
 completed_pools (graphs.Load text dag weights dates) b = refl
 completed_pools (graphs.Pause id paused) b = refl
+completed_pools (graphs.Replace graph weights) b = refl
 
 -- settling leaves the next serial
 move_next : (a b : Schedule) → move a ≡ Some b → b.next ≡ a.next

@@ -15,7 +15,7 @@ ghost use Rattle.sched_handout.specs.Occupied.{AreOccupied};
 ghost use Rattle.sched_draft.specs.Books.{IsBookOf};
 ghost use Rattle.sched_core.specs.Books.{IsCounted};
 ghost use Rattle.sched_core.specs.Effects.{applied, with_change, IsEffect, IsQuiet, IsRestOf, IsWeighed};
-ghost use Rattle.sched_core.specs.Inside.{IsOver, IsLast, completed, drafted_as, over};
+ghost use Rattle.sched_core.specs.Inside.{IsOver, IsLast, LeavesDags, completed, drafted_as, over};
 
 use crate::changes::{Change, Effect, GraphChange, Rest};
 use crate::lookups::graph_named;
@@ -60,6 +60,7 @@ impl Schedule {
             Event::Resize(name, size) => self.plan_resize(alloc, name, *size),
             Event::Report(serial, stage) => self.plan_report(alloc, *serial, *stage),
             Event::Restart(lanes) => self.plan_restart(alloc, *lanes),
+            Event::Replace(text) => self.plan_replace(alloc, text),
         }
     }
 
@@ -147,6 +148,7 @@ impl Schedule {
         requires sound { IsSound draft.content }
         requires over { IsOver graphs self.now.content draft.content }
         requires last { IsLast graphs draft.content }
+        requires leaves { LeavesDags graphs }
         requires weighed { IsWeighed graphs }
         requires kept { IsSettledAndSound (completed graphs (hand_out (settle draft.content))) }
         requires pools { draft.content.pools ≡ self.now.content.pools }
@@ -175,6 +177,7 @@ impl Schedule {
         requires sound { IsSound draft.content }
         requires over { IsOver graphs self.now.content draft.content }
         requires last { IsLast graphs draft.content }
+        requires leaves { LeavesDags graphs }
         requires weighed { IsWeighed graphs }
         requires kept { IsSettledAndSound (completed graphs (hand_out (settle draft.content))) }
         requires counted { IsCounted draft.content }

@@ -25,7 +25,7 @@ use Rattle.sched_core.proofs.schedules.Schedule.finish_with.Goals as goal
 
 pub settle_draft-requires-clause-dags : goal.settle_draft-requires-clause-dags
 settle_draft-requires-clause-dags c =
-    subst (λ (s : Schedule). SameDags s c.args.draft.content) (sym c.requires.based) (draft_dags c.args.graphs c.args.self.now.content c.args.draft.content c.requires.over)
+    subst (λ (s : Schedule). SameDags s c.args.draft.content) (sym c.requires.based) (draft_dags c.args.graphs c.args.self.now.content c.args.draft.content c.requires.leaves c.requires.over)
 
 pub hand_out-requires-clause-weights : goal.hand_out-requires-clause-weights
 hand_out-requires-clause-weights c =
@@ -34,7 +34,7 @@ hand_out-requires-clause-weights c =
     let ws : List (Vec ℕ) = c.self.inside.weights.items in
     let kept : WeighGraphs a.graphs ws = subst (λ (h : ScheduleValue). WeighGraphs h.content.graphs ws) c.self.view_is c.self.invariant.weights in
     subst (λ (rows : List (Vec ℕ)). WeighGraphs c.settle_draft.new.draft.content.graphs rows) (sym c.as_slice.ensures.value)
-    (subst (λ (s : Schedule). WeighGraphs s.graphs ws) (sym c.in_ok-settle_draft.ensures.settled) (weigh_settled c.args.graphs a b ws c.requires.over kept))
+    (subst (λ (s : Schedule). WeighGraphs s.graphs ws) (sym c.in_ok-settle_draft.ensures.settled) (weigh_settled c.args.graphs a b ws c.requires.leaves c.requires.over kept))
 
 pub hand_out-requires-clause-taken : goal.hand_out-requires-clause-taken
 hand_out-requires-clause-taken c =

@@ -1,9 +1,9 @@
 use Rattle.sched_core.proofs.ChangedRowLemmas.{alike_dags}
-use Rattle.sched_core.proofs.EffectLemmas.{quiet_keeps, quiet_last, quiet_after}
+use Rattle.sched_core.proofs.EffectLemmas.{quiet_keeps, quiet_after}
 use Rattle.sched_core.proofs.schedules.Schedule.quiet_change.Goals as goal
 
 pub rows_of_graphs-requires : goal.rows_of_graphs-requires
-rows_of_graphs-requires c = alike_dags c.args.graphs c.args.self.now.content.graphs c.args.self.now.content (quiet_last c.args.graphs c.args.self.now.content c.requires.quiet)
+rows_of_graphs-requires c = alike_dags c.args.graphs c.args.self.now.content.graphs c.args.self.now.content c.requires.quiet
 
 pub change_of-requires : goal.change_of-requires
 change_of-requires c =
