@@ -15,8 +15,10 @@ class Refused(Exception):
 
 
 class Try:
-    def __init__(self, serial, slots):
-        self.serial, self.slots, self.started, self.ended, self.outcome = serial, slots, None, None, None
+    """A try, with its task as it was when it was handed out."""
+
+    def __init__(self, serial, task):
+        self.serial, self.task, self.slots, self.started, self.ended, self.outcome = serial, task, task.slots, None, None, None
 
 
 class Instance:
@@ -153,7 +155,7 @@ class Schedule:
                 return told
             _, logical, graph, name = min(ranked)
             tries = self.runs[graph, logical].instances[name].tries
-            tries.append(Try(self.next, self.graphs[graph].tasks[name].slots))
+            tries.append(Try(self.next, self.graphs[graph].tasks[name]))
             told.append(f"try {self.next} {graph} {text_of(logical)} {name} {len(tries)}")
             self.next += 1
 
@@ -175,12 +177,17 @@ class Schedule:
             raise Refused("6 UnknownGraph")
         return self.graphs[name]
 
-    def load(self, text):
+    def graph_of(self, text):
+        """The graph of a text, whose pools are there."""
         new = Graph(text)
-        old = self.graphs.get(new.name)
         for task in new.in_file:
             if task.pool not in self.pools:
                 raise Refused(f"3 UnknownPool {task.pool}")
+        return new
+
+    def load(self, text):
+        new = self.graph_of(text)
+        old = self.graphs.get(new.name)
         if old and old.text != text and self.runs_of(new.name):
             raise Refused("5 GraphDiffers")
         if not old or old.text != text:
@@ -188,14 +195,60 @@ class Schedule:
             self.graphs[new.name] = new
         return [], []
 
+    def replace(self, text):
+        new = self.graph_of(text)
+        old = self.graph(new.name)
+        if old.text != text:
+            if self.runs_of(new.name):
+                self.refuse_change(old, new)
+            for run in self.runs_of(new.name):
+                self.go_on(run, old, new)
+            new.paused = old.paused
+            self.graphs[new.name] = new
+        return [], []
+
+    def refuse_change(self, old, new):
+        """What the runs of a graph have against another text of it. Of tries in flight only those of tasks that stay are asked: for a task that goes it is no help to wait."""
+        runs = self.runs_of(old.name)
+        takes = [(task, new.tasks.get(task.name), one) for run in runs for task in old.tasks.values() for one in run.instances[task.name].tries]
+        moved = [one.serial for was, its, one in takes if one.ended is None and its and (its.pool, its.slots) != (was.pool, was.slots)]
+        if moved:
+            raise Refused(f"12 InFlight {min(moved)}")
+        gone = [name for name in old.tasks if name not in new.tasks]
+        if gone:
+            raise Refused(f"18 OtherTasks {gone[0]}")
+        resized = [was.name for was, its, _ in takes if its.slots != was.slots]
+        if resized:
+            raise Refused(f"19 OtherSlots {resized[0]}")
+        reached = max(run.interval[1] for run in runs)
+        if {it[0] for it in self.wanted(new, reached)} - {it[0] for it in self.wanted(old, reached)}:
+            raise Refused(f"20 Redoes {text_of(reached)}")
+
+    @staticmethod
+    def go_on(run, old, new):
+        """A task that is new is skipped in a run that was a success, and upstream_failed in one that failed. What failed for good, and has fewer tries than its task may have now,
+        is set aside. Of any other no more tries count than its task may have now."""
+        for name, task in new.tasks.items():
+            one = run.instances[name]
+            if name not in old.tasks:
+                one.verdict = {"success": "skip", "failed": "upstream_failed"}.get(run.phase)
+            elif one.state(old.tasks[name]) == "failed" and len(one.tries) - one.since < 1 + task.retries:
+                one.verdict, one.since = "upstream_failed", len(one.tries)
+            else:
+                one.since = max(one.since, len(one.tries) - 1 - task.retries)
+
+    def wanted(self, dag, moment):
+        """The intervals that are due, of which no run is there."""
+        due = dag.due(moment) if dag.catchup else dag.due(moment)[-1:]
+        return [it for it in due if (dag.name, it[0]) not in self.runs]
+
     def tick(self, moment):
         if moment < self.now:
             raise Refused(f"8 ClockBack {text_of(self.now)}")
         made, is_more = [], False
         for name, dag in self.graphs.items():
             if not dag.paused:
-                due = dag.due(moment) if dag.catchup else dag.due(moment)[-1:]
-                due = [it for it in due if (name, it[0]) not in self.runs]
+                due = self.wanted(dag, moment)
                 made += [Run(name, it[0], it, "scheduled") for it in due[:10]]
                 is_more |= len(due) > 10
         self.now = moment

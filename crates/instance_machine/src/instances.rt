@@ -1,5 +1,5 @@
 //! A task instance, and what is done to it.
-ghost use Rattle.std.specs.Prelude.{◌≡◌, ◌≢◌, ◌≤◌, [], ◌∷◌, ◌++◌, length, map, None, Some, IfOk, OnOk, OnErr};
+ghost use Rattle.std.specs.Prelude.{◌≡◌, ◌≢◌, ◌-◌, ◌≤◌, [], ◌∷◌, ◌++◌, length, map, max, None, Some, IfOk, OnOk, OnErr};
 ghost use Rattle.trigger_rules.specs.declared.verdicts.Verdict.TheVariants.{Wait};
 ghost use Rattle.instance_machine.specs.Instances.{new_instance, with_last, last_of, recent, map_tries};
 ghost use Rattle.instance_machine.specs.Reports.{reported_try, lost_try};
@@ -124,6 +124,14 @@ impl Instance {
     {
         self.verdict = None;
         self.since = self.tries.len();
+    }
+
+    /// No more than so many of its tries count, the last ones: those before them count for nothing, as those before a clearing. They are kept.
+    pub fn count_at_most(&mut self, most: usize)
+        ensures { self.new ≡ record self.old
+            { since = max self.old.since (length self.old.tries - most) } }
+    {
+        self.since = self.since.max(self.tries.len().saturating_sub(most));
     }
 
     /// The try with this serial takes in what a worker reports of it, where it is its turn; nothing else changes.

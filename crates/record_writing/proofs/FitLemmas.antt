@@ -12,7 +12,7 @@ use Rattle.sched_model.specs.Sound.{IsSound, is_sound_in, is_sound_run, is_used,
 use Rattle.record_changes.proofs.sched_laws.InstanceLemmas.{Parts, parts_of}
 use Rattle.record_changes.proofs.sched_laws.ListLemmas.{all_get}
 use Rattle.record_changes.proofs.sched_laws.RunLemmas.{pairs_of_run}
-use Rattle.record_changes.proofs.record_rules.FoundLemmas.{Stands, held_sound}
+use Rattle.record_changes.proofs.record_rules.FoundLemmas.{Stands, held_sound, ids_once}
 use Rattle.record_changes.proofs.record_rules.RisingLemmas.{attempts_rise}
 use Rattle.record_changes.proofs.record_rules.RuleLemmas.{serial_used}
 use Rattle.record_writing.specs.Ranges.{FitColumns, FitsTables}
@@ -67,4 +67,5 @@ fits_tables a s = record {
   next = leb-true a.next (last_serial + 1) (and_right (nat_le 1 a.next) _ s.serials);
   runs = λ n r e. fits_columns a n r s e;
   attempts = attempts_rise a s;
+  tasks = λ n r e. ids_once a r.graph s;
 }

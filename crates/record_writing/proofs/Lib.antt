@@ -2,6 +2,9 @@ pub mod LackedLemmas
 pub mod SearchLemmas
 pub mod SortLemmas
 pub mod AmongLemmas
+pub mod BeforeLemmas
+pub mod NamedLemmas
+pub mod PremiseLemmas
 pub mod InsertLemmas
 pub mod CollectLemmas
 pub mod FitLemmas

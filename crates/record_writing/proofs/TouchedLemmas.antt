@@ -1,5 +1,5 @@
 -- The rows that a draft has and the schedule under it lacks go by the touched runs.
-use Rattle.std.proofs.Common.{◌≡◌, refl, sym, ap, ◌∙◌, ℕ, zero, suc, ◌+◌, ◌-◌, ◌<◌, List, [], ◌∷◌, ◌++◌, Bool, true, false, cond, length, inl, inr, map, flat_map, take, drop, Option, Some, None, slice_get, arith}
+use Rattle.std.proofs.Common.{◌≡◌, refl, sym, ap, ◌∙◌, ℕ, zero, suc, ◌+◌, ◌-◌, ◌<◌, List, [], ◌∷◌, ◌++◌, Bool, true, false, cond, ◌||◌, ◌==◌, subst, length, inl, inr, map, flat_map, take, drop, Option, Some, None, slice_get, arith}
 use Rattle.std.specs.List.{zip}
 use Rattle.std.specs.Option.{option_to_list}
 use Rattle.std.proofs.lemmas.Grind.{flat_map-append}
@@ -7,18 +7,20 @@ use Rattle.std.proofs.lemmas.List.{length-map}
 use Rattle.std.proofs.lemmas.List.Concat.{flat_map_single}
 use Rattle.dag_check.specs.Graphs.{Dag}
 use Rattle.record_rows.specs.Rows.{RunRow, InstanceRow, AttemptRow}
-use Rattle.sched_draft.specs.run_lists.Marks.{Mark, Kept, Changed, Added, now_of, runs_of, base_of, is_touched, touched_from}
+use Rattle.sched_draft.specs.run_lists.Marks.{Mark, Kept, Changed, Added, now_of, runs_of, base_of, is_touched, touched_from, touched_in}
 use Rattle.sched_draft.specs.run_lists.Overlays.{AreAllTouched}
 use Rattle.sched_draft.proofs.run_lists.LawLemmas.{flat_over}
 use Rattle.sched_draft.proofs.run_lists.PickLemmas.{picked, picked_over}
-use Rattle.sched_draft.specs.Drafts.{SameDags}
+use Rattle.dag_check.specs.Orders.{is_in}
+use Rattle.std.proofs.lemmas.Bool.{ne_eqb}
+use Rattle.record_writing.specs.Before.{KeepDags}
 use Rattle.sched_state.specs.declared.runs.Run.{Run}
 use Rattle.sched_model.specs.Lists.{rises}
 use Rattle.sched_model.specs.Schedule.{Schedule}
 use Rattle.sched_model.specs.Tables.{tables, run_row, instance_row, instance_rows, attempt_rows, serial_before, sort_by, task_before}
 use Rattle.record_changes.specs.record_rules.Between.{lacked}
 use Rattle.record_changes.proofs.record_rules.ListLemmas.{append_none}
-use Rattle.record_changes.proofs.record_rules.MemberLemmas.{has_cases}
+use Rattle.record_changes.proofs.record_rules.MemberLemmas.{has_cases, map_get}
 use Rattle.record_changes.specs.Changes.{same_run_row, same_instance_row, same_attempt_row}
 use Rattle.record_writing.specs.Places.{put_each}
 use Rattle.record_writing.proofs.CollectLemmas.{from_place, put_joined}
@@ -32,10 +34,6 @@ lacked_flat : {X Y : Type 0} (same_row : X → X → Bool) (xs : List X) (f : Y 
 lacked_flat same_row xs f [] = refl
 lacked_flat same_row xs f (r ∷ rs) = lacked_joined same_row xs (f r) (flat_map f rs) ∙ ap (λ ys. lacked same_row xs (f r) ++ ys) (lacked_flat same_row xs f rs)
 
-flat_same : {X Y : Type 0} (f g : Y → List X) (rs : List Y) → ((n : ℕ) (r : Y) → slice_get rs n ≡ Some r → f r ≡ g r) → flat_map f rs ≡ flat_map g rs
-flat_same f g [] h = refl
-flat_same f g (r ∷ rs) h = ap (λ ys. ys ++ flat_map f rs) (h zero r refl) ∙ ap (λ ys. g r ++ ys) (flat_same f g rs (λ n q e. h (suc n) q e))
-
 -- ---- marks
 -- a run that is not touched was there
 kept_there : (ms : List Mark) (n : ℕ) (r : Run) → slice_get ms n ≡ Some (Kept r) → (m : ℕ) × (slice_get (base_of ms) m ≡ Some r)
@@ -46,6 +44,32 @@ kept_there (Added s ∷ ms) zero r e = absurd (let c : ◌≡◌ {A = Option Mar
 kept_there (Kept q ∷ ms) (suc n) r e = let k = kept_there ms n r e in (suc k.0, k.1)
 kept_there (Changed q s ∷ ms) (suc n) r e = let k = kept_there ms n r e in (suc k.0, k.1)
 kept_there (Added s ∷ ms) (suc n) r e = kept_there ms n r e
+
+-- positions from one on are none below it
+none_below : (k : ℕ) (ms : List Mark) (n : ℕ) → n < k → is_in (touched_from k ms) n ≡ false
+none_below k [] n l = refl
+none_below k (m ∷ ms) n l = elim (is_touched m) as (λ b. is_in (cond b (k ∷ touched_from (k + 1) ms) (touched_from (k + 1) ms)) n ≡ false) [
+  | true ↦ let other : (k == n) ≡ false = ne_eqb k n (λ e. omega arith) in ap (λ b. b || is_in (touched_from (k + 1) ms) n) other ∙ none_below (k + 1) ms n (omega arith)
+  | false ↦ none_below (k + 1) ms n (omega arith)
+]
+
+none_first : (k n : ℕ) (ns : List ℕ) → k < n → is_in ns n ≡ false → is_in (k ∷ ns) n ≡ false
+none_first k n ns l e = let other : (k == n) ≡ false = ne_eqb k n (λ e. omega arith) in ap (λ b. b || is_in ns n) other ∙ e
+
+-- the position of a run that is as it was is none of the touched
+untouched : (k : ℕ) (ms : List Mark) (n : ℕ) (r : Run) → slice_get ms n ≡ Some (Kept r) → is_in (touched_from k ms) (k + n) ≡ false
+untouched k [] n r e = absurd (let c : ◌≡◌ {A = Option Mark} None (Some (Kept r)) = e in cc)
+untouched k (m ∷ ms) zero r e =
+    let c : ◌≡◌ {A = Option Mark} (Some m) (Some (Kept r)) = e in let is : m ≡ Kept r = cc in
+    ap (λ (w : Mark). is_in (cond (is_touched w) (k ∷ touched_from (k + 1) ms) (touched_from (k + 1) ms)) (k + 0)) is
+    ∙ none_below (k + 1) ms (k + 0) (omega arith)
+untouched k (m ∷ ms) (suc n) r e =
+    let z : (k + 1) + n ≡ k + suc n = omega arith in
+    let rest : is_in (touched_from (k + 1) ms) (k + suc n) ≡ false = subst (λ j. is_in (touched_from (k + 1) ms) j ≡ false) z (untouched (k + 1) ms n r e) in
+    elim (is_touched m) as (λ b. is_in (cond b (k ∷ touched_from (k + 1) ms) (touched_from (k + 1) ms)) (k + suc n) ≡ false) [
+      | true ↦ none_first k (k + suc n) (touched_from (k + 1) ms) (omega arith) rest
+      | false ↦ rest
+    ]
 
 -- a touched position is one of a run
 touched_below : (n : ℕ) (ms : List Mark) (k p : ℕ) → slice_get (touched_from n ms) k ≡ Some p → p < n + length ms
@@ -83,51 +107,67 @@ touched_from_place f b ns k p r some e g =
     ∙ ap (λ ys. ys ++ flat_map f (picked b (drop k ns))) (picked_one f b p r g)
 
 -- ---- what is lacked goes by the touched runs
-by_touched : {X : Type 0} (same_row : X → X → Bool) (xs : List X) (f g : Run → List X) (ns : List ℕ) (a b : List Run) → AreAllTouched ns a b
-    → ((n : ℕ) (r : Run) → slice_get a n ≡ Some r → lacked same_row xs (f r) ≡ []) → ((n : ℕ) (r : Run) → slice_get b n ≡ Some r → f r ≡ g r)
-    → flat_map (λ r. lacked same_row xs (f r)) (picked b ns) ≡ lacked same_row xs (flat_map g b)
-by_touched {X} same_row xs f g ns a b t kept same =
+-- a run that is not touched: it is there as it was
+record IsUntouched (ns : List ℕ) (a b : List Run) (r : Run) : Type 0 where
+  was : ℕ
+  was_at : slice_get a was ≡ Some r
+  is : ℕ
+  is_at : slice_get b is ≡ Some r
+  other : is_in ns is ≡ false
+
+kept_is : (ns : List ℕ) (a b : List Run) (t : AreAllTouched ns a b) (n : ℕ) (r : Run) → slice_get t.marks n ≡ Some (Kept r) → IsUntouched ns a b r
+kept_is ns a b t n r e =
+    let k = kept_there t.marks n r e in
+    let z : 0 + n ≡ n = omega arith in
+    record {
+      was = k.0;
+      was_at = ap (λ (rs : List Run). slice_get rs k.0) (sym t.over.base) ∙ k.1;
+      is = n;
+      is_at = ap (λ (rs : List Run). slice_get rs n) (sym t.over.runs) ∙ map_get now_of t.marks n (Kept r) e;
+      other = ap (λ (ps : List ℕ). is_in ps n) t.positions ∙ subst (λ j. is_in (touched_in t.marks) j ≡ false) z (untouched 0 t.marks n r e);
+    }
+
+by_touched : {X : Type 0} (same_row : X → X → Bool) (xs : List X) (f : Run → List X) (ns : List ℕ) (a b : List Run) → AreAllTouched ns a b
+    → ((r : Run) → IsUntouched ns a b r → lacked same_row xs (f r) ≡ []) → flat_map (λ r. lacked same_row xs (f r)) (picked b ns) ≡ lacked same_row xs (flat_map f b)
+by_touched {X} same_row xs f ns a b t kept =
     let each : Run → List X = λ r. lacked same_row xs (f r) in
-    let nothing : (n : ℕ) (r : Run) → slice_get t.marks n ≡ Some (Kept r) → each r ≡ [] =
-    λ n r e. let k = kept_there t.marks n r e in kept k.0 r (ap (λ (rs : List Run). slice_get rs k.0) (sym t.over.base) ∙ k.1) in
     ap (λ ps. flat_map each (picked b ps)) t.positions
     ∙ ap (flat_map each) (picked_over t.marks a b t.over)
-    ∙ sym (flat_over each t.marks a b t.over nothing)
+    ∙ sym (flat_over each t.marks a b t.over (λ n r e. kept r (kept_is ns a b t n r e)))
     ∙ sym (lacked_flat same_row xs f b)
-    ∙ ap (lacked same_row xs) (flat_same f g b same)
 
 -- the rows of one run that a schedule lacks
 abbrev pub run_lacked : List Run → Run → List RunRow
 run_lacked rs r = lacked same_run_row (map run_row rs) (run_row r ∷ [])
 
-abbrev pub instances_lacked : Schedule → Run → List InstanceRow
-instances_lacked a r = lacked same_instance_row (tables a).instances (instance_rows a r)
+abbrev pub instances_lacked : Schedule → Schedule → Run → List InstanceRow
+instances_lacked a b r = lacked same_instance_row (tables a).instances (instance_rows b r)
 
-abbrev pub tries_lacked : Schedule → Run → List AttemptRow
-tries_lacked a r = lacked same_attempt_row (tables a).attempts (tries_of_run a r)
+abbrev pub tries_lacked : Schedule → Schedule → Run → List AttemptRow
+tries_lacked a b r = lacked same_attempt_row (tables a).attempts (tries_of_run b r)
 
 pub runs_by_touched : (ns : List ℕ) (a b : List Run) → AreAllTouched ns a b → flat_map (run_lacked a) (picked b ns) ≡ lacked same_run_row (map run_row a) (map run_row b)
 runs_by_touched ns a b t =
-    by_touched same_run_row (map run_row a) (λ r. run_row r ∷ []) (λ r. run_row r ∷ []) ns a b t (λ n r e. run_was a n r e) (λ n r e. refl)
+    by_touched same_run_row (map run_row a) (λ r. run_row r ∷ []) ns a b t (λ r u. run_was a u.was r u.was_at)
     ∙ ap (lacked same_run_row (map run_row a)) (flat_map_single run_row b)
 
-pub instances_by_touched : (ns : List ℕ) (a b : Schedule) → AreAllTouched ns a.runs b.runs → SameDags a b
-    → flat_map (instances_lacked a) (picked b.runs ns) ≡ lacked same_instance_row (tables a).instances (tables b).instances
+pub instances_by_touched : (ns : List ℕ) (a b : Schedule) → AreAllTouched ns a.runs b.runs → KeepDags ns a b
+    → flat_map (instances_lacked a b) (picked b.runs ns) ≡ lacked same_instance_row (tables a).instances (tables b).instances
 instances_by_touched ns a b t dags =
-    by_touched same_instance_row (tables a).instances (instance_rows a) (instance_rows b) ns a.runs b.runs t (λ n r e. instances_were a n r e)
-    (λ n r e. ap (λ (d : Dag). sort_by task_before (map (instance_row r) (zip d.tasks r.instances))) (sym (dags n r e)))
+    by_touched same_instance_row (tables a).instances (instance_rows b) ns a.runs b.runs t
+    (λ r u. ap (λ (d : Dag). lacked same_instance_row (tables a).instances (sort_by task_before (map (instance_row r) (zip d.tasks r.instances)))) (dags u.is r u.is_at u.other) ∙ instances_were a u.was r u.was_at)
 
-pub attempts_by_touched : (ns : List ℕ) (a b : Schedule) → AreAllTouched ns a.runs b.runs → SameDags a b → rises serial_before (tables b).attempts ≡ true
-    → put_each serial_before (flat_map (tries_lacked a) (picked b.runs ns)) [] ≡ lacked same_attempt_row (tables a).attempts (tables b).attempts
+pub attempts_by_touched : (ns : List ℕ) (a b : Schedule) → AreAllTouched ns a.runs b.runs → KeepDags ns a b → rises serial_before (tables b).attempts ≡ true
+    → put_each serial_before (flat_map (tries_lacked a b) (picked b.runs ns)) [] ≡ lacked same_attempt_row (tables a).attempts (tables b).attempts
 attempts_by_touched ns a b t dags rise =
     ap (λ (xs : List AttemptRow). put_each serial_before xs [])
-    (by_touched same_attempt_row (tables a).attempts (tries_of_run a) (tries_of_run b) ns a.runs b.runs t (λ n r e. tries_were a n r e)
-    (λ n r e. ap (λ (d : Dag). flat_map (attempt_rows r) (zip d.tasks r.instances)) (sym (dags n r e))))
+    (by_touched same_attempt_row (tables a).attempts (tries_of_run b) ns a.runs b.runs t
+    (λ r u. ap (λ (d : Dag). lacked same_attempt_row (tables a).attempts (flat_map (attempt_rows r) (zip d.tasks r.instances))) (dags u.is r u.is_at u.other) ∙ tries_were a u.was r u.was_at))
     ∙ attempts_whole (tables a).attempts b rise
 
 -- the rows of the tries of one touched run more, put at their places
-pub tries_from_place : (a : Schedule) (b : List Run) (ns : List ℕ) (k p : ℕ) (r : Run) → 0 < k → slice_get ns (k - 1) ≡ Some p → slice_get b p ≡ Some r
-    → put_each serial_before (flat_map (tries_lacked a) (picked b (drop (k - 1) ns))) [] ≡ put_each serial_before (tries_lacked a r) (put_each serial_before (flat_map (tries_lacked a) (picked b (drop k ns))) [])
-tries_from_place a b ns k p r some e g =
-    ap (λ (xs : List AttemptRow). put_each serial_before xs []) (touched_from_place (tries_lacked a) b ns k p r some e g)
-    ∙ put_joined serial_before (tries_lacked a r) (flat_map (tries_lacked a) (picked b (drop k ns))) []
+pub tries_from_place : (a s : Schedule) (b : List Run) (ns : List ℕ) (k p : ℕ) (r : Run) → 0 < k → slice_get ns (k - 1) ≡ Some p → slice_get b p ≡ Some r
+    → put_each serial_before (flat_map (tries_lacked a s) (picked b (drop (k - 1) ns))) [] ≡ put_each serial_before (tries_lacked a s r) (put_each serial_before (flat_map (tries_lacked a s) (picked b (drop k ns))) [])
+tries_from_place a s b ns k p r some e g =
+    ap (λ (xs : List AttemptRow). put_each serial_before xs []) (touched_from_place (tries_lacked a s) b ns k p r some e g)
+    ∙ put_joined serial_before (tries_lacked a s r) (flat_map (tries_lacked a s) (picked b (drop k ns))) []

@@ -1,3 +1,4 @@
+pub mod Before
 pub mod Instances
 pub mod Places
 pub mod Ranges

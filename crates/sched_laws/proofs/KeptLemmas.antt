@@ -39,11 +39,7 @@ kept_tries old new i = chosen (would_wake old new i)
     chosen false = refl
 
 pub newcomer_tries : (ph : RunPhase) → (newcomer ph).tries ≡ []
-newcomer_tries ph = chosen (is_ended ph)
-  where
-    chosen : (b : Bool) → (cond b (record new_instance { verdict = Some verdict.Skip }) new_instance).tries ≡ []
-    chosen true = refl
-    chosen false = refl
+newcomer_tries ph = refl
 
 -- what is dropped before the last element leaves it
 last_dropped : {X : Type 0} (n : ℕ) (xs : List X) → n < length xs → last_of (drop n xs) ≡ last_of xs
@@ -194,14 +190,16 @@ kept_sound_in ph old new i e sound =
     and_from _ _ (kept_sound old new i (and_left _ _ e) sound)
     (or_under (not (is_ended ph)) (is_finished (state_of old i)) (is_finished (state_of new (kept_as old new i))) (finished_stays old new i) (and_right (is_sound_instance old i) _ e))
 
-skipped_sound : (ph : RunPhase) (t : TaskSpec) → is_sound_in ph t (record new_instance { verdict = Some verdict.Skip }) ≡ true
-skipped_sound ph t = and_from _ _ (over_sound t (Some verdict.Skip) [] refl refl refl) (or_right _ _ refl)
+-- what a verdict has ended, without a try
+decided_sound : (ph : RunPhase) (t : TaskSpec) (v : Verdict) → is_sound_instance t (record new_instance { verdict = Some v }) ≡ true → is_finished (state_of t (record new_instance { verdict = Some v })) ≡ true
+    → is_sound_in ph t (record new_instance { verdict = Some v }) ≡ true
+decided_sound ph t v sound ended = and_from _ _ sound (or_right (not (is_ended ph)) _ ended)
 
 pub newcomer_sound : (ph : RunPhase) (t : TaskSpec) → is_sound_in ph t (newcomer ph) ≡ true
 newcomer_sound phase.Queued t = goes_on phase.Queued t new_instance refl (over_sound t None [] refl refl refl)
 newcomer_sound phase.Running t = goes_on phase.Running t new_instance refl (over_sound t None [] refl refl refl)
-newcomer_sound phase.Success t = skipped_sound phase.Success t
-newcomer_sound phase.Failed t = skipped_sound phase.Failed t
+newcomer_sound phase.Success t = decided_sound phase.Success t verdict.Skip (over_sound t (Some verdict.Skip) [] refl refl refl) refl
+newcomer_sound phase.Failed t = decided_sound phase.Failed t verdict.UpstreamFailed (over_sound t (Some verdict.UpstreamFailed) [] refl refl refl) refl
 
 -- ---- the same task
 no_both : (b : Bool) → (b && not b) ≡ false

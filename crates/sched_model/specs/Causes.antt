@@ -81,16 +81,21 @@ pairs_named a id = flat_map (pairs_of a) (runs_of a id)
 abbrev pub task_named : List TaskSpec → List ℕ → Option TaskSpec
 task_named tasks id = find (λ (t : TaskSpec). same t.task_id id) tasks
 
--- the task of the new graph with the id of this one takes as many slots, and takes them of the same pool
+-- the task of the new graph with the id of this one takes as many slots
 abbrev pub has_slots_of : Dag → TaskSpec → Bool
 has_slots_of dag t = holds_at (λ (u : TaskSpec). u.pool_slots == t.pool_slots) (task_named dag.tasks t.task_id)
 
-abbrev pub has_pool_of : Dag → TaskSpec → Bool
-has_pool_of dag t = holds_at (λ (u : TaskSpec). same u.pool t.pool) (task_named dag.tasks t.task_id)
+-- there is one, and it takes other slots: another number of them, or of another pool
+abbrev pub takes_others : Dag → TaskSpec → Bool
+takes_others dag t = holds_at (λ (u : TaskSpec). not (u.pool_slots == t.pool_slots && same u.pool t.pool)) (task_named dag.tasks t.task_id)
 
--- the least serial among the tries without an end whose task would take other slots, if there is one
+-- the instances of the graph's runs whose task would take other slots
+abbrev pub moved_by : Dag → Selection
+moved_by dag r p e = same r.graph dag.spec.dag_id && takes_others dag e.0
+
+-- the least serial among their tries without an end, if there is one
 abbrev pub least_moved : Schedule → Dag → Option ℕ
-least_moved a dag = least (open_serials (flat_map (λ (e : TaskSpec × InstanceValue). e.1.tries) (filter (λ (e : TaskSpec × InstanceValue). not (has_slots_of dag e.0 && has_pool_of dag e.0)) (pairs_named a dag.spec.dag_id))))
+least_moved a dag = least_in_flight a (moved_by dag)
 
 -- the first task of the graph, by place, that the new graph lacks
 abbrev pub lost_task : Schedule → Dag → Option (List ℕ)

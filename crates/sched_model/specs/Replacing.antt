@@ -5,13 +5,15 @@ use Rattle.std.specs.Prelude.{ℕ, ◌+◌, ◌-◌, Bool, not, ◌&&◌, cond, 
 use Rattle.sched_state.specs.graph_file.declared.task_specs.TaskSpec.{TaskSpec}
 use Rattle.sched_state.specs.dag_check.Graphs.{Dag}
 use Rattle.sched_state.specs.trigger_rules.States.{is_failed}
+use Rattle.sched_state.specs.trigger_rules.declared.verdicts.Verdict.{Verdict}
 use Rattle.sched_state.specs.trigger_rules.declared.verdicts.Verdict.TheVariants as verdict
 use Rattle.sched_state.specs.instance_machine.Instances.{InstanceValue, new_instance}
 use Rattle.sched_state.specs.instance_machine.States.{state_of}
 use Rattle.sched_state.specs.Lists.{same}
 use Rattle.sched_state.specs.declared.runs.Run.{Run}
 use Rattle.sched_state.specs.declared.runs.RunPhase.{RunPhase}
-use Rattle.sched_model.specs.Schedule.{Schedule, is_ended}
+use Rattle.sched_state.specs.declared.runs.RunPhase.TheVariants as phase
+use Rattle.sched_model.specs.Schedule.{Schedule}
 use Rattle.sched_model.specs.Changes.{with_graph}
 use Rattle.sched_model.specs.Clearing.{pairs_of}
 
@@ -32,9 +34,16 @@ would_wake old new i = is_failed (state_of old i) && not (is_failed (state_of ne
 abbrev pub kept_as : TaskSpec → TaskSpec → InstanceValue → InstanceValue
 kept_as old new i = cond (would_wake old new i) (set_aside i) (bounded_to new.retries i)
 
--- the instance of a task that is new: skipped in a run that has finished, and else undecided
+-- the verdict of a task that is new: none, or where the run has finished one with which it stays so. In a run that has failed it is that of
+-- what comes after a failure, so that a clear of what failed names it too
+abbrev pub new_verdict : RunPhase → Option Verdict
+new_verdict phase.Queued = None
+new_verdict phase.Running = None
+new_verdict phase.Success = Some verdict.Skip
+new_verdict phase.Failed = Some verdict.UpstreamFailed
+
 abbrev pub newcomer : RunPhase → InstanceValue
-newcomer ph = cond (is_ended ph) (record new_instance { verdict = Some verdict.Skip }) new_instance
+newcomer ph = record new_instance { verdict = new_verdict ph }
 
 -- ---- a run
 -- the instance, beside its task, of the task with this id

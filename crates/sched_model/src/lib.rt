@@ -15,8 +15,9 @@
 mod rows;
 
 pub use rows::{
-    a_clear_names_what_comes_after, bad_leaves_fail_a_run, first_to_end_decides,
-    one_lane_hands_out_one_by_one, one_run_at_a_time, rank_goes_by_weight_date_graph_and_task,
-    reports_come_in_turn, retries_wait_for_their_delay, rows_of_the_tables, slots_bound_a_pool,
-    the_past_holds_back, worked_schedules_are_sound,
+    a_clear_names_what_comes_after, another_text_goes_by_ids, bad_leaves_fail_a_run,
+    first_to_end_decides, one_lane_hands_out_one_by_one, one_run_at_a_time,
+    rank_goes_by_weight_date_graph_and_task, reports_come_in_turn, retries_wait_for_their_delay,
+    rows_of_the_tables, slots_bound_a_pool, the_past_holds_back, what_failed_is_set_aside,
+    worked_schedules_are_sound,
 };

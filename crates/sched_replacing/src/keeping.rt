@@ -1,10 +1,10 @@
 //! What becomes of one task instance.
 ghost use Rattle.std.specs.Prelude.{◌≡◌, IfOk};
-ghost use Rattle.sched_model.specs.Replacing as model;
 ghost use Rattle.trigger_rules.specs.States.{is_failed};
+ghost use Rattle.sched_model.specs.Replacing as model;
 
 use graph_file::TaskSpec;
-use instance_machine::{Instance, Try};
+use instance_machine::Instance;
 use sched_state::RunPhase;
 use std::alloc::{AllocError, Global};
 use trigger_rules::{State, Verdict};
@@ -16,30 +16,27 @@ fn is_failed(state: State) -> bool
     matches!(state, State::Failed)
 }
 
-// The instance, of whose tries no more count than a task with so many retries may have.
-fn bounded_to(
-    alloc: Global,
-    task: &TaskSpec,
-    instance: &Instance,
-) -> Result<Instance, AllocError>
+// The instance, of whose tries no more count than this task may have.
+fn bounded_to(alloc: Global, task: &TaskSpec, instance: &Instance) -> Result<Instance, AllocError>
     ensures { IfOk result (λ i. i ≡ model.bounded_to task.now.retries instance.now) }
 {
-    let tries = instance.tries().to_vec(alloc)?;
-    let most = 1 + task.retries.get() as usize;
-    let since = instance.since().max(tries.len().saturating_sub(most));
-    Ok(Instance::of(instance.verdict(), since, tries))
+    let mut bounded = instance.copy(alloc)?;
+    bounded.count_at_most(1 + task.retries.get() as usize);
+    Ok(bounded)
 }
 
 // The instance, of whose tries none counts, and which is not tried again unless it is cleared.
 fn set_aside(alloc: Global, instance: &Instance) -> Result<Instance, AllocError>
     ensures { IfOk result (λ i. i ≡ model.set_aside instance.now) }
 {
-    let tries = instance.tries().to_vec(alloc)?;
-    let since = tries.len();
-    Ok(Instance::of(Some(Verdict::UpstreamFailed), since, tries))
+    let mut aside = instance.copy(alloc)?;
+    aside.clear();
+    aside.decide(Verdict::UpstreamFailed);
+    Ok(aside)
 }
 
-/// The instance of a task that is changed.
+/// What becomes of the instance of a task that is another one now: of its tries no more count than that may have, and where it failed for
+/// good and would be tried again, it is set aside.
 pub fn kept_as(
     alloc: Global,
     old: &TaskSpec,
@@ -50,20 +47,18 @@ pub fn kept_as(
 {
     let bounded = bounded_to(alloc, new, instance)?;
     if is_failed(instance.state(old)) && !is_failed(bounded.state(new)) {
-        set_aside(alloc, instance)
-    } else {
-        Ok(bounded)
+        return set_aside(alloc, instance);
     }
+    Ok(bounded)
 }
 
-/// The instance of a task that is new, in a run in this phase.
+/// The instance of a task that is new, in a run in this phase: skipped where the run has finished, else undecided. It takes no memory.
 pub fn newcomer(alloc: Global, phase: RunPhase) -> Instance
     ensures { result ≡ model.newcomer phase }
 {
     match phase {
         RunPhase::Queued | RunPhase::Running => Instance::new(alloc),
-        RunPhase::Success | RunPhase::Failed => {
-            Instance::of(Some(Verdict::Skip), 0, Vec::new(alloc))
-        }
+        RunPhase::Success => Instance::of(Some(Verdict::Skip), 0, Vec::new(alloc)),
+        RunPhase::Failed => Instance::of(Some(Verdict::UpstreamFailed), 0, Vec::new(alloc)),
     }
 }

@@ -1,4 +1,4 @@
-//! What another text makes of a graph's runs, and what in them stands against it.
+//! What another text makes of a graph's runs, and what in them stands against it (Airflow 2, "DAGs": a file may change while it has runs).
 //!
 //! Each task instance goes on by the new task of its id, and what has finished stays finished. Easy to get wrong: an instance that failed,
 //! and would have tries left by the new task, is set aside, so that no run wakes; and a text that lacks a task is refused before.
