@@ -1,8 +1,9 @@
 -- The rows that a schedule lacks after an effect.
-use Rattle.std.proofs.Common.{◌≡◌, refl, sym, ap, subst, ◌∙◌, zero, suc, ℤ, List, [], ◌∷◌, ◌++◌, true, map, flat_map, Option, Some, None}
+use Rattle.std.proofs.Common.{◌≡◌, refl, sym, ap, subst, ◌∙◌, ℕ, zero, suc, ℤ, List, [], ◌∷◌, ◌++◌, Bool, true, map, flat_map, Option, Some, None}
 use Rattle.std.specs.List.{zip}
 use Rattle.std.proofs.lemmas.Bool.{and_from}
 use Rattle.dag_check.specs.Graphs.{Dag}
+use Rattle.dag_check.specs.Names.{ids_of, repeats}
 use Rattle.record_rows.specs.Rows.{MetaRow, PoolRow, DagRow, DagLimitRow, RunRow, InstanceRow, AttemptRow}
 use Rattle.sched_state.specs.declared.graphs.LoadedGraph.{LoadedGraph}
 use Rattle.sched_state.specs.declared.runs.Run.{Run}
@@ -11,24 +12,27 @@ use Rattle.sched_model.specs.Lists.{rises}
 use Rattle.sched_model.specs.Schedule.{Schedule, dag_among, run_before}
 use Rattle.sched_model.specs.Sound.{IsSound}
 use Rattle.sched_model.specs.Tables.{tables, dag_row, limit_row, instance_row, instance_rows, attempt_rows, sort_by, task_before, serial_before}
-use Rattle.sched_model.specs.Changes.{with_graph}
+use Rattle.sched_model.specs.Changes.{with_graph, pause_graph}
 use Rattle.sched_model.specs.Handout.{hand_out}
 use Rattle.sched_model.specs.Settle.{settle}
 use Rattle.sched_laws.proofs.AlikeLemmas.{AllDags}
+use Rattle.sched_laws.proofs.GraphLemmas.{paused_dag}
 use Rattle.sched_laws.proofs.BesideLemmas.{no_runs_after}
 use Rattle.sched_laws.proofs.LoadLemmas.{found_after, dags_found}
 use Rattle.sched_laws.proofs.PauseLemmas.{same_dag_paused}
 use Rattle.record_restoring.specs.record_rules.Between.{lacked}
 use Rattle.record_restoring.proofs.record_rules.NumberLemmas.{number_itself}
 use Rattle.record_writing.specs.record_changes.Changes.{rows_between, same_meta_row, same_pool_row, same_dag_row, same_dag_limit_row, same_run_row, same_instance_row, same_attempt_row, same_if}
+use Rattle.record_writing.specs.Before.{AreNamedAlike, KeepDags}
 use Rattle.record_writing.specs.Ranges.{FitsTables}
 use Rattle.record_writing.proofs.LackedLemmas.{lacked_itself}
 use Rattle.sched_draft.specs.Drafts.{HaveSameDags, SameDags}
 use Rattle.record_writing.proofs.FitLemmas.{fits_tables}
-use Rattle.sched_core.specs.Effects.{changed}
-use Rattle.sched_core.specs.Inside.{IsOver, IsLast, drafted, completed}
+use Rattle.sched_core.specs.Effects.{changed, IsQuiet}
+use Rattle.sched_core.specs.Inside.{IsOver, IsLast, LeavesDags, drafted, completed}
 use Rattle.sched_core.specs.declared.changes.GraphChange.{GraphChange}
 use Rattle.sched_core.specs.declared.changes.GraphChange.TheVariants as graphs
+use Rattle.sched_core.proofs.OtherLemmas.{ids_other}
 
 -- ---- rows of one run, over graphs that say the same of it
 instances_over : (a : Schedule) (hs : List LoadedGraph) (rs : List Run) → HaveSameDags a.graphs hs rs → flat_map (instance_rows (record a { graphs = hs })) rs ≡ flat_map (instance_rows a) rs
@@ -55,7 +59,12 @@ same_attempts a hs h = ap (sort_by serial_before) (attempts_over a.graphs hs a.r
 
 -- a schedule fits the columns over the graphs of before where it does over the others
 pub fits_over : (a : Schedule) (hs : List LoadedGraph) → HaveSameDags a.graphs hs a.runs → FitsTables (record a { graphs = hs }) → FitsTables a
-fits_over a hs h f = record { next = f.next; runs = f.runs; attempts = ap (rises serial_before) (sym (same_attempts a hs h)) ∙ f.attempts }
+fits_over a hs h f = record {
+  next = f.next;
+  runs = f.runs;
+  attempts = ap (rises serial_before) (sym (same_attempts a hs h)) ∙ f.attempts;
+  tasks = λ n r e. ap (λ (d : Dag). repeats (ids_of d.tasks)) (sym (h n r e)) ∙ f.tasks n r e;
+}
 
 -- ---- rows that are equal to themselves
 meta_itself : (x : MetaRow) → same_meta_row x x ≡ true
@@ -123,34 +132,58 @@ each_dag gs hs [] all n r e = absurd (let c : ◌≡◌ {A = Option Run} None (S
 each_dag gs hs (q ∷ rs) all zero r e = let c : ◌≡◌ {A = Option Run} (Some q) (Some r) = e in let k : q ≡ r = cc in subst (λ (p : Run). dag_among hs p.graph ≡ dag_among gs p.graph) k all.0
 each_dag gs hs (q ∷ rs) all (suc n) r e = each_dag gs hs rs all.1 n r e
 
-pub alike_dags : (g : GraphChange) (gs : List LoadedGraph) (b : Schedule) → IsLast g b → HaveSameDags gs (changed g gs) b.runs
-alike_dags graphs.Same gs b last = λ n r e. refl
-alike_dags (graphs.Load text dag weights dates) gs b last = each_dag gs (with_graph text dag gs) b.runs (dags_found gs (with_graph text dag gs) b.runs (found_after text dag gs b.runs last))
-alike_dags (graphs.Pause id paused) gs b last = λ n r e. same_dag_paused id paused gs r.graph
+pub alike_dags : (g : GraphChange) (gs : List LoadedGraph) (b : Schedule) → IsQuiet g b → HaveSameDags gs (changed g gs) b.runs
+alike_dags graphs.Same gs b quiet = λ n r e. refl
+alike_dags (graphs.Load text dag weights dates) gs b quiet = each_dag gs (with_graph text dag gs) b.runs (dags_found gs (with_graph text dag gs) b.runs (found_after text dag gs b.runs quiet))
+alike_dags (graphs.Pause id paused) gs b quiet = λ n r e. same_dag_paused id paused gs r.graph
+alike_dags (graphs.Replace graph weights) gs b quiet = absurd quiet
 
 pub last_after : (g : GraphChange) (b : Schedule) → IsLast g b → IsLast g (hand_out (settle b))
 last_after graphs.Same b last = tt
 last_after (graphs.Load text dag weights dates) b last = no_runs_after b dag.spec.dag_id ∙ last
 last_after (graphs.Pause id paused) b last = tt
+last_after (graphs.Replace graph weights) b last = tt
 
 -- ---- a draft, and what it is made into
-drafted_dags : (g : GraphChange) (gs : List LoadedGraph) (rs : List Run) → HaveSameDags gs (drafted g gs) rs
-drafted_dags graphs.Same gs rs = λ n r e. refl
-drafted_dags (graphs.Load text dag weights dates) gs rs = λ n r e. refl
-drafted_dags (graphs.Pause id paused) gs rs = λ n r e. same_dag_paused id paused gs r.graph
+drafted_dags : (g : GraphChange) (gs : List LoadedGraph) (rs : List Run) → LeavesDags g → HaveSameDags gs (drafted g gs) rs
+drafted_dags graphs.Same gs rs leaves = λ n r e. refl
+drafted_dags (graphs.Load text dag weights dates) gs rs leaves = λ n r e. refl
+drafted_dags (graphs.Pause id paused) gs rs leaves = λ n r e. same_dag_paused id paused gs r.graph
+drafted_dags (graphs.Replace graph weights) gs rs leaves = absurd leaves
+
+-- at each place a graph of the same id
+ids_paused : (id : List ℕ) (paused : Bool) (gs : List LoadedGraph) → AreNamedAlike gs (map (pause_graph id paused) gs)
+ids_paused id paused [] = refl
+ids_paused id paused (g ∷ gs) =
+    ap (λ (d : Dag). d.spec.dag_id ∷ map (λ (h : LoadedGraph). h.dag.spec.dag_id) (map (pause_graph id paused) gs)) (paused_dag id paused g)
+    ∙ ap (λ is. g.dag.spec.dag_id ∷ is) (ids_paused id paused gs)
+
+drafted_ids : (g : GraphChange) (gs : List LoadedGraph) → AreNamedAlike gs (drafted g gs)
+drafted_ids graphs.Same gs = refl
+drafted_ids (graphs.Load text dag weights dates) gs = refl
+drafted_ids (graphs.Pause id paused) gs = ids_paused id paused gs
+drafted_ids (graphs.Replace graph weights) gs = ids_other graph gs
+
+pub draft_ids : (g : GraphChange) (a d : Schedule) → IsOver g a d → AreNamedAlike a.graphs d.graphs
+draft_ids g a d over = subst (AreNamedAlike a.graphs) (sym over.graphs) (drafted_ids g a.graphs)
 
 drafted_alike : (g : GraphChange) (gs : List LoadedGraph) (b : Schedule) → IsLast g b → HaveSameDags (drafted g gs) (changed g gs) b.runs
 drafted_alike graphs.Same gs b last = λ n r e. refl
 drafted_alike (graphs.Load text dag weights dates) gs b last = alike_dags (graphs.Load text dag weights dates) gs b last
 drafted_alike (graphs.Pause id paused) gs b last = λ n r e. refl
+drafted_alike (graphs.Replace graph weights) gs b last = λ n r e. refl
 
 completed_over : (g : GraphChange) (a d : Schedule) → IsOver g a d → completed g d ≡ record d { graphs = changed g a.graphs }
 completed_over graphs.Same a d over = ap (λ gs. record d { graphs = gs }) over.graphs
 completed_over (graphs.Load text dag weights dates) a d over = ap (λ gs. record d { graphs = with_graph text dag gs }) over.graphs
 completed_over (graphs.Pause id paused) a d over = ap (λ gs. record d { graphs = gs }) over.graphs
+completed_over (graphs.Replace graph weights) a d over = ap (λ gs. record d { graphs = gs }) over.graphs
 
-pub draft_dags : (g : GraphChange) (a d : Schedule) → IsOver g a d → SameDags a d
-draft_dags g a d over = subst (λ (gs : List LoadedGraph). HaveSameDags a.graphs gs d.runs) (sym over.graphs) (drafted_dags g a.graphs d.runs)
+pub draft_dags : (g : GraphChange) (a d : Schedule) → LeavesDags g → IsOver g a d → SameDags a d
+draft_dags g a d leaves over = subst (λ (gs : List LoadedGraph). HaveSameDags a.graphs gs d.runs) (sym over.graphs) (drafted_dags g a.graphs d.runs leaves)
+
+pub draft_kept_dags : (g : GraphChange) (a d : Schedule) (touched : List ℕ) → LeavesDags g → IsOver g a d → KeepDags touched a d
+draft_kept_dags g a d touched leaves over n r there own = draft_dags g a d leaves over n r there
 
 draft_alike : (g : GraphChange) (a d : Schedule) → IsOver g a d → IsLast g d → HaveSameDags d.graphs (changed g a.graphs) d.runs
 draft_alike g a d over last = subst (λ (gs : List LoadedGraph). HaveSameDags gs (changed g a.graphs) d.runs) (sym over.graphs) (drafted_alike g a.graphs d last)

@@ -22,6 +22,8 @@ use Rattle.record_writing.proofs.record_changes.KeyLemmas.{any_get, found_by}
 use Rattle.record_writing.proofs.CollectLemmas.{lacked_there}
 use Rattle.record_restoring.proofs.record_rules.SearchLemmas.{unfound}
 use Rattle.sched_core.specs.Inside.{taken_among}
+use Rattle.sched_draft.specs.Parts.{fitted_by, with_other}
+use Rattle.sched_core.proofs.OtherLemmas.{other_apart, other_named}
 
 pub row_itself : (x : DagRow) → same_dag_row x x ≡ true
 row_itself x = and_from _ _ (same_itself x.dag_id) (and_from _ _ (same_itself x.body) (number_itself x.paused))
@@ -86,6 +88,22 @@ module _ {R : Type 0} (told : R → R → Bool) (row : LoadedGraph → R) (itsel
       let p : LoadedGraph → Bool = λ h. same h.dag.spec.dag_id id in
       changed_alone (map row gs) (pause_graph id paused) p (other_pause id paused) gs (own_row gs)
       ∙ ap (λ hs. lacked told (map row gs) (map row (map (pause_graph id paused) hs))) (none_named gs p (unfound p gs e))
+
+  -- another graph in the place of one
+  pub other_one : (gs : List LoadedGraph) (k g : LoadedGraph) → rises graph_before gs ≡ true → graph_among gs k.dag.spec.dag_id ≡ Some g
+      → lacked told (map row gs) (map row (with_other (Some k) gs)) ≡ lacked told (map row gs) (row k ∷ [])
+  other_one gs k g s e =
+      let p : LoadedGraph → Bool = λ h. same h.dag.spec.dag_id k.dag.spec.dag_id in
+      let f = found_by p gs g e in
+      changed_alone (map row gs) (fitted_by (Some k)) p (λ h a. other_apart k h a) gs (own_row gs)
+      ∙ ap (λ hs. lacked told (map row gs) (map row (map (fitted_by (Some k)) hs))) (one_named gs k.dag.spec.dag_id g s e)
+      ∙ ap (λ h. lacked told (map row gs) (row h ∷ [])) (other_named k g f.2)
+
+  pub other_none : (gs : List LoadedGraph) (k : LoadedGraph) → graph_among gs k.dag.spec.dag_id ≡ None → lacked told (map row gs) (map row (with_other (Some k) gs)) ≡ []
+  other_none gs k e =
+      let p : LoadedGraph → Bool = λ h. same h.dag.spec.dag_id k.dag.spec.dag_id in
+      changed_alone (map row gs) (fitted_by (Some k)) p (λ h a. other_apart k h a) gs (own_row gs)
+      ∙ ap (λ hs. lacked told (map row gs) (map row (map (fitted_by (Some k)) hs))) (none_named gs p (unfound p gs e))
 
   -- graphs that stay
   same_rows : (all : List R) (gs : List LoadedGraph) → ((n : ℕ) (g : LoadedGraph) → slice_get gs n ≡ Some g → list_any (told (row g)) all ≡ true) → lacked told all (map row gs) ≡ []

@@ -23,6 +23,8 @@ use Rattle.sched_state.proofs.ElementLemmas.{element_at, drop_at}
 use Rattle.sched_model.specs.Lists.{at}
 use Rattle.sched_model.specs.Schedule.{is_at}
 use Rattle.sched_creation.specs.Dates.{HasDates, HaveDates}
+use Rattle.sched_draft.specs.Parts.{fitted_by, with_other}
+use Rattle.sched_core.proofs.OtherLemmas.{other_id}
 use Rattle.sched_core.specs.Changes.{count_of}
 use Rattle.sched_core.specs.Dates.{is_of, added_of, AreNoted, AreNotedWith, IsNoted}
 use Rattle.sched_core.specs.declared.changes.Rest.{Rest}
@@ -272,6 +274,13 @@ dates_paused id paused (g ∷ gs) rs [] d = absurd (omega (arith, d.long))
 dates_paused id paused (g ∷ gs) rs (x ∷ xs) d =
     dates_before (pause_graph id paused g) x (map (pause_graph id paused) gs) rs xs (subst (λ (k : Dag). HasDates k.spec.dag_id rs x) (sym (paused_dag id paused g)) (dates_first g x gs rs xs d))
     (dates_paused id paused gs rs xs (dates_rest g x gs rs xs d))
+
+-- so have those of which one is another with its id
+pub dates_other : (k : LoadedGraph) (gs : List LoadedGraph) (rs : List Run) (xs : List Index) → HaveDates gs rs xs → HaveDates (with_other (Some k) gs) rs xs
+dates_other k [] rs xs d = d
+dates_other k (g ∷ gs) rs [] d = absurd (omega (arith, d.long))
+dates_other k (g ∷ gs) rs (x ∷ xs) d =
+    dates_before (fitted_by (Some k) g) x (with_other (Some k) gs) rs xs (subst (λ (id : List ℕ). HasDates id rs x) (sym (other_id k g)) (dates_first g x gs rs xs d)) (dates_other k gs rs xs (dates_rest g x gs rs xs d))
 
 -- a graph without runs has no dates
 no_run_at : (id : List ℕ) (d : ℕ) (rs : List Run) → list_any (λ (r : Run). same r.graph id) rs ≡ false → list_any (is_at id d) rs ≡ false

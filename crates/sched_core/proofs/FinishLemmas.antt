@@ -1,5 +1,5 @@
 -- A draft that is settled and handed out stays over the same limits and graphs, and its numbers are true.
-use Rattle.std.proofs.Common.{◌≡◌, ◌∙◌, refl, sym, ap, ℕ, List, Some, true}
+use Rattle.std.proofs.Common.{◌≡◌, ◌∙◌, refl, sym, ap, subst, ℕ, List, Some, true}
 use Rattle.sched_state.specs.Limits.{Bounds}
 use Rattle.sched_state.specs.declared.graphs.LoadedGraph.{LoadedGraph}
 use Rattle.sched_state.specs.declared.runs.Run.{Run}
@@ -11,6 +11,11 @@ use Rattle.sched_laws.proofs.BesideLemmas.{no_runs_after}
 use Rattle.sched_laws.proofs.LoadLemmas.{load_open}
 use Rattle.sched_events.proofs.StepLemmas.{repeat_keeps, settle_graphs, out_graphs, without_settled}
 use Rattle.sched_model.specs.Sound.{IsSound}
+use Rattle.sched_draft.specs.Books.{pools_in}
+use Rattle.sched_draft.specs.Drafts.{DraftValue}
+use Rattle.run_lists.specs.Edits.{AreEditsOf, edited}
+use Rattle.record_rows.specs.Rows.{Rows}
+use Rattle.record_writing.specs.record_changes.Changes.{rows_between}
 use Rattle.sched_events.specs.SettledAndSound.{IsSettledAndSound}
 use Rattle.sched_handout.specs.Occupied.{AreOccupied}
 use Rattle.sched_handout.specs.declared.occupied.Occupied.{Occupied}
@@ -18,7 +23,9 @@ use Rattle.sched_core.specs.Books.{IsCounted, IsHeldWith}
 use Rattle.sched_core.proofs.BookLemmas.{counted_same, end_counted, occupied_as}
 use Rattle.sched_laws.proofs.SlotLemmas.{open_settled}
 use Rattle.sched_core.specs.Inside.{IsOver, IsLast, drafted, completed}
-use Rattle.sched_core.specs.Effects.{changed}
+use Rattle.sched_core.proofs.EffectLemmas.{completed_last}
+use Rattle.sched_core.specs.Effects.{changed, applied, with_rest, IsEffect, IsRestOf, IsWeighed}
+use Rattle.sched_core.specs.declared.changes.Rest.{Rest}
 use Rattle.sched_core.specs.declared.changes.GraphChange.{GraphChange}
 use Rattle.sched_core.specs.declared.changes.GraphChange.TheVariants as graphs
 use Rattle.sched_model.specs.States.{open_tries}
@@ -33,44 +40,25 @@ finished_limits : (b : Schedule) → (hand_out (settle b)).limits ≡ b.limits
 finished_limits b =
     repeat_keeps (λ (c : Schedule). c.limits) hand_one hand_limits (serials_left (settle b)) (settle b) ∙ repeat_keeps (λ (c : Schedule). c.limits) move move_limits (moves_left b) b
 
--- so its parts over them are the whole
-drafted_is : (g : GraphChange) (a b d : Schedule) (qs : List Pool) (now lanes next : ℕ) (runs : List Run) → IsOver g a b → d ≡ hand_out (settle b)
-    → qs ≡ (hand_out (settle b)).pools → now ≡ d.now → lanes ≡ d.lanes → next ≡ d.next → runs ≡ d.runs
-    → record a { graphs = drafted g a.graphs; pools = qs; now = now; lanes = lanes; next = next; runs = runs } ≡ hand_out (settle b)
-drafted_is g a b d qs now lanes next runs over end pools_are now_is lanes_is next_is runs_are =
-    let limits : a.limits ≡ d.limits = sym (ap (λ (c : Schedule). c.limits) end ∙ (finished_limits b ∙ over.limits)) in
-    let graphs : drafted g a.graphs ≡ d.graphs = sym (ap (λ (c : Schedule). c.graphs) end ∙ (out_graphs (settle b) ∙ (settle_graphs b ∙ over.graphs))) in
-    let pools : qs ≡ d.pools = pools_are ∙ ap (λ (c : Schedule). c.pools) (sym end) in
-    ap (λ (l : Bounds). let c : Schedule = record { limits = l; graphs = drafted g a.graphs; pools = qs; now = now; lanes = lanes; next = next; runs = runs } in c) limits
-    ∙ (ap (λ (gs : List LoadedGraph). let c : Schedule = record { limits = d.limits; graphs = gs; pools = qs; now = now; lanes = lanes; next = next; runs = runs } in c) graphs
-    ∙ (ap (λ (ps : List Pool). let c : Schedule = record { limits = d.limits; graphs = d.graphs; pools = ps; now = now; lanes = lanes; next = next; runs = runs } in c) pools
-    ∙ (ap (λ (n : ℕ). record d { now = n; lanes = lanes; next = next; runs = runs }) now_is
-    ∙ (ap (λ (n : ℕ). record d { lanes = n; next = next; runs = runs }) lanes_is
-    ∙ (ap (λ (n : ℕ). record d { next = n; runs = runs }) next_is
-    ∙ (ap (λ (rs : List Run). record d { runs = rs }) runs_are ∙ end))))))
-
 -- with a text that is taken in last
 completed_by : (g : GraphChange) (a : Schedule) (qs : List Pool) (now lanes next : ℕ) (runs : List Run)
     → record a { graphs = changed g a.graphs; pools = qs; now = now; lanes = lanes; next = next; runs = runs } ≡ completed g (record a { graphs = drafted g a.graphs; pools = qs; now = now; lanes = lanes; next = next; runs = runs })
 completed_by graphs.Same a qs now lanes next runs = refl
 completed_by (graphs.Load text dag weights dates) a qs now lanes next runs = refl
 completed_by (graphs.Pause id paused) a qs now lanes next runs = refl
-
-pub finished_is : (g : GraphChange) (a b d : Schedule) (qs : List Pool) (now lanes next : ℕ) (runs : List Run) → IsOver g a b → d ≡ hand_out (settle b)
-    → qs ≡ (hand_out (settle b)).pools → now ≡ d.now → lanes ≡ d.lanes → next ≡ d.next → runs ≡ d.runs
-    → record a { graphs = changed g a.graphs; pools = qs; now = now; lanes = lanes; next = next; runs = runs } ≡ completed g (hand_out (settle b))
-finished_is g a b d qs now lanes next runs over end pools_are now_is lanes_is next_is runs_are =
-    completed_by g a qs now lanes next runs ∙ ap (completed g) (drafted_is g a b d qs now lanes next runs over end pools_are now_is lanes_is next_is runs_are)
+completed_by (graphs.Replace graph weights) a qs now lanes next runs = refl
 
 completed_open : (g : GraphChange) (b : Schedule) → IsLast g b → open_tries (completed g (hand_out (settle b))) ≡ open_tries (hand_out (settle b))
 completed_open graphs.Same b last = refl
 completed_open (graphs.Load text dag weights dates) b last = load_open text dag (hand_out (settle b)) (no_runs_after b dag.spec.dag_id ∙ last)
 completed_open (graphs.Pause id paused) b last = refl
+completed_open (graphs.Replace graph weights) b last = refl
 
 completed_pools : (g : GraphChange) (b : Schedule) → (completed g b).pools ≡ b.pools
 completed_pools graphs.Same b = refl
 completed_pools (graphs.Load text dag weights dates) b = refl
 completed_pools (graphs.Pause id paused) b = refl
+completed_pools (graphs.Replace graph weights) b = refl
 
 -- settling leaves the next serial
 move_next : (a b : Schedule) → move a ≡ Some b → b.next ≡ a.next
@@ -101,3 +89,27 @@ finished_held g b t sound counted last kept numbers =
 
 pub finished_over : (g : GraphChange) (a b : Schedule) → IsOver g a b → IsOver g a (hand_out (settle b))
 finished_over g a b over = record { limits = finished_limits b ∙ over.limits; graphs = out_graphs (settle b) ∙ (settle_graphs b ∙ over.graphs) }
+
+-- ---- what is left of a draft
+-- with it the graphs are changed and the rest is the draft's
+pub closed_is : (g : GraphChange) (a : Schedule) (d : DraftValue) (t : Occupied) (n : Rest) → d.base ≡ a → IsOver g a d.content → IsRestOf d t n → applied (record { graphs = g; rest = Some n }) a ≡ completed g d.content
+closed_is g a d t n base over rest =
+    let b : Schedule = d.content in
+    completed_by g a (pools_in n.occupied.pools.pools) n.clock n.lanes n.serial (edited n.edits a.runs)
+    ∙ ap (completed g)
+    (ap (λ (l : Bounds). with_rest (Some n) (record a { limits = l; graphs = drafted g a.graphs })) (sym over.limits)
+    ∙ (ap (λ (gs : List LoadedGraph). with_rest (Some n) (record a { limits = b.limits; graphs = gs })) (sym over.graphs)
+    ∙ (ap (λ (s : Schedule). with_rest (Some n) (record s { limits = b.limits; graphs = b.graphs })) (sym base) ∙ rest.made)))
+
+-- and it is an effect, with the rows that then differ
+pub closed_effect : (g : GraphChange) (a : Schedule) (d : DraftValue) (t : Occupied) (n : Rest) (rows : Rows) → d.base ≡ a → IsOver g a d.content → IsRestOf d t n → IsWeighed g → IsLast g d.content
+    → IsHeldWith true (completed g d.content) t → rows ≡ rows_between a (completed g d.content) → IsEffect (record { graphs = g; rest = Some n }) rows a
+closed_effect g a d t n rows base over rest weighed last held rows_are =
+    let is = closed_is g a d t n base over rest in
+    record {
+      keeps = λ numbers was before. subst (IsHeldWith true (applied (record { graphs = g; rest = Some n }) a)) (sym rest.numbers) (subst (λ (s : Schedule). IsHeldWith true s t) (sym is) held);
+      weighed = weighed;
+      last = subst (IsLast g) (sym is) (completed_last g d.content last);
+      edits = subst (λ (s : Schedule). AreEditsOf s.runs n.edits) base rest.edits;
+      rows_are = rows_are ∙ ap (rows_between a) (sym is);
+    }

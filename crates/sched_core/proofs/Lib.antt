@@ -1,5 +1,6 @@
 pub mod InsertLemmas
 pub mod GraphLemmas
+pub mod OtherLemmas
 pub mod TakeInLemmas
 pub mod WeightLemmas
 pub mod DateLemmas
@@ -23,4 +24,5 @@ pub mod LoseLemmas
 pub mod ReportLemmas
 pub mod RoomLemmas
 pub mod EndedLemmas
+pub mod ReplacingLemmas
 pub use Rattle.sched_events.proofs as sched_events

@@ -11,14 +11,13 @@ use Rattle.dag_check.specs.Graphs.{Dag, IsGraphOf}
 use Rattle.pool_book.specs.Pools.{Entries, has_pool as is_known}
 use Rattle.sched_model.specs.Schedule.{Schedule, has_pool}
 use Rattle.sched_model.specs.Sound.{Says}
-use Rattle.sched_events.specs.Causes.{exceeds, unknown_pool, refused}
+use Rattle.sched_events.specs.Causes.{exceeds, unknown_pool}
 use Rattle.sched_draft.specs.Books.{pools_in}
 use Rattle.sched_draft.proofs.BookLemmas.{has_is}
-use Rattle.sched_core.specs.Inside.{IsTaken, IsChecked, IsCheckFault}
+use Rattle.sched_core.specs.Inside.{IsTaken, IsChecked, IsCheckFault, unfit_text}
 use Rattle.sched_events.specs.Outcomes.{refusal_of}
-use Rattle.sched_events.specs.declared.events.Event.TheVariants.{Load}
 use Rattle.sched_events.specs.declared.refusals.Refusal.TheVariants as refusal
-use Rattle.sched_core.proofs.PlanLemmas.{refused_pool}
+use Rattle.sched_core.proofs.PlanLemmas.{unfit_pool}
 
 -- the fault that stands is the first
 pub fault_is : (spec : GraphSpec) (fault : DagFault) → Stands spec.tasks fault → IsCheckFault spec (refusal_of fault)
@@ -70,6 +69,6 @@ taken_is a es text spec dag tasks pools read fits checked tasks_are none = recor
 
 pub pool_is : (a : Schedule) (es : Entries) (text : List ℕ) (spec : GraphSpec) (dag : Dag) (tasks : List TaskSpec) (pool : List ℕ) → pools_in es ≡ a.pools → graph_of text ≡ Ok spec → exceeds a.limits spec ≡ false → IsChecked spec dag
     → tasks ≡ dag.spec.tasks → Some pool ≡ option_map (λ (t : TaskSpec). t.pool) (find (λ (t : TaskSpec). not (is_known t.pool es)) tasks)
-    → refused a (Load text) ≡ Some (refusal.UnknownPool pool)
+    → unfit_text a (graph_of text) ≡ Some (refusal.UnknownPool pool)
 pool_is a es text spec dag tasks pool pools read fits checked tasks_are some =
-    refused_pool a text dag pool (says_is text spec dag read checked) (ap (exceeds a.limits) checked.spec_is ∙ fits) (unknown_is a es dag.spec pools ∙ (ap (first_pool es) (sym tasks_are) ∙ sym some))
+    unfit_pool a text dag pool (says_is text spec dag read checked) (ap (exceeds a.limits) checked.spec_is ∙ fits) (unknown_is a es dag.spec pools ∙ (ap (first_pool es) (sym tasks_are) ∙ sym some))

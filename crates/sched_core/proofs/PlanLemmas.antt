@@ -1,11 +1,14 @@
 -- Which events are refused, and what is planned for one that is not.
-use Rattle.std.proofs.Common.{◌≡◌, refl, sym, ap, subst, ◌∙◌, ℕ, ◌-◌, ◌≤◌, List, [], ◌∷◌, Bool, true, false, not, ◌&&◌, is_none, is_some, length, map, flat_map, nat_le, nat_lt, Option, Some, None, option_map, option_and_then, true≢false, get_or, slice_get, Bor, arith}
+use Rattle.std.proofs.Common.{◌≡◌, refl, sym, ap, subst, ◌∙◌, inl, inr, ℕ, ◌-◌, ◌≤◌, List, [], ◌∷◌, Bool, true, false, cond, not, ◌&&◌, is_none, is_some, length, map, flat_map, nat_le, nat_lt, Option, Some, None, option_map, option_and_then, Result, Ok, Err, true≢false, get_or, slice_get, Bor, arith}
 use Rattle.std.specs.List.{list_any, range_with_len}
 use Rattle.std.specs.Option.{option_copied}
 use Rattle.std.proofs.lemmas.Bool.{le-leb}
 use Rattle.std.proofs.lemmas.Option.{slice_get-get_or}
 use Rattle.graph_file.specs.Lists.{when, first_some, holds_at}
+use Rattle.graph_file.specs.Graphs.{graph_of}
+use Rattle.graph_file.specs.declared.faults.GraphFault.{GraphFault}
 use Rattle.graph_file.specs.declared.faults.GraphFault.TheVariants.{TooMany}
+use Rattle.graph_file.specs.declared.graph_specs.GraphSpec.{GraphSpec}
 use Rattle.dag_check.specs.Graphs.{Dag, dag_of}
 use Rattle.dag_check.specs.Faults.{first_fault}
 use Rattle.dag_check.specs.declared.faults.DagFault.{DagFault}
@@ -24,53 +27,81 @@ use Rattle.sched_model.specs.Handout.{hand_out}
 use Rattle.sched_model.specs.Jobs.{job_at, handed}
 use Rattle.sched_model.specs.NamedRuns.{NamedRun, named_by_tick, queued_run, insert_runs, add_runs}
 use Rattle.sched_model.specs.Changes.{load_graph, set_now, set_paused, report, restart}
-use Rattle.sched_model.specs.Causes.{open_try, has_too_many_graphs, is_full_with}
+use Rattle.sched_model.specs.Causes.{open_try, has_too_many_graphs, is_full_with, is_unknown_graph}
 use Rattle.sched_model.specs.Sound.{IsSound, Says, AllSay}
 use Rattle.sched_laws.proofs.LoadLemmas.{load_again}
 use Rattle.sched_events.specs.Events.{named_by, set_back_by, count_in, change_by, leaves_more_by, load_result, IsInRange}
-use Rattle.sched_events.specs.Causes.{exceeds, unknown_pool, differs, refused_text, refused}
+use Rattle.sched_events.specs.Causes.{exceeds, unknown_pool, unfit, differs, disturbed, refused_text, refused_change, refused}
+use Rattle.sched_events.specs.Outcomes.{unnamed, IsRefusal, IsShown}
 use Rattle.sched_events.specs.Steps.{step, id_of, answer_to}
 use Rattle.sched_events.specs.SettledAndSound.{IsSoundAndSaid, IsSettledAndSound}
 use Rattle.sched_events.specs.declared.answers.Answer.{Answer}
 use Rattle.sched_events.specs.declared.answers.RunId.{RunId}
 use Rattle.sched_events.specs.declared.events.Event.{Event}
-use Rattle.sched_events.specs.declared.events.Event.TheVariants.{Load, Tick, Pause, Unpause, Report, Restart}
+use Rattle.sched_events.specs.declared.events.Event.TheVariants.{Load, Tick, Pause, Unpause, Report, Restart, Replace}
 use Rattle.sched_events.specs.declared.refusals.Refusal.{Refusal}
 use Rattle.sched_events.specs.declared.refusals.Refusal.TheVariants as refusal
 use Rattle.sched_events.proofs.AcceptLemmas.{change_kept}
 use Rattle.sched_events.proofs.StepLemmas.{added_sound, step_kept}
 use Rattle.sched_core.specs.Changes.{Planned}
 use Rattle.sched_core.specs.Plans.{IsPlanned, no_runs, run_id}
-use Rattle.sched_core.specs.Inside.{StandsAt, IsTaken}
+use Rattle.sched_core.specs.Inside.{StandsAt, IsTaken, IsUnfit, unfit_text}
 use Rattle.sched_core.proofs.GraphLemmas.{found_at}
 
 -- ---- causes
-abbrev five : Bool → Option DagFault → Option (List ℕ) → Bool → Bool → Option Refusal
-five a f p b c = first_some (
-    when a (refusal.GraphFault TooMany) ∷ option_map refusal.DagFault f ∷ option_map refusal.UnknownPool p ∷ when b refusal.TooManyGraphs ∷ when c refusal.GraphDiffers ∷ [])
+abbrev three : Bool → Option DagFault → Option (List ℕ) → Option Refusal
+three a f p = first_some (when a (refusal.GraphFault TooMany) ∷ option_map refusal.DagFault f ∷ option_map refusal.UnknownPool p ∷ [])
 
 abbrev two : Bool → Bool → Option Refusal
 two b c = first_some (when b refusal.TooManyGraphs ∷ when c refusal.GraphDiffers ∷ [])
 
+-- none lies in the file of a text that has a graph
+unfit_none : (a : Schedule) (text : List ℕ) (dag : Dag) → IsTaken a text dag → unfit a dag.spec ≡ None
+unfit_none a text dag t =
+    let none : first_fault dag.spec.tasks ≡ None = faultless dag.spec dag t.says.checked in
+    ap (λ b. three b (first_fault dag.spec.tasks) (unknown_pool a dag.spec)) t.fits ∙ (ap (λ f. three false f (unknown_pool a dag.spec)) none ∙ ap (three false None) t.pools)
+
+pub unfit_pool : (a : Schedule) (text : List ℕ) (dag : Dag) (pool : List ℕ) → Says text dag → exceeds a.limits dag.spec ≡ false → unknown_pool a dag.spec ≡ Some pool
+    → unfit_text a (graph_of text) ≡ Some (refusal.UnknownPool pool)
+unfit_pool a text dag pool says fits unknown =
+    let none : first_fault dag.spec.tasks ≡ None = faultless dag.spec dag says.checked in
+    ap (unfit_text a) says.read
+    ∙ (ap (λ b. three b (first_fault dag.spec.tasks) (unknown_pool a dag.spec)) fits
+    ∙ (ap (λ f. three false f (unknown_pool a dag.spec)) none ∙ ap (three false None) unknown))
+
+-- a cause that lies in the file is the first against a load, and against another text for a graph that is there
+first_text : (a : Schedule) (text : List ℕ) (q : Refusal) (r : Result GraphSpec GraphFault) → unfit_text a r ≡ Some q → refused_text a text r ≡ Some q
+first_text a text q (Err fault) e = e
+first_text a text q (Ok spec) e = ap (λ o. first_some (o ∷ when (has_too_many_graphs a spec.dag_id) refusal.TooManyGraphs ∷ when (differs a text spec) refusal.GraphDiffers ∷ [])) e
+
+first_change : (a : Schedule) (text : List ℕ) (q : Refusal) (r : Result GraphSpec GraphFault) → unfit_text a r ≡ Some q → refused_change a text r ≡ Some q
+first_change a text q (Err fault) e = e
+first_change a text q (Ok spec) e = ap (λ o. first_some (o ∷ when (is_unknown_graph a spec.dag_id) refusal.UnknownGraph ∷ cond (differs a text spec) (disturbed a (dag_of spec)) None ∷ [])) e
+
+shown_too : (text : List ℕ) (r : Refusal) → IsShown (Load text) r → IsShown (Replace text) r
+shown_too text (refusal.DagFault fault) s = s
+shown_too text r s = tt
+
+pub unfit_load : (a : Schedule) (text : List ℕ) (r : Refusal) → IsUnfit a text r → IsRefusal a (Load text) r
+unfit_load a text r (inl memory) = inl memory
+unfit_load a text r (inr f) = inr (record { first = first_text a text (unnamed r) (graph_of text) f.first; shown = f.shown })
+
+pub unfit_replace : (a : Schedule) (text : List ℕ) (r : Refusal) → IsUnfit a text r → IsRefusal a (Replace text) r
+unfit_replace a text r (inl memory) = inl memory
+unfit_replace a text r (inr f) = inr (record { first = first_change a text (unnamed r) (graph_of text) f.first; shown = shown_too text r f.shown })
+
 -- what is left of the causes against a text that has a graph
 causes : (a : Schedule) (text : List ℕ) (dag : Dag) → IsTaken a text dag → refused a (Load text) ≡ two (has_too_many_graphs a dag.spec.dag_id) (differs a text dag.spec)
 causes a text dag t =
-    let more : Bool = has_too_many_graphs a dag.spec.dag_id in
-    let other : Bool = differs a text dag.spec in
-    let none : first_fault dag.spec.tasks ≡ None = faultless dag.spec dag t.says.checked in
     ap (refused_text a text) t.says.read
-    ∙ (ap (λ b. five b (first_fault dag.spec.tasks) (unknown_pool a dag.spec) more other) t.fits
-    ∙ (ap (λ f. five false f (unknown_pool a dag.spec) more other) none
-    ∙ ap (λ p. five false None p more other) t.pools))
+    ∙ ap (λ o. first_some (o ∷ when (has_too_many_graphs a dag.spec.dag_id) refusal.TooManyGraphs ∷ when (differs a text dag.spec) refusal.GraphDiffers ∷ [])) (unfit_none a text dag t)
 
-pub refused_pool : (a : Schedule) (text : List ℕ) (dag : Dag) (pool : List ℕ) → Says text dag → exceeds a.limits dag.spec ≡ false → unknown_pool a dag.spec ≡ Some pool
-    → refused a (Load text) ≡ Some (refusal.UnknownPool pool)
-refused_pool a text dag pool says fits unknown =
-    let none : first_fault dag.spec.tasks ≡ None = faultless dag.spec dag says.checked in
-    ap (refused_text a text) says.read
-    ∙ (ap (λ b. five b (first_fault dag.spec.tasks) (unknown_pool a dag.spec) (has_too_many_graphs a dag.spec.dag_id) (differs a text dag.spec)) fits
-    ∙ (ap (λ f. five false f (unknown_pool a dag.spec) (has_too_many_graphs a dag.spec.dag_id) (differs a text dag.spec)) none
-    ∙ ap (λ p. five false None p (has_too_many_graphs a dag.spec.dag_id) (differs a text dag.spec)) unknown))
+-- and against another text for a graph that is there
+causes_there : (a : Schedule) (text : List ℕ) (dag : Dag) → IsTaken a text dag
+    → refused a (Replace text) ≡ first_some (when (is_unknown_graph a dag.spec.dag_id) refusal.UnknownGraph ∷ cond (differs a text dag.spec) (disturbed a (dag_of dag.spec)) None ∷ [])
+causes_there a text dag t =
+    ap (refused_change a text) t.says.read
+    ∙ ap (λ o. first_some (o ∷ when (is_unknown_graph a dag.spec.dag_id) refusal.UnknownGraph ∷ cond (differs a text dag.spec) (disturbed a (dag_of dag.spec)) None ∷ [])) (unfit_none a text dag t)
 
 none_of : (b c : Bool) → b ≡ false → c ≡ false → two b c ≡ None
 none_of b c e f = rw (e, f) refl
@@ -79,8 +110,8 @@ is_none-not : {X : Type 0} (o : Option X) → is_none o ≡ not (is_some o)
 is_none-not None = refl
 is_none-not (Some x) = refl
 
-unnamed : (a : Schedule) (id : List ℕ) → list_any (λ (g : LoadedGraph). same g.dag.spec.dag_id id) a.graphs ≡ false → graph_named a id ≡ None
-unnamed a id unknown = elim (graph_named a id) as (λ o. is_some o ≡ false → o ≡ None) [
+unnamed_graph : (a : Schedule) (id : List ℕ) → list_any (λ (g : LoadedGraph). same g.dag.spec.dag_id id) a.graphs ≡ false → graph_named a id ≡ None
+unnamed_graph a id unknown = elim (graph_named a id) as (λ o. is_some o ≡ false → o ≡ None) [
   | None ↦ λ e. refl
   | Some g ↦ λ e. absurd (true≢false e)
 ] (find_any (λ (g : LoadedGraph). same g.dag.spec.dag_id id) a.graphs ∙ unknown)
@@ -88,7 +119,7 @@ unnamed a id unknown = elim (graph_named a id) as (λ o. is_some o ≡ false →
 pub refused_full : (a : Schedule) (text : List ℕ) (dag : Dag) → IsTaken a text dag
     → list_any (λ (g : LoadedGraph). same g.dag.spec.dag_id dag.spec.dag_id) a.graphs ≡ false → a.limits.graphs ≤ length a.graphs → refused a (Load text) ≡ Some refusal.TooManyGraphs
 refused_full a text dag taken unknown full =
-    let none = unnamed a dag.spec.dag_id unknown in
+    let none = unnamed_graph a dag.spec.dag_id unknown in
     let no_room : nat_le a.limits.graphs (length a.graphs) ≡ true = le-leb _ _ full in
     causes a text dag taken
     ∙ (ap (λ (o : Option LoadedGraph). two (is_none o && nat_le a.limits.graphs (length a.graphs)) (differs a text dag.spec)) none
@@ -97,10 +128,16 @@ refused_full a text dag taken unknown full =
 pub accepted_new : (a : Schedule) (text : List ℕ) (dag : Dag) → IsTaken a text dag
     → list_any (λ (g : LoadedGraph). same g.dag.spec.dag_id dag.spec.dag_id) a.graphs ≡ false → nat_le a.limits.graphs (length a.graphs) ≡ false → refused a (Load text) ≡ None
 accepted_new a text dag taken unknown room =
-    let none = unnamed a dag.spec.dag_id unknown in
+    let none = unnamed_graph a dag.spec.dag_id unknown in
     causes a text dag taken
     ∙ none_of _ _ (ap (λ (o : Option LoadedGraph). is_none o && nat_le a.limits.graphs (length a.graphs)) none ∙ room)
     (ap (λ (o : Option LoadedGraph). holds_at (λ (g : LoadedGraph). not (same g.text text)) o && has_runs a dag.spec.dag_id) none)
+
+pub refused_unknown : (a : Schedule) (text : List ℕ) (dag : Dag) → IsTaken a text dag → list_any (λ (g : LoadedGraph). same g.dag.spec.dag_id dag.spec.dag_id) a.graphs ≡ false
+    → refused a (Replace text) ≡ Some refusal.UnknownGraph
+refused_unknown a text dag taken unknown =
+    causes_there a text dag taken
+    ∙ ap (λ (o : Option LoadedGraph). first_some (when (is_none o) refusal.UnknownGraph ∷ cond (differs a text dag.spec) (disturbed a (dag_of dag.spec)) None ∷ [])) (unnamed_graph a dag.spec.dag_id unknown)
 
 -- of a graph that is there
 pub known_is : (gs : List LoadedGraph) (id : List ℕ) (i : ℕ) (g : LoadedGraph) → StandsAt id gs i → g ≡ get_or gs i g → (slice_get gs i ≡ Some g) × (same g.dag.spec.dag_id id ≡ true)
@@ -116,6 +153,19 @@ known_causes a text dag i g kept taken at named =
     let found = found_at dag.spec.dag_id a.graphs i g at named kept.sound.graphs_by_id in
     causes a text dag taken
     ∙ ap (λ (o : Option LoadedGraph). two (is_none o && nat_le a.limits.graphs (length a.graphs)) (holds_at (λ (k : LoadedGraph). not (same k.text text)) o && has_runs a dag.spec.dag_id)) found
+
+one_left : (o : Option Refusal) → first_some (o ∷ []) ≡ o
+one_left None = refl
+one_left (Some r) = refl
+
+pub known_change : (a : Schedule) (text : List ℕ) (dag : Dag) (i : ℕ) (g : LoadedGraph) → IsSoundAndSaid a → IsTaken a text dag
+    → slice_get a.graphs i ≡ Some g → same g.dag.spec.dag_id dag.spec.dag_id ≡ true → refused a (Replace text) ≡ cond (not (same g.text text) && has_runs a dag.spec.dag_id) (disturbed a dag) None
+known_change a text dag i g kept taken at named =
+    let found = found_at dag.spec.dag_id a.graphs i g at named kept.sound.graphs_by_id in
+    causes_there a text dag taken
+    ∙ (ap (λ (o : Option LoadedGraph). first_some (when (is_none o) refusal.UnknownGraph ∷ cond (holds_at (λ (k : LoadedGraph). not (same k.text text)) o && has_runs a dag.spec.dag_id) (disturbed a (dag_of dag.spec)) None ∷ [])) found
+    ∙ (one_left (cond (not (same g.text text) && has_runs a dag.spec.dag_id) (disturbed a (dag_of dag.spec)) None)
+    ∙ ap (λ (d : Dag). cond (not (same g.text text) && has_runs a dag.spec.dag_id) (disturbed a d) None) (sym taken.says.checked.is)))
 
 pub accepted_same : (a : Schedule) (text : List ℕ) (dag : Dag) (i : ℕ) (g : LoadedGraph) → IsSoundAndSaid a → IsTaken a text dag
     → slice_get a.graphs i ≡ Some g → same g.dag.spec.dag_id dag.spec.dag_id ≡ true → same g.text text ≡ true → refused a (Load text) ≡ None
@@ -177,6 +227,14 @@ draft_sound {e} {a} {b} d = subst IsSound (sym d.is) (added_sound e a d.ranged d
 pub draft_kept : {e : Event} {a b : Schedule} → IsDraftOf e a b → IsSettledAndSound (hand_out (settle b))
 unfolding step
 draft_kept {e} {a} {b} d = subst (λ (c : Schedule). IsSettledAndSound (hand_out (settle c))) (sym d.is) (step_kept e a d.ranged d.accepted d.kept)
+
+pub draft_said : {e : Event} {a b : Schedule} → IsDraftOf e a b → IsSoundAndSaid b
+draft_said {e} {a} {b} d =
+    record { sound = draft_sound d; said = subst (λ (s : Schedule). AllSay s.graphs) (sym d.is) (change_kept e a d.ranged d.accepted d.kept).1 }
+
+-- a text that is taken in
+pub load_draft : (a : Schedule) (text : List ℕ) (dag : Dag) → IsSoundAndSaid a → IsTaken a text dag → refused a (Load text) ≡ None → IsDraftOf (Load text) a (load_graph text dag a)
+load_draft a text dag kept taken accepted = record { ranged = tt; accepted = accepted; kept = kept; is = load_change a text dag taken.says }
 
 -- what an event answers, but for the tries that are handed out
 abbrev pub told : Event → Schedule → Answer

@@ -1,14 +1,20 @@
 -- Weights stay beside their graphs: where a graph is put in, replaced or paused.
-use Rattle.std.proofs.Common.{◌≡◌, ◌∙◌, refl, sym, ap, subst, ℕ, zero, suc, ◌<◌, ◌≤◌, List, [], ◌∷◌, ◌++◌, Bool, length, map, take, drop, insert, Option, Some, slice_get, slice_set, arith}
+use Rattle.std.proofs.Common.{◌≡◌, ◌∙◌, refl, sym, ap, subst, ℕ, zero, suc, ◌<◌, ◌≤◌, List, [], ◌∷◌, ◌++◌, Bool, length, map, take, drop, insert, Option, Some, slice_get, slice_set, arith, true, option_map}
 use Rattle.std.specs.Global.{Vec}
 use Rattle.sched_state.specs.declared.graphs.LoadedGraph.{LoadedGraph}
 use Rattle.sched_model.specs.Changes.{pause_graph}
-use Rattle.sched_model.specs.Schedule.{Schedule}
+use Rattle.sched_model.specs.Schedule.{Schedule, graph_before}
 use Rattle.sched_model.specs.Settle.{settle}
 use Rattle.sched_laws.proofs.GraphLemmas.{paused_dag}
 use Rattle.sched_events.proofs.StepLemmas.{settle_graphs}
 use Rattle.sched_handout.specs.Weighing.{WeighTasks, WeighGraphs}
-use Rattle.sched_core.specs.Inside.{IsOver, drafted}
+use Rattle.std.proofs.lemmas.List.{length-map}
+use Rattle.std.proofs.lemmas.Option.{slice_get-map}
+use Rattle.sched_laws.proofs.SettleLemmas.{map_some}
+use Rattle.sched_model.specs.Lists.{rises}
+use Rattle.sched_draft.specs.Parts.{with_other}
+use Rattle.sched_core.proofs.OtherLemmas.{other_at}
+use Rattle.sched_core.specs.Inside.{IsOver, LeavesDags, drafted, StandsAt}
 use Rattle.sched_core.specs.declared.changes.GraphChange.{GraphChange}
 use Rattle.sched_core.specs.declared.changes.GraphChange.TheVariants as graphs
 
@@ -62,11 +68,35 @@ weigh_paused id paused (g ∷ gs) (w ∷ ws) h =
     weigh_before (pause_graph id paused g) w (map (pause_graph id paused) gs) ws (subst (λ d. WeighTasks d w.items) (sym (paused_dag id paused g)) (weigh_first g w gs ws h))
     (weigh_paused id paused gs ws (weigh_rest g w gs ws h))
 
-weigh_drafted : (g : GraphChange) (gs : List LoadedGraph) (ws : List (Vec ℕ)) → WeighGraphs gs ws → WeighGraphs (drafted g gs) ws
-weigh_drafted graphs.Same gs ws h = h
-weigh_drafted (graphs.Load text dag weights dates) gs ws h = h
-weigh_drafted (graphs.Pause id paused) gs ws h = weigh_paused id paused gs ws h
+weigh_drafted : (g : GraphChange) (gs : List LoadedGraph) (ws : List (Vec ℕ)) → LeavesDags g → WeighGraphs gs ws → WeighGraphs (drafted g gs) ws
+weigh_drafted graphs.Same gs ws leaves h = h
+weigh_drafted (graphs.Load text dag weights dates) gs ws leaves h = h
+weigh_drafted (graphs.Pause id paused) gs ws leaves h = weigh_paused id paused gs ws h
+weigh_drafted (graphs.Replace graph weights) gs ws leaves h = absurd leaves
 
 -- so a draft over a schedule, settled, has the weights of the schedule's graphs
-pub weigh_settled : (g : GraphChange) (a b : Schedule) (ws : List (Vec ℕ)) → IsOver g a b → WeighGraphs a.graphs ws → WeighGraphs (settle b).graphs ws
-weigh_settled g a b ws over h = subst (λ (gs : List LoadedGraph). WeighGraphs gs ws) (sym (settle_graphs b ∙ over.graphs)) (weigh_drafted g a.graphs ws h)
+pub weigh_settled : (g : GraphChange) (a b : Schedule) (ws : List (Vec ℕ)) → LeavesDags g → IsOver g a b → WeighGraphs a.graphs ws → WeighGraphs (settle b).graphs ws
+weigh_settled g a b ws leaves over h = subst (λ (gs : List LoadedGraph). WeighGraphs gs ws) (sym (settle_graphs b ∙ over.graphs)) (weigh_drafted g a.graphs ws leaves h)
+
+-- ---- rows that are copied
+copied_long : (vs ws : List (Vec ℕ)) → map (λ (w : Vec ℕ). w.items) vs ≡ map (λ (w : Vec ℕ). w.items) ws → length vs ≡ length ws
+copied_long vs ws same = sym (length-map vs (λ (w : Vec ℕ). w.items)) ∙ (ap (λ (is : List (List ℕ)). length is) same ∙ length-map ws (λ (w : Vec ℕ). w.items))
+
+pub copied_below : (gs : List LoadedGraph) (vs ws : List (Vec ℕ)) (i : ℕ) → map (λ (w : Vec ℕ). w.items) vs ≡ map (λ (w : Vec ℕ). w.items) ws → WeighGraphs gs ws → i < length gs → i < length vs
+copied_below gs vs ws i same h below = omega (arith, copied_long vs ws same, h.long, below)
+
+weigh_copied : (gs : List LoadedGraph) (vs ws : List (Vec ℕ)) → map (λ (w : Vec ℕ). w.items) vs ≡ map (λ (w : Vec ℕ). w.items) ws → WeighGraphs gs ws → WeighGraphs gs vs
+weigh_copied gs vs ws same h = record {
+  long = copied_long vs ws same ∙ h.long;
+  each = λ n g v there row.
+      let items : List (List ℕ) → Option (List ℕ) = λ is. slice_get is n in
+      let copy : slice_get (map (λ (w : Vec ℕ). w.items) vs) n ≡ Some v.items = slice_get-map (λ (w : Vec ℕ). w.items) vs n ∙ ap (option_map (λ (w : Vec ℕ). w.items)) row in
+      let k = map_some (λ (w : Vec ℕ). w.items) (slice_get ws n) v.items (sym (slice_get-map (λ (w : Vec ℕ). w.items) ws n) ∙ (sym (ap items same) ∙ copy)) in
+      subst (WeighTasks g.dag) k.2 (h.each n g k.0 there k.1);
+}
+
+-- with another graph in the place of one, and its row
+pub weigh_other : (gs : List LoadedGraph) (vs ws : List (Vec ℕ)) (i : ℕ) (k : LoadedGraph) (w : Vec ℕ) → rises graph_before gs ≡ true → StandsAt k.dag.spec.dag_id gs i → map (λ (v : Vec ℕ). v.items) vs ≡ map (λ (v : Vec ℕ). v.items) ws → WeighGraphs gs ws → WeighTasks k.dag w.items
+    → WeighGraphs (with_other (Some k) gs) (slice_set vs i w)
+weigh_other gs vs ws i k w order stands same h new =
+    subst (λ (hs : List LoadedGraph). WeighGraphs hs (slice_set vs i w)) (other_at k gs i stands.graph stands.there stands.named order) (weigh_set gs vs i k w stands.below (weigh_copied gs vs ws same h) new)

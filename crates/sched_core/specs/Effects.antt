@@ -5,6 +5,8 @@ use Rattle.run_lists.specs.Edits.{AreEditsOf, edited}
 use Rattle.sched_model.specs.Schedule.{Schedule, has_runs}
 use Rattle.sched_model.specs.Changes.{with_graph, pause_graph}
 use Rattle.sched_draft.specs.Books.{pools_in}
+use Rattle.sched_draft.specs.Drafts.{DraftValue}
+use Rattle.sched_draft.specs.Parts.{with_other}
 use Rattle.sched_handout.specs.Weighing.{WeighTasks}
 use Rattle.sched_handout.specs.declared.occupied.Occupied.{Occupied}
 use Rattle.record_rows.specs.Rows.{Rows}
@@ -21,6 +23,7 @@ abbrev pub changed : GraphChange → List LoadedGraph → List LoadedGraph
 changed graphs.Same gs = gs
 changed (graphs.Load text dag weights dates) gs = with_graph text dag gs
 changed (graphs.Pause id paused) gs = map (pause_graph id paused) gs
+changed (graphs.Replace graph weights) gs = with_other (Some graph) gs
 
 -- and of a schedule
 abbrev pub with_change : GraphChange → Schedule → Schedule
@@ -30,6 +33,12 @@ with_change g a = record a { graphs = changed g a.graphs }
 abbrev pub with_rest : Option Rest → Schedule → Schedule
 with_rest None a = a
 with_rest (Some n) a = record a { pools = pools_in n.occupied.pools.pools; now = n.clock; lanes = n.lanes; next = n.serial; runs = edited n.edits a.runs }
+
+-- what a draft leaves, with these numbers: its edits are of the runs that were there, and with its limits and its graphs it is what the draft has
+pub record IsRestOf (d : DraftValue) (t : Occupied) (n : Rest) : Type 0 where
+  pub numbers : n.occupied ≡ t
+  pub edits : AreEditsOf d.base.runs n.edits
+  pub made : with_rest (Some n) (record d.base { limits = d.content.limits; graphs = d.content.graphs }) ≡ d.content
 
 -- its edits are of the runs that are there
 abbrev pub AreOfRuns : Option Rest → Schedule → Type 0
@@ -48,11 +57,12 @@ numbers_after (Some n) t = n.occupied
 abbrev pub KeepsHold : Effect → Schedule → Type 0
 KeepsHold e a = (t : Occupied) (is_settled : Bool) → IsHeldWith is_settled a t → IsHeldWith true (applied e a) (numbers_after e.rest t)
 
--- a text that is taken in brings the weights of its graph, and no date
+-- a text that is taken in brings the weights of its graph, and no date; so does another graph, whose runs keep their dates
 abbrev pub IsWeighed : GraphChange → Type 0
 IsWeighed graphs.Same = Unit {0}
 IsWeighed (graphs.Load text dag weights dates) = WeighTasks dag weights.items × (dates.dates ≡ [])
 IsWeighed (graphs.Pause id paused) = Unit {0}
+IsWeighed (graphs.Replace graph weights) = WeighTasks graph.dag weights.items
 
 -- so it keeps the hold, brings weights with a text, which is of a graph without runs, its edits are of the schedule's runs, and these are the rows that the schedule lacks after it
 pub record IsEffect (e : Effect) (rows : Rows) (a : Schedule) : Type 0 where
@@ -67,3 +77,4 @@ abbrev pub IsQuiet : GraphChange → Schedule → Type 0
 IsQuiet graphs.Same a = Unit {0}
 IsQuiet (graphs.Load text dag weights dates) a = has_runs a dag.spec.dag_id ≡ false
 IsQuiet (graphs.Pause id paused) a = paused ≡ true
+IsQuiet (graphs.Replace graph weights) a = ⊥

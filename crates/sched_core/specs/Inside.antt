@@ -1,5 +1,5 @@
 -- What the core's own functions say of each other.
-use Rattle.std.specs.Prelude.{◌≡◌, ℕ, ◌-ℤ◌, pos, ◌<◌, ◌≤◌, Bool, true, false, cond, List, [], ◌∷◌, length, map, take, sum_by, count_by, Option, MatchOption, Some, None, slice_get, Ok, Err, ◌⊎◌}
+use Rattle.std.specs.Prelude.{◌≡◌, ℕ, ◌-ℤ◌, pos, ◌<◌, ◌≤◌, Bool, true, false, cond, List, [], ◌∷◌, length, map, take, sum_by, count_by, Option, MatchOption, Some, None, slice_get, Result, Ok, Err, ◌⊎◌}
 use Rattle.graph_file.specs.Graphs.{graph_of}
 use Rattle.graph_file.specs.declared.faults.GraphFault.{GraphFault}
 use Rattle.graph_file.specs.declared.graph_specs.GraphSpec.{GraphSpec}
@@ -10,10 +10,12 @@ use Rattle.pool_book.specs.Pools.{Entries, PoolUse}
 use Rattle.sched_model.specs.Sound.{Says}
 use Rattle.sched_draft.specs.Books.{pools_in}
 use Rattle.sched_draft.specs.Drafts.{DraftValue}
-use Rattle.sched_draft.specs.Parts.{with_pause}
+use Rattle.sched_draft.specs.Parts.{with_other, with_pause}
 use Rattle.sched_core.specs.declared.changes.GraphChange.{GraphChange}
 use Rattle.sched_core.specs.declared.changes.GraphChange.TheVariants as graphs
-use Rattle.sched_events.specs.Causes.{exceeds, unknown_pool}
+use Rattle.sched_events.specs.Causes.{exceeds, unfit, unknown_pool}
+use Rattle.sched_events.specs.Outcomes.{unnamed, IsShown}
+use Rattle.sched_events.specs.declared.events.Event.TheVariants.{Load}
 use Rattle.std.specs.List.{list_any}
 use Rattle.instance_machine.specs.Instances.{InstanceValue}
 use Rattle.sched_state.specs.Lists.{same}
@@ -54,6 +56,20 @@ pub record IsTaken (a : Schedule) (text : List ℕ) (dag : Dag) : Type 0 where
   pub fits : exceeds a.limits dag.spec ≡ false
   pub pools : unknown_pool a dag.spec ≡ None
 
+-- the first cause against a text that does not lie in the graphs that are there
+abbrev pub unfit_text : Schedule → Result GraphSpec GraphFault → Option Refusal
+unfit_text a (Err fault) = Some (refusal.GraphFault fault)
+unfit_text a (Ok spec) = unfit a spec
+
+-- this is that cause, and a fault of the graph stands in the file, with the cycle that it shows
+pub record IsFirstUnfit (a : Schedule) (text : List ℕ) (r : Refusal) : Type 0 where
+  pub first : unfit_text a (graph_of text) ≡ Some (unnamed r)
+  pub shown : IsShown (Load text) r
+
+-- memory ran out, or this is the cause
+abbrev pub IsUnfit : Schedule → List ℕ → Refusal → Type 0
+IsUnfit a text r = (r ≡ refusal.Memory) ⊎ IsFirstUnfit a text r
+
 -- the graph of the file
 pub record IsChecked (spec : GraphSpec) (dag : Dag) : Type 0 where
   pub spec_is : dag.spec ≡ spec
@@ -71,11 +87,12 @@ IsCheckFault spec r = (r ≡ refusal.Memory) ⊎ ((fault : DagFault) × (r ≡ r
 abbrev pub IsReadFault : List ℕ → Refusal → Type 0
 IsReadFault text r = (r ≡ refusal.Memory) ⊎ ((fault : GraphFault) × (r ≡ refusal.GraphFault fault) × (graph_of text ≡ Err fault))
 
--- the graphs of a draft: a pause is made before it is settled, a text is taken in after it
+-- the graphs of a draft: a pause is made before it is settled, and so is another graph; a text is taken in after it
 abbrev pub drafted : GraphChange → List LoadedGraph → List LoadedGraph
 drafted graphs.Same gs = gs
 drafted (graphs.Load text dag weights dates) gs = gs
 drafted (graphs.Pause id paused) gs = map (pause_graph id paused) gs
+drafted (graphs.Replace graph weights) gs = with_other (Some graph) gs
 
 -- the draft is over the same limits, and over these graphs
 pub record IsOver (g : GraphChange) (a b : Schedule) : Type 0 where
@@ -91,12 +108,21 @@ abbrev pub completed : GraphChange → Schedule → Schedule
 completed graphs.Same b = b
 completed (graphs.Load text dag weights dates) b = load_graph text dag b
 completed (graphs.Pause id paused) b = b
+completed (graphs.Replace graph weights) b = b
 
 -- a text that is taken in after the draft takes in a graph without runs
 abbrev pub IsLast : GraphChange → Schedule → Type 0
 IsLast graphs.Same b = Unit {0}
 IsLast (graphs.Load text dag weights dates) b = has_runs b dag.spec.dag_id ≡ false
 IsLast (graphs.Pause id paused) b = Unit {0}
+IsLast (graphs.Replace graph weights) b = Unit {0}
+
+-- the tasks and edges of each graph that has runs stay
+abbrev pub LeavesDags : GraphChange → Type 0
+LeavesDags graphs.Same = Unit {0}
+LeavesDags (graphs.Load text dag weights dates) = Unit {0}
+LeavesDags (graphs.Pause id paused) = Unit {0}
+LeavesDags (graphs.Replace graph weights) = ⊥
 
 -- the schedule over the pools of a book
 abbrev pub over : Entries → Schedule → Schedule

@@ -9,3 +9,4 @@ pub mod Inside
 pub mod Repairs
 pub use Rattle.record_restoring.specs as record_restoring
 pub use Rattle.sched_events.specs as sched_events
+pub mod Replaced

@@ -1,5 +1,5 @@
 //! The rows of the record that a change makes differ.
-ghost use Rattle.std.specs.Prelude.{◌≡◌, [], true, false, map, option_map, unwrap_or, IfOk};
+ghost use Rattle.std.specs.Prelude.{◌≡◌, [], true, false, map, option_map, unwrap_or, IfOk, Some};
 ghost use Rattle.sched_model.specs.Lists.{rises};
 ghost use Rattle.sched_model.specs.Schedule.{graph_before, graph_among};
 ghost use Rattle.sched_state.specs.declared.graphs.LoadedGraph.{LoadedGraph as Graph};
@@ -8,8 +8,9 @@ ghost use Rattle.sched_model.specs.Tables.{dag_row, limit_row};
 ghost use Rattle.record_restoring.specs.record_rules.Between.{lacked};
 ghost use Rattle.record_writing.specs.record_changes.Changes.{rows_between, same_dag_row, same_dag_limit_row};
 ghost use Rattle.sched_draft.specs.Drafts.{HaveSameDags};
+ghost use Rattle.sched_draft.specs.Parts.{with_other};
 ghost use Rattle.sched_core.specs.Effects.{changed, with_change};
-ghost use Rattle.sched_core.specs.Inside.{IsOver, IsLast, completed};
+ghost use Rattle.sched_core.specs.Inside.{IsOver, IsLast, LeavesDags, completed};
 
 use crate::changes::GraphChange;
 use crate::graph_texts::bound_after;
@@ -48,6 +49,7 @@ impl Schedule {
         requires based { draft.now.base ≡ self.now.content }
         requires over { IsOver graphs.now self.now.content draft.now.content }
         requires last { IsLast graphs.now draft.now.content }
+        requires leaves { LeavesDags graphs.now }
         requires sound { IsSound (completed graphs.now draft.now.content) }
         ensures { IfOk result (λ rows. rows ≡ rows_between self.now.content
             (completed graphs.now draft.now.content)) }
@@ -94,6 +96,24 @@ fn dags_changed(
             Some(graph) => dag_lacked(alloc, graphs, id, &graph.text, *paused),
             None => Ok(Vec::new(alloc)),
         },
+        GraphChange::Replace(graph, _) => dags_with(alloc, graphs, graph),
+    }
+}
+
+// The rows of graphs that these lack where the one with the id of this one is this one.
+pub(crate) fn dags_with(
+    alloc: Global,
+    graphs: &[LoadedGraph],
+    other: &LoadedGraph,
+) -> Result<Vec<DagRow>, AllocError>
+    requires { rises graph_before graphs.now ≡ true }
+    ensures { IfOk result (λ rows. rows.items ≡ lacked same_dag_row (map dag_row graphs.now)
+        (map dag_row (with_other (Some other.now) graphs.now))) }
+{
+    let id = &other.dag.spec().dag_id;
+    match graph_named(graphs, id) {
+        Some(_) => dag_lacked(alloc, graphs, id, &other.text, other.paused),
+        None => Ok(Vec::new(alloc)),
     }
 }
 
@@ -113,6 +133,24 @@ fn limits_changed(
             let bound = bound_after(graphs, text, dag);
             limit_lacked(alloc, graphs, &dag.spec().dag_id, bound)
         }
+        GraphChange::Replace(graph, _) => limits_with(alloc, graphs, graph),
+    }
+}
+
+// The rows of the graphs' bounds that these lack where the one with the id of this one is this one.
+pub(crate) fn limits_with(
+    alloc: Global,
+    graphs: &[LoadedGraph],
+    other: &LoadedGraph,
+) -> Result<Vec<DagLimitRow>, AllocError>
+    requires { rises graph_before graphs.now ≡ true }
+    ensures { IfOk result (λ rows. rows.items ≡ lacked same_dag_limit_row (map limit_row graphs.now)
+        (map limit_row (with_other (Some other.now) graphs.now))) }
+{
+    let id = &other.dag.spec().dag_id;
+    match graph_named(graphs, id) {
+        Some(_) => limit_lacked(alloc, graphs, id, other.max_active_tasks.get()),
+        None => Ok(Vec::new(alloc)),
     }
 }
 

@@ -11,7 +11,7 @@ use run_lists::Edits;
 use run_planner::RunIndex;
 use sched_events::Answer;
 use sched_handout::Occupied;
-use sched_state::GraphText;
+use sched_state::{GraphText, LoadedGraph};
 use std::marker::Model;
 use std::snapshot::Snapshot;
 
@@ -31,6 +31,8 @@ pub enum GraphChange {
     Load(GraphText, Graph, Vec<u64>, RunIndex),
     // The graph with this id is paused, or is no more.
     Pause(Name, bool),
+    // The graph with the id of this one is this one, with the effective weights of its tasks. Its runs go on by it.
+    Replace(LoadedGraph, Vec<u64>),
 }
 
 // What an event leaves, but for the graphs.

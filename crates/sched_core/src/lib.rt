@@ -23,6 +23,7 @@ mod ordering;
 mod pausing;
 mod planning;
 mod pool_rows;
+mod replacing;
 mod restoring;
 mod rows;
 mod schedules;

@@ -1,14 +1,18 @@
 //! Planning a load: the text is read and checked, then the bounds and the pools are asked, then the graph that is there.
-ghost use Rattle.std.specs.Prelude.{◌≡◌, IfOk, IfErr, MatchResult, None, false, not, find, option_map};
+ghost use Rattle.std.specs.Prelude.{◌≡◌, IfOk, IfErr, MatchResult, false, not, find, option_map};
 ghost use Rattle.std.specs.Option.{option_copied};
 ghost use Rattle.pool_book.specs.Pools.{has_pool};
 ghost use Rattle.sched_model.specs.Schedule.{has_runs};
-ghost use Rattle.sched_events.specs.Causes.{refused, exceeds};
-ghost use Rattle.sched_core.specs.Plans.{IsPlanned};
+ghost use Rattle.sched_model.specs.Changes.{load_graph};
+ghost use Rattle.sched_model.specs.Settle.{settle};
+ghost use Rattle.sched_model.specs.Handout.{hand_out};
+ghost use Rattle.sched_model.specs.Jobs.{handed};
+ghost use Rattle.sched_events.specs.Causes.{exceeds};
+ghost use Rattle.sched_core.specs.Plans.{IsPlanned, no_runs};
 ghost use Rattle.sched_events.specs.Outcomes.{IsRefusal};
 ghost use Rattle.sched_events.specs.SettledAndSound.{IsSoundAndSaid};
 ghost use Rattle.sched_events.specs.declared.events.Event.TheVariants.{Load};
-ghost use Rattle.sched_core.specs.Inside.{IsRead, IsReadFault, IsChecked, IsCheckFault, IsTaken};
+ghost use Rattle.sched_core.specs.Inside.{IsRead, IsReadFault, IsChecked, IsCheckFault, IsTaken, IsUnfit};
 
 use crate::changes::{Change, GraphChange};
 use crate::lookups::position_of;
@@ -21,7 +25,7 @@ use run_planner::RunIndex;
 use sched_events::Refusal;
 use sched_handout::weigh_tasks;
 use sched_state::{GraphText, Limits};
-use std::alloc::Global;
+use std::alloc::{AllocError, Global};
 
 impl Schedule {
     // What loading the text would do, or why it is refused.
@@ -36,7 +40,7 @@ impl Schedule {
                 if self.limits.graphs() as usize <= self.graphs.len() {
                     return Err(Refusal::TooManyGraphs);
                 }
-                self.taken_in(alloc, text, dag)
+                Ok(self.taken_in(alloc, text, dag)?)
             }
             Some(place) => {
                 if self.graphs[place].text.is_same(text) {
@@ -45,15 +49,15 @@ impl Schedule {
                 if self.runs.has_runs(id) {
                     return Err(Refusal::GraphDiffers);
                 }
-                self.taken_in(alloc, text, dag)
+                Ok(self.taken_in(alloc, text, dag)?)
             }
         }
     }
 
     // The graph that the text says, or the first cause against it that does not lie in the graphs that are there.
-    fn read_dag(&self, alloc: Global, text: &GraphText) -> Result<Graph, Refusal>
+    pub(crate) fn read_dag(&self, alloc: Global, text: &GraphText) -> Result<Graph, Refusal>
         ensures taken { IfOk result (IsTaken self.now.content text.now) }
-        ensures refused { IfErr result (IsRefusal self.now.content (Load text.now)) }
+        ensures refused { IfErr result (IsUnfit self.now.content text.now) }
     {
         let spec = read(alloc, text)?;
         if exceeds(&spec, self.limits) {
@@ -66,19 +70,28 @@ impl Schedule {
         }
     }
 
-    // The text is taken in, against which there is no cause.
-    fn taken_in(&self, alloc: Global, text: &GraphText, dag: Graph) -> Result<Change, Refusal>
-        requires kept { IsSoundAndSaid self.now.content }
-        requires taken { IsTaken self.now.content text.now dag }
+    // The change that takes the text in that says this graph, which has no runs.
+    pub(crate) fn taken_in(
+        &self,
+        alloc: Global,
+        text: &GraphText,
+        dag: Graph,
+    ) -> Result<Change, AllocError>
+        requires sound { IsSoundAndSaid (load_graph text.now dag self.now.content) }
         requires quiet { has_runs self.now.content dag.spec.dag_id ≡ false }
-        requires accepted { refused self.now.content (Load text.now) ≡ None }
-        ensures accepted { IfOk result (IsPlanned self.now.content (Load text.now)) }
-        ensures refused { IfErr result (IsRefusal self.now.content (Load text.now)) }
+        ensures { IfOk result (λ change. change ≡ record {
+          before = self.now.content;
+          after = hand_out (settle (load_graph text.now dag self.now.content));
+          answer = record no_runs {
+            jobs = handed self.now.content
+                (hand_out (settle (load_graph text.now dag self.now.content)));
+          };
+        }) }
     {
         let text = text.copy(alloc)?;
         let weights = weigh_tasks(alloc, &dag)?;
         let change = GraphChange::Load(text, dag, weights, RunIndex::new(alloc));
-        Ok(self.graph_change(alloc, change)?)
+        self.graph_change(alloc, change)
     }
 }
 

@@ -14,8 +14,8 @@ ghost use Rattle.sched_model.specs.States.{open_tries};
 ghost use Rattle.sched_handout.specs.Occupied.{AreOccupied};
 ghost use Rattle.sched_draft.specs.Books.{IsBookOf};
 ghost use Rattle.sched_core.specs.Books.{IsCounted};
-ghost use Rattle.sched_core.specs.Effects.{with_change, IsQuiet, IsWeighed};
-ghost use Rattle.sched_core.specs.Inside.{IsOver, IsLast, completed, drafted_as, over};
+ghost use Rattle.sched_core.specs.Effects.{applied, with_change, IsEffect, IsQuiet, IsRestOf, IsWeighed};
+ghost use Rattle.sched_core.specs.Inside.{IsOver, IsLast, LeavesDags, completed, drafted_as, over};
 
 use crate::changes::{Change, Effect, GraphChange, Rest};
 use crate::lookups::graph_named;
@@ -25,6 +25,7 @@ use graph_file::{Name, Sequence};
 use instance_machine::Stage;
 use moment_core::Moment;
 use pool_book::{PoolFault, Pools, Slots};
+use record_rows::Rows;
 use sched_creation::{add, named_by_tick};
 use sched_draft::Draft;
 use sched_events::{Answer, Event, Refusal, RunId};
@@ -59,6 +60,7 @@ impl Schedule {
             Event::Resize(name, size) => self.plan_resize(alloc, name, *size),
             Event::Report(serial, stage) => self.plan_report(alloc, *serial, *stage),
             Event::Restart(lanes) => self.plan_restart(alloc, *lanes),
+            Event::Replace(text) => self.plan_replace(alloc, text),
         }
     }
 
@@ -76,12 +78,8 @@ impl Schedule {
         }) }
     {
         let rows = self.rows_of_graphs(alloc, &graphs)?;
-        Ok(Change {
-            before: Snapshot::of(self),
-            effect: Effect { graphs, rest: None },
-            answer: quiet_answer(alloc),
-            rows,
-        })
+        let effect = Effect { graphs, rest: None };
+        Ok(self.change_of(effect, quiet_answer(alloc), rows))
     }
 
     // The change that makes this of the graphs, and what follows of it: nothing where the schedule is settled.
@@ -150,6 +148,7 @@ impl Schedule {
         requires sound { IsSound draft.content }
         requires over { IsOver graphs self.now.content draft.content }
         requires last { IsLast graphs draft.content }
+        requires leaves { LeavesDags graphs }
         requires weighed { IsWeighed graphs }
         requires kept { IsSettledAndSound (completed graphs (hand_out (settle draft.content))) }
         requires pools { draft.content.pools ≡ self.now.content.pools }
@@ -178,6 +177,7 @@ impl Schedule {
         requires sound { IsSound draft.content }
         requires over { IsOver graphs self.now.content draft.content }
         requires last { IsLast graphs draft.content }
+        requires leaves { LeavesDags graphs }
         requires weighed { IsWeighed graphs }
         requires kept { IsSettledAndSound (completed graphs (hand_out (settle draft.content))) }
         requires counted { IsCounted draft.content }
@@ -194,22 +194,28 @@ impl Schedule {
         self.settle_draft(alloc, &mut draft)?;
         let jobs = hand_out(alloc, &mut draft, self.weights.as_slice(), &mut occupied)?;
         let rows = self.rows_changed(alloc, &draft, &graphs)?;
-        let rest = Rest {
-            occupied,
-            clock: draft.clock(),
-            lanes: draft.lanes(),
-            serial: draft.next_serial(),
-            edits: draft.into_edits(),
+        let effect = Effect {
+            graphs,
+            rest: Some(rest_of(draft, occupied)),
         };
-        Ok(Change {
+        Ok(self.change_of(effect, Answer { jobs, ..answer }, rows))
+    }
+
+    // The change that has this effect and this answer, and brings these rows.
+    pub(crate) fn change_of(&self, effect: Effect, answer: Answer, rows: Rows) -> Change
+        requires { IsEffect effect rows self.now.content }
+        ensures { result ≡ record {
+          before = self.now.content;
+          after = applied effect self.now.content;
+          answer = answer;
+        } }
+    {
+        Change {
             before: Snapshot::of(self),
-            effect: Effect {
-                graphs,
-                rest: Some(rest),
-            },
-            answer: Answer { jobs, ..answer },
+            effect,
+            answer,
             rows,
-        })
+        }
     }
 
     fn plan_tick(&self, alloc: Global, moment: Moment) -> Result<Change, Refusal>
@@ -347,6 +353,20 @@ impl Schedule {
             GraphChange::Same,
             quiet_answer(alloc),
         )?)
+    }
+}
+
+// What a draft leaves, but for the graphs: these are the numbers of its tries without an end.
+pub(crate) fn rest_of(draft: Draft<'_>, occupied: Occupied) -> Rest
+    requires { AreOccupied draft.content occupied }
+    ensures { IsRestOf draft.entry occupied result }
+{
+    Rest {
+        occupied,
+        clock: draft.clock(),
+        lanes: draft.lanes(),
+        serial: draft.next_serial(),
+        edits: draft.into_edits(),
     }
 }
 

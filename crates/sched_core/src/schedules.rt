@@ -2,7 +2,7 @@
 //!
 //! A change is planned against the schedule as it is, room is reserved for it, and it is committed: only the first two can fail,
 //! and neither changes what the schedule holds.
-ghost use Rattle.std.specs.Prelude.{◌≡◌, ◌+◌, ◌-◌, ◌≤◌, List, [], false, length, min, IfOk, IfErr, OnOk, true, vec_capacity, vec_len};
+ghost use Rattle.std.specs.Prelude.{◌≡◌, ◌+◌, ◌-◌, ◌≤◌, List, [], false, length, min, IfOk, IfErr, OnOk, Some, true, vec_capacity, vec_len};
 ghost use Rattle.std.specs.Option.{option_copied};
 ghost use Rattle.sched_state.specs.declared.graphs.LoadedGraph as states;
 ghost use Rattle.sched_model.specs.Lists.{rises};
@@ -11,6 +11,7 @@ ghost use Rattle.sched_model.specs.Changes.{with_graph};
 ghost use Rattle.sched_events.specs.SettledAndSound.{IsSoundAndSaid};
 ghost use Rattle.sched_events.specs.Outcomes.{IsStepped, IsRefusal};
 ghost use Rattle.sched_creation.specs.Dates.{HaveDates};
+ghost use Rattle.sched_draft.specs.Parts.{with_other};
 ghost use Rattle.sched_handout.specs.Weighing.{WeighTasks, WeighGraphs};
 ghost use Rattle.sched_core.specs.Changes.{HasRoom};
 ghost use Rattle.sched_core.specs.Effects.{changed, IsWeighed};
@@ -232,7 +233,7 @@ fn room_for_graphs(
             weights.reserve(1)?;
             dates.reserve(1)
         }
-        GraphChange::Same | GraphChange::Pause(_, _) => Ok(()),
+        GraphChange::Same | GraphChange::Pause(_, _) | GraphChange::Replace(_, _) => Ok(()),
     }
 }
 
@@ -260,6 +261,7 @@ fn change_graphs(
             take_in(graphs, weights, dates, text, dag, row, index)
         }
         GraphChange::Pause(id, paused) => set_paused(graphs, &id, paused),
+        GraphChange::Replace(graph, row) => put_other(graphs, weights, graph, row),
     }
 }
 
@@ -300,5 +302,27 @@ fn take_in(
             let _ = weights.insert(place, row);
             let _ = dates.insert(place, index);
         }
+    }
+}
+
+// The graph with the id of this one is this one, with these weights.
+fn put_other(
+    graphs: &mut Vec<LoadedGraph>,
+    weights: &mut Vec<Vec<u64>>,
+    graph: LoadedGraph,
+    row: Vec<u64>,
+)
+    requires order { rises graph_before graphs.old.items ≡ true }
+    requires weights { WeighGraphs graphs.old.items weights.old.items }
+    requires row { WeighTasks graph.dag row.items }
+    ensures graphs { graphs.new.items ≡ with_other (Some graph) graphs.old.items }
+    ensures weights { WeighGraphs graphs.new.items weights.new.items }
+{
+    match position_of(graphs, &graph.dag.spec().dag_id) {
+        Some(place) => {
+            graphs[place] = graph;
+            weights[place] = row;
+        }
+        None => {}
     }
 }

@@ -4,7 +4,7 @@ use Rattle.sched_handout.specs.Weighing.{WeighGraphs}
 use Rattle.sched_creation.specs.Dates.{HaveDates}
 use Rattle.sched_core.specs.Inside.{IsLast}
 use Rattle.sched_core.specs.declared.changes.GraphChange.{GraphChange}
-use Rattle.sched_core.proofs.DateLemmas.{dates_paused}
+use Rattle.sched_core.proofs.DateLemmas.{dates_other, dates_paused}
 use Rattle.sched_core.proofs.WeightLemmas.{weigh_paused}
 use Rattle.sched_core.proofs.schedules.change_graphs.Goals as goal
 
@@ -18,3 +18,7 @@ returns-in-Pause-clause-dates c a h last =
 
 pub returns-in-Load-clause-dates : goal.returns-in-Load-clause-dates
 returns-in-Load-clause-dates c a h last = c.take_in.ensures.dates a h (subst (λ (g : GraphChange). IsLast g a) c.in-Load.is last)
+
+pub returns-in-Replace-clause-dates : goal.returns-in-Replace-clause-dates
+returns-in-Replace-clause-dates c a h last =
+    subst (λ (gs : List LoadedGraph). HaveDates gs a.runs c.args.dates.now.items) (sym c.put_other.ensures.graphs) (dates_other c.in-Replace.field-0 c.args.graphs.now.items a.runs c.args.dates.now.items h)

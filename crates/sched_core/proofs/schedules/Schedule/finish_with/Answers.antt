@@ -1,37 +1,31 @@
-use Rattle.std.proofs.Common.{◌≡◌, ◌∙◌, ◌-◌, sym, ap, subst, ℕ, List, flat_map, true, Some}
+use Rattle.std.proofs.Common.{◌≡◌, ◌∙◌, ◌-◌, sym, ap, subst, ℕ, List, flat_map, true}
 use Rattle.std.specs.Global.{Vec}
 use Rattle.std.specs.List.{range_with_len}
-use Rattle.record_writing.specs.record_changes.Changes.{rows_between}
-use Rattle.run_lists.specs.Edits.{AreEditsOf, edited}
 use Rattle.sched_model.specs.Schedule.{Schedule}
 use Rattle.sched_model.specs.Settle.{settle}
 use Rattle.sched_model.specs.Handout.{hand_out}
 use Rattle.sched_model.specs.Jobs.{job_at, handed}
 use Rattle.sched_model.specs.Sound.{IsSound}
 use Rattle.sched_events.proofs.StepLemmas.{without_settled}
-use Rattle.sched_draft.specs.Books.{pools_in}
 use Rattle.sched_handout.specs.Occupied.{AreOccupied}
+use Rattle.sched_handout.specs.declared.occupied.Occupied.{Occupied}
 use Rattle.sched_handout.specs.Noted.{NoneFrom}
 use Rattle.sched_handout.specs.Weighing.{WeighGraphs}
 use Rattle.sched_handout.proofs.JobLemmas.{sound_none}
 use Rattle.sched_laws.proofs.SoundLemmas.{settle_sound}
 use Rattle.sched_draft.specs.Drafts.{DraftValue, SameDags}
-use Rattle.sched_core.specs.Effects.{changed, IsEffect}
-use Rattle.sched_core.specs.declared.changes.Effect.{Effect}
-use Rattle.sched_core.specs.declared.changes.Rest.{Rest}
 use Rattle.sched_core.specs.Inside.{IsOver, IsLast, completed}
 use Rattle.sched_core.specs.declared.changes.GraphChange.{GraphChange}
 use Rattle.sched_core.specs.Books.{IsHeldWith}
 use Rattle.sched_core.specs.Changes.{ScheduleValue, Planned}
 use Rattle.sched_core.proofs.ChangedRowLemmas.{draft_dags, last_after}
-use Rattle.sched_core.proofs.EffectLemmas.{completed_last}
-use Rattle.sched_core.proofs.FinishLemmas.{finished_is, finished_held, finished_over, settled_next, settled_occupied}
+use Rattle.sched_core.proofs.FinishLemmas.{closed_effect, closed_is, finished_held, finished_over, settled_next, settled_occupied}
 use Rattle.sched_core.proofs.WeightLemmas.{weigh_settled}
 use Rattle.sched_core.proofs.schedules.Schedule.finish_with.Goals as goal
 
 pub settle_draft-requires-clause-dags : goal.settle_draft-requires-clause-dags
 settle_draft-requires-clause-dags c =
-    subst (λ (s : Schedule). SameDags s c.args.draft.content) (sym c.requires.based) (draft_dags c.args.graphs c.args.self.now.content c.args.draft.content c.requires.over)
+    subst (λ (s : Schedule). SameDags s c.args.draft.content) (sym c.requires.based) (draft_dags c.args.graphs c.args.self.now.content c.args.draft.content c.requires.leaves c.requires.over)
 
 pub hand_out-requires-clause-weights : goal.hand_out-requires-clause-weights
 hand_out-requires-clause-weights c =
@@ -40,7 +34,7 @@ hand_out-requires-clause-weights c =
     let ws : List (Vec ℕ) = c.self.inside.weights.items in
     let kept : WeighGraphs a.graphs ws = subst (λ (h : ScheduleValue). WeighGraphs h.content.graphs ws) c.self.view_is c.self.invariant.weights in
     subst (λ (rows : List (Vec ℕ)). WeighGraphs c.settle_draft.new.draft.content.graphs rows) (sym c.as_slice.ensures.value)
-    (subst (λ (s : Schedule). WeighGraphs s.graphs ws) (sym c.in_ok-settle_draft.ensures.settled) (weigh_settled c.args.graphs a b ws c.requires.over kept))
+    (subst (λ (s : Schedule). WeighGraphs s.graphs ws) (sym c.in_ok-settle_draft.ensures.settled) (weigh_settled c.args.graphs a b ws c.requires.leaves c.requires.over kept))
 
 pub hand_out-requires-clause-taken : goal.hand_out-requires-clause-taken
 hand_out-requires-clause-taken c =
@@ -73,30 +67,23 @@ rows_changed-requires-clause-sound c =
     let end : c.hand_out.new.draft.content ≡ hand_out (settle b) = c.in_ok-jobs.ensures.draft ∙ ap hand_out c.in_ok-settle_draft.ensures.settled in
     subst (λ (s : Schedule). IsSound (completed c.args.graphs s)) (sym end) (without_settled (completed c.args.graphs (hand_out (settle b))) c.requires.kept).sound
 
-pub invariant_of-result : goal.invariant_of-result
-invariant_of-result c =
+pub rest_of-requires : goal.rest_of-requires
+rest_of-requires c = c.in_ok-jobs.ensures.taken
+
+pub change_of-requires : goal.change_of-requires
+change_of-requires c =
     let a : Schedule = c.args.self.now.content in
     let g : GraphChange = c.args.graphs in
     let b : Schedule = c.args.draft.content in
     let d : DraftValue = c.hand_out.new.draft in
     let e : Schedule = hand_out (settle b) in
+    let t : Occupied = c.hand_out.new.taken in
     let end : d.content ≡ e = c.in_ok-jobs.ensures.draft ∙ ap hand_out c.in_ok-settle_draft.ensures.settled in
     let base : d.base ≡ a = c.in_ok-jobs.ensures.base ∙ c.in_ok-settle_draft.ensures.base ∙ c.requires.based in
-    let numbers : AreOccupied e c.hand_out.new.taken = subst (λ (s : Schedule). AreOccupied s c.hand_out.new.taken) end c.in_ok-jobs.ensures.taken in
-    let of : AreEditsOf a.runs c.into_edits.result = subst (λ (s : Schedule). AreEditsOf s.runs c.into_edits.result) base c.into_edits.ensures.edits in
-    let runs : edited c.into_edits.result a.runs ≡ d.content.runs = subst (λ (s : Schedule). edited c.into_edits.result s.runs ≡ d.content.runs) base c.into_edits.ensures.runs in
-    let is = finished_is g a b d.content (pools_in c.hand_out.new.taken.pools.pools) c.clock.result c.lanes.result c.next_serial.result (edited c.into_edits.result a.runs) c.requires.over end numbers.pools.pools
-    c.clock.ensures c.lanes.ensures c.next_serial.ensures runs in
-    let held : IsHeldWith true (completed g e) c.hand_out.new.taken = finished_held g b c.hand_out.new.taken c.requires.sound c.requires.counted c.requires.last c.requires.kept numbers in
-    let n : Rest = record { occupied = c.hand_out.new.taken; clock = c.clock.result; lanes = c.lanes.result; serial = c.next_serial.result; edits = c.into_edits.result } in
-    let f : Effect = record { graphs = g; rest = Some n } in
-    subst (λ (h : ScheduleValue). IsEffect f c.in_ok-rows.rows h.content) (sym c.of.ensures) (record {
-      keeps = λ t was before. subst (λ (s : Schedule). IsHeldWith true s c.hand_out.new.taken) (sym is) held;
-      weighed = c.requires.weighed;
-      last = subst (IsLast g) (sym is) (completed_last g e (last_after g b c.requires.last));
-      edits = of;
-      rows_are = c.in_ok-rows.ensures ∙ (ap (λ (s : Schedule). rows_between a (completed g s)) end ∙ ap (rows_between a) (sym is));
-    })
+    let numbers : AreOccupied e t = subst (λ (s : Schedule). AreOccupied s t) end c.in_ok-jobs.ensures.taken in
+    let held : IsHeldWith true (completed g e) t = finished_held g b t c.requires.sound c.requires.counted c.requires.last c.requires.kept numbers in
+    closed_effect g a d t c.rest_of.result c.in_ok-rows.rows base (subst (IsOver g a) (sym end) (finished_over g a b c.requires.over)) c.rest_of.ensures c.requires.weighed (subst (IsLast g) (sym end) (last_after g b c.requires.last))
+    (subst (λ (s : Schedule). IsHeldWith true (completed g s) t) (sym end) held) c.in_ok-rows.ensures
 
 pub returns : goal.returns
 returns c =
@@ -107,18 +94,11 @@ returns c =
     let e : Schedule = hand_out (settle b) in
     let end : d.content ≡ e = c.in_ok-jobs.ensures.draft ∙ ap hand_out c.in_ok-settle_draft.ensures.settled in
     let base : d.base ≡ a = c.in_ok-jobs.ensures.base ∙ c.in_ok-settle_draft.ensures.base ∙ c.requires.based in
-    let numbers : AreOccupied e c.hand_out.new.taken = subst (λ (s : Schedule). AreOccupied s c.hand_out.new.taken) end c.in_ok-jobs.ensures.taken in
-    let runs : edited c.into_edits.result a.runs ≡ d.content.runs = subst (λ (s : Schedule). edited c.into_edits.result s.runs ≡ d.content.runs) base c.into_edits.ensures.runs in
-    let is = finished_is g a b d.content (pools_in c.hand_out.new.taken.pools.pools) c.clock.result c.lanes.result c.next_serial.result (edited c.into_edits.result a.runs) c.requires.over end numbers.pools.pools
-    c.clock.ensures c.lanes.ensures c.next_serial.ensures runs in
+    let is = closed_is g a d c.hand_out.new.taken c.rest_of.result base (subst (IsOver g a) (sym end) (finished_over g a b c.requires.over)) c.rest_of.ensures ∙ ap (completed g) end in
     let jobs : c.in_ok-jobs.jobs ≡ handed a e =
     c.in_ok-jobs.ensures.jobs
     ∙ (ap (λ (s : Schedule). handed s d.content) c.in_ok-settle_draft.ensures.settled
     ∙ (ap (handed (settle b)) end ∙ ap (λ n. flat_map (job_at e) (range_with_len n (e.next - n))) (settled_next b ∙ c.requires.next))) in
-    ap (λ (h : ScheduleValue). let p : Planned = record {
-      before = h.content;
-      after = record h.content { graphs = changed g h.content.graphs; pools = pools_in c.hand_out.new.taken.pools.pools; now = c.clock.result; lanes = c.lanes.result; next = c.next_serial.result; runs = edited c.into_edits.result h.content.runs };
-      answer = record c.args.answer { jobs = c.in_ok-jobs.jobs };
-    } in p) c.of.ensures
+    c.change_of.ensures
     ∙ (ap (λ (s : Schedule). let p : Planned = record { before = a; after = s; answer = record c.args.answer { jobs = c.in_ok-jobs.jobs } } in p) is
     ∙ ap (λ js. let p : Planned = record { before = a; after = completed g e; answer = record c.args.answer { jobs = js } } in p) jobs)

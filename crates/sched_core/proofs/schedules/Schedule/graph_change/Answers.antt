@@ -11,7 +11,7 @@ use Rattle.sched_model.specs.Jobs.{handed}
 use Rattle.sched_core.specs.Plans.{no_runs}
 use Rattle.sched_core.specs.Effects.{with_change}
 use Rattle.sched_core.specs.Inside.{completed}
-use Rattle.sched_core.proofs.EffectLemmas.{quiet_whole, last_whole, made_last}
+use Rattle.sched_core.proofs.EffectLemmas.{quiet_leaves, quiet_whole, last_whole, made_last}
 use Rattle.sched_core.proofs.schedules.Schedule.graph_change.Goals as goal
 
 pub returns-then-self : goal.returns-then-self
@@ -25,6 +25,9 @@ returns-then-self c =
     (λ (change : Planned). change ≡ record { before = a; after = hand_out (settle b); answer = record no_runs { jobs = handed a (hand_out (settle b)) } })
     (λ change. quiet_whole g a change c.requires.quiet still)
     c.quiet_change.ensures
+
+pub finish-requires-clause-leaves : goal.finish-requires-clause-leaves
+finish-requires-clause-leaves c = quiet_leaves c.args.graphs c.args.self.now.content c.requires.quiet
 
 pub finish-requires-clause-kept : goal.finish-requires-clause-kept
 finish-requires-clause-kept c =

@@ -1,0 +1,34 @@
+use Rattle.std.proofs.Common.{◌≡◌, sym, ap, ◌∙◌, List, [], ◌∷◌, map, pos, Vec, Some}
+use Rattle.std.specs.Global.{Global}
+use Rattle.std.specs.Option.{option_copied}
+use Rattle.std.proofs.lemmas.Result.{IfOk-weaker}
+use Rattle.graph_file.specs.declared.graph_specs.GraphSpec.{GraphSpec}
+use Rattle.record_rows.specs.Rows.{DagRow}
+use Rattle.sched_state.specs.declared.graphs.LoadedGraph.{LoadedGraph}
+use Rattle.sched_model.specs.Schedule.{graph_among}
+use Rattle.sched_model.specs.Tables.{dag_row, flag_code}
+use Rattle.record_restoring.specs.record_rules.Between.{lacked}
+use Rattle.record_writing.specs.record_changes.Changes.{same_dag_row}
+use Rattle.sched_draft.specs.Parts.{with_other}
+use Rattle.sched_core.proofs.DagRowLemmas.{row_itself, other_one, other_none}
+use Rattle.sched_core.proofs.changed_rows.dags_with.Goals as goal
+
+pub returns-in-Some : goal.returns-in-Some
+returns-in-Some c =
+    let gs : List LoadedGraph = c.args.graphs.now in
+    let k : LoadedGraph = c.args.other.now in
+    IfOk-weaker c.dag_lacked.result
+    (λ (rows : Vec DagRow Global). rows.items ≡ lacked same_dag_row (map dag_row gs) (record { dag_id = c.spec.result.now.dag_id; body = k.text; paused = pos (flag_code k.paused) } ∷ []))
+    (λ (rows : Vec DagRow Global). rows.items ≡ lacked same_dag_row (map dag_row gs) (map dag_row (with_other (Some k) gs)))
+    (λ rows e. e
+    ∙ (ap (λ (s : GraphSpec). lacked same_dag_row (map dag_row gs) (record { dag_id = s.dag_id; body = k.text; paused = pos (flag_code k.paused) } ∷ [])) c.spec.ensures.spec
+    ∙ sym (other_one same_dag_row dag_row row_itself gs k c.in-Some.field-0.now c.requires
+    (ap (λ (s : GraphSpec). graph_among gs s.dag_id) (sym c.spec.ensures.spec) ∙ (sym c.graph_named.ensures ∙ ap option_copied c.in-Some.is)))))
+    c.dag_lacked.ensures
+
+pub returns-in-None : goal.returns-in-None
+returns-in-None c =
+    let gs : List LoadedGraph = c.args.graphs.now in
+    c.new.ensures.items
+    ∙ sym (other_none same_dag_row dag_row row_itself gs c.args.other.now
+    (ap (λ (s : GraphSpec). graph_among gs s.dag_id) (sym c.spec.ensures.spec) ∙ (sym c.graph_named.ensures ∙ ap option_copied c.in-None.is)))

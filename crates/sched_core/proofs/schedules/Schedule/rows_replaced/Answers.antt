@@ -1,0 +1,54 @@
+use Rattle.std.proofs.Common.{◌≡◌, ◌∙◌, sym, ap, subst, refl, List, Some, map}
+use Rattle.std.proofs.lemmas.Result.{IfOk-weaker}
+use Rattle.record_rows.specs.Rows.{Rows, DagRow, DagLimitRow}
+use Rattle.record_restoring.specs.record_rules.Between.{lacked}
+use Rattle.record_writing.specs.Before.{AreNamedAlike, KeepDags}
+use Rattle.record_writing.specs.record_changes.Changes.{rows_between, same_dag_row, same_dag_limit_row}
+use Rattle.record_writing.proofs.FitLemmas.{fits_tables}
+use Rattle.sched_state.specs.declared.graphs.LoadedGraph.{LoadedGraph}
+use Rattle.sched_model.specs.Schedule.{Schedule}
+use Rattle.sched_model.specs.Tables.{dag_row, limit_row}
+use Rattle.sched_draft.specs.Parts.{with_other}
+use Rattle.sched_core.specs.Changes.{ScheduleValue}
+use Rattle.sched_core.proofs.ChangedRowLemmas.{AreRowsOf, rest_rows}
+use Rattle.sched_core.proofs.OtherLemmas.{ids_other}
+use Rattle.sched_core.proofs.ReplacingLemmas.{kept_dags}
+use Rattle.sched_core.proofs.schedules.Schedule.rows_replaced.Goals as goal
+
+pub rows_of-requires-clause-base : goal.rows_of-requires-clause-base
+rows_of-requires-clause-base c = c.base.ensures ∙ sym c.requires.based
+
+pub rows_of-requires-clause-order : goal.rows_of-requires-clause-order
+rows_of-requires-clause-order c = c.requires.sound.runs_by_key
+
+pub rows_of-requires-clause-after : goal.rows_of-requires-clause-after
+rows_of-requires-clause-after c = fits_tables c.args.draft.now.content c.requires.sound
+
+pub rows_of-requires-clause-graphs : goal.rows_of-requires-clause-graphs
+rows_of-requires-clause-graphs c =
+    subst (λ (s : Schedule). AreNamedAlike s.graphs c.args.draft.now.content.graphs) (sym c.requires.based)
+    (subst (AreNamedAlike c.args.self.now.content.graphs) (sym c.requires.graphs) (ids_other c.args.graph.now c.args.self.now.content.graphs))
+
+pub rows_of-requires-clause-dags : goal.rows_of-requires-clause-dags
+rows_of-requires-clause-dags c =
+    subst (λ (s : Schedule). KeepDags c.args.draft.now.touched s c.args.draft.now.content) (sym c.requires.based)
+    (kept_dags c.args.graph.now c.args.self.now.content c.args.draft.now c.requires.graphs c.requires.own)
+
+pub returns : goal.returns
+returns c =
+    let a : Schedule = c.args.self.now.content in
+    let d : Schedule = c.args.draft.now.content in
+    let k : LoadedGraph = c.args.graph.now in
+    let ds : List DagRow = c.in_ok-dags.dags.items in
+    let ls : List DagLimitRow = c.in_ok-limits.limits.items in
+    let first : c.as_slice.result.now ≡ a.graphs = c.as_slice.ensures.value ∙ ap (λ (h : ScheduleValue). h.content.graphs) c.self.view_is in
+    let second : c.as_slice-2.result.now ≡ a.graphs = c.as_slice-2.ensures.value ∙ ap (λ (h : ScheduleValue). h.content.graphs) c.self.view_is in
+    let rows : AreRowsOf a.graphs d.graphs ds ls = subst (λ (hs : List LoadedGraph). AreRowsOf a.graphs hs ds ls) (sym c.requires.graphs) (record {
+      dags = c.in_ok-dags.ensures ∙ ap (λ (gs : List LoadedGraph). lacked same_dag_row (map dag_row gs) (map dag_row (with_other (Some k) gs))) first;
+      limits = c.in_ok-limits.ensures ∙ ap (λ (gs : List LoadedGraph). lacked same_dag_limit_row (map limit_row gs) (map limit_row (with_other (Some k) gs))) second;
+    }) in
+    IfOk-weaker c.rows_of.result
+    (λ (rows : Rows). rows ≡ record (rows_between c.args.draft.now.base d) { dags = ds; dag_limits = ls })
+    (λ (rows : Rows). rows ≡ rows_between a d)
+    (λ w k. k ∙ (ap (λ (s : Schedule). record (rows_between s d) { dags = ds; dag_limits = ls }) c.requires.based ∙ rest_rows a d d.graphs ds ls (λ n r e. refl) rows))
+    c.rows_of.ensures
