@@ -2,8 +2,8 @@
 
 A script is taken by renaming it from `inbox` to `doing`, and its name there says how many of its commands are answered: `2,NAME`. A command whose answer
 a kill cut off is given again by the next service before anything else, and above all before a tick. A second `trigger` is refused then (`RunExists`), and
-one of `load`, `pause`, `unpause`, `resize` and `backfill` changes nothing. A scheduler whose serve was killed may have done tries meanwhile. So a `clear` and a
-`backfill --reset` are not given again where the record has more tries set back than before them.
+one of `load`, `replace`, `pause`, `unpause`, `resize` and `backfill` changes nothing. A scheduler whose serve was killed may have done tries meanwhile. So
+a `clear` and a `backfill --reset` are not given again where the record has more tries set back than before them.
 """
 import contextlib
 import fcntl

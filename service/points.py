@@ -171,6 +171,42 @@ def asks(trial, _):
     expect(trial.end() == 0, "the end")
 
 
+def edits(trial, _):
+    """A graph that has runs takes another text where that may be, and what has finished stays so until it is cleared."""
+    trial.begin()
+    trial.load("a", "false", "true")
+    trial.ask("trigger", "a")
+    until(10, lambda: trial.ask("list", "runs", "a", "--failed")[1].startswith("a manual__"), "a run fails")
+    date = trial.ask("list", "runs", "a")[1].split()[1].removeprefix("manual__")
+
+    def tasks():
+        return [it.split()[2:4] for it in trial.ask("list", "tasks", "a")[1].splitlines()[:-1]]
+
+    def replace(text, answer="ok"):
+        trial.write("a", text)
+        expect(trial.ask("load", "a.toml")[:2] == (1, "refused 5 GraphDiffers\n"), "a load leaves the text of a graph that has runs")
+        expect(trial.ask("replace", "a.toml")[:2] == (int(answer != "ok"), f"{answer}\n"), lambda: f"{text}\nis not answered {answer}:\n{trial.said()}")
+
+    replace("# a comment\n" + graph("a", "false", "true"))
+    expect(tasks() == [["t0", "failed"], ["t1", "upstream_failed"]], tasks)
+    replace(graph("a", "true", "true"))
+    trial.ask("clear", "a", date, date, "--only-failed")
+    until(10, lambda: tasks() == [["t0", "success"], ["t1", "success"]], "the mended program does the run")
+    replace(graph("a", "true", "true", retries=2))
+    replace(graph("a", "true", "true", "true"))
+    expect(tasks()[2] == ["t2", "skipped"], tasks)
+    trial.ask("clear", "a", date, date, "--task", "t2")
+    until(10, lambda: tasks()[2] == ["t2", "success"], "a new task is done where it is cleared")
+    replace(graph("a", "true", "true"), "refused 18 OtherTasks t2")
+    daily = graph("a", "true", "true", "true").replace('"None"', '"@daily"')
+    replace(daily, f"refused 20 Redoes {date}")
+    replace(daily.replace("2024-01-01", "2199-01-01"))
+    expect(trial.ask("replace", "a.toml")[:2] == (0, "ok\n"), "the same text again")
+    expect(trial.rows("SELECT body FROM dag")[0][0] == trial.text("a.toml"), "the record has the last text")
+    expect(trial.ask("replace", "inline")[0] == 2, "a text is no command")
+    expect(trial.end() == 0, "the end")
+
+
 def ended_asks(trial, options):
     """Commands whose `ask` is ended at random moments are done once or not at all."""
     trial.begin()
@@ -338,4 +374,4 @@ def chain(trial, _):
     return f"six tasks of a chain took {took:.0f} s"
 
 
-POINTS = (signals, second_signals, copies, copies_of_busy, asks, ended_asks, kills, hung, checks, failures, chain)
+POINTS = (signals, second_signals, copies, copies_of_busy, asks, edits, ended_asks, kills, hung, checks, failures, chain)

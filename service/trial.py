@@ -84,9 +84,13 @@ class Trial:
         it = self.run("ask", self.path, *words)
         return it.returncode, it.stdout, it.stderr
 
-    def load(self, name, *programs, retries=0):
+    def write(self, name, text):
+        """Writes the file of a graph."""
         with open(self.folder.at(f"{name}.toml"), "w") as it:
-            it.write(graph(name, *programs, retries=retries))
+            it.write(text)
+
+    def load(self, name, *programs, retries=0):
+        self.write(name, graph(name, *programs, retries=retries))
         expect(self.ask("load", f"{name}.toml")[:2] == (0, "ok\n"), lambda: f"load of {name}:\n{self.said()}")
 
     def said(self):

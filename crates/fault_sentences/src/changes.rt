@@ -18,12 +18,12 @@ pub fn change_sentence(
         Refusal::UnknownGraph => unknown_sentence(alloc, text),
         Refusal::InFlight(_) => told(
             alloc,
-            "wait until it has ended (in a script of your own: drain), or leave its task in the file, with its pool and pool_slots",
+            "wait until it has ended (in a script of your own: drain), or leave its pool and pool_slots as they are",
         ),
         Refusal::OtherTasks(task) => {
             let task = task.as_str();
             Ok(Some(format!(in alloc;
-                "the graph has runs with the task \"{task}\", which this text lacks: leave it in the file, with operator = \"noop\", without upstream and argv, and with its pool_slots; a task of another name is a new one"
+                "the graph has runs with the task \"{task}\", which this text lacks: leave it in the file, with operator = \"noop\", without upstream and argv, and with its pool and pool_slots; a task of another name is a new one"
             )?))
         }
         Refusal::OtherSlots(task) => {
@@ -110,7 +110,7 @@ pub fn push_reach(
     write!(sentence, "the runs of the graph reach to {end}")?;
     if reach.has_finished {
         sentence.push_str(
-            "; those that have finished stay so: new tasks are skipped there, and what failed is not tried again, until clear sets them back",
+            "; those that have finished stay so: new tasks are not done there, and what failed is not tried again, until clear sets them back",
         )?;
     }
     Ok(())

@@ -1,6 +1,6 @@
 -- Another text for a graph that has runs: what the draft is, what its tries without an end take, and which cause stands against it first.
 use Rattle.std.proofs.Common.{◌≡◌, ◌∙◌, refl, sym, ap, subst, ℕ, ◌≤◌, List, [], ◌∷◌, Bool, true, false, not, length, map, min, nat_lt, Option, Some, None, option_map, unwrap_or, get_or, cond, ◌&&◌, inl, inr, slice_get, true≢false}
-use Rattle.cron_timetable.specs.declared.timetables.Interval.{Interval}
+use Rattle.sched_state.specs.cron_timetable.declared.timetables.Interval.{Interval}
 use Rattle.graph_file.specs.Lists.{when, first_some}
 use Rattle.graph_file.specs.declared.graph_specs.GraphSpec.{GraphSpec}
 use Rattle.dag_check.specs.Graphs.{Dag, dag_of}

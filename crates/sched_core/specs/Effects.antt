@@ -64,7 +64,7 @@ IsWeighed (graphs.Load text dag weights dates) = WeighTasks dag weights.items ×
 IsWeighed (graphs.Pause id paused) = Unit {0}
 IsWeighed (graphs.Replace graph weights) = WeighTasks graph.dag weights.items
 
--- so it keeps the hold, brings weights with a text, which is of a graph without runs, its edits are of the schedule's runs, and these are the rows that the schedule lacks after it
+-- so it keeps the hold, brings weights with a text, which is of a graph without runs or of the one whose runs go on by it, its edits are of the schedule's runs, and these are the rows that the schedule lacks after it
 pub record IsEffect (e : Effect) (rows : Rows) (a : Schedule) : Type 0 where
   pub keeps : KeepsHold e a
   pub weighed : IsWeighed e.graphs

@@ -42,7 +42,7 @@ use std::marker::Model;
 pub struct Schedule {
     pub(crate) limits: Limits,
     pub(crate) graphs: Vec<LoadedGraph>,
-    // The effective weights of their tasks, by position and place: they stay as long as the graphs do.
+    // The effective weights of their tasks, by position and place: they stay as long as their texts do.
     pub(crate) weights: Vec<Vec<u64>>,
     // The logical dates of their runs, by position.
     pub(crate) dates: Vec<RunIndex>,

@@ -44,7 +44,7 @@ fn takes_same(one: &TaskSpec, other: &TaskSpec) -> bool
     one.pool_slots.get() == other.pool_slots.get() && one.pool == other.pool
 }
 
-// The same of each old task, by place.
+// Which of the old tasks would take other slots, by place.
 fn moved_places(alloc: Global, old: &Graph, new: &Graph) -> Result<Vec<bool>, AllocError>
     ensures { IfOk result (λ marks. marks.items ≡ map (takes_others new.now) old.now.tasks) }
 {
@@ -62,7 +62,7 @@ fn is_resized(new: &Graph, task: &TaskSpec) -> bool
     !has_slots_of(new, task)
 }
 
-// The same of each old task, by place.
+// Which of the old tasks would take another number of slots, by place.
 fn resized_places(alloc: Global, old: &Graph, new: &Graph) -> Result<Vec<bool>, AllocError>
     ensures { IfOk result (λ marks. marks.items ≡ map (is_resized new.now) old.now.tasks) }
 {

@@ -52,7 +52,8 @@ pub fn kept_as(
     Ok(bounded)
 }
 
-/// The instance of a task that is new, in a run in this phase: skipped where the run has finished, else undecided. It takes no memory.
+/// The instance of a task that is new, in a run in this phase: skipped where the run was a success, upstream_failed where it failed, else
+/// undecided. It takes no memory.
 pub fn newcomer(alloc: Global, phase: RunPhase) -> Instance
     ensures { result ≡ model.newcomer phase }
 {

@@ -5,8 +5,8 @@ use crate::hands::Hand;
 use crate::jobs::job_of;
 use graph_file::{Action, Argument};
 use instance_machine::Outcome;
-use operators::Program;
-use std::alloc::Global;
+use operators::{Operator, Program};
+use std::alloc::{AllocError, Global};
 use std::fs::{self, File};
 use std::io;
 use std::process::Processes;
@@ -45,12 +45,23 @@ pub fn write_long<R: Files<File = File> + Processes + Print + Alloc + Copy + Dro
     let Ok(bytes) = bytes.parse::<usize>() else {
         return rt.print(" no such number");
     };
+    let items = long_item(alloc, bytes)?;
+    write_answer(rt, alloc, base, items.as_str())
+}
+
+// One item, by which all arguments have so many bytes, and the array's end.
+fn long_item(alloc: Global, bytes: usize) -> Result<String, AllocError> {
     let mut items = String::from_str(alloc, "'")?;
+    add_dollars(&mut items, bytes)?;
+    items.push_str("']")?;
+    Ok(items)
+}
+
+fn add_dollars(items: &mut String, bytes: usize) -> Result<(), AllocError> {
     for _ in BEFORE_BYTES..bytes {
         items.push_str("$")?;
     }
-    items.push_str("']")?;
-    write_answer(rt, alloc, base, items.as_str())
+    Ok(())
 }
 
 fn write_compared<R: Files<File = File> + Processes + Print + Alloc + Copy + Drop>(
@@ -62,6 +73,17 @@ fn write_compared<R: Files<File = File> + Processes + Print + Alloc + Copy + Dro
     fs::create_dir(rt, base)?;
     let program = Program::new(*rt, alloc, String::from_str(alloc, base)?, None);
     let mut hand = Hand::new(program);
+    write_performed(rt, alloc, base, &mut hand, action)
+}
+
+// Performs the action, and writes what its program got while its folder is there.
+fn write_performed<R: Files<File = File> + Print + Alloc, O: Operator>(
+    rt: &R,
+    alloc: Global,
+    base: &str,
+    hand: &mut Hand<O>,
+    action: &Action,
+) -> io::Result<()> {
     if hand.begin(job_of(alloc, 1, 1, action)?).is_err() {
         return rt.print(" not begun");
     }
@@ -69,11 +91,24 @@ fn write_compared<R: Files<File = File> + Processes + Print + Alloc + Copy + Dro
         return rt.print(" no success");
     }
     let path = path_of(alloc, base, "try-1/got")?;
-    let got = fs::read(rt, path.as_str())?;
-    let given = action.argv().get(BEFORE..).unwrap_or(&[]);
-    let (count, total) = (given.len(), length_of(action.argv()));
+    write_file(rt, path.as_str(), action.argv())
+}
+
+// Writes how many arguments a program got that wrote them to this file.
+fn write_file<R: Files<File = File> + Print + Alloc>(
+    rt: &R,
+    path: &str,
+    argv: &[Argument],
+) -> io::Result<()> {
+    let got = fs::read(rt, path)?;
+    write_got(rt, got.as_slice(), argv)
+}
+
+fn write_got<R: Print>(rt: &R, got: &[u8], argv: &[Argument]) -> io::Result<()> {
+    let given = argv.get(BEFORE..).unwrap_or(&[]);
+    let (count, total) = (given.len(), length_of(argv));
     print!(rt; " {count} of {total} bytes in all")?;
-    rt.print(if are_equal(got.as_slice(), given) {
+    rt.print(if are_equal(got, given) {
         ", as they are"
     } else {
         ", changed"

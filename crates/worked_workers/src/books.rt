@@ -1,18 +1,26 @@
 //! A book with room for three holds does one word after another: `add:SERIAL:SLOTS` adds a hold, `remove:SERIAL:SLOTS` takes one out.
-use crate::holds::{hold_of, read_hold, write_hold, write_holds};
-use slot_desk::LimitedBook;
+use crate::holds::{hold_of, read_hold, write_named, write_refused, write_total};
+use slot_desk::{Hold, LimitedBook};
 use std::alloc::Global;
 use std::io;
 
 /// Writes what comes of each word, and what the book has in the end.
 pub fn write_answer<R: Print>(rt: &R, alloc: Global, words: &str) -> io::Result<()> {
     let mut book = LimitedBook::<3>::new(alloc);
+    write_turns(rt, alloc, &mut book, words)?;
+    write_total(rt, book.slots(), &book.into_holds())
+}
+
+fn write_turns<R: Print>(
+    rt: &R,
+    alloc: Global,
+    book: &mut LimitedBook<3>,
+    words: &str,
+) -> io::Result<()> {
     for word in words.split(' ') {
-        write_turn(rt, alloc, &mut book, word)?;
+        write_turn(rt, alloc, book, word)?;
     }
-    let slots = book.slots();
-    print!(rt; ", slots: {slots}, holds:")?;
-    write_holds(rt, &book.into_holds())
+    Ok(())
 }
 
 // Does a word, and writes what comes of it.
@@ -31,20 +39,22 @@ fn write_turn<R: Print>(
     }
     let hold = hold_of(alloc, serial, slots)?;
     match verb {
-        "add" => match book.add(hold) {
-            Ok(()) => rt.print(" added"),
-            Err((hold, fault)) => {
-                print!(rt; " {fault:?}:")?;
-                write_hold(rt, &hold)
-            }
-        },
-        "remove" => match book.remove(&hold) {
-            Some(hold) => {
-                rt.print(" removed:")?;
-                write_hold(rt, &hold)
-            }
-            None => rt.print(" none"),
-        },
+        "add" => write_added(rt, book, hold),
+        "remove" => write_removed(rt, book, &hold),
         _ => rt.print(" no such word"),
+    }
+}
+
+fn write_added<R: Print>(rt: &R, book: &mut LimitedBook<3>, hold: Hold) -> io::Result<()> {
+    match book.add(hold) {
+        Ok(()) => rt.print(" added"),
+        Err((hold, fault)) => write_refused(rt, &hold, fault),
+    }
+}
+
+fn write_removed<R: Print>(rt: &R, book: &mut LimitedBook<3>, hold: &Hold) -> io::Result<()> {
+    match book.remove(hold) {
+        Some(hold) => write_named(rt, " removed:", &hold),
+        None => rt.print(" none"),
     }
 }

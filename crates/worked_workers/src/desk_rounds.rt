@@ -1,8 +1,8 @@
 //! A round: each share, on a thread of its own where one can be made, enters and leaves so many holds, one after another.
 ghost use Rattle.std.specs.Prelude.{◌≡◌, ◌<◌, IfOk, vec_len};
 
-use crate::holds::{hold_of, write_holds};
-use slot_desk::{Share, SlotDesk};
+use crate::holds::{hold_of, write_total};
+use slot_desk::{Share, SlotDesk, Total};
 use std::alloc::{AllocError, Global};
 use std::marker::Brand;
 use std::sync::Wait;
@@ -53,10 +53,12 @@ fn write_round<L: Ledger + Send + Sync, R: Threads + Wait + Print + Sync>(
         &|visitor| visit(rt, alloc, shared, visitor, count),
     )?;
     let (entered, left, shares) = ended(alloc, visitors)?;
-    let total = desk.gather(shares);
-    let slots = total.slots;
-    print!(rt; " entered: {entered}, left: {left}, slots: {slots}, holds:")?;
-    write_holds(rt, &total.holds)
+    write_ended(rt, entered, left, &desk.gather(shares))
+}
+
+fn write_ended<R: Print>(rt: &R, entered: u64, left: u64, total: &Total) -> io::Result<()> {
+    print!(rt; " entered: {entered}, left: {left}")?;
+    write_total(rt, total.slots, &total.holds)
 }
 
 // A visitor for each share, with serials of its own.
@@ -90,19 +92,40 @@ fn visit<L: Ledger, R: Wait>(
     count: u64,
 ) -> Visitor<L> {
     let mut visitor = visitor;
+    visit_each(rt, alloc, desk, &mut visitor, count);
+    visitor
+}
+
+fn visit_each<L: Ledger, R: Wait>(
+    rt: &R,
+    alloc: Global,
+    desk: &SlotDesk<L>,
+    visitor: &mut Visitor<L>,
+    count: u64,
+) {
     for before in 0..count {
         let serial = visitor.first_serial.saturating_add(before);
-        let Ok(hold) = hold_of(alloc, serial, 2) else {
-            continue;
-        };
-        if desk.enter(rt, alloc, &mut visitor.share, hold).is_ok() {
-            visitor.entered = visitor.entered.saturating_add(1);
-        }
-        if desk.leave(rt, &mut visitor.share, serial).is_ok() {
-            visitor.left = visitor.left.saturating_add(1);
-        }
+        visit_once(rt, alloc, desk, visitor, serial);
     }
-    visitor
+}
+
+// Enters and leaves the hold with this serial.
+fn visit_once<L: Ledger, R: Wait>(
+    rt: &R,
+    alloc: Global,
+    desk: &SlotDesk<L>,
+    visitor: &mut Visitor<L>,
+    serial: u64,
+) {
+    let Ok(hold) = hold_of(alloc, serial, 2) else {
+        return;
+    };
+    if desk.enter(rt, alloc, &mut visitor.share, hold).is_ok() {
+        visitor.entered = visitor.entered.saturating_add(1);
+    }
+    if desk.leave(rt, &mut visitor.share, serial).is_ok() {
+        visitor.left = visitor.left.saturating_add(1);
+    }
 }
 
 // How many holds were entered and left by all, and their shares.

@@ -1,9 +1,9 @@
 //! One thread does one word after another: `enter:SHARE:SERIAL:SLOTS` enters a hold with a share, `leave:SHARE:SERIAL` leaves one.
 ghost use Rattle.std.specs.Prelude.{◌≡◌, ◌<◌, vec_len};
 
-use crate::holds::{hold_of, read_hold, write_hold, write_holds};
+use crate::holds::{hold_of, read_hold, write_named, write_refused, write_total};
 use slot_desk::{Share, SlotDesk};
-use std::alloc::Global;
+use std::alloc::{AllocError, Global};
 use std::io;
 use std::marker::Brand;
 use std::sync::Wait;
@@ -32,14 +32,24 @@ pub fn write_answer<R: Wait + Print>(
 ) -> io::Result<()>
     requires { 0 < shares }
 {
+    match read_turns(alloc, words)? {
+        Some(turns) => {
+            write_turns::<Brand, R>(rt, alloc, Blank::new(shares as u64), shares, &turns)
+        }
+        None => rt.print(" no such word"),
+    }
+}
+
+// What the words ask, if each is one.
+fn read_turns(alloc: Global, words: &str) -> Result<Option<Vec<Turn>>, AllocError> {
     let mut turns = Vec::new(alloc);
     for word in words.split(' ') {
         let Some(turn) = read_turn(word) else {
-            return rt.print(" no such word");
+            return Ok(None);
         };
         turns.push(turn)?;
     }
-    write_turns::<Brand, R>(rt, alloc, Blank::new(shares as u64), shares, &turns)
+    Ok(Some(turns))
 }
 
 // What a word asks, if it is one.
@@ -73,13 +83,25 @@ fn write_turns<L: Ledger, R: Wait + Print>(
     requires some { 0 < shares }
 {
     let (desk, mut shares) = SlotDesk::<L>::open(alloc, blank, shares)?;
-    for turn in turns {
-        write_turn(rt, alloc, &desk, &mut shares, *turn)?;
-    }
+    write_each(rt, alloc, &desk, &mut shares, turns)?;
     let total = desk.gather(shares);
-    let slots = total.slots;
-    print!(rt; ", slots: {slots}, holds:")?;
-    write_holds(rt, &total.holds)
+    write_total(rt, total.slots, &total.holds)
+}
+
+// Does the turns, and writes what comes of each.
+fn write_each<L: Ledger, R: Wait + Print>(
+    rt: &R,
+    alloc: Global,
+    desk: &SlotDesk<L>,
+    shares: &mut Vec<Share<L>>,
+    turns: &Vec<Turn>,
+) -> io::Result<()>
+    ensures { vec_len shares.new ≡ vec_len shares.old }
+{
+    for turn in turns {
+        write_turn(rt, alloc, desk, shares, *turn)?;
+    }
+    Ok(())
 }
 
 // Does a turn, and writes what comes of it.
@@ -117,10 +139,7 @@ fn write_entering<L: Ledger, R: Wait + Print>(
     let hold = hold_of(alloc, serial, slots)?;
     match desk.enter(rt, alloc, share, hold) {
         Ok(()) => rt.print(" entered"),
-        Err((hold, fault)) => {
-            print!(rt; " {fault:?}:")?;
-            write_hold(rt, &hold)
-        }
+        Err((hold, fault)) => write_refused(rt, &hold, fault),
     }
 }
 
@@ -132,10 +151,7 @@ fn write_leaving<L: Ledger, R: Wait + Print>(
     serial: u64,
 ) -> io::Result<()> {
     match desk.leave(rt, share, serial) {
-        Ok(left) => {
-            rt.print(" left:")?;
-            write_hold(rt, left.left().hold())
-        }
+        Ok(left) => write_named(rt, " left:", left.left().hold()),
         Err(fault) => print!(rt; " {fault:?}"),
     }
 }

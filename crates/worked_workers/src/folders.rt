@@ -12,17 +12,26 @@ pub fn write_turn<R: Files + Print + Alloc>(
 ) -> io::Result<bool> {
     let (verb, name) = word.split_once(':').unwrap_or((word, ""));
     let path = path_of(alloc, base, name)?;
-    let path = path.as_str();
+    write_turn_at(rt, alloc, base, verb, path.as_str())
+}
+
+fn write_turn_at<R: Files + Print + Alloc>(
+    rt: &R,
+    alloc: Global,
+    base: &str,
+    verb: &str,
+    path: &str,
+) -> io::Result<bool> {
     match verb {
-        "folder" => write_done(rt, " made", fs::create_dir(rt, path))?,
-        "file" => write_done(rt, " made", make_file(rt, path))?,
-        "link" => write_done(rt, " linked", rt.symlink(base, path))?,
-        "locked" => write_done(rt, " locked", lock(rt, path))?,
-        "gone" => write_done(rt, " removed", rt.remove_dir_all(alloc, path))?,
-        "there" => write_found(rt, path)?,
-        "text" => write_text(rt, path)?,
+        "folder" => write_done(rt, " made", fs::create_dir(rt, path)),
+        "file" => write_done(rt, " made", make_file(rt, path)),
+        "link" => write_done(rt, " linked", rt.symlink(base, path)),
+        "locked" => write_done(rt, " locked", lock(rt, path)),
+        "gone" => write_done(rt, " removed", rt.remove_dir_all(alloc, path)),
+        "there" => write_found(rt, path),
+        "text" => write_text(rt, path),
         _ => return Ok(false),
-    }
+    }?;
     Ok(true)
 }
 

@@ -2,7 +2,7 @@
 ghost use Rattle.std.specs.Prelude.{◌≤◌};
 
 use graph_file::{Bounded, Name};
-use slot_desk::Hold;
+use slot_desk::{DeskFault, Hold};
 use std::alloc::{AllocError, Global};
 use std::io;
 
@@ -31,6 +31,24 @@ pub fn write_hold<R: Print>(rt: &R, hold: &Hold) -> io::Result<()> {
     let serial = hold.serial;
     let slots = hold.slots.get();
     print!(rt; "{serial}:{slots}")
+}
+
+/// Writes a hold behind this word.
+pub fn write_named<R: Print>(rt: &R, word: &str, hold: &Hold) -> io::Result<()> {
+    rt.print(word)?;
+    write_hold(rt, hold)
+}
+
+/// Writes why a hold came back, and the hold.
+pub fn write_refused<R: Print>(rt: &R, hold: &Hold, fault: DeskFault) -> io::Result<()> {
+    print!(rt; " {fault:?}:")?;
+    write_hold(rt, hold)
+}
+
+/// Writes the slots of all holds, and the holds.
+pub fn write_total<R: Print>(rt: &R, slots: u64, holds: &[Hold]) -> io::Result<()> {
+    print!(rt; ", slots: {slots}, holds:")?;
+    write_holds(rt, holds)
 }
 
 /// Writes the holds, in their order.

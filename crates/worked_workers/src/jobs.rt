@@ -38,18 +38,48 @@ pub fn job_of(
     ensures number { IfOk result (λ job. job.try_number ≡ try_number) }
     ensures action { IfOk result (λ job. job.action ≡ action.now) }
 {
+    let action = action.copy(alloc)?;
+    job_with(alloc, serial, try_number, action)
+}
+
+fn job_with(
+    alloc: Global,
+    serial: u64,
+    try_number: usize,
+    action: Action,
+) -> Result<Job, AllocError>
+    ensures serial { IfOk result (λ job. job.serial ≡ serial) }
+    ensures number { IfOk result (λ job. job.try_number ≡ try_number) }
+    ensures action { IfOk result (λ job. job.action ≡ action) }
+{
+    let names = read_names(alloc)?;
     Ok(Job {
         serial,
-        graph: name(alloc, "page")?,
+        graph: names.graph,
         logical: Moment::at(0),
         interval: Interval::empty_at(Moment::at(0)),
         kind: RunKind::Manual,
-        task: name(alloc, "line")?,
+        task: names.task,
         try_number,
-        action: action.copy(alloc)?,
-        pool: name(alloc, "default_pool")?,
+        action,
+        pool: names.pool,
         slots: Bounded::new(1),
     })
+}
+
+// The names of each job.
+#[derive(Drop)]
+struct Names {
+    graph: Name,
+    task: Name,
+    pool: Name,
+}
+
+fn read_names(alloc: Global) -> Result<Names, AllocError> {
+    let graph = name(alloc, "page")?;
+    let task = name(alloc, "line")?;
+    let pool = name(alloc, "default_pool")?;
+    Ok(Names { graph, task, pool })
 }
 
 // The name of a text that is one.

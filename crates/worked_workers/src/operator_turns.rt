@@ -28,12 +28,24 @@ pub fn write_answer<R: Files<File = File> + Processes + Print + Alloc + Copy + D
     let Some(action) = read_action(alloc, operator, argv)? else {
         return rt.print(" no such action");
     };
+    write_acted(rt, alloc, base, logs, &action, words)
+}
+
+// Writes the same of an action, for which there are logs or not.
+fn write_acted<R: Files<File = File> + Processes + Print + Alloc + Copy + Drop>(
+    rt: &R,
+    alloc: Global,
+    base: &str,
+    logs: Option<String>,
+    action: &Action,
+    words: &str,
+) -> io::Result<()> {
     match action.operator() {
-        Kind::Noop => write_turns(rt, alloc, base, Noop::new(alloc), &action, words),
-        Kind::Exit => write_turns(rt, alloc, base, Exit::new(alloc), &action, words),
+        Kind::Noop => write_turns(rt, alloc, base, Noop::new(alloc), action, words),
+        Kind::Exit => write_turns(rt, alloc, base, Exit::new(alloc), action, words),
         Kind::Command => {
             let program = Program::new(*rt, alloc, String::from_str(alloc, base)?, logs);
-            write_turns(rt, alloc, base, program, &action, words)?;
+            write_turns(rt, alloc, base, program, action, words)?;
             write_left(rt, alloc, base)
         }
     }
@@ -58,9 +70,20 @@ fn write_turns<R: Files + Print + Alloc, O: Operator>(
     words: &str,
 ) -> io::Result<()> {
     let mut hand = Hand::new(operator);
+    write_each(rt, alloc, base, &mut hand, action, words)
+}
+
+fn write_each<R: Files + Print + Alloc, O: Operator>(
+    rt: &R,
+    alloc: Global,
+    base: &str,
+    hand: &mut Hand<O>,
+    action: &Action,
+    words: &str,
+) -> io::Result<()> {
     for word in words.split(' ') {
         if !folders::write_turn(rt, alloc, base, word)? {
-            write_turn(rt, alloc, &mut hand, action, word)?;
+            write_turn(rt, alloc, hand, action, word)?;
         }
     }
     Ok(())
@@ -75,12 +98,7 @@ fn write_turn<R: Print, O: Operator>(
     word: &str,
 ) -> io::Result<()> {
     if let Some(numbers) = word.strip_prefix("begin:") {
-        let (serial, number) = numbers.split_once(':').unwrap_or((numbers, "1"));
-        let (Ok(serial), Ok(number)) = (serial.parse(), number.parse()) else {
-            return rt.print(" no-such-job");
-        };
-        let job = job_of(alloc, serial, number, action)?;
-        return rt.print(begun_text(hand.begin(job)));
+        return write_begun(rt, alloc, hand, action, numbers);
     }
     match word {
         "perform" => match hand.perform() {
@@ -94,6 +112,22 @@ fn write_turn<R: Print, O: Operator>(
         "runs" => write_runs(rt, hand.runs()),
         _ => rt.print(" no-such-word"),
     }
+}
+
+// Begins a job with this serial and this number of its try.
+fn write_begun<R: Print, O: Operator>(
+    rt: &R,
+    alloc: Global,
+    hand: &mut Hand<O>,
+    action: &Action,
+    numbers: &str,
+) -> io::Result<()> {
+    let (serial, number) = numbers.split_once(':').unwrap_or((numbers, "1"));
+    let (Ok(serial), Ok(number)) = (serial.parse(), number.parse()) else {
+        return rt.print(" no-such-job");
+    };
+    let job = job_of(alloc, serial, number, action)?;
+    rt.print(begun_text(hand.begin(job)))
 }
 
 fn begun_text(begun: Result<(), BeginFault>) -> &'static str {

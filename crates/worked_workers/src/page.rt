@@ -25,10 +25,19 @@ pub fn write_page<R: Threads + Wait + Print + Clock + Sync>(
     let alloc = host.alloc();
     let base = base_folder(host)?;
     let text = io::read_to_string(alloc, host.reader())?;
+    write_lines(rt, host, base.as_str(), text.as_str())
+}
+
+fn write_lines<R: Threads + Wait + Print + Clock + Sync>(
+    rt: &R,
+    host: &HostRuntime,
+    base: &str,
+    text: &str,
+) -> io::Result<()> {
     let mut section = None;
-    for line in text.as_str().lines() {
+    for line in text.lines() {
         section = section_named(line).or(section);
-        write_line(rt, host, base.as_str(), section, line)?;
+        write_line(rt, host, base, section, line)?;
     }
     Ok(())
 }

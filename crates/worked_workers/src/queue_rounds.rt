@@ -3,7 +3,7 @@ ghost use Rattle.std.specs.Prelude.{◌<◌, ◌≤◌};
 
 use crate::job_threads::run_round;
 use crate::jobs::numbered_jobs;
-use std::alloc::Global;
+use std::alloc::{AllocError, Global};
 use std::io;
 use std::sync::Wait;
 use std::thread::Threads;
@@ -24,31 +24,39 @@ pub fn write_answer<R: Threads + Wait + Print + Sync>(
     };
     let jobs = numbered_jobs(alloc, count)?;
     let taken = run_round(rt, alloc, lanes, workers, jobs)?;
-    write_serials(rt, alloc, &taken, count)?;
-    rt.print(if are_increasing(&taken) {
+    write_taken(rt, alloc, &taken, count)
+}
+
+fn write_taken<R: Print>(
+    rt: &R,
+    alloc: Global,
+    taken: &Vec<Vec<u64>>,
+    count: u64,
+) -> io::Result<()> {
+    let all = sorted(alloc, taken)?;
+    write_serials(rt, &all, count)?;
+    rt.print(if are_increasing(taken) {
         ", each worker's in the order sent"
     } else {
         ", some out of order"
     })
 }
 
-// Writes whether the serials that were taken, together, are those from 1 to the count, each once.
-fn write_serials<R: Print>(
-    rt: &R,
-    alloc: Global,
-    taken: &Vec<Vec<u64>>,
-    count: u64,
-) -> io::Result<()> {
+// All serials that were taken, in their order as numbers.
+fn sorted(alloc: Global, taken: &Vec<Vec<u64>>) -> Result<Vec<u64>, AllocError> {
     let mut all = Vec::new(alloc);
     for serials in taken {
-        for serial in serials {
-            all.push(*serial)?;
-        }
+        all.extend_from_slice(serials)?;
     }
     all.sort()?;
+    Ok(all)
+}
+
+// Writes whether the serials that were taken, together, are those from 1 to the count, each once.
+fn write_serials<R: Print>(rt: &R, all: &[u64], count: u64) -> io::Result<()> {
     let number = all.len();
     print!(rt; " {number} jobs taken")?;
-    if number as u64 == count && are_from_one(&all) {
+    if number as u64 == count && are_from_one(all) {
         rt.print(", each serial once")
     } else {
         rt.print(", some serial not once")

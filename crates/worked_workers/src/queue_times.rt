@@ -37,9 +37,8 @@ fn write_round<R: Threads + Wait + Print + Clock + Sync>(
 {
     let jobs = numbered_jobs(alloc, count)?;
     let start = Instant::now(rt)?;
-    let taken = run_round(rt, alloc, workers, workers, jobs)?;
+    let ended = run_round(rt, alloc, workers, workers, jobs)?.len();
     let time = start.elapsed(rt)?;
-    let ended = taken.len();
     print!(rt; "workers {workers}: {count} jobs sent, {ended} ended")?;
     if is_timed {
         let rate = a_second(count, time);

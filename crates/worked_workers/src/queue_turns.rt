@@ -22,12 +22,22 @@ pub fn write_answer<R: Wait + Print>(
     requires workers { (0 < workers) × (workers ≤ 16) }
 {
     let mut seats = Seats::open(alloc, lanes, workers)?;
-    for word in words.split(' ') {
-        write_turn(rt, alloc, &mut seats, word)?;
-    }
+    write_turns(rt, alloc, &mut seats, words)?;
     let tally = seats.tally(rt);
     let (jobs, reports) = (tally.jobs, tally.reports);
     print!(rt; ", left: jobs {jobs}, reports {reports}")
+}
+
+fn write_turns<R: Wait + Print>(
+    rt: &R,
+    alloc: Global,
+    seats: &mut Seats,
+    words: &str,
+) -> io::Result<()> {
+    for word in words.split(' ') {
+        write_turn(rt, alloc, seats, word)?;
+    }
+    Ok(())
 }
 
 // Does a word, and writes what comes of it.
@@ -47,13 +57,23 @@ fn write_turn<R: Wait + Print>(
         "take" => write_taken(rt, seats, 0),
         "hear" => write_hearing(rt, seats),
         "stop" => write_sent(rt, seats, JobOrStop::Stop),
-        _ => match word.parse() {
-            Ok(serial) => {
-                let job = numbered_job(alloc, serial)?;
-                write_sent(rt, seats, JobOrStop::Job(job))
-            }
-            Err(_) => rt.print(" no such word"),
-        },
+        _ => write_sent_job(rt, alloc, seats, word),
+    }
+}
+
+// Sends the job with the serial that the word is.
+fn write_sent_job<R: Wait + Print>(
+    rt: &R,
+    alloc: Global,
+    seats: &mut Seats,
+    word: &str,
+) -> io::Result<()> {
+    match word.parse() {
+        Ok(serial) => {
+            let job = numbered_job(alloc, serial)?;
+            write_sent(rt, seats, JobOrStop::Job(job))
+        }
+        Err(_) => rt.print(" no such word"),
     }
 }
 

@@ -1,7 +1,7 @@
 //! Rounds of reports: each worker tells that the tries from 1 to a count have begun, and one thread hears.
 ghost use Rattle.std.specs.Prelude.{◌<◌, ◌≤◌};
 
-use crate::report_threads::run_report_round;
+use crate::report_threads::{ReportRound, run_report_round};
 use ruled_dispatch::WorkerReport;
 use std::alloc::Global;
 use std::io;
@@ -26,9 +26,13 @@ pub fn write_answer<R: Threads + Wait + Print + Sync>(
         return rt.print(" no such count");
     }
     let round = run_report_round(rt, alloc, lanes, workers, count)?;
+    write_round(rt, &round, workers as u32, count)
+}
+
+fn write_round<R: Print>(rt: &R, round: &ReportRound, workers: u32, count: u64) -> io::Result<()> {
     let number = round.heard.len();
     print!(rt; " {number} reports heard")?;
-    rt.print(if are_in_order(&round.heard, workers as u32, count) {
+    rt.print(if are_in_order(&round.heard, workers, count) {
         ", each worker's in the order told"
     } else {
         ", some out of order"

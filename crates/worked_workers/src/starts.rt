@@ -6,6 +6,7 @@ use crate::times::a_second;
 use crate::tries::{Turn, jobs_of, perform_all};
 use graph_file::Action;
 use operators::{Operator, Program};
+use sched_state::Job;
 use std::alloc::{AllocError, Global};
 use std::rt::Clock;
 use std::thread::Threads;
@@ -40,17 +41,28 @@ pub fn write_starts<R: Threads + Print + Clock + Sync>(
         return rt.print("no action");
     };
     fs::create_dir(host, base)?;
-    for threads in [1, 4] {
-        if threads > 1 {
-            rt.println("")?;
-        }
-        let tries = commands(host, alloc, base, &action, each, threads)?;
-        write_tries(rt, "tries", threads, is_timed, tries)?;
-        rt.println("")?;
-        let starts = plains(host, alloc, &action, each, threads)?;
-        write_tries(rt, "plain starts", threads, is_timed, starts)?;
-    }
+    write_starts_of(rt, host, alloc, base, &action, each, 1, is_timed)?;
+    rt.println("")?;
+    write_starts_of(rt, host, alloc, base, &action, each, 4, is_timed)?;
     fs::remove_dir(host, base)
+}
+
+// Writes the lines of so many threads.
+fn write_starts_of<R: Threads + Print + Clock + Sync>(
+    rt: &R,
+    host: &HostRuntime,
+    alloc: Global,
+    base: &str,
+    action: &Action,
+    each: u64,
+    threads: u64,
+    is_timed: bool,
+) -> io::Result<()> {
+    let tries = commands(host, alloc, base, action, each, threads)?;
+    write_tries(rt, "tries", threads, is_timed, tries)?;
+    rt.println("")?;
+    let starts = plains(host, alloc, action, each, threads)?;
+    write_tries(rt, "plain starts", threads, is_timed, starts)
 }
 
 // Operators of `command`, each with so many jobs.
@@ -64,12 +76,23 @@ fn commands(
 ) -> Result<Vec<Turn<Program<HostRuntime>>>, AllocError> {
     let mut turns = Vec::new(alloc);
     for thread in 0..threads {
-        turns.push(Turn {
-            operator: Program::new(*host, alloc, String::from_str(alloc, base)?, None),
-            jobs: jobs_of(alloc, action, thread, each)?,
-        })?;
+        let jobs = jobs_of(alloc, action, thread, each)?;
+        turns.push(command(host, alloc, base, jobs)?)?;
     }
     Ok(turns)
+}
+
+fn command(
+    host: &HostRuntime,
+    alloc: Global,
+    base: &str,
+    jobs: Vec<Job>,
+) -> Result<Turn<Program<HostRuntime>>, AllocError> {
+    let base = String::from_str(alloc, base)?;
+    Ok(Turn {
+        operator: Program::new(*host, alloc, base, None),
+        jobs,
+    })
 }
 
 // Operators that only start the program, each with so many jobs.
@@ -82,9 +105,10 @@ fn plains(
 ) -> Result<Vec<Turn<Plain<HostRuntime>>>, AllocError> {
     let mut turns = Vec::new(alloc);
     for thread in 0..threads {
+        let jobs = jobs_of(alloc, action, thread, each)?;
         turns.push(Turn {
             operator: Plain::new(*host, alloc),
-            jobs: jobs_of(alloc, action, thread, each)?,
+            jobs,
         })?;
     }
     Ok(turns)

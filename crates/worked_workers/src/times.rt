@@ -5,6 +5,7 @@ ghost use Rattle.std.specs.Duration.{as_nanos};
 use crate::folders::base_folder;
 use crate::queue_times::write_rounds;
 use crate::starts::write_starts;
+use std::alloc::Global;
 use std::io;
 use std::rt::Clock;
 use std::sync::Wait;
@@ -30,11 +31,19 @@ pub fn write_times<R: Threads + Wait + Print + Clock + Sync>(
         rt.println("")?;
     }
     if is_named("operators") {
-        let base = base_folder(host)?;
-        write_starts(rt, host, alloc, base.as_str(), TRIES, true)?;
+        write_start_times(rt, host, alloc)?;
         rt.println("")?;
     }
     Ok(())
+}
+
+fn write_start_times<R: Threads + Print + Clock + Sync>(
+    rt: &R,
+    host: &HostRuntime,
+    alloc: Global,
+) -> io::Result<()> {
+    let base = base_folder(host)?;
+    write_starts(rt, host, alloc, base.as_str(), TRIES, true)
 }
 
 /// How many a second, where so many took this time.

@@ -39,19 +39,27 @@ pub fn perform_all<O: Operator + Send, R: Threads + Sync>(
     turns: Vec<Turn<O>>,
 ) -> Result<u64, AllocError> {
     let counts = thread::map_vec(rt, turns, &|turn: Turn<O>| perform_each(turn))?;
+    Ok(total(&counts))
+}
+
+fn total(counts: &[u64]) -> u64 {
     let mut total: u64 = 0;
-    for count in &counts {
+    for count in counts {
         total = total.saturating_add(*count);
     }
-    Ok(total)
+    total
 }
 
 // Performs the jobs, and says how many succeeded.
 fn perform_each<O: Operator>(turn: Turn<O>) -> u64 {
     let Turn { mut operator, jobs } = turn;
+    count_succeeded(&mut operator, jobs.as_slice())
+}
+
+fn count_succeeded<O: Operator>(operator: &mut O, jobs: &[Job]) -> u64 {
     let mut succeeded: u64 = 0;
     for job in jobs {
-        if perform_once(&mut operator, &job) == Ok(Outcome::Success) {
+        if perform_once(operator, job) == Ok(Outcome::Success) {
             succeeded = succeeded.saturating_add(1);
         }
     }

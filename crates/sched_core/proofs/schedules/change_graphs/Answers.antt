@@ -21,4 +21,4 @@ returns-in-Load-clause-dates c a h last = c.take_in.ensures.dates a h (subst (λ
 
 pub returns-in-Replace-clause-dates : goal.returns-in-Replace-clause-dates
 returns-in-Replace-clause-dates c a h last =
-    subst (λ (gs : List LoadedGraph). HaveDates gs a.runs c.args.dates.now.items) (sym c.put_other.ensures.graphs) (dates_other c.in-Replace.field-0 c.args.graphs.now.items a.runs c.args.dates.now.items h)
+    subst (λ (gs : List LoadedGraph). HaveDates gs a.runs c.args.dates.now.items) (sym c.put_other.ensures.graphs) (dates_other c.in-Replace.graph c.args.graphs.now.items a.runs c.args.dates.now.items h)
