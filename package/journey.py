@@ -138,6 +138,7 @@ def without_dpkg(root, program, top):
     expect(it.sum() == before, "the record is another")
     it.begin()
     expect([run.split()[-1] for run in it.runs()] == ["success"] * 2, "the record has other runs")
+    root.do("systemctl", "enable", "--quiet", "dagsched")
     status, printed = root.call(place, "--take-back", "/usr/local")
     expect(status == 1 and "is at work" in printed, "it is taken back while the service is at work")
     root.do(place, "/root/dagsched", "/usr/local")

@@ -2,6 +2,7 @@
 import re
 
 INLINE = re.compile(r"(?P<code>`+)(?P<coded>.+?)(?P=code)|\*\*(?P<strong>.+?)\*\*|(?<![\w*])\*(?P<soft>[^*\s][^*]*)\*|!\[[^\]]*\]\([^)]*\)|\[(?P<text>(?:`[^`]*`|[^\]`])*)\]\((?P<goal>[^()\s]*(?:\([^()]*\))?[^()\s]*)\)")
+FONT = re.compile(r"\\f[BIR]")
 ITEM = re.compile(r"( *)(?:[-*]|\d+\.) +")
 WIDTH = 78
 
@@ -46,7 +47,7 @@ class Page:
         if it["coded"] is not None:
             return f"\\fB{literal(it['coded'])}\\fR"
         if it["strong"] is not None or it["soft"] is not None:
-            return f"\\fI{re.sub(r'.f[BIR]', '', self.inline(it['strong'] or it['soft']))}\\fR"
+            return f"\\fI{FONT.sub('', self.inline(it['strong'] or it['soft']))}\\fR"
         if it["text"] is None:
             return ""
         goal, page = self.goal_of(it["goal"]), re.fullmatch(r"(?:.*/)?([^/]*)\.md(?:#.*)?", it["goal"])
@@ -85,11 +86,11 @@ class Page:
                 lines = take(lines)
 
     def heading(self, line):
-        depth, text = len(line) - len(line.lstrip("#")) + self.depth, self.inline(line.lstrip("# "))
-        if depth == 2:
-            self.request(".SH", f'"{re.sub(r".f[BIR]", "", text).upper()}"' if "\\" not in text else f'"{text}"')
-        elif depth > 2:
-            self.request(".SS", f'"{text}"')
+        depth, text = len(line) - len(line.lstrip("#")) + self.depth, self.inline(line.lstrip("# ")).replace('"', "\\(dq")
+        # an escape has small letters of its own
+        shown = text.upper() if depth == 2 and "\\" not in text else text
+        if depth > 1:
+            self.request(".SH" if depth == 2 else ".SS", f'"{shown}"')
 
     def paragraph(self, lines):
         text = []

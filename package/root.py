@@ -7,8 +7,9 @@ import subprocess
 import time
 
 HERE = os.path.dirname(os.path.realpath(__file__))
-NAMESPACE = ["unshare", "--mount", "--pid", "--fork", "--kill-child", "--mount-proc", "sh", f"{HERE}/in-root"]
-NEEDED = ("debootstrap", "systemd-nspawn", "nsenter", "unshare")
+# what is begun ends with who began it, however that ends
+NAMESPACE = ["setpriv", "--pdeathsig", "KILL", "unshare", "--mount", "--pid", "--fork", "--kill-child", "--mount-proc", "sh", f"{HERE}/in-root"]
+NEEDED = ("debootstrap", "systemd-nspawn", "nsenter", "setpriv", "unshare")
 LONGEST = 1800
 
 
