@@ -5,6 +5,7 @@ import shutil
 import subprocess
 
 from root import Failed, expect, until
+from words import number_in
 
 FOLDER, USER = "/var/lib/dagsched", "dagsched"
 GRAPH = """dag_id = "orders"
@@ -73,7 +74,7 @@ def installed(it, deb, version):
     expect(root.call("systemctl", "is-enabled", "dagsched")[1].strip() == "disabled" and it.state() == "inactive", "the service is enabled or begun by itself")
     for folder in STAYS:
         expect(root.do("stat", "-c", "%U %G %a", folder).split() == [USER, USER, "755"], f"{folder} has other rights")
-    expect(root.do("dagsched", "--version", user="nobody").split()[1] == version, "another program is installed")
+    expect(number_in(root.do("dagsched", "--version", user="nobody")) == version, "another program is installed")
     expect(not root.call("systemctl", "--failed", "--no-legend")[1].strip(), "a unit has failed")
 
 
@@ -102,7 +103,7 @@ def upgraded(it, deb, version):
     root.do("systemctl", "restart", "dagsched")
     until(60, lambda: root.call(f"{it.programs}/ask", FOLDER, "list", "pools", user=USER)[0] == 0, lambda: f"the service takes no command:\n{it.journal()}")
     expect(it.process() != before and it.runs() == runs, "the new program has other runs")
-    expect(root.do("dagsched", "--version").split()[1] == version, "the program is the one of before")
+    expect(number_in(root.do("dagsched", "--version")) == version, "the program is the one of before")
 
 
 def removed(it, deb):

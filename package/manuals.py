@@ -31,7 +31,8 @@ def text_of(path):
 
 def placed(text, prefix):
     """A text with the programs in the places where they are installed."""
-    text = text.replace("/usr/local/lib/dagsched", f"{prefix}/lib/dagsched").replace("/usr/local/bin", f"{prefix}/bin")
+    for place in ("lib/dagsched", "bin", "share/doc"):
+        text = text.replace(f"/usr/local/{place}", f"{prefix}/{place}")
     return PROGRAM_OF.sub(rf"{prefix}/lib/dagsched/\1", text).replace("./dagsched ", "dagsched ")
 
 

@@ -76,9 +76,15 @@ def printed(program, *words):
     return ran.stdout
 
 
+def number_in(text):
+    """The number in what `--version` prints, whatever else it says; "" of a program that has none."""
+    found = re.match(r"dagsched ([0-9][0-9.]*[0-9])", text)
+    return found[1] if found else ""
+
+
 def version_of(program):
     """The number that the program has."""
-    return printed(program, "--version").split()[1]
+    return number_in(printed(program, "--version"))
 
 
 def read(program):
