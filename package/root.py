@@ -10,7 +10,7 @@ HERE = os.path.dirname(os.path.realpath(__file__))
 # what is begun ends with who began it, however that ends
 NAMESPACE = ["setpriv", "--pdeathsig", "KILL", "unshare", "--mount", "--pid", "--fork", "--kill-child", "--mount-proc", "sh", f"{HERE}/in-root"]
 NEEDED = ("debootstrap", "systemd-nspawn", "nsenter", "setpriv", "unshare")
-LONGEST = 1800
+LONGEST = 3600
 
 
 class Failed(Exception):
