@@ -21,7 +21,7 @@ def changes():
     """What changed, latest first."""
     parts = HEADING.split(text_of("CHANGELOG.md"))[1:]
     for version, day, text in zip(parts[::3], parts[1::3], parts[2::3]):
-        points = re.split(r"\n(?:- |\n)", LINK.sub(r"\1", text.replace("`", "")))
+        points = re.split(r"\n(?:- |\n)", LINK.sub(r"\1", text))
         yield Change(version, time.strptime(day, "%d %B %Y"), [it.strip().removeprefix("- ") for it in points if it.strip()])
 
 

@@ -55,11 +55,10 @@ def page(path, prefix, shipped):
 
 
 def pages(place):
-    shipped = [*manuals.PAGES, *(it for *_, own in manuals.MANUALS.values() for it in own), "CHANGELOG.md", "docs/night.svg", *EXAMPLES]
-    folder = f"{place.prefix}/share/doc/dagsched"
+    shipped = [*manuals.PAGES, *(it for *_, own in manuals.MANUALS.values() for it in own), "docs/night.svg", *EXAMPLES]
     for it in shipped:
-        if it != "CHANGELOG.md":
-            yield f"{folder}/{it}", 0o644, (page(it, place.prefix, shipped) if it.endswith(".md") else text_of(it)).encode()
+        text = page(it, place.prefix, shipped) if it.endswith(".md") else text_of(it)
+        yield f"{place.prefix}/share/doc/dagsched/{it}", 0o644, text.encode()
 
 
 def unit(name, prefix):
