@@ -209,6 +209,11 @@ class Record:
             found[dag][phase] = count
         return found
 
+    def runs_in(self, dag, phase, most):
+        """The first runs of a graph that are in a phase."""
+        asked = "SELECT logical, data_end, kind, phase, data_start FROM run WHERE dag_id = ? AND phase = ? ORDER BY logical LIMIT ?"
+        return [Run(*it) for it in self.rows.execute(asked, (dag, PHASES.index(phase), most))]
+
     def run_before(self, dag, logical):
         """The date of the last run of a graph before a date, or None."""
         return self.rows.execute("SELECT max(logical) FROM run WHERE dag_id = ? AND logical < ?", (dag, logical)).fetchone()[0]
