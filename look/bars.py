@@ -1,5 +1,4 @@
 """The tries of a run as bars over time, for `gantt` and `page`."""
-import pathlib
 from typing import NamedTuple, Optional
 
 from record import KINDS, OUTCOMES, Try, log_of, text_of
@@ -13,16 +12,21 @@ def step_of(span, most):
 
 
 class Bar(NamedTuple):
-    """A try as it is drawn: what it waited from, its start and its end."""
+    """A try as it is drawn: what it waited from, its start and its end. How long it waited is not known of each."""
 
     ready: int
     start: int
     end: int
     outcome: str
     logical: int
-    words: str
-    log: Optional[pathlib.Path]
+    waited: Optional[int]
+    log: Optional[str]
     one: Try
+
+    def words(self, dag, task):
+        """What is said of it."""
+        said = f"{dag} {text_of(self.logical)} {task}, try {self.one.number}: {self.outcome}, {text_of(self.start)} to {text_of(self.end)}"
+        return said if self.waited is None else f"{said}, waited {self.waited} s"
 
 
 def ready_at(this, before, upstream_ends, of_run):
@@ -41,10 +45,9 @@ def bar_of(record, dag, of_run, task, this, before, upstream_ends, logs):
     ready = ready_at(this, before, upstream_ends, of_run)
     end = record.now if this.ended is None else this.ended
     start = end if this.started is None else this.started
-    words = f"{dag} {text_of(of_run.logical)} {task.name}, try {this.number}: {outcome}, {text_of(start)} to {text_of(end)}"
-    words += "" if ready is None else f", waited {max(start - ready, 0)} s"
     log = logs and log_of(logs, dag, of_run, task.name, this.number)
-    return Bar(start if ready is None else min(ready, start), start, end, outcome, of_run.logical, words, log, this)
+    waited = None if ready is None else max(start - ready, 0)
+    return Bar(start - (waited or 0), start, end, outcome, of_run.logical, waited, log, this)
 
 
 def bars_of_run(record, dag, logical, serials=None, logs=None):

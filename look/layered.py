@@ -19,6 +19,23 @@ def key_of(widths, edges):
     return hashlib.sha256(json.dumps([widths, edges]).encode()).hexdigest()[:24]
 
 
+def reduced(edges):
+    """The lines of a graph, of many those alone that no way by others says."""
+    if len(edges) <= CURVES:
+        return edges
+    below, behind = {}, {}
+    for above, it in edges:
+        below.setdefault(above, []).append(it)
+    def reach(at):
+        """What lies behind a box, as bits."""
+        if at not in behind:
+            behind[at] = 0
+            for it in below.get(at, ()):
+                behind[at] |= 1 << it | reach(it)
+        return behind[at]
+    return [[above, it] for above, it in edges if not any(reach(other) >> it & 1 for other in below[above] if other != it)]
+
+
 def source_of(widths, edges):
     lines = "spline" if len(edges) <= CURVES else "line"
     boxes = "".join(f"{number} [width={width / SCALE:.3f}]\n" for number, width in enumerate(widths))
@@ -32,11 +49,11 @@ def layouts_of(printed):
         rows = [it.split() for it in part.splitlines()]
         width, high = (round(float(it) * SCALE) for it in rows[0][2:4])
         boxes = {int(it[1]): (round(float(it[2]) * SCALE), high - round(float(it[3]) * SCALE)) for it in rows if it[0] == "node"}
-        paths = []
+        paths, is_straight = [], len(rows) - len(boxes) > CURVES
         for it in (it for it in rows if it[0] == "edge"):
             numbers = [round(float(each) * SCALE) for each in it[4 : 4 + 2 * int(it[3])]]
             points = [f"{x} {high - y}" for x, y in zip(numbers[::2], numbers[1::2])]
-            paths.append(f"M{points[0]}C{' '.join(points[1:])}")
+            paths.append(f"M{points[0]}L{points[-1]}" if is_straight else f"M{points[0]}C{' '.join(points[1:])}")
         yield {"width": width, "height": high, "boxes": [boxes[it] for it in range(len(boxes))], "lines": "".join(paths)}
 
 

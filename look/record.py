@@ -1,7 +1,7 @@
 """Reads what a record of dagsched says, for the looks: of one run, or of so many as are asked for, so that the memory it takes does not grow with the record."""
 import contextlib
 import functools
-import pathlib
+import os
 import sqlite3
 import time
 import tomllib
@@ -254,8 +254,8 @@ def state_of(retries, verdict, tried, started, outcome):
 def log_of(logs, dag, run, task, number):
     """The path of the log of a try under the folder of `dagsched run --logs`, or None where there is none."""
     name = f"{KINDS[run.kind]}__{text_of(run.logical, '%Y-%m-%dT%H:%M:%S+00:00')}"
-    path = pathlib.Path(logs, f"dag_id={dag}", f"run_id={name}", f"task_id={task}", f"attempt={number}.log")
-    return path if path.is_file() else None
+    path = os.path.join(logs, f"dag_id={dag}", f"run_id={name}", f"task_id={task}", f"attempt={number}.log")
+    return path if os.path.isfile(path) else None
 
 
 def text_of(moment, form="%Y-%m-%dT%H:%M:%SZ"):

@@ -1,4 +1,5 @@
 """Rules of a graph file, by docs/GRAPH_FILES.md and crontab(5): when a cron text fires, and what a trigger rule makes of states. None of it is the scheduler's own."""
+import calendar
 import collections
 import time
 
@@ -76,16 +77,23 @@ def verdict(rule, states):
     return next((word for word, holds in zip(("run", "upstream_failed", "skip"), columns) if holds), None) if states else "run"
 
 
-def next_run(cron, is_trigger, start, end, now):
-    """The first tick after a moment at which a run becomes due: from the start date on, of an interval that begins no later than the end date. None where there is none."""
+def moment_of(word):
+    """A moment as a graph's file has it."""
+    return calendar.timegm(time.strptime(word[:19], "%Y-%m-%d" if len(word) == 10 else "%Y-%m-%dT%H:%M:%S"))
+
+
+def next_tick(keys, now):
+    """The first moment after this one at which a run of a graph becomes due, by the keys of its file: from its start date on, of an interval that begins no later
+    than its end date. None where there is none."""
+    start, end, word = moment_of(keys["start_date"]), moment_of(keys["end_date"]) if "end_date" in keys else END, keys["schedule"]
+    if word in ("None", "@once"):
+        return start if word == "@once" and now < start <= end else None
+    cron, is_trigger = Cron(word), keys.get("timetable") == "trigger"
     ticks = cron.ticks_from(start)
-    first = next(ticks, None)
-    if first is None or end is not None and first > end:
-        return None
+    first = next(ticks, END)
     if first > now:
-        return first if is_trigger else next(ticks, None)
-    tick = next(cron.ticks_from(now + 1), None)
-    if tick is None or end is None:
-        return tick
-    begins = tick if is_trigger else next(cron.ticks_back(tick - 1))
-    return tick if begins <= end else None
+        tick, begins = first if is_trigger else next(ticks, None), first
+    else:
+        tick = next(cron.ticks_from(now + 1), None)
+        begins = tick if is_trigger or tick is None else next(cron.ticks_back(tick - 1))
+    return tick if tick is not None and begins <= end else None

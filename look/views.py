@@ -2,22 +2,23 @@
 import os
 from itertools import islice
 
-from bars import bars_of_run, step_of
-from command import moment, shortened
+from bars import bars_of_run
+from command import shortened
+from drawn import Line, cells_of, row_of, square, try_of
+from layered import CURVES, reduced
 from letters import LETTERS, heads
-from markupsafe import Markup
+from markupsafe import Markup, escape
 from reasons import Situation
-from record import KINDS, OUTCOMES, PHASES, log_of, text_of
-from rules import Cron, next_run
+from record import KINDS, PHASES, log_of, text_of
+from rules import next_tick
 from words import address_of, counted, date_of, day_of, file_of, length_of, time_of
 
 DAY = 86400
 LEGEND = [(letter, state) for state, letter in LETTERS.items()]
 # names in so many letters on a page, and rows of a list
 NAME, ROWS, SQUARES, NAMED = 32, 60, 21, 3
-LINKED = ("failed", "up_for_retry", "running", "queued")
 BEHIND = 120
-TRIES, TEXT, UPSTREAMS, SHOWN_RUNS, RUNNING_RUNS = 12, 60_000, 8, 14, 100
+TRIES, TEXT, UPSTREAMS, SHOWN_RUNS = 12, 60_000, 8, 14
 
 
 class Book:
@@ -31,7 +32,7 @@ class Book:
         self.short = shortened(record.dags, NAME)
         self.runs = {dag: {} for dag in record.dags}
         self.since = day_of(self.now) - DAY
-        self.names = {}
+        self.names, self.as_text = {}, {}
 
     def tasks(self, dag):
         """The tasks of a graph: names as a page has room for, by name, and places."""
@@ -39,6 +40,13 @@ class Book:
             names = [it.name for it in self.record.tasks(dag)]
             self.names[dag] = shortened(names, NAME), {it: number for number, it in enumerate(names)}
         return self.names[dag]
+
+    def escaped(self, dag):
+        """The names of the tasks of a graph as a page has them, whole and short."""
+        if dag not in self.as_text:
+            short, _ = self.tasks(dag)
+            self.as_text[dag] = [(escape(it.name), escape(short[it.name])) for it in self.record.tasks(dag)]
+        return self.as_text[dag]
 
     def run(self, dag, it):
         """The name of the page of a run, which is then one of the site."""
@@ -63,19 +71,10 @@ class Book:
 
 def next_of(graph, now):
     """When the next run of a graph becomes due, in words, and how far off that is."""
-    keys = graph.keys
-    if keys["schedule"] == "None":
+    if graph.keys["schedule"] == "None":
         return "by hand", ""
-    start, end = moment(keys["start_date"]), moment(keys["end_date"]) if "end_date" in keys else None
-    if keys["schedule"] == "@once":
-        tick = start if start > now and (end is None or start <= end) else None
-    else:
-        tick = next_run(Cron(keys["schedule"]), keys.get("timetable") == "trigger", start, end, now)
+    tick = next_tick(graph.keys, now)
     return ("none", "") if tick is None else (date_of(tick), f"in {length_of(tick - now)}")
-
-
-def square(state, word=None):
-    return {"letter": LETTERS[state], "state": state, "word": word or state}
 
 
 class Waits:
@@ -176,7 +175,7 @@ class Front:
         behind = self.book.written - self.book.now
         return {
             "failed": [*self.failed_rows(rows)], "failed_count": len(self.failed) + len(self.under_way), "since": date_of(self.book.since),
-            "graphs": [*self.graph_rows(max(SQUARES >> level, 1))], "running": [*self.running_rows(rows)], "running_count": flying,
+            "graphs": [*self.graph_rows(max(min(SQUARES, self.book.last) >> level, 1))], "running": [*self.running_rows(rows)], "running_count": flying,
             "waits": waits[:rows], "waits_count": sum(it["count"] for it in waits), "waits_shown": sum(it["count"] for it in waits[:rows]),
             "behind_count": sum(it.behind for it in self.waits.values()), "pools": [*self.pool_rows()], "lanes": self.record.lanes, "flying": flying,
             "behind": length_of(abs(behind)) if abs(behind) > BEHIND else None, "is_ahead": behind < 0, "titled": level < 2, "folders": self.book.folders,
@@ -197,49 +196,6 @@ def columns_of(runs):
             else:
                 spans.append({"key": key, "part": part, "span": 1})
         yield {"word": word, "spans": spans}
-
-
-def cells_of(task, place, columns, is_said):
-    """The squares of a task, as cells: what it takes is letters, numbers and names of files."""
-    found = []
-    for page, instances, date in columns:
-        state = instances[task].state if task in instances else "none"
-        letter = LETTERS[state]
-        if state in LINKED:
-            said = Markup(' aria-label="{} {} {}"').format(task, date, state) if is_said else ""
-            found.append(Markup('<td class={}><a href="{}#t{}"{}>{}</a>').format(state, page, place, said, letter))
-        else:
-            found.append(CELLS[state])
-    return Markup("").join(found)
-
-
-CELLS = {state: Markup(f"<td class={state}>{letter}") for state, letter in LETTERS.items()}
-
-
-class Line:
-    """The bars of a run over time, each as parts of a hundred."""
-
-    def __init__(self, bars):
-        begun, ready = min((it.start for it in bars), default=0), min((it.ready for it in bars), default=0)
-        last = max((it.end for it in bars), default=0)
-        # what has waited for days would press the bars together
-        self.first = begun if begun - ready > 3 * (last - begun) else ready
-        self.last = max(last, self.first + 1)
-
-    def x(self, at):
-        return round(99.6 * (min(max(at, self.first), self.last) - self.first) / (self.last - self.first), 2)
-
-    def drawn(self, bars):
-        for it in bars:
-            start, end = self.x(it.start), self.x(it.end)
-            yield {"wait": self.x(it.ready), "start": start, "width": max(round(end - start, 2), 0.4), "outcome": it.outcome.replace(" ", "-"),
-                   "is_bad": it.outcome in ("failed", "lost")}
-
-    def axis(self):
-        step = step_of(self.last - self.first, 5)
-        for at in range(-(-self.first // step) * step, self.last + 1, step):
-            form = "%m-%d" if step >= DAY or at % DAY == 0 else "%H:%M" if step >= 60 else "%H:%M:%S"
-            yield {"x": self.x(at), "text": text_of(at, form)}
 
 
 class GraphPage:
@@ -264,7 +220,7 @@ class GraphPage:
         runs = self.runs[-max(self.book.last >> level, 1) :]
         columns = [(self.book.run(self.dag, it), self.instances.get(it.logical, {}), date_of(it.logical)) for it in runs]
         short, places = self.book.tasks(self.dag)
-        rows = [{"name": it.name, "short": short[it.name], "cells": cells_of(it.name, places[it.name], columns, level == 0)} for it in self.graph.tasks]
+        rows = [{"name": it.name, "short": short[it.name], "cells": Markup(cells_of(it.name, places[it.name], columns, level == 0))} for it in self.graph.tasks]
         tops = [{**square(PHASES[it.phase]), "kind": KINDS[it.kind], "href": page, "date": date} for it, (page, _, date) in zip(runs, columns)]
         return {"heads": [*columns_of(runs)] if runs else [], "runs": tops, "rows": rows, "before": self.before(runs), "span": " to ".join(dict.fromkeys(date_of(it.logical) for it in (runs[:1] + runs[-1:])))}
 
@@ -278,7 +234,8 @@ class GraphPage:
             state = states[it.name].state if it.name in states else "none"
             boxes.append({"x": x - width // 2, "y": y - 11, "width": width, "name": it.name, "short": short[it.name], **square(state),
                           "href": page and f"{page}#t{places[it.name]}"})
-        return {"width": self.layout["width"] + 2, "height": self.layout["height"] + 2, "lines": self.layout["lines"], "boxes": boxes}
+        is_reduced = sum(len(it.upstream) for it in self.graph.tasks) > CURVES
+        return {"is_reduced": is_reduced, "width": self.layout["width"] + 2, "height": self.layout["height"] + 2, "lines": self.layout["lines"], "boxes": boxes}
 
     def tasks(self):
         short, _ = self.book.tasks(self.dag)
@@ -291,7 +248,7 @@ class GraphPage:
         line = Line([bar for bars in self.bars.values() for bar in bars])
         short, _ = self.book.tasks(self.dag)
         states = self.instances.get(self.latest.logical, {})
-        rows = [{"name": it.name, "short": short[it.name], "bars": [*line.drawn(self.bars[it.name])], **square(states[it.name].state)}
+        rows = [{"name": it.name, "short": short[it.name], "bars": Markup(line.drawn(self.bars[it.name])), **square(states[it.name].state)}
                 for it in self.graph.tasks if it.name in self.bars and it.name in states]
         chosen = [{"href": self.book.run(self.dag, it), "date": date_of(it.logical), **square(PHASES[it.phase])} for it in self.runs[: -SHOWN_RUNS - 1 : -1]]
         return {"axis": [*line.axis()], "rows": rows, "chosen": chosen, "date": date_of(self.latest.logical), "href": self.book.run(self.dag, self.latest)}
@@ -320,7 +277,7 @@ def widths_of(book, dag):
 
 def edges_of(book, dag):
     places = book.tasks(dag)[1]
-    return [[places[name], number] for number, it in enumerate(book.record.tasks(dag)) for name in it.upstream if name in places]
+    return reduced([[places[name], number] for number, it in enumerate(book.record.tasks(dag)) for name in it.upstream if name in places])
 
 
 class RunPage:
@@ -337,16 +294,6 @@ class RunPage:
         self.ended = max((it.end for it in every), default=None)
         self.day = day_of(self.began if self.began is not None else run.end)
 
-    def tries(self, task, most):
-        """The last tries of a task."""
-        for it in self.bars.get(task, [])[-most:]:
-            is_over = it.one.ended is not None
-            yield {
-                "number": it.one.number, "began": None if it.one.started is None else time_of(it.start, self.day),
-                "length": None if it.one.started is None else length_of(it.end - it.start), "is_over": is_over,
-                "outcome": it.outcome if is_over or it.one.started is not None else "handed out", "log": it.log and self.book.link_to(it.log, self.page),
-            }
-
     def why(self, task, state):
         """The reasons of one that waits, and what made a task end that was not tried."""
         if state in ("upstream_failed", "skipped") and task.name not in self.bars:
@@ -355,13 +302,17 @@ class RunPage:
         return self.waits.get(task.name, [])
 
     def rows(self, level):
-        short, _ = self.book.tasks(self.dag)
-        for number, task in enumerate(self.record.tasks(self.dag)):
-            bars, state = self.bars.get(task.name, []), self.instances[task.name].state if task.name in self.instances else "none"
-            shown = [*self.tries(task.name, max(TRIES >> level, 1))]
+        """The rows of the tasks, as text."""
+        names = self.book.escaped(self.dag)
+        most = max(TRIES >> level, 1)
+        for place, task in enumerate(self.record.tasks(self.dag)):
+            bars, state = self.bars.get(task.name, ()), self.instances[task.name].state if task.name in self.instances else "none"
+            name, short = names[place]
+            tries = [try_of(it, self.day, it.log and escape(self.book.link_to(it.log, self.page)), short) for it in bars[-most:]]
             why = self.why(task, state)
-            yield {"place": number, "name": task.name, "short": short[task.name], **square(state), "tries": shown, "earlier": len(bars) - len(shown),
-                   "why": why[:UPSTREAMS], "more": max(len(why) - UPSTREAMS, 0), "bars": [*self.line.drawn(bars[-TRIES:])] if level < 4 else []}
+            line = self.line.drawn(bars[-TRIES:]) if bars and level < 4 else ""
+            titled = name if level < 2 else short
+            yield row_of(place, state, titled, short, tries, len(bars) - len(tries), why[:UPSTREAMS], max(len(why) - UPSTREAMS, 0), line)
 
     def context(self, level):
         of_run, counts = self.of_run, {}
@@ -374,7 +325,7 @@ class RunPage:
             "dag": self.dag, "short_dag": self.book.short[self.dag], "date": date_of(of_run.logical), "kind": KINDS[of_run.kind], **square(PHASES[of_run.phase]),
             "start": date_of(of_run.start), "end": date_of(of_run.end), "began": None if self.began is None else date_of(self.began), "took": took,
             "ended": date_of(self.ended) if is_over and self.ended is not None else None, "is_over": is_over,
-            "run_id": f"{KINDS[of_run.kind]}__{text_of(of_run.logical, '%Y-%m-%dT%H:%M:%S+00:00')}", "day": date_of(self.day), "rows": [*self.rows(level)],
+            "run_id": f"{KINDS[of_run.kind]}__{text_of(of_run.logical, '%Y-%m-%dT%H:%M:%S+00:00')}", "day": date_of(self.day), "rows": Markup("".join(self.rows(level))),
             "counts": [(square(it), counts[it]) for it in LETTERS if it in counts], "axis_marks": [*self.line.axis()] if self.bars else [],
             "before": before and self.book.run(self.dag, before), "after": after and self.book.run(self.dag, after), "titled": level < 2,
         }

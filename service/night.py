@@ -1,10 +1,17 @@
-"""A night with all that a page has to show: successes, failures, skips, retries, a lost try, a queued run, a full pool. `try` of the service and of `look` make it."""
+"""A night with all that a page has to show: successes, failures, skips, retries, a lost try, a queued run, a full pool. `try` of the service and of `look` make it.
+
+usage: night.py PROGRAM FOLDER [OPTIONS ..]
+
+It makes the night in FOLDER/shop by a `serve` with these OPTIONS, prints "made", and ends it at the end of its input.
+"""
 import os
 import shutil
 import signal
+import sys
 import time
 
-from trial import HERE, expect, until
+import service
+from trial import HERE, Trial, expect, until
 
 HEAD = 'dag_id = "{0}"\nschedule = {1}\nstart_date = "{2}"\n{3}'
 TASK = '\n[[task]]\ntask_id = "{0}"\noperator = "command"\nargv = ["sh", "-c", "{1}"]\nupstream = [{2}]\n{3}'
@@ -64,3 +71,25 @@ def make(trial, *options):
     until(10, lambda: trial.ask("trigger", "stock")[0] == 0, "a second run, at another tick")
     phases = "SELECT dag_id, phase FROM run WHERE dag_id IN ('night', 'feed')"
     until(120, lambda: ("night", 3) in trial.rows(phases) and all(it[1] > 1 for it in trial.rows(phases)), lambda: f"the night ends: {trial.rows(phases)}")
+
+
+def end(trial):
+    """Ends the service, and what is in flight with it."""
+    trial.serve.send_signal(signal.SIGTERM)
+    time.sleep(1.5)
+    expect(trial.end(seconds=60) == 0, lambda: f"the end:\n{trial.said()}")
+    service.remove(trial.folder.at("prices.csv"))
+
+
+def main(program, folder, *options):
+    trial = Trial(os.path.realpath(program), folder, "shop")
+    try:
+        make(trial, *options)
+        print("made", flush=True)
+        sys.stdin.read()
+    finally:
+        end(trial)
+
+
+if __name__ == "__main__":
+    main(*sys.argv[1:])

@@ -7,7 +7,7 @@ import time
 
 from stops import Pace
 
-# no more than so great a part of the time is spent on it, and one that takes so many seconds is ended
+# no more than a tenth of a processor is spent on it, and one that takes so many seconds is ended
 SHARE, LIMIT, AT_END = 10, 900, 20
 HERE = os.path.dirname(os.path.realpath(__file__))
 PLACES = (os.path.join(HERE, "page"), os.path.join(os.path.dirname(HERE), "look", "page"))
@@ -23,15 +23,14 @@ class Pages:
 
     def __init__(self, folder, log, goal, seconds, logs):
         self.folder, self.log, self.goal, self.seconds, self.logs = folder, log, goal, seconds, logs
-        self.process, self.begun, self.next_time, self.said, self.warned, self.trouble = None, 0.0, 0.0, "", None, Pace(600)
+        self.process, self.next_time, self.said, self.warned, self.trouble = None, 0.0, "", None, Pace(600)
 
     def write(self):
         """Begins to write the page if it is time, and waits for nothing."""
         if self.goal is None or self.is_writing() or time.monotonic() < self.next_time or not os.path.lexists(self.folder.record):
             return
         words = ["nice", "-n", "10", "timeout", "-k", "5", str(LIMIT), program(), self.folder.path, self.goal, "--logs", self.logs]
-        self.begun = time.monotonic()
-        self.next_time = self.begun + self.seconds
+        self.next_time = time.monotonic() + self.seconds
         try:
             self.process = subprocess.Popen(words, stdin=subprocess.DEVNULL, stdout=subprocess.DEVNULL, stderr=subprocess.PIPE, start_new_session=True)
             os.set_blocking(self.process.stderr.fileno(), False)
@@ -44,12 +43,13 @@ class Pages:
             return False
         with contextlib.suppress(BlockingIOError):
             self.said = (self.said + (self.process.stderr.read() or b"").decode(errors="replace"))[-2000:]
-        status = self.process.poll()
-        if status is None:
+        ended, status, used = os.wait4(self.process.pid, os.WNOHANG)
+        if not ended:
             return True
+        self.process.returncode = status = os.waitstatus_to_exitcode(status)
         self.process.stderr.close()
         self.process, said, self.said = None, self.said, ""
-        self.next_time = max(self.next_time, time.monotonic() + (SHARE - 1) * (time.monotonic() - self.begun))
+        self.next_time = max(self.next_time, time.monotonic() + SHARE * (used.ru_utime + used.ru_stime))
         if status or said:
             self.warn(" ".join(said.split()) or f"page ended with status {status}")
         return False
