@@ -1,17 +1,19 @@
 """A headless Chromium that loads pages and says what it sees, for the tests: it is told by a pipe, in the words of its DevTools."""
 import base64
+import fcntl
 import itertools
 import json
 import os
 import pathlib
 import select
 import shutil
+import signal
 import subprocess
 import tempfile
 import time
 
 PROGRAMS = ("chromium", "chromium-browser", "google-chrome")
-OPTIONS = "--headless --no-sandbox --disable-gpu --disable-dev-shm-usage --disable-background-networking --disable-component-update --no-first-run --mute-audio --hide-scrollbars".split()
+OPTIONS = [f"--{it}" for it in "headless no-sandbox disable-gpu disable-dev-shm-usage disable-background-networking no-first-run mute-audio hide-scrollbars".split()]
 SECONDS = 60
 # what a page says of itself: its text, where its links lead, how wide it is, what lies past its edge, and the colours of its ground and its text
 SEEN = """(() => {
@@ -38,12 +40,17 @@ class Browser:
         self.folder = tempfile.TemporaryDirectory(prefix="browser-", ignore_cleanup_errors=True)
         heard, self.told = os.pipe()
         self.said, says = os.pipe()
+        # numbers that are neither of those that the browser goes by
+        ends = [fcntl.fcntl(it, fcntl.F_DUPFD_CLOEXEC, 10) for it in (heard, says)]
+        def give():
+            for number, it in enumerate(ends, 3):
+                os.dup2(it, number)
         words = [program(), *OPTIONS, "--remote-debugging-pipe", f"--user-data-dir={self.folder.name}/data", "about:blank"]
-        shell = ["sh", "-c", f'exec "$@" 3<&{heard} 4>&{says}', "sh", *words]
         environment = {**os.environ, "HOME": self.folder.name, "XDG_CONFIG_HOME": self.folder.name, "XDG_CACHE_HOME": self.folder.name}
-        self.process = subprocess.Popen(shell, pass_fds=(heard, says), stdin=subprocess.DEVNULL, stdout=subprocess.DEVNULL, stderr=subprocess.DEVNULL, env=environment)
-        os.close(heard)
-        os.close(says)
+        nothing = dict.fromkeys(("stdin", "stdout", "stderr"), subprocess.DEVNULL)
+        self.process = subprocess.Popen(words, pass_fds=(3, 4), preexec_fn=give, env=environment, start_new_session=True, **nothing)
+        for it in (heard, says, *ends):
+            os.close(it)
         target = self.ask("Target.createTarget", url="about:blank")["targetId"]
         self.session = self.ask("Target.attachToTarget", targetId=target, flatten=True)["sessionId"]
         for name in ("Page", "Runtime", "Log", "Network"):
@@ -51,7 +58,7 @@ class Browser:
         return self
 
     def __exit__(self, *_):
-        self.process.kill()
+        os.killpg(self.process.pid, signal.SIGKILL)
         self.process.wait()
         os.close(self.told)
         os.close(self.said)

@@ -1,11 +1,14 @@
 """What `try` asks of `page`: pages of a real night in a browser, names that would break out, sizes, readers and kills beside a writing, and faults."""
 import collections
 import contextlib
+import functools
 import html.parser
+import http.server
 import json
 import os
 import pathlib
 import random
+import re
 import resource
 import shutil
 import signal
@@ -20,15 +23,20 @@ import browser
 import made
 from reasons import Situation
 from record import opened, text_of
-from rules import next_tick
+from rules import END, next_tick
 
 HERE = pathlib.Path(__file__).resolve().parent
 SERVICE = HERE.parent / "service"
 LIMIT = 300_000
 # tidy knows no links in pictures
+TIMED = 'dag_id = "d"\nschedule = "{0}"\nstart_date = "2024-02-28T01:00:00Z"\nend_date = "2032-03-01"\ncatchup = false\n{1}[[task]]\ntask_id = "t"\noperator = "noop"\n'
+CRON = ("@daily", "30 2 * * *", "*/15 * * * *", "0 6 * * MON-FRI", "0 0 29 2 *", "0 3 1 * 5", "5/20 4 * 1-3 *")
+TIMETABLES = [(it, trigger) for it in CRON for trigger in (False, True)] + [("@once", False), ("None", False)]
 UNKNOWN = ('proprietary attribute "href"', 'proprietary attribute "tabindex"')
 WIDTHS = (1280, 390)
-ODD = ["<script>window.ran = 1</script>", "\"><img src=x onerror=\"window.ran = 2\">", "a&amp;b 'c' \"d\"", "</pre></title><b>", "{{ title }}{% x %}", "é" * 125, "../../x", "n" * 250]
+# names that no graph file may have, and that a record may be made to
+ODD = ["<script>window.ran = 1</script>", "\"><img src=x onerror=\"window.ran = 2\">", "a&amp;b 'c' \"d\"", "</pre></title><b>", "{{ title }}{% x %}", "é" * 125]
+ODD += ["../../x", "n" * 250]
 
 
 def written(*words, status=0, **more):
@@ -174,8 +182,27 @@ def look_at(site, pictures):
             assert roles["heading"] >= 2 and roles["navigation"] == roles["main"] == 1, roles
             assert all(said for role, said in spoken if role == "link"), [it for it in spoken if it[0] == "link"]
         assert len(grounds) == 2, f"grounds: {grounds}"
+        if pictures:
+            it.load(str(site / "index.html"), 960, 700)
+            it.picture(pictures / "page.png", is_whole=False)  # that of docs/IN_USE.md
+        look_by_server(it, site)
         click_to_log(it, site)
     print(f"a browser shows each kind of page at {len(WIDTHS)} widths, light and dark, and logs no error; keys lead from the front page to a log")
+
+
+def look_by_server(it, site):
+    """The same pages through a web server, which is given nothing but the folder."""
+    with http.server.ThreadingHTTPServer(("127.0.0.1", 0), functools.partial(Quiet, directory=site)) as server:
+        threading.Thread(target=server.serve_forever, daemon=True).start()
+        for page, word in kinds_of(site).values():
+            seen = it.load(f"http://127.0.0.1:{server.server_address[1]}/{page.relative_to(site)}")
+            assert not seen["errors"] and word in seen["text"] and seen["wide"] <= seen["room"], (page, seen)
+        server.shutdown()
+
+
+class Quiet(http.server.SimpleHTTPRequestHandler):
+    def log_message(self, *_):
+        pass
 
 
 def click_to_log(it, site):
@@ -193,26 +220,24 @@ def click_to_log(it, site):
     assert log.is_file() and reached.endswith(".log"), reached
 
 
+def answers_of(program, path, *lines):
+    """What a script on a record is answered."""
+    done = subprocess.run([program, "--record", path, "run"], input="".join(f"{it}\n" for it in lines), capture_output=True, text=True, cwd=path.parent)
+    assert done.returncode == 0, done
+    return done.stdout
+
+
 def check_ticks(program, work):
     """The next tick that a page tells is the next moment at which a tick makes a run."""
-    schedules = ("@daily", "30 2 * * *", "*/15 * * * *", "0 6 * * MON-FRI", "0 0 29 2 *", "0 3 1 * 5", "5/20 4 * 1-3 *", "@once")
-    for number, schedule in enumerate(schedules * 2):
-        trigger = 'timetable = "trigger"\n' if number >= len(schedules) and schedule != "@once" else ""
-        text = f'dag_id = "d"\nschedule = "{schedule}"\nstart_date = "2024-02-28T01:00:00Z"\nend_date = "2032-03-01"\ncatchup = false\n{trigger}[[task]]\ntask_id = "t"\noperator = "noop"\n'
-        now = made.FIRST + random.randrange(23 * 366 * made.DAY, 27 * 366 * made.DAY)
-        (work / "d.toml").write_text(text)
-        path = work / f"ticks{number}.db"
-        ran = subprocess.run([program, "--record", path, "run"], input=f"load {work}/d.toml\ntick {text_of(now)}\n", capture_output=True, text=True)
-        assert ran.returncode == 0, ran
+    for number, (schedule, trigger) in enumerate(TIMETABLES):
+        now, path = made.FIRST + random.randrange(23 * 366 * made.DAY, 27 * 366 * made.DAY), work / f"ticks{number}.db"
+        (work / "d.toml").write_text(TIMED.format(schedule, 'timetable = "trigger"\n' * trigger))
+        answers_of(program, path, f"load {work}/d.toml", f"tick {text_of(now)}")
         with opened(path) as record:
             tick = next_tick(record.graph("d").keys, record.now)
-        if tick is None:
-            tick = 7_258_118_399
-        script = f"tick {text_of(tick - 1)}\ntick {text_of(tick)}\n" if tick > now else "list pools\n"
-        made_at = [it.split()[0] for it in subprocess.run([program, "--record", path, "run"], input=script, capture_output=True, text=True).stdout.splitlines()]
-        before, after = made_at[: made_at.index("ok")], made_at[made_at.index("ok") :]
-        assert "made" not in before and ("made" in after or tick == 7_258_118_399), (text, text_of(now), text_of(tick), made_at)
-    print(f"the next tick is right in {2 * len(schedules)} timetables")
+        before, after = answers_of(program, path, f"tick {text_of((tick or END) - 1)}", f"tick {text_of(tick or END - 1)}").split("ok\n")[:2]
+        assert "made " not in before and ("made " in after) == (tick is not None), (schedule, trigger, text_of(now), tick, before, after)
+    print(f"the next tick is right in {len(TIMETABLES)} timetables")
 
 
 def check_added(program, work):
@@ -232,24 +257,28 @@ def check_added(program, work):
     print("tasks that came later are shown")
 
 
-def check_odd(work):
-    """Names and texts that would break out of a page are shown as they are."""
-    path = work / "odd.db"
-    rows = sqlite3.connect(path)
+def odd(path):
+    """A record of names and texts that would break out of a page: each graph has all of them as tasks."""
+    rows, tried = sqlite3.connect(path), "INSERT INTO attempt (dag_id, logical, task_id, try_number, slots, started, ended, outcome) VALUES (?, 946684800, ?, 1, 1, 946771200, ?, ?)"
     rows.executescript(made.CREATING)
+    task = "[[task]]\ntask_id = {}\noperator = {}\npool = {}\nupstream = {}\n"
     for name in ODD:
-        text = f"dag_id = {json.dumps(name)}\nschedule = \"@daily\"\nstart_date = \"2000-01-01\"\n# {ODD[0]} {ODD[3]}\n"
-        text += "".join(f"[[task]]\ntask_id = {json.dumps(it)}\noperator = {json.dumps(ODD[0])}\npool = {json.dumps(ODD[1])}\nupstream = {json.dumps(ODD[:at])}\n" for at, it in enumerate(ODD))
+        text = f'dag_id = {json.dumps(name)}\nschedule = "@daily"\nstart_date = "2000-01-01"\n# {ODD[0]} {ODD[3]}\n'
+        text += "".join(task.format(*map(json.dumps, (it, ODD[0], ODD[1], ODD[:at]))) for at, it in enumerate(ODD))
         rows.execute("INSERT INTO dag VALUES (?, ?, 0)", (name, text))
         rows.execute("INSERT INTO run VALUES (?, 946684800, 946684800, 946771200, 0, 1)", (name,))
         rows.executemany("INSERT INTO instance VALUES (?, 946684800, ?, 1, 0)", ((name, it) for it in ODD))
-        rows.execute("INSERT INTO attempt (dag_id, logical, task_id, try_number, slots, started, ended, outcome) VALUES (?, 946684800, ?, 1, 1, 946771200, 946771201, 1)", (name, ODD[0]))
-        rows.execute("INSERT INTO attempt (dag_id, logical, task_id, try_number, slots, started) VALUES (?, 946684800, ?, 1, 1, 946771200)", (name, ODD[1]))
+        rows.executemany(tried, ((name, ODD[0], 946771201, 1), (name, ODD[1], None, None)))
     rows.executemany("INSERT INTO pool VALUES (?, 1)", ((it,) for it in ODD))
     rows.execute("INSERT INTO meta VALUES (1, 1, 946771300, 100, 4)")
     rows.commit()
     rows.close()
-    written(path, work / "odd", "--title", ODD[0])
+
+
+def check_odd(work):
+    """Names and texts that would break out of a page are shown as they are."""
+    odd(work / "odd.db")
+    written(work / "odd.db", work / "odd", "--title", ODD[0])
     pages = check_site(work / "odd")
     check_tidy(pages)
     assert len(pages) == 1 + 2 * len(ODD), sorted(pages)
@@ -288,13 +317,14 @@ def dense(path):
     rows.close()
 
 
-def measured(*words):
-    """How long a call of `page` takes, in seconds and of the processor, and how much memory, in MB."""
+def measured(name, *words):
+    """How long a program of `look` takes, in seconds of the processor and of a clock, and how much memory, in MB: what other programs do changes the first least."""
     begun = time.monotonic()
-    process = subprocess.Popen([HERE / "page", *map(str, words)])
+    process = subprocess.Popen([HERE / name, *map(str, words)], stdout=subprocess.DEVNULL, stderr=subprocess.DEVNULL)
     _, status, used = os.wait4(process.pid, 0)
-    assert status == 0, words
-    return time.monotonic() - begun, used.ru_utime + used.ru_stime, used.ru_maxrss >> 10
+    process.returncode = os.waitstatus_to_exitcode(status)
+    assert process.returncode == 0, (name, words)
+    return used.ru_utime + used.ru_stime, time.monotonic() - begun, used.ru_maxrss >> 10
 
 
 def check_sizes(work):
@@ -303,12 +333,12 @@ def check_sizes(work):
     written(work / "dense.db", work / "dense", "--last", "40")
     print(f"of 256 graphs with long names {len(check_site(work / 'dense'))} pages stay below {LIMIT:,} bytes")
     for name, seconds, memory in (("thousand", 2, 500), ("million", 60, 500)):
-        took, used, most = min(measured(f"{name}.db", work / name) for _ in range(3))
-        assert used < seconds and most < memory, (name, took, used, most)
+        used, took, most = min(measured("page", f"{name}.db", work / name) for _ in range(3))
+        assert used < seconds and most < memory, (name, used, took, most)
         pages = check_site(work / name)
         front = (work / name / "graphs" / "orders" / "index.html").read_text()
-        assert " earlier runs, 0 of them failed" in front, front[:3000]
-        print(f"{name}: {len(pages)} pages in {took:.1f} s, {used:.1f} s of a processor, {most} MB")
+        assert re.search("[0-9,]+ earlier runs, [0-9]+ of them failed", front), front[:3000]
+        print(f"page {name}.db: {len(pages)} pages in {took:.2f} s, {used:.2f} s of a processor, {most} MB")
 
 
 def check_beside(work, rounds):
@@ -359,6 +389,14 @@ def check_links_of(page):
     return found
 
 
+def check_full_disk(path, site):
+    """Where the pages cannot be written, as here where no file may be larger than the copy of the record, that is said."""
+    def limit():
+        resource.setrlimit(resource.RLIMIT_FSIZE, (70_000, 70_000))
+    full = subprocess.run([HERE / "page", path, site, "--title", "x" * 80_000], capture_output=True, text=True, preexec_fn=limit)
+    assert full.returncode == 4 and "the site stays as it was" in full.stderr, full
+
+
 def check_faults(work):
     """What cannot be done is said, and leaves what was there."""
     path, other, site = work / "beside.db", work / "other", work / "fault"
@@ -370,10 +408,8 @@ def check_faults(work):
     assert "is no address" in written(path, site, "--logs-at", "javascript:x", status=2)
     written(path, site)
     before = {it: it.read_bytes() for it in site.rglob("*.html")}
-    limited = subprocess.run([HERE / "page", path, site, "--title", "other"], capture_output=True, text=True, preexec_fn=lambda: resource.setrlimit(resource.RLIMIT_FSIZE, (70_000, 70_000)))
-    full = subprocess.run([HERE / "page", path, site, "--title", "x" * 6000], capture_output=True, text=True, preexec_fn=lambda: resource.setrlimit(resource.RLIMIT_FSIZE, (5_000, 5_000)))
-    assert full.returncode in (3, 4), full
-    assert limited.returncode == 0 or before == {it: it.read_bytes() for it in site.rglob("*.html")}, limited
+    check_full_disk(path, site)
+    assert before == {it: it.read_bytes() for it in site.rglob("*.html")}, "the site stays as it was"
     (work / "lacking").mkdir(exist_ok=True)
     (work / "lacking" / "jinja2.py").write_text("raise ImportError")
     assert "install Debian's package python3-jinja2" in written(path, site, status=5, PYTHONPATH=str(work / "lacking"))

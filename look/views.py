@@ -16,7 +16,7 @@ from words import address_of, counted, date_of, day_of, file_of, length_of, time
 DAY = 86400
 LEGEND = [(letter, state) for state, letter in LETTERS.items()]
 # names in so many letters on a page, and rows of a list
-NAME, ROWS, SQUARES, NAMED = 32, 60, 21, 3
+NAME, ROWS, SQUARES, NAMED = 32, 60, 14, 3
 BEHIND = 120
 TRIES, TEXT, UPSTREAMS, SHOWN_RUNS = 12, 60_000, 8, 14
 
@@ -31,7 +31,7 @@ class Book:
         self.folders = {dag: f"graphs/{file_of(dag)}" for dag in record.dags}
         self.short = shortened(record.dags, NAME)
         self.runs = {dag: {} for dag in record.dags}
-        self.since = day_of(self.now) - DAY
+        self.since = max(day_of(self.now) - DAY, 0)
         self.names, self.as_text = {}, {}
 
     def tasks(self, dag):
@@ -222,7 +222,8 @@ class GraphPage:
         short, places = self.book.tasks(self.dag)
         rows = [{"name": it.name, "short": short[it.name], "cells": Markup(cells_of(it.name, places[it.name], columns, level == 0))} for it in self.graph.tasks]
         tops = [{**square(PHASES[it.phase]), "kind": KINDS[it.kind], "href": page, "date": date} for it, (page, _, date) in zip(runs, columns)]
-        return {"heads": [*columns_of(runs)] if runs else [], "runs": tops, "rows": rows, "before": self.before(runs), "span": " to ".join(dict.fromkeys(date_of(it.logical) for it in (runs[:1] + runs[-1:])))}
+        span = dict.fromkeys(date_of(it.logical) for it in runs[:1] + runs[-1:])
+        return {"heads": [*columns_of(runs)] if runs else [], "runs": tops, "rows": rows, "before": self.before(runs), "span": " to ".join(span)}
 
     def picture(self):
         """The boxes of the graph where dot has put them, with the states of the latest run."""

@@ -21,15 +21,15 @@ def program():
 class Pages:
     """`goal` is the folder of the page, or None where there is none to be written."""
 
-    def __init__(self, folder, log, goal, seconds, logs):
-        self.folder, self.log, self.goal, self.seconds, self.logs = folder, log, goal, seconds, logs
+    def __init__(self, folder, log, goal, seconds, options):
+        self.folder, self.log, self.goal, self.seconds, self.options = folder, log, goal, seconds, options
         self.process, self.next_time, self.said, self.warned, self.trouble = None, 0.0, "", None, Pace(600)
 
     def write(self):
         """Begins to write the page if it is time, and waits for nothing."""
         if self.goal is None or self.is_writing() or time.monotonic() < self.next_time or not os.path.lexists(self.folder.record):
             return
-        words = ["nice", "-n", "10", "timeout", "-k", "5", str(LIMIT), program(), self.folder.path, self.goal, "--logs", self.logs]
+        words = ["nice", "-n", "10", "timeout", "-k", "5", str(LIMIT), program(), self.folder.path, self.goal, *self.options]
         self.next_time = time.monotonic() + self.seconds
         try:
             self.process = subprocess.Popen(words, stdin=subprocess.DEVNULL, stdout=subprocess.DEVNULL, stderr=subprocess.PIPE, start_new_session=True)
