@@ -46,7 +46,7 @@ class Browser:
             for number, it in enumerate(ends, 3):
                 os.dup2(it, number)
         words = [program(), *OPTIONS, "--remote-debugging-pipe", f"--user-data-dir={self.folder.name}/data", "about:blank"]
-        environment = {**os.environ, "HOME": self.folder.name, "XDG_CONFIG_HOME": self.folder.name, "XDG_CACHE_HOME": self.folder.name}
+        environment = {**os.environ, **dict.fromkeys(("HOME", "TMPDIR", "XDG_CONFIG_HOME", "XDG_CACHE_HOME"), self.folder.name)}
         nothing = dict.fromkeys(("stdin", "stdout", "stderr"), subprocess.DEVNULL)
         self.process = subprocess.Popen(words, pass_fds=(3, 4), preexec_fn=give, env=environment, start_new_session=True, **nothing)
         for it in (heard, says, *ends):

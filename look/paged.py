@@ -183,7 +183,7 @@ def look_at(site, pictures):
             assert all(said for role, said in spoken if role == "link"), [it for it in spoken if it[0] == "link"]
         assert len(grounds) == 2, f"grounds: {grounds}"
         if pictures:
-            it.load(str(site / "index.html"), 960, 700)
+            it.load(str(site / "index.html"), 960, 648)
             it.picture(pictures / "page.png", is_whole=False)  # that of docs/IN_USE.md
         look_by_server(it, site)
         click_to_log(it, site)
@@ -304,7 +304,7 @@ def dense(path):
         body = "".join(f'[[task]]\ntask_id = "{it}"\noperator = "noop"\nupstream = {json.dumps(few[max(at - 16, 0) : at])}\n' for at, it in enumerate(few))
         rows.execute("INSERT INTO dag VALUES (?, ?, 0)", (dag, f'dag_id = "{dag}"\nschedule = "@daily"\nstart_date = "2000-01-01"\n{body}'))
         rows.execute("INSERT INTO dag_limit VALUES (?, 16)", (dag,))
-        for day in range(30):
+        for day in range(30 if few is tasks else 14):
             logical = made.FIRST + day * made.DAY
             rows.execute("INSERT INTO run VALUES (?, ?, ?, ?, 0, 3)", (dag, logical, logical, logical + made.DAY))
             rows.executemany("INSERT INTO instance VALUES (?, ?, ?, 1, 0)", ((dag, logical, it) for it in few))

@@ -18,6 +18,8 @@ LEGEND = [(letter, state) for state, letter in LETTERS.items()]
 # names in so many letters on a page, and rows of a list
 NAME, ROWS, SQUARES, NAMED = 32, 60, 14, 3
 BEHIND = 120
+# the last so many runs of a graph have a page, fewer where there are so many graphs that they would be more than so many in all
+LAST, RUNS, FEWEST = 30, 3000, 7
 TRIES, TEXT, UPSTREAMS, SHOWN_RUNS = 12, 60_000, 8, 14
 
 
@@ -25,7 +27,8 @@ class Book:
     """What all pages go by: the record, where its logs are, and which runs have a page."""
 
     def __init__(self, record, call):
-        self.record, self.logs, self.logs_at, self.last = record, call.logs, call.logs_at, call.last
+        self.record, self.logs, self.logs_at = record, call.logs, call.logs_at
+        self.last = call.last or max(min(LAST, RUNS // max(len(record.dags), 1)), FEWEST)
         self.title, self.now, self.written, self.out = call.title, record.now, call.written, os.path.realpath(call.out)
         self.situation = Situation(record)
         self.folders = {dag: f"graphs/{file_of(dag)}" for dag in record.dags}

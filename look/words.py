@@ -5,6 +5,7 @@ import urllib.parse
 
 from record import text_of
 
+UNITS = ((86400, "d", 3600, "h"), (3600, "h", 60, "min"), (60, "min", 1, "s"))
 PLAIN = re.compile(r"[A-Za-z0-9_-][A-Za-z0-9_.-]{0,79}")
 
 
@@ -19,17 +20,19 @@ def date_of(moment):
 
 def time_of(moment, day):
     """A moment as a time of this day, with the date where it is of another."""
-    return text_of(moment, "%H:%M:%S" if day_of(moment) == day else "%m-%d %H:%M:%S" if abs(moment - day) < 300 * 86400 else "%Y-%m-%d %H:%M:%S")
+    passed = moment - day
+    if 0 <= passed < 86400:
+        return f"{passed // 3600:02}:{passed // 60 % 60:02}:{passed % 60:02}"
+    return text_of(moment, "%m-%d %H:%M:%S" if abs(passed) < 300 * 86400 else "%Y-%m-%d %H:%M:%S")
 
 
 def length_of(seconds):
     """So many seconds, in the two greatest units that they have."""
-    units = ((86400, "d"), (3600, "h"), (60, "min"), (1, "s"))
-    for (size, word), (less, below) in zip(units, units[1:]):
-        if seconds >= size:
-            rest = seconds % size // less
-            return f"{seconds // size} {word}" + (f" {rest} {below}" if rest else "")
-    return f"{seconds} s"
+    if seconds < 60:
+        return f"{seconds} s"
+    size, word, less, below = next(it for it in UNITS if seconds >= it[0])
+    rest = seconds % size // less
+    return f"{seconds // size} {word} {rest} {below}" if rest else f"{seconds // size} {word}"
 
 
 def counted(count, word, more=""):
