@@ -11,11 +11,13 @@ import changes
 import completions
 import manuals
 import words
-from manuals import TOP, placed, text_of
+from manuals import bytes_of, placed, text_of
 
-PROGRAMS = [f"service/{it}" for it in ("ask", "check", "copy", "end", "serve", "tries")] + [f"look/{it}" for it in ("gantt", "grid", "names")]
-MODULES = [f"service/{it}.py" for it in ("calls", "clock", "inbox", "programs", "scheduler", "service", "starting", "stops", "watch", "working")]
-MODULES += [f"look/{it}.py" for it in ("command", "record", "snapshot")]
+PROGRAMS = [f"service/{it}" for it in ("ask", "check", "copy", "end", "serve", "tries")] + [f"look/{it}" for it in ("gantt", "grid", "names", "page")]
+MODULES = [f"service/{it}.py" for it in ("calls", "clock", "inbox", "pages", "programs", "scheduler", "service", "starting", "stops", "watch", "working")]
+MODULES += [f"look/{it}.py" for it in ("bars", "command", "drawn", "layered", "letters", "reasons", "record", "rules", "sites", "snapshot", "views", "words")]
+TEMPLATES = [f"look/templates/{it}" for it in ("base.html", "front.html", "graph.html", "marks.html", "run.html", "style.css")]
+PICTURES = ["docs/night.svg", "docs/page.png"]
 UNITS = ("dagsched.service", "dagsched-check.service", "dagsched-check.timer")
 EXAMPLES = [f"examples/{it}.dagsched" for it in ("first", "nightly", "pools", "repairs")] + ["examples/record_in_a_file/queries.sql"]
 LINK = re.compile(r"(!?)\[((?:`[^`]*`|[^\]`])*)\]\(([^()\s]*)\)")
@@ -55,10 +57,10 @@ def page(path, prefix, shipped):
 
 
 def pages(place):
-    shipped = [*manuals.PAGES, *(it for *_, own in manuals.MANUALS.values() for it in own), "docs/night.svg", *EXAMPLES]
+    shipped = [*manuals.PAGES, *(it for *_, own in manuals.MANUALS.values() for it in own), *PICTURES, *EXAMPLES]
     for it in shipped:
-        text = page(it, place.prefix, shipped) if it.endswith(".md") else text_of(it)
-        yield f"{place.prefix}/share/doc/dagsched/{it}", 0o644, text.encode()
+        text = page(it, place.prefix, shipped).encode() if it.endswith(".md") else bytes_of(it)
+        yield f"{place.prefix}/share/doc/dagsched/{it}", 0o644, text
 
 
 def unit(name, prefix):
@@ -68,8 +70,7 @@ def unit(name, prefix):
 
 
 def file_of(name):
-    with open(os.path.join(os.path.dirname(os.path.realpath(__file__)), name), "rb") as it:
-        return it.read()
+    return bytes_of(f"package/{name}")
 
 
 def made_files(program, place):
@@ -92,6 +93,8 @@ def files(program, place):
         yield f"{prefix}/bin/dagsched", 0o755, it.read()
     for it in PROGRAMS + MODULES:
         yield f"{prefix}/lib/dagsched/{posixpath.basename(it)}", 0o644 if it.endswith(".py") else 0o755, placed(text_of(it), prefix).encode()
+    for it in TEMPLATES:
+        yield f"{prefix}/lib/dagsched/templates/{posixpath.basename(it)}", 0o644, bytes_of(it)
     for it in UNITS:
         yield f"{place.units}/{it}", 0o644, unit(it, prefix).encode()
     for it in ("sysusers", "tmpfiles"):

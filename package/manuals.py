@@ -15,7 +15,7 @@ MANUALS = {
 }
 # what else a user reads
 PAGES = ["README.md", "docs/TUTORIAL.md", "docs/EXPLAIN.md", "docs/FROM_AIRFLOW.md", "docs/RECORD.md", "docs/PROMISES.md", "docs/PERFORMANCE.md", "docs/SCALE.md"]
-PROGRAM_OF = re.compile(r"(?<![\w/.-])(?:service|look)/(serve|ask|check|tries|end|copy|grid|gantt)(?=[\s`]|$)", re.M)
+PROGRAM_OF = re.compile(r"(?<![\w/.-])(?:service|look)/(serve|ask|check|tries|end|copy|grid|gantt|page)(?=[\s`]|$)", re.M)
 
 
 def spoken(manual_file):
@@ -24,9 +24,13 @@ def spoken(manual_file):
     return f"{name}({section})"
 
 
-def text_of(path):
-    with open(f"{TOP}/{path}", encoding="utf-8") as it:
+def bytes_of(path):
+    with open(f"{TOP}/{path}", "rb") as it:
         return it.read()
+
+
+def text_of(path):
+    return bytes_of(path).decode()
 
 
 def placed(text, prefix):
@@ -82,7 +86,7 @@ def service_files(prefix, units):
     found = {
         f"{units}/dagsched.service": "the unit, which nobody but you enables: systemctl enable --now dagsched",
         f"{units}/dagsched-check.timer": "mails what is wrong, likewise",
-        f"{prefix}/lib/dagsched": "the programs serve, ask, check, tries, end, copy, grid and gantt",
+        f"{prefix}/lib/dagsched": "the programs serve, ask, check, tries, end, copy, grid, gantt and page",
         "/var/lib/dagsched": "the folder of the service: the record (record.db and record.db-wal), graph files, the inbox",
         "/var/log/dagsched": "what tries wrote",
     }
