@@ -1,4 +1,4 @@
-//! What a line is: a title, a remark, limits, an event that no script has words for, the first line of another text, SQL, or a line of a script.
+//! What a line is: a title, a remark, limits, an event that no script has words for, SQL, or a line of a script.
 use sched_core::{Event, Limits, Outcome, Stage};
 use std::str;
 
@@ -13,8 +13,6 @@ pub enum Line<'a> {
     Limits(Option<Limits>),
     /// `restart LANES`, or `report SERIAL STAGE`, where the stage is `started` or how the try ended.
     Event(Event),
-    /// `replace inline`: the lines below, up to one that is `.` alone, are another text of a graph.
-    Replace,
     /// `sql STATEMENTS`: a record that the same events have made is changed by SQL, and loaded.
     Sql(&'a str),
     /// A line of a script.
@@ -31,14 +29,6 @@ impl Line<'_> {
     }
 }
 
-/// The first line of a text, without its newline, and the text after it.
-pub fn first_line(text: &[u8]) -> (&[u8], &[u8]) {
-    match text.iter().position(|byte| *byte == b'\n') {
-        Some(end) => (&text[..end], &text[end + 1..]),
-        None => (text, b"".as_slice()),
-    }
-}
-
 fn of_text(text: &str) -> Line<'_> {
     if text.is_empty() || text.starts_with("#") {
         return Line::Remark;
@@ -49,7 +39,6 @@ fn of_text(text: &str) -> Line<'_> {
     match text.split_once(' ') {
         Some(("limits", rest)) => Line::Limits(limits_of(rest)),
         Some(("sql", rest)) => Line::Sql(rest),
-        Some(("replace", "inline")) => Line::Replace,
         Some((name, rest)) => match event_of(name, rest) {
             Some(event) => Line::Event(event),
             None => Line::Script,

@@ -6,7 +6,6 @@
 //! Standard input has titles, each of which begins a new record, and below a title the events that come to it: the lines of a script,
 //! and the words for what no script says (`lines`). Standard output has the same lines
 //! again, with `> ` before each, and after each what it answers, as a script prints it, and what it leaves (`leaving`). So the output reads as one page.
-//! `replace inline` and the lines below it, up to one that is `.` alone, give a graph another text (`replacing`).
 //! A line `sql STATEMENTS` changes a record that the same events have made, and says what that one is loaded as (`changing`).
 //!
 //! With the words `costs RUNS TASKS` no line is read: a schedule is made with so many runs of so many tasks, which end, and it is printed how
@@ -28,7 +27,6 @@ mod leaving;
 mod lines;
 mod playing;
 mod records;
-mod replacing;
 mod stepping;
 mod timing;
 

@@ -1,9 +1,8 @@
 //! The lines of a text, one after another.
 use crate::answering::answer;
 use crate::changing::load_changed;
-use crate::lines::{Line, first_line};
+use crate::lines::Line;
 use crate::records::{Played, Records};
-use crate::replacing::{from_end, replace_or_again};
 use crate::stepping::step;
 use command_words::CommandReader;
 use sched_core::{Event, Limits};
@@ -62,7 +61,6 @@ fn play_line<'a, W: Write>(
             limit(alloc, records, limits, output)?;
         }
         Line::Event(event) => play_event(alloc, &mut records.played, line, &event, output)?,
-        Line::Replace => return play_replace(alloc, &mut records.played, text, output),
         Line::Sql(statements) => {
             echo(line, output)?;
             load_changed(alloc, &records.played, statements, output)?;
@@ -72,6 +70,14 @@ fn play_line<'a, W: Write>(
         }
     }
     Ok(rest)
+}
+
+// The first line of a text, without its newline, and the text after it.
+fn first_line(text: &[u8]) -> (&[u8], &[u8]) {
+    match text.iter().position(|byte| *byte == b'\n') {
+        Some(end) => (&text[..end], &text[end + 1..]),
+        None => (text, b"".as_slice()),
+    }
 }
 
 fn put_remark<W: Write>(line: &[u8], output: &mut W) -> io::Result<()> {
@@ -88,24 +94,6 @@ fn play_event<W: Write>(
 ) -> io::Result<()> {
     echo(line, output)?;
     step(alloc, played, event, output)
-}
-
-// Gives a graph the text that stands below the first line, and answers the text after the line that ends it.
-fn play_replace<'a, W: Write>(
-    alloc: Global,
-    played: &mut Played,
-    text: &'a [u8],
-    output: &mut W,
-) -> io::Result<&'a [u8]> {
-    let (_, below) = first_line(text);
-    let end = from_end(below);
-    let (_, rest) = first_line(end);
-    let read = text.len().saturating_sub(rest.len());
-    echo(&text[..read], output)?;
-    let size = below.len().saturating_sub(end.len());
-    let event = replace_or_again(alloc, &below[..size])?;
-    step(alloc, played, &event, output)?;
-    Ok(rest)
 }
 
 // Begins a new record within the limits.
