@@ -16,7 +16,7 @@ LONGEST, AGAIN = 60, 2
 # the first line sets a prompt that does not stand in the line itself
 STARTS = {
     "bash": (["bash", "--norc", "--noprofile", "-i"], "PS1='rea''dy> '; . {file}\r"),
-    "zsh": (["zsh", "-f", "-i"], "PS1='rea''dy> '; fpath=({folder} $fpath); autoload -Uz compinit; compinit -u -d {folder}/.zcompdump\r"),
+    "zsh": (["zsh", "-f", "-i"], "PS1='rea''dy> '; fpath=({folder} $fpath); autoload -Uz compinit; compinit -u -d $HOME/.zcompdump\r"),
     "fish": (["fish", "--no-config", "-i"], "function fish_prompt; echo 'rea''dy> '; end; source {file}\r"),
 }
 
