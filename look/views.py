@@ -1,9 +1,10 @@
 """What stands on the pages of a record: the front page, a page for each graph, and one for each run that these link to."""
 import os
 from itertools import islice
+from types import SimpleNamespace as Row
 
 from bars import bars_of_run
-from command import shortened
+from command import cut, shortened
 from drawn import Line, cells_of, row_of, square, try_of
 from layered import CURVES, reduced
 from letters import LETTERS, heads
@@ -160,7 +161,7 @@ class Front:
         for dag in self.record.dags:
             graph, phases = self.record.graph(dag), self.book.situation.phases[dag]
             latest = [*islice(self.record.latest_runs(dag), squares)][::-1]
-            runs = [{**square(PHASES[it.phase]), "href": self.book.run_link(dag, it), "date": date_of(it.logical)} for it in latest]
+            runs = [Row(**square(PHASES[it.phase]), href=self.book.run_link(dag, it), date=date_of(it.logical)) for it in latest]
             tick, away = next_of(graph, self.book.now)
             yield {"dag": dag, "paused": graph.paused, "runs": runs, "tick": tick, "away": away, "waits": self.waits[dag].words(),
                    "running": phases[1], "flying": self.book.situation.active[dag], "failed": self.failures.get(dag, 0)}
@@ -169,7 +170,7 @@ class Front:
         for name, size in sorted(self.book.situation.sizes.items()):
             taken = self.book.situation.taken[name]
             waiting = sum(len(found) for it in self.waits.values() for why, found in it.groups.values() if any(line.startswith(f"pool {name} ") for line in why))
-            yield {"name": name, "short": next(iter(shortened([name], 2 * NAME).values())), "size": size, "taken": taken, "open": size - taken,
+            yield {"name": name, "short": cut(name, 2 * NAME, "~"), "size": size, "taken": taken, "open": size - taken,
                    "share": 100 if taken >= size > 0 else round(100 * taken / max(size, 1)), "waiting": waiting}
 
     def context(self, level):
@@ -223,8 +224,8 @@ class GraphPage:
         runs = self.runs[-max(self.book.last >> level, 1) :]
         columns = [(self.book.run(self.dag, it), self.instances.get(it.logical, {}), date_of(it.logical)) for it in runs]
         short, places = self.book.tasks(self.dag)
-        rows = [{"name": it.name, "short": short[it.name], "cells": Markup(cells_of(it.name, places[it.name], columns, level == 0))} for it in self.graph.tasks]
-        tops = [{**square(PHASES[it.phase]), "kind": KINDS[it.kind], "href": page, "date": date} for it, (page, _, date) in zip(runs, columns)]
+        rows = [Row(name=it.name, short=short[it.name], cells=Markup(cells_of(it.name, places[it.name], columns, level == 0))) for it in self.graph.tasks]
+        tops = [Row(**square(PHASES[it.phase]), kind=KINDS[it.kind], href=page, date=date) for it, (page, _, date) in zip(runs, columns)]
         span = dict.fromkeys(date_of(it.logical) for it in runs[:1] + runs[-1:])
         return {"heads": [*columns_of(runs)] if runs else [], "runs": tops, "rows": rows, "before": self.before(runs), "span": " to ".join(span)}
 
@@ -236,8 +237,8 @@ class GraphPage:
         boxes = []
         for it, (x, y), width in zip(self.graph.tasks, self.layout["boxes"], widths_of(self.book, self.dag)):
             state = states[it.name].state if it.name in states else "none"
-            boxes.append({"x": x - width // 2, "y": y - 11, "width": width, "name": it.name, "short": short[it.name], **square(state),
-                          "href": page and f"{page}#t{places[it.name]}"})
+            href = page and f"{page}#t{places[it.name]}"
+            boxes.append(Row(x=x - width // 2, y=y - 11, width=width, name=it.name, short=short[it.name], **square(state), href=href))
         is_reduced = sum(len(it.upstream) for it in self.graph.tasks) > CURVES
         return {"is_reduced": is_reduced, "width": self.layout["width"] + 2, "height": self.layout["height"] + 2, "lines": self.layout["lines"], "boxes": boxes}
 
@@ -245,14 +246,14 @@ class GraphPage:
         short, _ = self.book.tasks(self.dag)
         for it in self.graph.tasks:
             above = [short.get(name, name) for name in it.upstream[:UPSTREAMS]]
-            yield {"name": it.name, "short": short[it.name], "above": above, "more": len(it.upstream) - len(above), "rule": it.rule, "operator": it.operator,
-                   "pool": next(iter(shortened([it.pool], NAME).values())), "slots": it.slots, "retries": it.retries, "delay": length_of(it.delay), "past": it.past}
+            yield Row(name=it.name, short=short[it.name], above=above, more=len(it.upstream) - len(above), rule=it.rule, operator=it.operator,
+                      pool=cut(it.pool, NAME, "~"), slots=it.slots, retries=it.retries, delay=length_of(it.delay), past=it.past)
 
     def gantt(self):
         line = Line([bar for bars in self.bars.values() for bar in bars])
         short, _ = self.book.tasks(self.dag)
         states = self.instances.get(self.latest.logical, {})
-        rows = [{"name": it.name, "short": short[it.name], "bars": Markup(line.drawn(self.bars[it.name])), **square(states[it.name].state)}
+        rows = [Row(name=it.name, short=short[it.name], bars=Markup(line.drawn(self.bars[it.name])), **square(states[it.name].state))
                 for it in self.graph.tasks if it.name in self.bars and it.name in states]
         chosen = [{"href": self.book.run(self.dag, it), "date": date_of(it.logical), **square(PHASES[it.phase])} for it in self.runs[: -SHOWN_RUNS - 1 : -1]]
         return {"axis": [*line.axis()], "rows": rows, "chosen": chosen, "date": date_of(self.latest.logical), "href": self.book.run(self.dag, self.latest)}
