@@ -389,6 +389,19 @@ def check_links_of(page):
     return found
 
 
+def check_logs_at(work):
+    """Links to logs lead where a web server shows them, also by an address that is meant from the front page."""
+    path, site, logs, day = work / "logged.db", work / "logged", work / "logs", text_of(made.FIRST, "%Y-%m-%d")
+    made.make(path, "orders", ["load"], 1, failed={0})
+    log = logs / "dag_id=orders" / f"run_id=scheduled__{day}T00:00:00+00:00" / "task_id=load" / "attempt=1.log"
+    log.parent.mkdir(parents=True)
+    log.touch()
+    for at, begins in (("../logs/", "."), ("/logs", "/logs/dag")):
+        written(path, site, "--logs", logs, "--logs-at", at)
+        found = [it for parts in check_site(site).values() for it in parts.links if it.endswith(".log")]
+        assert len(found) == 2 and all(it.startswith(begins) for it in found), found
+
+
 def check_full_disk(path, site):
     """Where the pages cannot be written, as here where no file may be larger than the copy of the record, that is said."""
     def limit():
@@ -420,4 +433,5 @@ def check_faults(work):
     said = written(path, work / "undrawn", PATH=str(bare))
     assert said.count("install graphviz") == 1 and "install graphviz" in (work / "undrawn" / "graphs" / "orders" / "index.html").read_text(), said
     check_site(work / "undrawn")
+    check_logs_at(work)
     print("page tells what it cannot do")

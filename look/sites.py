@@ -22,9 +22,10 @@ class NoSite(Exception):
 def read(path):
     """What a file of an earlier writing says, or nothing: it is made anew then."""
     try:
-        return json.loads(path.read_text(encoding="utf-8"))
+        found = json.loads(path.read_text(encoding="utf-8"))
     except (OSError, ValueError):
-        return {}
+        found = None
+    return found if isinstance(found, dict) else {}
 
 
 class Site:

@@ -69,7 +69,9 @@ class Book:
 
     def link_to(self, log, page):
         if self.logs_at is not None:
-            return self.logs_at.rstrip("/") + "/" + address_of(os.path.relpath(log, self.logs))
+            # one that is not whole is meant from the front page
+            up = f"{os.path.relpath(self.out, page)}/" if self.logs_at.startswith(".") else ""
+            return f"{up}{self.logs_at.rstrip('/')}/{address_of(os.path.relpath(log, self.logs))}"
         return address_of(os.path.relpath(os.path.realpath(log), page))
 
 

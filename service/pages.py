@@ -41,9 +41,9 @@ class Pages:
         """Whether it is being written; where it has ended, what went wrong is said."""
         if self.process is None:
             return False
-        with contextlib.suppress(BlockingIOError):
-            self.said = (self.said + (self.process.stderr.read() or b"").decode(errors="replace"))[-2000:]
         ended, status, used = os.wait4(self.process.pid, os.WNOHANG)
+        # after that, since its last words may come at its very end
+        self.said = (self.said + (self.process.stderr.read() or b"").decode(errors="replace"))[-2000:]
         if not ended:
             return True
         self.process.returncode = status = os.waitstatus_to_exitcode(status)
