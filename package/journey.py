@@ -89,7 +89,7 @@ def works(it):
 
 def upgraded(it, deb, version):
     """Over a service at work: its try goes on, and after a restart the new program has the record."""
-    root, runs, before = it.root, it.runs(), it.process()
+    root, before = it.root, it.process()
     it.put("hold")
     it.ask("trigger", "orders")
     until(60, lambda: root.call(f"{it.programs}/tries", FOLDER)[1].startswith("try "), "no try is in flight")
