@@ -44,7 +44,8 @@ def file_of(name):
     if PLAIN.fullmatch(name):
         return name
     sum_of = hashlib.sha256(name.encode(errors="surrogateescape")).hexdigest()[:16]
-    return f"{re.sub('[^A-Za-z0-9_-]', '_', name[:60])}-{sum_of}"
+    # no name that stays as it is has a ~
+    return f"{re.sub('[^A-Za-z0-9_-]', '_', name[:60])}~{sum_of}"
 
 
 def address_of(path):
