@@ -1,7 +1,7 @@
-"""Reads what a record of dagsched says, for `grid` and `gantt`: of one run at a time, so that the memory it takes does not grow with the record."""
+"""Reads what a record of dagsched says, for the looks: of one run, or of so many as are asked for, so that the memory it takes does not grow with the record."""
 import contextlib
 import functools
-import pathlib
+import os
 import sqlite3
 import time
 import tomllib
@@ -10,12 +10,13 @@ from typing import NamedTuple, Optional
 from snapshot import NoRecord, rows_of
 
 VERSIONS = (1, 2)
+UNBOUND = 1_000_000
 TABLES = ("meta", "pool", "dag", "run", "instance", "attempt")
 OUTCOMES = ("success", "failed", "skipped", "lost")
 VERDICTS = ("none", "scheduled", "skipped", "upstream_failed")
 KINDS = ("scheduled", "manual", "backfill")
 PHASES = ("queued", "running", "success", "failed")
-SUCCESS, FAILED = PHASES.index("success"), PHASES.index("failed")
+RUNNING, SUCCESS, FAILED = (PHASES.index(it) for it in ("running", "success", "failed"))
 
 
 class Task(NamedTuple):
@@ -23,6 +24,29 @@ class Task(NamedTuple):
     pool: str
     upstream: list[str]
     retries: int
+    rule: str
+    delay: int
+    slots: int
+    past: bool
+    operator: str
+
+    @classmethod
+    def of(cls, it):
+        """A task of a graph's file."""
+        rule, past = it.get("trigger_rule", "all_success"), it.get("depends_on_past", False)
+        delay, slots, pool = it.get("retry_delay", 300), it.get("pool_slots", 1), it.get("pool", "default_pool")
+        return cls(it["task_id"], pool, it.get("upstream", []), it.get("retries", 0), rule, delay, slots, past, it.get("operator", ""))
+
+
+class Graph(NamedTuple):
+    """A graph by its file. `bound` is how many of its tries may be in flight."""
+
+    name: str
+    text: str
+    keys: dict
+    tasks: list[Task]
+    paused: bool
+    bound: int
 
 
 class Run(NamedTuple):
@@ -30,6 +54,7 @@ class Run(NamedTuple):
     end: int
     kind: int
     phase: int
+    start: int
 
 
 class Try(NamedTuple):
@@ -38,6 +63,27 @@ class Try(NamedTuple):
     started: Optional[int]
     ended: Optional[int]
     outcome: Optional[int]
+
+
+class Flying(NamedTuple):
+    """A try in flight."""
+
+    serial: int
+    dag: str
+    logical: int
+    task: str
+    number: int
+    slots: int
+    started: Optional[int]
+
+
+class Instance(NamedTuple):
+    """A task instance: its state, and its last try since the last clearing, if there is one."""
+
+    state: str
+    serial: Optional[int]
+    number: Optional[int]
+    ended: Optional[int]
 
 
 class Counted(NamedTuple):
@@ -68,17 +114,30 @@ class Record:
         lacking = [it for it in TABLES if it not in self.tables]
         if lacking:
             raise NoRecord(f"this is no record, but a database of another program: it has no table {lacking[0]}")
-        version, self.now = rows.execute("SELECT version, now FROM meta").fetchone() or (None, None)
+        version, self.now, self.next_serial, self.lanes = rows.execute("SELECT version, now, next_serial, lanes FROM meta").fetchone() or [None] * 4
         if version not in VERSIONS:
             known = " and ".join(map(str, VERSIONS))
             raise NoRecord(f"this is a record of version {version}, and this program reads the versions {known}: take the `look` of the dagsched that made it")
         self.dags = [it[0] for it in rows.execute("SELECT dag_id FROM dag ORDER BY dag_id")]
 
     @functools.lru_cache(maxsize=256)
+    def graph(self, dag):
+        text, paused = self.rows.execute("SELECT body, paused FROM dag WHERE dag_id = ?", (dag,)).fetchone()
+        try:
+            keys = tomllib.loads(text)
+            tasks = [Task.of(it) for it in keys["task"]]
+        except (ValueError, KeyError, TypeError, AttributeError):
+            raise NoRecord(f"the text of the graph {dag} is no graph file") from None
+        return Graph(dag, text, keys, tasks, bool(paused), self.bound(dag))
+
+    def bound(self, dag):
+        """How many tries of a graph may be in flight; a record of version 1 becomes one of version 2 with the number that is here."""
+        asked = "SELECT max_active_tasks FROM dag_limit WHERE dag_id = ?"
+        return self.rows.execute(asked, (dag,)).fetchone()[0] if "dag_limit" in self.tables else UNBOUND
+
     def tasks(self, dag):
         """The tasks of a graph, in the order of its file."""
-        body = self.rows.execute("SELECT body FROM dag WHERE dag_id = ?", (dag,)).fetchone()[0]
-        return [Task(it["task_id"], it.get("pool", "default_pool"), it.get("upstream", []), it.get("retries", 0)) for it in tomllib.loads(body)["task"]]
+        return self.graph(dag).tasks
 
     def slots(self):
         """The size of each pool."""
@@ -88,7 +147,7 @@ class Record:
         """How many tries of a graph are in flight, where it may have no more: else None, and of a record of version 1, which has no bounds."""
         if "dag_limit" not in self.tables:
             return None
-        bound = self.rows.execute("SELECT max_active_tasks FROM dag_limit WHERE dag_id = ?", (dag,)).fetchone()[0]
+        bound = self.bound(dag)
         # a run that has ended has no try in flight
         asked = f"SELECT count(*) FROM run r CROSS JOIN attempt a USING (dag_id, logical) WHERE r.dag_id = ? AND r.phase < {SUCCESS} AND a.ended IS NULL"
         active = self.rows.execute(asked, (dag,)).fetchone()[0]
@@ -96,7 +155,7 @@ class Record:
 
     def latest_runs(self, dag, since=0, failed=False):
         """The runs of a graph from a date on, latest first; where only those that failed are asked for, also those under way in which a task has."""
-        asked = f"SELECT logical, data_end, kind, phase FROM run WHERE dag_id = ? AND logical >= ? AND (phase <> {SUCCESS} OR ?) ORDER BY logical DESC"
+        asked = f"SELECT logical, data_end, kind, phase, data_start FROM run WHERE dag_id = ? AND logical >= ? AND (phase <> {SUCCESS} OR ?) ORDER BY logical DESC"
         for it in map(Run._make, self.rows.execute(asked, (dag, since, not failed))):
             if not failed or it.phase == FAILED or "failed" in self.states(dag, it.logical).values():
                 yield it
@@ -107,7 +166,7 @@ class Record:
         return Counted(*self.rows.execute(asked, (dag, logical)).fetchone())
 
     def run(self, dag, logical):
-        asked = "SELECT logical, data_end, kind, phase FROM run WHERE dag_id = ? AND logical = ?"
+        asked = "SELECT logical, data_end, kind, phase, data_start FROM run WHERE dag_id = ? AND logical = ?"
         return Run(*self.rows.execute(asked, (dag, logical)).fetchone())
 
     def tries(self, dag, logical):
@@ -120,12 +179,50 @@ class Record:
 
     def states(self, dag, logical):
         """The state of each task of a run, as `list tasks` prints it."""
+        return {task: it.state for task, it in self.instances(dag, "i.logical = ?", logical).get(logical, {}).items()}
+
+    def running_instances(self, dag):
+        """The instances of the running runs of a graph, by date and task."""
+        return self.instances(dag, f"i.logical IN (SELECT logical FROM run WHERE dag_id = ? AND phase = {RUNNING})", dag)
+
+    def instances(self, dag, which, *given):
+        """The instances of some runs of a graph, by date and task."""
         # beside the greatest number stand the values of its try
-        asked = """SELECT i.task_id, i.verdict, coalesce(max(a.try_number) - i.since, 0), a.started IS NOT NULL, a.outcome
+        asked = f"""SELECT i.logical, i.task_id, i.verdict, max(a.try_number), i.since, a.started IS NOT NULL, a.outcome, a.serial, a.ended
             FROM instance i LEFT JOIN attempt a ON a.dag_id = i.dag_id AND a.logical = i.logical AND a.task_id = i.task_id AND a.try_number > i.since
-            WHERE i.dag_id = ? AND i.logical = ? GROUP BY i.task_id"""
-        retries = {it.name: it.retries for it in self.tasks(dag)}
-        return {task: state_of(retries.get(task, 0), *rest) for task, *rest in self.rows.execute(asked, (dag, logical))}
+            WHERE i.dag_id = ? AND {which} GROUP BY i.logical, i.task_id"""
+        retries, found = {it.name: it.retries for it in self.tasks(dag)}, {}
+        for logical, task, verdict, number, since, started, outcome, serial, ended in self.rows.execute(asked, (dag, *given)):
+            state = state_of(retries.get(task, 0), verdict, number - since if number else 0, started, outcome)
+            found.setdefault(logical, {})[task] = Instance(state, serial, number, ended)
+        return found
+
+    def flying(self):
+        """The tries in flight, by serial."""
+        asked = "SELECT serial, dag_id, logical, task_id, try_number, slots, started FROM attempt WHERE ended IS NULL ORDER BY serial"
+        return [Flying(*it) for it in self.rows.execute(asked)]
+
+    def phases(self):
+        """How many runs of each graph are in each phase."""
+        found = {dag: [0] * len(PHASES) for dag in self.dags}
+        for dag, phase, count in self.rows.execute("SELECT dag_id, phase, count(*) FROM run GROUP BY dag_id, phase"):
+            found[dag][phase] = count
+        return found
+
+    def runs_in(self, dag, phase, most):
+        """The first runs of a graph that are in a phase."""
+        asked = "SELECT logical, data_end, kind, phase, data_start FROM run WHERE dag_id = ? AND phase = ? ORDER BY logical LIMIT ?"
+        return [Run(*it) for it in self.rows.execute(asked, (dag, PHASES.index(phase), most))]
+
+    def run_before(self, dag, logical):
+        """The date of the last run of a graph before a date, or None."""
+        return self.rows.execute("SELECT max(logical) FROM run WHERE dag_id = ? AND logical < ?", (dag, logical)).fetchone()[0]
+
+    def failed_since(self, moment):
+        """The runs that have failed since a moment, and when: each the graph, the run and the end of its last try, the latest first."""
+        asked = f"""SELECT r.dag_id, max(a.ended), r.logical, r.data_end, r.kind, r.phase, r.data_start FROM run r CROSS JOIN attempt a USING (dag_id, logical)
+            WHERE r.phase = {FAILED} GROUP BY r.dag_id, r.logical HAVING max(a.ended) >= ? ORDER BY 2 DESC, r.dag_id, r.logical DESC"""
+        return [(dag, Run(*rest), ended) for dag, ended, *rest in self.rows.execute(asked, (moment,))]
 
     def tries_within(self, first, last, most, dag=None, only=None):
         """The graphs, dates and serials of the tries that meet a span of time, of which None is open, latest serials first, at most so many; and how many they all are.
@@ -157,8 +254,8 @@ def state_of(retries, verdict, tried, started, outcome):
 def log_of(logs, dag, run, task, number):
     """The path of the log of a try under the folder of `dagsched run --logs`, or None where there is none."""
     name = f"{KINDS[run.kind]}__{text_of(run.logical, '%Y-%m-%dT%H:%M:%S+00:00')}"
-    path = pathlib.Path(logs, f"dag_id={dag}", f"run_id={name}", f"task_id={task}", f"attempt={number}.log")
-    return path if path.is_file() else None
+    path = os.path.join(logs, f"dag_id={dag}", f"run_id={name}", f"task_id={task}", f"attempt={number}.log")
+    return path if os.path.isfile(path) else None
 
 
 def text_of(moment, form="%Y-%m-%dT%H:%M:%SZ"):

@@ -1,6 +1,7 @@
 """What `try` tries of the service: each point gets one on a folder of its own, and says what there is to say beside that all was well."""
 import contextlib
 import os
+import pathlib
 import re
 import signal
 import sqlite3
@@ -8,9 +9,12 @@ import subprocess
 import sys
 import time
 
+import night
 import programs
 import service
 import snapshot
+# of look, whose folder service has put on the path
+import paged
 from trial import HERE, expect, graph, until
 
 HANGS = "trap '' TERM; sleep 1000 & while :; do wait; done"
@@ -356,6 +360,24 @@ def failures(trial, _):
             os.kill(process, signal.SIGKILL)
 
 
+def pages(trial, _):
+    """The page of a night is whole while it is written, and is written once more at the end; where it cannot be, that is said, and all goes on."""
+    site = pathlib.Path(trial.beside("page.out"))
+    front = site / "index.html"
+    night.make(trial, f"--page={site}", "--page-each=1")
+    until(60, lambda: front.exists() and "pool scales needs 1 open 0" in front.read_text(), lambda: f"the page tells what waits:\n{trial.said()}")
+    count = len(paged.check_site(site))
+    expect("run-queued 1 limit 1" in front.read_text() and ">paused<" in front.read_text(), "it tells of the queue and the pause")
+    night.end(trial)
+    after = paged.check_site(site)
+    expect(time.strftime("%Y-%m-%d %H:%M:%S", time.gmtime(trial.now())) in front.read_text(), "the page is that of the end")
+    trial.begin("--page-each=1", environment={"PAGE": trial.beside("nowhere/page")})
+    until(20, lambda: "the page in " in trial.said() and "No such file" in trial.said(), lambda: f"a page that cannot be written is told:\n{trial.said()}")
+    expect(trial.ask("list", "runs")[0] == 0, "the service goes on")
+    night.end(trial)
+    return f"{count} pages, {len(after)} at the end"
+
+
 def chain(trial, _):
     """A chain of short tasks takes a second a link, and the log has each try once."""
     trial.begin(seconds="5")
@@ -374,4 +396,4 @@ def chain(trial, _):
     return f"six tasks of a chain took {took:.0f} s"
 
 
-POINTS = (signals, second_signals, copies, copies_of_busy, asks, edits, ended_asks, kills, hung, checks, failures, chain)
+POINTS = (signals, second_signals, copies, copies_of_busy, asks, edits, ended_asks, kills, hung, checks, failures, pages, chain)

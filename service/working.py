@@ -15,8 +15,8 @@ STUCK, ROOM = 60, 1 << 18
 
 
 class Service:
-    def __init__(self, folder, log, stops, lock, clock, watch):
-        self.folder, self.log, self.stops, self.lock, self.clock, self.watch = folder, log, stops, lock, clock, watch
+    def __init__(self, folder, log, stops, lock, clock, watch, pages):
+        self.folder, self.log, self.stops, self.lock, self.clock, self.watch, self.pages = folder, log, stops, lock, clock, watch, pages
         self.seconds, self.next_tick, self.busy, self.behind = 5.0, 0.0, False, True
         self.refusal, self.refused_since, self.refusals = None, 0.0, Pace(60)
         self.waits, self.ended, self.stuck, self.scheduler, self.inbox = Pace(30), False, False, None, None
@@ -58,6 +58,7 @@ class Service:
             self.tick()
         if self.behind:
             self.look()
+        self.pages.write()
         self.say_sentences()
         self.scheduler.wait(min(POLL, self.next_tick - time.monotonic()))
         if self.scheduler.answers_end():
@@ -155,6 +156,7 @@ class Service:
             self.watch.look()
             if self.watch.calls:
                 self.watch.calls.call()
+            self.pages.write()
             self.say_sentences()
             if self.waits.is_due():
                 self.folder.wake()
@@ -167,6 +169,7 @@ class Service:
         if self.watch.calls:
             self.watch.calls.call()
             self.watch.calls.end()
+        self.pages.end(self.stops.asked())
         return self.settle(status)
 
     def settle(self, status):

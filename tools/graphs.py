@@ -1,18 +1,16 @@
 """Graphs and their intervals, by the rules of docs/GRAPH_FILES.md and crontab(5), for `bounded_days`: nothing here is the scheduler's own. A file's faults are not looked for."""
 import calendar
+import os
 import re
+import sys
 import time
 import tomllib
 
-END = 7_258_118_400  # 2200-01-01
-DAY = 86_400
+# what looks go by is not the scheduler's own either
+sys.path.append(os.path.join(os.path.dirname(os.path.dirname(os.path.realpath(__file__))), "look"))
+from rules import END, Cron
+
 USUAL_BOUND = 16
-PRESETS = {
-    "@hourly": "0 * * * *", "@daily": "0 0 * * *", "@weekly": "0 0 * * 0", "@monthly": "0 0 1 * *", "@quarterly": "0 0 1 */3 *", "@yearly": "0 0 1 1 *",
-}
-MONTHS = "jan feb mar apr may jun jul aug sep oct nov dec".split()
-WEEKDAYS = "sun mon tue wed thu fri sat".split()
-FIELDS = [(0, 59, {}), (0, 23, {}), (1, 31, {}), (1, 12, {it: at for at, it in enumerate(MONTHS, 1)}), (0, 6, {it: at for at, it in enumerate(WEEKDAYS)})]
 KEYS = "dag_id schedule start_date end_date catchup max_active_runs max_active_tasks task timetable".split()
 
 
@@ -31,48 +29,15 @@ def moment_of(word):
     return at if time.gmtime(at)[:6] == numbers and 0 <= at < END else leave(word)
 
 
+def cron_of(text):
+    try:
+        return Cron(text)
+    except ValueError:
+        return leave(text)
+
+
 def text_of(moment):
     return time.strftime("%Y-%m-%dT%H:%M:%S+00:00", time.gmtime(moment))
-
-
-class Cron:
-    """The moments at which a cron text fires."""
-
-    def __init__(self, text):
-        fields = PRESETS.get(text.strip(), text).split()
-        self.sets = [self.field(it, *FIELDS[at]) for at, it in enumerate(fields)] if len(fields) == 5 else leave(text)
-
-    @staticmethod
-    def field(text, low, high, names):
-        found = set()
-        for part in text.lower().split(","):
-            base, _, step = part.partition("/")
-            first, _, last = (f"{low}-{high}" if base == "*" else base).partition("-")
-            first, last = (int(names.get(it, it)) for it in (first, last or (str(high) if step else first)))
-            # a weekday 7 is Sunday, and as the end of a range Sunday comes last
-            last = 7 if high == 6 and "-" in base and last == 0 else last
-            found |= {it % 7 if high == 6 else it for it in range(first, last + 1, int(step or 1))}
-        return found
-
-    def fires_on(self, day):
-        """Whether it fires on a day: where both day fields are restricted, one of them is enough."""
-        at = time.gmtime(day * DAY)
-        by_date, by_weekday = at.tm_mday in self.sets[2], (day + 4) % 7 in self.sets[4]
-        are_both = len(self.sets[2]) < 31 and len(self.sets[4]) < 7
-        return at.tm_mon in self.sets[3] and (by_date or by_weekday if are_both else by_date and by_weekday)
-
-    def ticks_of(self, day):
-        return [day * DAY + hour * 3600 + minute * 60 for hour in sorted(self.sets[1]) for minute in sorted(self.sets[0])] if self.fires_on(day) else []
-
-    def ticks_from(self, moment):
-        """The ticks at this moment and after it."""
-        for day in range(moment // DAY, END // DAY):
-            yield from (it for it in self.ticks_of(day) if it >= moment)
-
-    def ticks_back(self, moment):
-        """The ticks at this moment and before it, the last one first."""
-        for day in range(moment // DAY, -1, -1):
-            yield from (it for it in reversed(self.ticks_of(day)) if it <= moment)
 
 
 class Task:
@@ -99,7 +64,7 @@ class Graph:
         self.text, self.name, self.paused, self.catchup = text, row["dag_id"], False, row.get("catchup", True)
         self.start, self.end = moment_of(row["start_date"]), moment_of(row["end_date"]) if "end_date" in row else None
         self.active_runs, self.bound = row.get("max_active_runs", 16), row.get("max_active_tasks", USUAL_BOUND)
-        self.cron = None if row["schedule"] in ("None", "@once") else Cron(row["schedule"])
+        self.cron = None if row["schedule"] in ("None", "@once") else cron_of(row["schedule"])
         self.is_once, self.is_trigger = row["schedule"] == "@once", row.get("timetable") == "trigger"
         self.in_file = [Task(it) for it in row["task"]]
         self.tasks = self.by_place()

@@ -3,6 +3,7 @@ runs and their tries at each question: states, taken slots, tries without an end
 import collections
 
 from graphs import END, Graph, text_of
+from rules import verdict
 
 FINISHED = ("success", "failed", "skipped", "upstream_failed")
 BAD = ("failed", "upstream_failed")
@@ -45,28 +46,6 @@ class Run:
 
     def state(self, dag, name):
         return self.instances[name].state(dag.tasks[name])
-
-
-def verdict(rule, states):
-    """What a trigger rule makes of the states of upstreams, as Airflow 2 has it in its page "DAGs"; none where it waits."""
-    count, all_ = collections.Counter(states), len(states)
-    success, skipped, failed = count["success"], count["skipped"], count["failed"] + count["upstream_failed"]
-    is_done = success + skipped + failed == all_
-    # runs, has failed by its upstreams, is skipped: the first that holds
-    columns = {
-        "all_success": (success == all_, failed, skipped),
-        "all_failed": (failed == all_, 0, success or skipped),
-        "all_done": (is_done, 0, 0),
-        "all_skipped": (skipped == all_, 0, success or failed),
-        "one_failed": (failed, 0, is_done),
-        "one_success": (success, is_done and skipped < all_, skipped == all_),
-        "one_done": (success or count["failed"], 0, is_done),
-        "none_failed": (success + skipped == all_, failed, 0),
-        "none_failed_min_one_success": (is_done and success and not failed, failed, skipped == all_),
-        "none_skipped": (success + failed == all_, 0, skipped),
-        "always": (1, 0, 0),
-    }[rule]
-    return next((word for word, holds in zip(("run", "upstream_failed", "skip"), columns) if holds), None) if states else "run"
 
 
 class Schedule:
