@@ -36,8 +36,10 @@ def since(version):
 
 
 def debian(version):
-    entries = []
-    for it in since(version):
+    entries, found = [], since(version)
+    for place, it in enumerate(found):
+        # each entry has to be newer than the one before, so versions of one day stand an hour apart
+        hour = sum(earlier.day == it.day for earlier in found[place + 1 :])
         points = "\n".join(textwrap.fill(point, 78, initial_indent="  * ", subsequent_indent="    ", break_long_words=False, break_on_hyphens=False) for point in it.points)
-        entries.append(f"dagsched ({it.version}) stable; urgency=medium\n\n{points}\n\n -- {MAINTAINER}  {time.strftime('%a, %d %b %Y', it.day)} 00:00:00 +0000\n")
+        entries.append(f"dagsched ({it.version}) stable; urgency=medium\n\n{points}\n\n -- {MAINTAINER}  {time.strftime('%a, %d %b %Y', it.day)} {hour:02}:00:00 +0000\n")
     return "\n".join(entries)
