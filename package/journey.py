@@ -91,7 +91,7 @@ def upgraded(it, deb, version):
     """Over a service at work: its try goes on, and after a restart the new program has the record."""
     root, before = it.root, it.process()
     it.put("hold")
-    it.ask("trigger", "orders")
+    until(90, lambda: root.call(f"{it.programs}/ask", FOLDER, "trigger", "orders", user=USER)[0] == 0, "no tick has moved the clock past the date of the first run")
     until(60, lambda: root.call(f"{it.programs}/tries", FOLDER)[1].startswith("try "), "no try is in flight")
     printed = root.do("dpkg", "--install", f"/root/{os.path.basename(deb)}")
     expect("systemctl restart dagsched" in printed, f"nobody is told to restart the service:\n{printed}")
