@@ -208,8 +208,16 @@ fn set_room(
 fn key_of(alloc: Global, text: &str) -> Option<Key> {
     let (graph, rest) = text.split_once(' ')?;
     let (task, rest) = rest.split_once(' ')?;
-    let (logical, weight, slots, room) = rank_of(rest)?;
-    key(alloc, (graph, task), weight, logical, slots, room)
+    let rank = rank_of(rest)?;
+    Some(key(names_of(alloc, graph, task)?, rank))
+}
+
+// The names of the graph, the task and the pool.
+fn names_of(alloc: Global, graph: &str, task: &str) -> Option<(Name, Name, Name)> {
+    let graph = Name::read(alloc, graph).ok()?;
+    let task = Name::read(alloc, task).ok()?;
+    let pool = Name::read(alloc, "p").ok()?;
+    Some((graph, task, pool))
 }
 
 fn rank_of(text: &str) -> Option<(Moment, u64, Slots, usize)> {
@@ -221,23 +229,17 @@ fn rank_of(text: &str) -> Option<(Moment, u64, Slots, usize)> {
     Some((logical, weight.parse().ok()?, slots, room.parse().ok()?))
 }
 
-fn key(
-    alloc: Global,
-    (graph, task): (&str, &str),
-    weight: u64,
-    logical: Moment,
-    slots: Slots,
-    room: usize,
-) -> Option<Key> {
-    Some(Key {
+fn key((graph, task, pool): (Name, Name, Name), rank: (Moment, u64, Slots, usize)) -> Key {
+    let (logical, weight, slots, room) = rank;
+    Key {
         weight,
         logical,
-        graph: Name::read(alloc, graph).ok()?,
-        task: Name::read(alloc, task).ok()?,
-        pool: Name::read(alloc, "p").ok()?,
+        graph,
+        task,
+        pool,
         slots,
         room,
-    })
+    }
 }
 
 // Offers a key of an instance of which none is offered.

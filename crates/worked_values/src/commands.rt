@@ -6,25 +6,21 @@ use command_words::{
 use std::io;
 
 /// Writes a command, and the path of its record before it.
-pub fn write_command_line(rt: &HostRuntime, line: CommandLine) -> io::Result<()> {
-    let CommandLine {
-        record_path,
-        command,
-    } = line;
-    if let Some(path) = record_path {
+pub fn write_command_line(rt: &HostRuntime, line: &CommandLine) -> io::Result<()> {
+    if let Some(path) = &line.record_path {
         let path = path.as_str();
         print!(rt; "record '{path}' ")?;
     }
-    write_command(rt, command)
+    write_command(rt, &line.command)
 }
 
-fn write_command(rt: &HostRuntime, command: Command) -> io::Result<()> {
+fn write_command(rt: &HostRuntime, command: &Command) -> io::Result<()> {
     match command {
-        Command::Run(options) => write_options(rt, &options),
-        Command::List(listing) => write_listing(rt, listing),
-        Command::Explain(question) => write_question(rt, &question),
+        Command::Run(options) => write_options(rt, options),
+        Command::List(listing) => write_listing(rt, *listing),
+        Command::Explain(question) => write_question(rt, question),
         Command::Step(event) => write_event(rt, event),
-        Command::Take(taking, source) => write_source(rt, taking, source),
+        Command::Take(taking, source) => write_source(rt, *taking, source),
         Command::Tick(time) => write_time(rt, time),
         Command::Drain => rt.print("drain"),
     }
@@ -57,7 +53,7 @@ fn write_question(rt: &HostRuntime, question: &Question) -> io::Result<()> {
     print!(rt; "explain {graph} {logical} {task}")
 }
 
-fn write_source(rt: &HostRuntime, taking: Taking, source: GraphSource) -> io::Result<()> {
+fn write_source(rt: &HostRuntime, taking: Taking, source: &GraphSource) -> io::Result<()> {
     let name = match taking {
         Taking::Load => "load",
         Taking::Replace => "replace",
@@ -71,7 +67,7 @@ fn write_source(rt: &HostRuntime, taking: Taking, source: GraphSource) -> io::Re
     }
 }
 
-fn write_time(rt: &HostRuntime, time: TickTime) -> io::Result<()> {
+fn write_time(rt: &HostRuntime, time: &TickTime) -> io::Result<()> {
     match time {
         TickTime::At(moment) => print!(rt; "tick at {moment}"),
         TickTime::Now => rt.print("tick now"),

@@ -14,29 +14,40 @@ struct Alike {
 
 /// Writes what a file is that is cut off after so many bytes, for each number of them.
 pub fn write_cuts(rt: &HostRuntime, text: &str) -> io::Result<()> {
+    let answer = answer_to(rt.alloc(), "")?;
     let mut alike = Alike {
         first: 0,
         last: 0,
-        answer: answer_to(rt.alloc(), "")?,
+        answer,
     };
+    write_each(rt, &mut alike, text)?;
+    write_alike(rt, &alike)
+}
+
+// Writes those cuts behind which others begin that leave something else.
+fn write_each(rt: &HostRuntime, alike: &mut Alike, text: &str) -> io::Result<()> {
     for end in 1..=text.len() {
-        let Some(left) = text.get(..end) else {
-            continue;
-        };
-        let answer = answer_to(rt.alloc(), left)?;
-        if answer == alike.answer {
-            alike.last = end;
-        } else {
-            write_alike(rt, &alike)?;
-            rt.print(", ")?;
-            alike = Alike {
-                first: end,
-                last: end,
-                answer,
-            };
+        if let Some(left) = text.get(..end) {
+            add(rt, alike, end, answer_to(rt.alloc(), left)?)?;
         }
     }
-    write_alike(rt, &alike)
+    Ok(())
+}
+
+// Adds the next cut: to those before it, or as the first of others, and then those before it are written.
+fn add(rt: &HostRuntime, alike: &mut Alike, end: usize, answer: String) -> io::Result<()> {
+    if answer == alike.answer {
+        alike.last = end;
+        return Ok(());
+    }
+    write_alike(rt, alike)?;
+    rt.print(", ")?;
+    *alike = Alike {
+        first: end,
+        last: end,
+        answer,
+    };
+    Ok(())
 }
 
 fn write_alike(rt: &HostRuntime, alike: &Alike) -> io::Result<()> {

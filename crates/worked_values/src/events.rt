@@ -6,21 +6,21 @@ use sched_state::Clearing;
 use std::io;
 
 /// Writes an event.
-pub fn write_event(rt: &HostRuntime, event: Event) -> io::Result<()> {
+pub fn write_event(rt: &HostRuntime, event: &Event) -> io::Result<()> {
     match event {
-        Event::Trigger(graph) => write_named(rt, "trigger", &graph),
-        Event::Pause(graph) => write_named(rt, "pause", &graph),
-        Event::Unpause(graph) => write_named(rt, "unpause", &graph),
+        Event::Trigger(graph) => write_named(rt, "trigger", graph),
+        Event::Pause(graph) => write_named(rt, "pause", graph),
+        Event::Unpause(graph) => write_named(rt, "unpause", graph),
         Event::Backfill {
             graph,
             from,
             to,
             reset,
         } => {
-            write_span(rt, "backfill", &graph, from, to)?;
-            write_flag(rt, " reset", reset)
+            write_span(rt, "backfill", graph, *from, *to)?;
+            write_flag(rt, " reset", *reset)
         }
-        Event::Clear(clearing) => write_clearing(rt, &clearing),
+        Event::Clear(clearing) => write_clearing(rt, clearing),
         Event::Resize(pool, size) => {
             let pool = pool.as_str();
             let size = size.get();

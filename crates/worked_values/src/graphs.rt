@@ -16,15 +16,20 @@ const TASK: &str = "[[task]]\ntask_id = \"t\"\noperator = \"noop\"\n";
 /// Writes the answer to a question about a graph file: of its top (`graph`, and `top` of a file with one task), of its tasks (`tasks` behind a
 /// top, `task` for more lines of one task), whether it is read (`size`, of tasks), or what it is where it is cut off (`cuts`).
 pub fn write_answer(rt: &HostRuntime, word: &str, lines: &str) -> io::Result<()> {
-    let lines = expanded(rt.alloc(), lines)?;
-    let lines = replaced(rt.alloc(), lines.as_str(), &[(" ; ", "\n")])?;
-    let text = file_of(rt.alloc(), word, lines.as_str())?;
+    let text = text_of(rt.alloc(), word, lines)?;
     match word {
         "graph" | "top" => write_top(rt, text.as_str()),
         "size" => write_size(rt, text.as_str()),
         "cuts" => write_cuts(rt, text.as_str()),
         _ => write_tasks_of(rt, text.as_str()),
     }
+}
+
+// The text of the file that a question is about.
+fn text_of(alloc: Global, word: &str, lines: &str) -> Result<String, AllocError> {
+    let lines = expanded(alloc, lines)?;
+    let lines = replaced(alloc, lines.as_str(), &[(" ; ", "\n")])?;
+    file_of(alloc, word, lines.as_str())
 }
 
 /// A text in which words stand for others, one pair of them after another.

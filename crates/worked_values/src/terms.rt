@@ -136,8 +136,12 @@ fn write_order(rt: &HostRuntime, text: &str) -> io::Result<()> {
     let Ok(other) = Name::read(rt.alloc(), other) else {
         return rt.print("no name");
     };
-    let order = one.cmp(&other);
-    let found = if is_found(rt.alloc(), &one, &other)? {
+    write_compared(rt, &one, &other)
+}
+
+fn write_compared(rt: &HostRuntime, one: &Name, other: &Name) -> io::Result<()> {
+    let order = one.cmp(other);
+    let found = if is_found(rt.alloc(), one, other)? {
         "found"
     } else {
         "not found"

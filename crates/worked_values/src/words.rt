@@ -19,7 +19,7 @@ pub fn write_answer(rt: &HostRuntime, word: &str, rest: &str) -> io::Result<()> 
 // What words are read as, or why they are no command.
 fn write_reading(rt: &HostRuntime, words: &[String]) -> io::Result<()> {
     match CommandReader::new().read(rt.alloc(), words) {
-        Ok(line) => write_command_line(rt, line),
+        Ok(line) => write_command_line(rt, &line),
         Err(fault) => write_fault(rt, fault),
     }
 }
