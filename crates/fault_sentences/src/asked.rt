@@ -28,16 +28,8 @@ impl<'a> Asked<'a> {
 
     /// The words that are no options and no values of `--record` and `--task`.
     pub(crate) fn values(self, alloc: Global) -> Result<Vec<&'a str>, AllocError> {
-        let mut values = Vec::new(alloc);
-        let mut is_value = false;
         let words = self.words(alloc)?;
-        for word in words.as_slice() {
-            if !is_value && !word.starts_with("--") {
-                values.push(*word)?;
-            }
-            is_value = *word == "--record" || *word == "--task";
-        }
-        Ok(values)
+        values_of(alloc, words.as_slice())
     }
 
     /// Whether it is in a script.
@@ -55,6 +47,18 @@ impl<'a> Asked<'a> {
             Asked::Own(_) => "",
         }
     }
+}
+
+fn values_of<'a>(alloc: Global, words: &[&'a str]) -> Result<Vec<&'a str>, AllocError> {
+    let mut values = Vec::new(alloc);
+    let mut is_value = false;
+    for word in words {
+        if !is_value && !word.starts_with("--") {
+            values.push(*word)?;
+        }
+        is_value = *word == "--record" || *word == "--task";
+    }
+    Ok(values)
 }
 
 // What stands between blanks and tabs.

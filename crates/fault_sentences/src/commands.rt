@@ -64,39 +64,76 @@ fn place_sentence(alloc: Global, asked: Asked<'_>) -> Result<Option<String>, All
 
 // What clap says of the words, as one line, and what a shell would have done with them.
 fn words_sentence(alloc: Global, asked: Asked<'_>) -> Result<Option<String>, AllocError> {
-    if let Some(sentence) = size_sentence(alloc, asked)? {
-        return Ok(Some(sentence));
+    match size_sentence(alloc, asked)? {
+        Some(sentence) => Ok(Some(sentence)),
+        None => parts_sentence(alloc, asked),
     }
+}
+
+fn parts_sentence(alloc: Global, asked: Asked<'_>) -> Result<Option<String>, AllocError> {
     let parts = asked.words(alloc)?;
     let hint = hint_of(asked, parts.as_slice());
-    if let (true, ["help" | "?" | "quit" | "exit", ..]) = (asked.is_in_script(), parts.as_slice()) {
+    if asked.is_in_script() {
+        return script_sentence(alloc, parts.as_slice(), hint);
+    }
+    // there the program prints clap's whole text
+    match hint {
+        Some(hint) => told(alloc, hint),
+        None => Ok(None),
+    }
+}
+
+// The same of the words of a script's line.
+fn script_sentence(
+    alloc: Global,
+    parts: &[&str],
+    hint: Option<&str>,
+) -> Result<Option<String>, AllocError> {
+    if let ["help" | "?" | "quit" | "exit", ..] = parts {
         return told(
             alloc,
             "the commands are load, replace, tick, drain, list, explain, trigger, backfill, clear, pause, unpause and resize; a script ends where its input does, on a terminal by Ctrl-D",
         );
     }
-    if !asked.is_in_script() {
-        // there the program prints clap's whole text
-        return match hint {
-            Some(hint) => told(alloc, hint),
-            None => Ok(None),
-        };
-    }
+    let words = owned(alloc, parts)?;
+    refused_sentence(alloc, words.as_slice(), hint)
+}
+
+fn owned(alloc: Global, parts: &[&str]) -> Result<Vec<String>, AllocError> {
     let mut words = Vec::new(alloc);
-    for word in parts.as_slice() {
+    for word in parts {
         words.push(String::from_str(alloc, word)?)?;
     }
-    if help_text(alloc, words.as_slice())?.is_some() {
+    Ok(words)
+}
+
+// What clap says of words that it refuses, or that it would print its help.
+fn refused_sentence(
+    alloc: Global,
+    words: &[String],
+    hint: Option<&str>,
+) -> Result<Option<String>, AllocError> {
+    if help_text(alloc, words)?.is_some() {
         return told(alloc, "help is for a shell: dagsched COMMAND --help");
     }
-    let Some(said) = refusal_text(alloc, words.as_slice())? else {
-        return Ok(None);
-    };
-    let mut text = String::from_str(alloc, hint.unwrap_or(""))?;
-    for line in said.lines() {
-        push_said(&mut text, line.trim())?;
+    match refusal_text(alloc, words)? {
+        Some(said) => Ok(Some(in_one_line(alloc, said.as_str(), hint)?)),
+        None => Ok(None),
     }
-    Ok(Some(text))
+}
+
+// The lines of clap's text, behind the hint, as one line.
+fn in_one_line(alloc: Global, said: &str, hint: Option<&str>) -> Result<String, AllocError> {
+    let mut text = String::from_str(alloc, hint.unwrap_or(""))?;
+    push_lines(&mut text, said)?;
+    Ok(text)
+}
+
+fn push_lines(text: &mut String, said: &str) -> Result<(), AllocError> {
+    for line in said.lines() {
+        push_said(text, line.trim())?;
+    }
+    Ok(())
 }
 
 // That the size of a pool is none.
@@ -190,10 +227,18 @@ fn moment_sentence(
     fault: MomentFault,
 ) -> Result<Option<String>, AllocError> {
     let values = asked.values(alloc)?;
-    let command = values.as_slice().first().copied().unwrap_or("");
+    moment_sentence_of(alloc, values.as_slice(), fault)
+}
+
+// The same of these words.
+fn moment_sentence_of(
+    alloc: Global,
+    values: &[&str],
+    fault: MomentFault,
+) -> Result<Option<String>, AllocError> {
+    let command = values.first().copied().unwrap_or("");
     let first = if command == "tick" { 1 } else { 2 };
     let found = values
-        .as_slice()
         .iter()
         .skip(first)
         .find(|word| Moment::read(word).err() == Some(fault));

@@ -158,19 +158,20 @@ impl<R: Clock + Files + Drop, W: Write + Drop> SentenceConsole<R, W> {
 
     // Writes a sentence, with the number of the line that it is of.
     fn put_sentence(&mut self, number: Option<u64>, text: &str) -> io::Result<()> {
-        let text = match number {
-            Some(number) => format!(in self.alloc; "line {number}: {text}")?,
-            None => format!(in self.alloc; "dagsched: {text}")?,
-        };
-        let line = one_line(self.alloc, text.as_str())?;
+        let line = line_of(self.alloc, number, text)?;
         self.output.write_all(line.as_bytes())
     }
 
     // Says what became of tries: at first of those that the restart has lost, and then of those that have ended since.
     fn put_tries(&mut self, schedule: &Schedule) -> io::Result<()> {
-        let Some(Told { text, untold }) = self.told_at(schedule)? else {
-            return Ok(());
-        };
+        match self.told_at(schedule)? {
+            Some(told) => self.put_told(told),
+            None => Ok(()),
+        }
+    }
+
+    fn put_told(&mut self, told: Told) -> io::Result<()> {
+        let Told { text, untold } = told;
         self.untold = Some(untold);
         match text {
             Some(text) => self.put_sentence(None, text.as_str()),
@@ -191,6 +192,15 @@ impl<R: Clock + Files + Drop, W: Write + Drop> SentenceConsole<R, W> {
         let mut words = self.words.as_slice().iter();
         words.any(|word| word.as_str().starts_with("--logs"))
     }
+}
+
+// A sentence as a line, with the number of the line that it is of.
+fn line_of(alloc: Global, number: Option<u64>, text: &str) -> Result<String, AllocError> {
+    let text = match number {
+        Some(number) => format!(in alloc; "line {number}: {text}")?,
+        None => format!(in alloc; "dagsched: {text}")?,
+    };
+    one_line(alloc, text.as_str())
 }
 
 // Whether this says that a file cannot be read.

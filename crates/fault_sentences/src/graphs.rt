@@ -5,7 +5,9 @@ use crate::notes::{Note, Rest};
 use crate::places::{file_text, line_of_task, place_text};
 use cron_timetable::CronFault;
 use dag_check::DagFault;
-use graph_file::{GraphFault, Key, Name, Place, TaskSpec, faulty_key, read_graph, unknown_name};
+use graph_file::{
+    GraphFault, GraphSpec, Key, Name, Place, TaskSpec, faulty_key, read_graph, unknown_name,
+};
 use std::alloc::{AllocError, Global};
 use toml::Table;
 
@@ -51,15 +53,18 @@ fn toml_sentence(
     let Some(span) = error.span() else {
         return Ok(None);
     };
-    let newlines = text
-        .bytes()
-        .take(span.start)
-        .filter(|byte| *byte == b'\n')
-        .count();
+    let newlines = newlines_before(text, span.start);
     let file = file_text(alloc, asked, Some(newlines.saturating_add(1)))?;
     let said = error.message();
     let hint = python_hint(text.lines().nth(newlines).unwrap_or(""));
     Ok(Some(format!(in alloc; "{file}this is no TOML: {said}{hint}")?))
+}
+
+fn newlines_before(text: &str, place: usize) -> usize {
+    text.bytes()
+        .take(place)
+        .filter(|byte| *byte == b'\n')
+        .count()
 }
 
 // What is said of a line whose value is a word of Python.
@@ -85,26 +90,45 @@ fn placed_sentence(
 ) -> Result<Option<String>, AllocError> {
     match fault {
         GraphFault::Cron(cron) => cron_sentence(alloc, asked, text, cron, file),
-        GraphFault::UnknownKey(place) => {
-            match (unknown_name(place, file), place.table_in(file)) {
-                (Some(name), Some(table)) => {
-                    let said = unknown_sentence(alloc, place, name, table)?;
-                    at_key(alloc, asked, text, file, place, name, said.as_str())
-                }
-                _ => Ok(None),
-            }
-        }
+        GraphFault::UnknownKey(place) => unknown_at(alloc, asked, text, place, file),
         GraphFault::WrongType(place)
         | GraphFault::MissingKey(place)
         | GraphFault::BadName(place)
-        | GraphFault::BadValue(place) => {
-            match (faulty_key(fault, file), place.table_in(file)) {
-                (Some(key), Some(table)) => {
-                    let said = key_sentence(alloc, fault, key, table)?;
-                    at_key(alloc, asked, text, file, place, key.name(), said.as_str())
-                }
-                _ => Ok(None),
-            }
+        | GraphFault::BadValue(place) => faulty_at(alloc, asked, text, fault, place, file),
+        _ => Ok(None),
+    }
+}
+
+// That a key at a place is unknown.
+fn unknown_at(
+    alloc: Global,
+    asked: Asked<'_>,
+    text: &str,
+    place: Place,
+    file: &Table,
+) -> Result<Option<String>, AllocError> {
+    match (unknown_name(place, file), place.table_in(file)) {
+        (Some(name), Some(table)) => {
+            let said = unknown_sentence(alloc, place, name, table)?;
+            at_key(alloc, asked, text, file, place, name, said.as_str())
+        }
+        _ => Ok(None),
+    }
+}
+
+// That the value of a key at a place is faulty, or lacking.
+fn faulty_at(
+    alloc: Global,
+    asked: Asked<'_>,
+    text: &str,
+    fault: GraphFault,
+    place: Place,
+    file: &Table,
+) -> Result<Option<String>, AllocError> {
+    match (faulty_key(fault, file), place.table_in(file)) {
+        (Some(key), Some(table)) => {
+            let said = key_sentence(alloc, fault, key, table)?;
+            at_key(alloc, asked, text, file, place, key.name(), said.as_str())
         }
         _ => Ok(None),
     }
@@ -148,10 +172,20 @@ pub fn dag_sentence(
     text: &str,
     fault: &DagFault,
 ) -> Result<Option<String>, AllocError> {
-    let Ok(spec) = read_graph(alloc, text) else {
-        return Ok(None);
-    };
-    let tasks = spec.tasks.as_slice();
+    match read_graph(alloc, text) {
+        Ok(spec) => dag_sentence_of(alloc, asked, text, spec.tasks.as_slice(), fault),
+        Err(_) => Ok(None),
+    }
+}
+
+// The same of a text with these tasks.
+fn dag_sentence_of(
+    alloc: Global,
+    asked: Asked<'_>,
+    text: &str,
+    tasks: &[TaskSpec],
+    fault: &DagFault,
+) -> Result<Option<String>, AllocError> {
     let (place, upstream, said) = match fault {
         DagFault::DoubleTask(place) => (*place, None, "another task has this id"),
         DagFault::UnknownUpstream(place) => {
@@ -177,10 +211,20 @@ pub fn pool_sentence(
     text: &str,
     pool: &Name,
 ) -> Result<Option<String>, AllocError> {
-    let Ok(spec) = read_graph(alloc, text) else {
-        return Ok(None);
-    };
-    let tasks = spec.tasks.as_slice();
+    match read_graph(alloc, text) {
+        Ok(spec) => pool_sentence_of(alloc, asked, text, spec.tasks.as_slice(), pool),
+        Err(_) => Ok(None),
+    }
+}
+
+// The same of a text with these tasks.
+fn pool_sentence_of(
+    alloc: Global,
+    asked: Asked<'_>,
+    text: &str,
+    tasks: &[TaskSpec],
+    pool: &Name,
+) -> Result<Option<String>, AllocError> {
     let Some(place) = tasks.iter().position(|task| task.pool == *pool) else {
         return Ok(None);
     };
@@ -241,36 +285,50 @@ fn cycle_sentence(
     names: &[Name],
 ) -> Result<Option<String>, AllocError> {
     let mut text = file_text(alloc, asked, None)?;
+    push_circle(&mut text, names)?;
+    Ok(Some(text))
+}
+
+fn push_circle(text: &mut String, names: &[Name]) -> Result<(), AllocError> {
     text.push_str("these tasks wait for each other in a circle:")?;
     for name in names {
         text.push(' ')?;
         text.push_str(name.as_str())?;
     }
-    Ok(Some(text))
+    Ok(())
 }
 
 // What is to be told of a text that was taken in: an argument that is probably not meant so, and a pool that is too small; and of one that was put in the
 // place of another, up to which moment there are runs.
 pub fn taken_note(alloc: Global, text: &str, is_change: bool) -> Result<Option<Note>, AllocError> {
-    let Ok(spec) = read_graph(alloc, text) else {
-        return Ok(None);
-    };
+    match read_graph(alloc, text) {
+        Ok(spec) => Ok(Some(read_note(alloc, &spec, is_change)?)),
+        Err(_) => Ok(None),
+    }
+}
+
+fn read_note(alloc: Global, spec: &GraphSpec, is_change: bool) -> Result<Note, AllocError> {
+    let text = braces_sentence(alloc, spec.tasks.as_slice())?;
     let id = spec.dag_id.copy(alloc)?;
     let rest = if is_change {
         Rest::Change(id)
     } else {
         Rest::Slots(id)
     };
-    let text = match spec.tasks.as_slice().iter().find(|task| has_braces(task)) {
+    Ok(Note { text, rest })
+}
+
+// That an argument of a task looks like a template of Airflow, or nothing.
+fn braces_sentence(alloc: Global, tasks: &[TaskSpec]) -> Result<String, AllocError> {
+    match tasks.iter().find(|task| has_braces(task)) {
         Some(task) => {
             let id = task.task_id.as_str();
             format!(in alloc;
                 "task \"{id}\": {{{{ in its argv is given to the program as it stands; the dates of a run are in its environment, as DAGSCHED_DATA_INTERVAL_START"
-            )?
+            )
         }
-        None => String::new(alloc),
-    };
-    Ok(Some(Note { text, rest }))
+        None => Ok(String::new(alloc)),
+    }
 }
 
 // Whether an argument looks like a template of Airflow.

@@ -35,19 +35,33 @@ pub fn unknown_sentence(
     if let Some(said) = airflow_text(name) {
         return format!(in alloc; "unknown key \"{name}\": {said}");
     }
-    let mut keys = Vec::new(alloc);
-    for key in place.keys() {
-        keys.push(key.name())?;
-    }
-    let hint = hint_of(alloc, name, keys.as_slice())?;
+    let hint = key_hint(alloc, place, name)?;
     let hint = hint.as_str();
-    let said = match table.get(name) {
-        Some(value) if has_table(value) => Some(table_text(place, name)),
-        _ => other_place(place, name),
-    };
-    match said {
+    match misplaced(place, name, table) {
         Some(said) => format!(in alloc; "\"{name}\" {said}{hint}"),
         None => format!(in alloc; "unknown key \"{name}\"{hint}"),
+    }
+}
+
+// Which key of this place was probably meant.
+fn key_hint(alloc: Global, place: Place, name: &str) -> Result<String, AllocError> {
+    let keys = names_of(alloc, place)?;
+    hint_of(alloc, name, keys.as_slice())
+}
+
+fn names_of(alloc: Global, place: Place) -> Result<Vec<&'static str>, AllocError> {
+    let mut names = Vec::new(alloc);
+    for key in place.keys() {
+        names.push(key.name())?;
+    }
+    Ok(names)
+}
+
+// What is said of a name that is no key where it stands.
+fn misplaced(place: Place, name: &str, table: &Table) -> Option<&'static str> {
+    match table.get(name) {
+        Some(value) if has_table(value) => Some(table_text(place, name)),
+        _ => other_place(place, name),
     }
 }
 
@@ -186,13 +200,20 @@ fn kind_sentence(alloc: Global, key: Key, value: &Value) -> Result<String, Alloc
 
 // What stands there in place of a value of this kind, and what was probably meant.
 fn found_text(alloc: Global, wanted: Kind, value: &Value) -> Result<String, AllocError> {
-    let found = match (value, wanted) {
-        (Value::String(text), _) => {
+    match value {
+        Value::String(text) => {
             let text = text.as_str();
-            return format!(in alloc; ", and \"{text}\" is a string");
+            format!(in alloc; ", and \"{text}\" is a string")
         }
-        (Value::Integer(number), _) => return format!(in alloc; ", and {number} is an integer"),
-        (Value::Boolean(flag), _) => return format!(in alloc; ", and {flag} is a boolean"),
+        Value::Integer(number) => format!(in alloc; ", and {number} is an integer"),
+        Value::Boolean(flag) => format!(in alloc; ", and {flag} is a boolean"),
+        _ => String::from_str(alloc, other_text(wanted, value)),
+    }
+}
+
+// The same of a value that is not shown.
+fn other_text(wanted: Kind, value: &Value) -> &'static str {
+    match (value, wanted) {
         (Value::Datetime(_), Kind::Text) => ", and this is a date: put it in quotes",
         (Value::Datetime(_), _) => ", and this is a date or a time",
         (Value::Float(_), _) => ", and this is a number with a point",
@@ -200,8 +221,8 @@ fn found_text(alloc: Global, wanted: Kind, value: &Value) -> Result<String, Allo
         (Value::Array(_), _) => ", and this is an array",
         (Value::Table(_), Kind::Tables) => ": write [[task]], with two brackets",
         (Value::Table(_), _) => ", and this is a table",
-    };
-    String::from_str(alloc, found)
+        _ => "",
+    }
 }
 
 // The text, or the first of the texts, that is no name.
@@ -283,8 +304,19 @@ fn word_sentence(
         return format!(in alloc; "{name} \"{word}\": {said}");
     }
     let list = list_of(alloc, words)?;
+    listed_sentence(alloc, name, word, words, list.as_str())
+}
+
+// That a word is none of those that the list has, and which was probably meant.
+fn listed_sentence(
+    alloc: Global,
+    name: &str,
+    word: &str,
+    words: &[&str],
+    list: &str,
+) -> Result<String, AllocError> {
     let hint = hint_of(alloc, word, words)?;
-    let (hint, list) = (hint.as_str(), list.as_str());
+    let hint = hint.as_str();
     if hint.is_empty() {
         format!(in alloc; "{name}: \"{word}\" is none of {list}")
     } else {
@@ -295,11 +327,16 @@ fn word_sentence(
 // Words, with commas between them.
 fn list_of(alloc: Global, words: &[&str]) -> Result<String, AllocError> {
     let mut list = String::new(alloc);
+    push_words(&mut list, words)?;
+    Ok(list)
+}
+
+fn push_words(list: &mut String, words: &[&str]) -> Result<(), AllocError> {
     for word in words {
         if !list.is_empty() {
             list.push_str(", ")?;
         }
         list.push_str(word)?;
     }
-    Ok(list)
+    Ok(())
 }

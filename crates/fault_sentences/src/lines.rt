@@ -7,14 +7,18 @@ const MOST_BYTES: usize = 300;
 /// The text as a line of at most 300 bytes with its newline, without control characters: each becomes a blank, and what is too long ends in `...`.
 pub fn one_line(alloc: Global, text: &str) -> Result<String, AllocError> {
     let mut line = String::new(alloc);
+    push_letters(&mut line, text)?;
+    line.push('\n')?;
+    Ok(line)
+}
+
+fn push_letters(line: &mut String, text: &str) -> Result<(), AllocError> {
     for letter in text.chars() {
         // the three points and the newline
         if line.len().saturating_add(letter.len_utf8()) > MOST_BYTES - 4 {
-            line.push_str("...")?;
-            break;
+            return line.push_str("...");
         }
         line.push(if letter.is_control() { ' ' } else { letter })?;
     }
-    line.push('\n')?;
-    Ok(line)
+    Ok(())
 }

@@ -7,7 +7,7 @@ use crate::idle::{Idle, done_note};
 use crate::keys::hint_of;
 use crate::records::{clock_sentence, end_sentence, store_sentence};
 use crate::refusals::{refusal_note, unexplained_note};
-use graph_file::Name;
+use graph_file::{Name, TaskSpec};
 use moment_core::Moment;
 use sched_events::{Answer, Event};
 use script_reader::{Fault, Schedule, Shown};
@@ -120,15 +120,21 @@ impl Note {
         alloc: Global,
         schedule: Option<&Schedule>,
     ) -> Result<Option<String>, AllocError> {
-        let mut sentence = String::from_str(alloc, self.text.as_str())?;
-        if let Some(schedule) = schedule {
-            self.push_rest(alloc, &mut sentence, schedule)?;
-        }
+        let sentence = self.whole(alloc, schedule)?;
         if sentence.is_empty() {
             Ok(None)
         } else {
             Ok(Some(sentence))
         }
+    }
+
+    // The same, perhaps empty.
+    fn whole(&self, alloc: Global, schedule: Option<&Schedule>) -> Result<String, AllocError> {
+        let mut sentence = String::from_str(alloc, self.text.as_str())?;
+        if let Some(schedule) = schedule {
+            self.push_rest(alloc, &mut sentence, schedule)?;
+        }
+        Ok(sentence)
     }
 
     // Adds what this schedule says beside it.
@@ -162,11 +168,26 @@ fn push_near(
     schedule: &Schedule,
     word: &str,
 ) -> Result<(), AllocError> {
+    let names = names_in(alloc, schedule)?;
+    push_nearest(alloc, sentence, word, names.as_slice())
+}
+
+// The names of the graphs.
+fn names_in(alloc: Global, schedule: &Schedule) -> Result<Vec<&str>, AllocError> {
     let mut names = Vec::new(alloc);
     for graph in schedule.graphs() {
         names.push(graph.dag.spec().dag_id.as_str())?;
     }
-    let hint = hint_of(alloc, word, names.as_slice())?;
+    Ok(names)
+}
+
+fn push_nearest(
+    alloc: Global,
+    sentence: &mut String,
+    word: &str,
+    names: &[&str],
+) -> Result<(), AllocError> {
+    let hint = hint_of(alloc, word, names)?;
     if names.is_empty() {
         sentence.push_str("; the record has none yet")
     } else if hint.is_empty() {
@@ -235,18 +256,28 @@ fn push_slots(sentence: &mut String, schedule: &Schedule, graph: &Name) -> Resul
         let needed = task.pool_slots.get();
         let size = size_of(schedule, &task.pool);
         if size < needed {
-            if !sentence.is_empty() {
-                sentence.push_str("; ")?;
-            }
-            let (id, pool) = (task.task_id.as_str(), task.pool.as_str());
-            let slots = if needed == 1 { "slot" } else { "slots" };
-            return write!(
-                sentence,
-                "task \"{id}\" needs {needed} {slots} of the pool \"{pool}\", which has {size}: it waits until resize {pool} {needed}"
-            );
+            return push_need(sentence, task, needed, size);
         }
     }
     Ok(())
+}
+
+// Adds that a task needs more slots than its pool has.
+fn push_need(
+    sentence: &mut String,
+    task: &TaskSpec,
+    needed: u32,
+    size: u32,
+) -> Result<(), AllocError> {
+    if !sentence.is_empty() {
+        sentence.push_str("; ")?;
+    }
+    let (id, pool) = (task.task_id.as_str(), task.pool.as_str());
+    let slots = if needed == 1 { "slot" } else { "slots" };
+    write!(
+        sentence,
+        "task \"{id}\" needs {needed} {slots} of the pool \"{pool}\", which has {size}: it waits until resize {pool} {needed}"
+    )
 }
 
 // How many slots a pool has.

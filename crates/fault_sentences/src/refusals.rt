@@ -147,19 +147,28 @@ pub fn unexplained_note(
     let [_, graph, logical, task, ..] = values.as_slice() else {
         return Ok(None);
     };
-    let text = match fault {
-        ExplainFault::UnknownGraph => format!(in alloc; "there is no graph \"{graph}\"")?,
-        ExplainFault::UnknownRun => format!(in alloc;
+    match fault {
+        ExplainFault::UnknownGraph => Ok(Some(unknown_graph(alloc, graph)?)),
+        ExplainFault::UnknownRun => alone(format!(in alloc;
             "the graph \"{graph}\" has no run of the date {logical}: {DATES_HINT}"
-        )?,
+        )?),
         ExplainFault::UnknownTask => {
-            format!(in alloc; "the graph \"{graph}\" has no task \"{task}\"")?
+            alone(format!(in alloc; "the graph \"{graph}\" has no task \"{task}\"")?)
         }
-        ExplainFault::Memory => return Ok(None),
-    };
-    let rest = match fault {
-        ExplainFault::UnknownGraph => near(alloc, graph)?,
-        _ => Rest::Nothing,
-    };
-    Ok(Some(Note { text, rest }))
+        ExplainFault::Memory => Ok(None),
+    }
+}
+
+// That there is no graph of this name, and which was probably meant.
+fn unknown_graph(alloc: Global, graph: &str) -> Result<Note, AllocError> {
+    let text = format!(in alloc; "there is no graph \"{graph}\"")?;
+    let rest = near(alloc, graph)?;
+    Ok(Note { text, rest })
+}
+
+fn alone(text: String) -> Result<Option<Note>, AllocError> {
+    Ok(Some(Note {
+        text,
+        rest: Rest::Nothing,
+    }))
 }

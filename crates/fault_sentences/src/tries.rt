@@ -117,11 +117,7 @@ fn tallied(
     has_logs: bool,
 ) -> Result<Told, AllocError> {
     let mut tally = Tally::new(alloc);
-    for run in schedule.runs() {
-        if let Some(graph) = schedule.graph_of(&run.graph) {
-            tally.add_run(graph, run, which)?;
-        }
-    }
+    tally.add_runs(schedule, which)?;
     let text = tally.sentence(alloc, has_logs)?;
     let Tally { in_flight, .. } = tally;
     let next_serial = schedule.next_serial();
@@ -161,6 +157,15 @@ impl Tally {
             has_program: false,
             in_flight: Vec::new(alloc),
         }
+    }
+
+    fn add_runs(&mut self, schedule: &Schedule, which: &Which<'_>) -> Result<(), AllocError> {
+        for run in schedule.runs() {
+            if let Some(graph) = schedule.graph_of(&run.graph) {
+                self.add_run(graph, run, which)?;
+            }
+        }
+        Ok(())
     }
 
     fn add_run(
@@ -232,26 +237,37 @@ impl Tally {
     // `2 failed, 1 lost: DAG LOGICAL TASK, ..; 1 up for a retry, from MOMENT on`, and how a failure of a program is found out
     fn sentence(&self, alloc: Global, has_logs: bool) -> Result<Option<String>, AllocError> {
         let mut text = String::new(alloc);
-        push_count(&mut text, self.failed, "failed")?;
-        push_count(
-            &mut text,
-            self.lost,
-            "lost when the scheduler was stopped (the programs may still run)",
-        )?;
-        if !self.names.is_empty() {
-            text.push_str(": ")?;
-            text.push_str(self.names.as_str())?;
-            self.push_more(&mut text)?;
-        }
-        self.push_retries(&mut text)?;
-        if self.has_program && !has_logs {
-            text.push_str("; run --logs DIR keeps what programs print")?;
-        }
+        self.push_ends(&mut text, has_logs)?;
         if text.is_empty() {
             Ok(None)
         } else {
             Ok(Some(text))
         }
+    }
+
+    fn push_ends(&self, text: &mut String, has_logs: bool) -> Result<(), AllocError> {
+        push_count(text, self.failed, "failed")?;
+        push_count(
+            text,
+            self.lost,
+            "lost when the scheduler was stopped (the programs may still run)",
+        )?;
+        self.push_names(text)?;
+        self.push_retries(text)?;
+        if self.has_program && !has_logs {
+            text.push_str("; run --logs DIR keeps what programs print")?;
+        }
+        Ok(())
+    }
+
+    // Adds the names, and how many more there are.
+    fn push_names(&self, text: &mut String) -> Result<(), AllocError> {
+        if self.names.is_empty() {
+            return Ok(());
+        }
+        text.push_str(": ")?;
+        text.push_str(self.names.as_str())?;
+        self.push_more(text)
     }
 
     // Adds how many failed or were lost beside those that are named.
