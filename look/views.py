@@ -10,7 +10,7 @@ from layered import CURVES, reduced
 from letters import LETTERS, heads
 from markupsafe import Markup, escape
 from reasons import Situation
-from record import KINDS, PHASES, log_of, text_of
+from record import KINDS, PHASES, log_of, no_graph_file, text_of
 from rules import next_tick
 from words import address_of, counted, date_of, day_of, file_of, length_of, time_of
 
@@ -79,7 +79,10 @@ def next_of(graph, now):
     """When the next run of a graph becomes due, in words, and how far off that is."""
     if graph.keys["schedule"] == "None":
         return "by hand", ""
-    tick = next_tick(graph.keys, now)
+    try:
+        tick = next_tick(graph.keys, now)
+    except ValueError as fault:
+        raise no_graph_file(graph.name, fault) from None
     return ("none", "") if tick is None else (date_of(tick), f"in {length_of(tick - now)}")
 
 

@@ -294,3 +294,25 @@ def check_faults(work):
     check_site(work / "undrawn")
     check_logs_at(work)
     print("page tells what it cannot do")
+
+
+def check_other_texts(work):
+    """A text that is no graph file, in a record that was made by hand, is told in a sentence, and nothing is written."""
+    for at, (before, after, told) in enumerate((
+        ('operator = "noop"', 'operator = "noop"\ntrigger_rule = "all_succes"', "task 0: there is no trigger_rule 'all_succes'"),
+        ('operator = "noop"', 'operator = "noop"\nretries = "two"', "task 0: retries is no whole number"),
+        ('operator = "noop"', 'operator = "noop"\nupstream = [1]', "task 0: upstream is no list of texts"),
+        ('task_id = "load"', "", "task 0: it lacks task_id"),
+        ("[[task]]", "[task]", "task is no list"),
+        ('schedule = "@daily"', "", "it lacks schedule"),
+        ('schedule = "@daily"', 'schedule = "daily"', "daily is no cron text"),
+        ('start_date = "2000-01-01"', 'start_date = "2000-13-01"', "'2000-13-01'"),
+    )):
+        path, site = work / f"text{at}.db", work / f"text{at}"
+        made.make(path, "orders", ["load"], 1)
+        with contextlib.closing(sqlite3.connect(path)) as rows:
+            rows.execute("UPDATE dag SET body = replace(body, ?, ?)", (before, after))
+            rows.commit()
+        said = written(path, site, status=3)
+        assert "the text of the graph orders is no graph file: " in said and told in said and not [*site.glob("*")], said
+    print("texts that are no graph files are told")
