@@ -140,6 +140,12 @@ class Record:
             if not failed or it.phase == FAILED or "failed" in self.states(dag, it.logical).values():
                 yield it
 
+    def nearest_runs(self, dag, logical, most):
+        """The dates of the runs of a graph that are nearest to a moment, and how many runs it has."""
+        asked = "SELECT logical FROM run WHERE dag_id = ? ORDER BY abs(logical - ?), logical LIMIT ?"
+        count = self.rows.execute("SELECT count(*) FROM run WHERE dag_id = ?", (dag,)).fetchone()[0]
+        return [it[0] for it in self.rows.execute(asked, (dag, logical, most))], count
+
     def runs_before(self, dag, logical):
         """How many runs of a graph lie before a date."""
         asked = f"SELECT count(*), coalesce(sum(phase = {FAILED}), 0) FROM run WHERE dag_id = ? AND logical < ?"

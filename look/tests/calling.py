@@ -25,12 +25,12 @@ def written(*words, status=0, **more):
     return done.stderr
 
 
-def on_terminal(columns, *words, **more):
-    """What `grid` prints on a terminal of so many columns."""
+def on_terminal(columns, name, *words, **more):
+    """What a program of `look` prints on a terminal of so many columns."""
     pid, terminal = pty.fork()
     if pid == 0:
         environment = {**os.environ, "TERM": "xterm", "COLUMNS": str(columns), **more}
-        os.execve(LOOK / "grid", [str(LOOK / "grid"), *map(str, words)], environment)
+        os.execve(LOOK / name, [str(LOOK / name), *map(str, words)], environment)
     printed = b""
     with contextlib.suppress(OSError):
         while part := os.read(terminal, 65536):

@@ -93,14 +93,14 @@ def check_layout():
     tasks = ["a" * 249 + it for it in "xy"] + ["a" * 120 + it + "a" * 129 for it in "xy"] + ["short"]
     made.make("long.db", "d" * 250, tasks, 30, failed={29}, version=2, in_flight=4)
     for columns in (16, 30, 40, 80, 133, 250):
-        coloured = on_terminal(columns, "long.db")
+        coloured = on_terminal(columns, "grid", "long.db")
         plain = re.sub("\033\\[[0-9;]*m", "", coloured)
-        assert coloured != plain and plain == on_terminal(columns, "long.db", NO_COLOR="1") == on_terminal(columns, "long.db", TERM="dumb")
+        assert coloured != plain and plain == on_terminal(columns, "grid", "long.db", NO_COLOR="1") == on_terminal(columns, "grid", "long.db", TERM="dumb")
         assert plain == look("grid", "long.db", "--width", columns), plain
         rows = plain.split("run ")[1].split("\n\n")[0].splitlines()[1:]
         assert len({it.split()[0] for it in rows}) == len(rows) == 5, plain
         assert max(map(len, plain.splitlines())) <= columns, plain
-    assert on_terminal(80, "left.db").count(" 02") > 8 and len(on_terminal(133, "left.db").splitlines()[-8]) > 80
+    assert on_terminal(80, "grid", "left.db").count(" 02") > 8 and len(on_terminal(133, "grid", "left.db").splitlines()[-8]) > 80
     drawn = look("gantt", "long.db")
     assert max(len(it) for it in re.findall(r'class="label"[^>]*>([^<]*)<', drawn)) <= 28, drawn
     print("long names and narrow terminals keep the layout")
