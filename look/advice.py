@@ -77,8 +77,11 @@ def of_success(case):
     yield case.clear(f"--task={case.step.task}", "--downstream")
 
 
+OF_ENDS = {"failed": of_failed, "upstream_failed": of_upstream_failed, "skipped": of_skipped, "success": of_success}
+
+
 def finished(case, state):
-    return {"failed": of_failed, "upstream_failed": of_upstream_failed, "skipped": of_skipped, "success": of_success}[state](case)
+    return OF_ENDS[state](case)
 
 
 def handed_out(case, serial):
@@ -89,7 +92,7 @@ def handed_out(case, serial):
         yield Command(shlex.join(["end", case.folder, serial]))
 
 
-def run_queued(case, active, _, limit):
+def run_queued(case, active, _limit, limit):
     if case.is_full:
         yield FULL.format(active)
     elif int(active) < int(limit):
@@ -117,7 +120,7 @@ def retry_at(case, moment):
     yield case.alone()
 
 
-def pool(case, name, _, needs, __, ___):
+def pool(case, name, _needs, needs, *_):
     size = case.sizes.get(name, 0)
     if size < int(needs):
         yield f"The pool never has room for it: it has {counted(size, 'slot')} in all, and this takes {needs}."
@@ -127,7 +130,7 @@ def pool(case, name, _, needs, __, ___):
         yield case.command("resize", name, "SIZE")
 
 
-def graph_full(case, active, _, __):
+def graph_full(case, active, *_):
     yield f"Wait until one of the {active} tries of the graph that are in flight ends. max_active_tasks in its file, given by `replace`, lets more of them."
 
 

@@ -14,7 +14,7 @@ MANUALS = {
     "dagsched-service.7": ("Miscellanea", "dagsched as a service, and looks at its record", ["docs/IN_USE.md"]),
 }
 # what else a user reads
-PAGES = ["README.md", "docs/TUTORIAL.md", "docs/EXPLAIN.md", "docs/FROM_AIRFLOW.md", "docs/RECORD.md", "docs/PROMISES.md", "docs/PERFORMANCE.md", "docs/SCALE.md"]
+PAGES = ["README.md", "docs/TUTORIAL.md", "docs/A_YEAR.md", "docs/EXPLAIN.md", "docs/FROM_AIRFLOW.md", "docs/RECORD.md", "docs/PROMISES.md", "docs/PERFORMANCE.md", "docs/SCALE.md"]
 PROGRAM_OF = re.compile(r"(?<![\w/.-])(?:service|look)/(serve|ask|check|tries|end|copy|grid|gantt|why|page)(?=[\s`]|$)", re.M)
 
 
