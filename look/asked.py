@@ -84,7 +84,10 @@ class Copies:
     def explain(self, keys):
         """The reasons of instances that have no verdict or are finished, of each its date and its task."""
         if self.script is None:
-            self.script = Script(self.program, self.graph_alone())
+            try:
+                self.script = Script(self.program, self.graph_alone())
+            except sqlite3.OperationalError as error:
+                raise NoRecord(f"no second copy can be made in {self.folder.parent}: {error}; TMPDIR names another folder") from None
         return self.script.explain(self.dag, keys)
 
     def explain_as_it_is(self, logical, task):

@@ -162,6 +162,7 @@ def check_busy(program, work, seconds):
         times.append(check_copy(program, busy, work, looks % 2))
         look("grid", busy.folder, "--last", 5)
         look("gantt", busy.folder, "--last", 5)
+        look("why", busy.folder, "busy", records.text_of(made.FIRST), "t0", "--program", program)
         looks += 1
         if random.random() < 0.4:
             busy.kill()
