@@ -62,7 +62,7 @@ def check_answers(program, path):
             for run in record.latest_runs(dag):
                 states = record.states(dag, run.logical)
                 keys += [(run.logical, task) for task, state in states.items() if state not in READY]
-            keys = random.sample(keys, min(len(keys), 100))
+            keys = random.sample(keys, min(len(keys), 40))
             told = copies.explain(keys) if keys else []
             for key, found in zip(keys, told):
                 wanted = [re.sub("^((?:upstream|past) .*) (queued|running)$", r"\1 (scheduled|up_for_retry)", it) for it in copies.explain_as_it_is(*key)]
