@@ -13,8 +13,8 @@ from record import text_of
 from snapshot import NoRecord, beside, copied, file_of, no_copy, sweep, temporary_folder
 
 REASONS = ("finished", "handed-out", "run-queued", "paused", "run-finished", "upstream", "past", "retry-at", "pool", "graph-full", "lanes")
-# a question has some 550 bytes at most, and a pipe room for 65,536
-TOGETHER = 100
+# so many are asked together, and in parts for which any pipe has room
+TOGETHER, ROOM = 80, 4096
 WHOLE, TABLES = ("meta", "pool"), ("meta", "pool", "dag", "dag_limit", "run", "instance", "attempt")
 SCHEMA = f"SELECT name, sql FROM sqlite_schema WHERE tbl_name IN {TABLES} AND sql IS NOT NULL AND type IN ('table', 'index') ORDER BY type DESC"
 
@@ -35,6 +35,20 @@ def reasons_in(lines):
     raise NoRecord("dagsched does not explain it: it ends without an answer")
 
 
+def parts_of(questions):
+    """Questions in parts for which a pipe has room, so that none waits for an answer to be read."""
+    part, size = [], 0
+    for it in questions:
+        length = len(it.encode(errors="replace"))
+        if part and size + length > ROOM:
+            yield part
+            part, size = [], 0
+        part.append(it)
+        size += length
+    if part:
+        yield part
+
+
 class Script:
     """The program with a script over a record, which asks some questions at a time."""
 
@@ -44,12 +58,16 @@ class Script:
         self.process = subprocess.Popen(words, stdin=pipe, stdout=pipe, stderr=subprocess.DEVNULL, text=True, cwd=record.parent)
 
     def explain(self, dag, keys):
-        """The reasons of each of these instances, which are so few that a pipe has room for all questions: answers are read when they have been put."""
+        """The reasons of each of these instances."""
+        return [reasons for part in parts_of([" ".join(words_of(dag, *it)) + "\n" for it in keys]) for reasons in self.answers(part)]
+
+    def answers(self, questions):
+        """Puts questions, and then reads their answers."""
         # where the program has ended, what it said instead is read
         with contextlib.suppress(BrokenPipeError):
-            self.process.stdin.writelines(" ".join(words_of(dag, *it)) + "\n" for it in keys)
+            self.process.stdin.writelines(questions)
             self.process.stdin.flush()
-        return [reasons_in(self.process.stdout) for _ in keys]
+        return [reasons_in(self.process.stdout) for _ in questions]
 
     def end(self):
         self.process.kill()
