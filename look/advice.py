@@ -112,7 +112,7 @@ def run_finished(case, phase):
 
 
 def retry_at(case, moment):
-    yield "Wait until a tick says this moment." if moment != "never" else "This moment never comes."
+    yield "Wait until a tick says this moment or a later one." if moment != "never" else "This moment never comes."
     if case.folder is None:
         yield "Or clear it in a script, and it is tried at once; cleared by a command, it is tried by the next `run`:"
     else:
