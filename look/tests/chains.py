@@ -17,6 +17,8 @@ HEAD = 'dag_id = "{0}"\nschedule = "@daily"\nstart_date = "2024-03-01"\n{1}'
 TASK = '[[task]]\ntask_id = "{0}"\n{1}'
 FAILS, PASSES, PAST = 'operator = "exit"\nargv = ["1"]\n', 'operator = "noop"\n', "depends_on_past = true\n"
 MORE = f"\nMore: {LOOK.parent}/docs/EXPLAIN.md#what-to-do"
+# what waits for a try in flight, and how a script tells it
+IN_FLIGHT, HANDED_BACK = (re.compile(f"^((?:upstream|past) .*) (?:{it})$") for it in ("queued|running", "scheduled|up_for_retry"))
 CHAIN = """\
 orders 2024-03-09T00:00:00Z report  none             upstream load none
 orders 2024-03-09T00:00:00Z load    none             past 2024-03-08T00:00:00+00:00 none
@@ -65,8 +67,9 @@ def check_answers(program, path):
             keys = random.sample(keys, min(len(keys), 40))
             told = copies.explain(keys) if keys else []
             for key, found in zip(keys, told):
-                wanted = [re.sub("^((?:upstream|past) .*) (queued|running)$", r"\1 (scheduled|up_for_retry)", it) for it in copies.explain_as_it_is(*key)]
-                assert len(wanted) == len(found) and all(it == other or re.fullmatch(it.replace("+", r"\+"), other) for it, other in zip(wanted, found)), (path, dag, key, wanted, found)
+                wanted = [IN_FLIGHT.sub(r"\1 in flight", it) for it in copies.explain_as_it_is(*key)]
+                is_same = len(wanted) == len(found) and all(it in (other, HANDED_BACK.sub(r"\1 in flight", other)) for it, other in zip(wanted, found))
+                assert is_same, (path, dag, key, wanted, found)
             asked += len(keys)
     return asked
 
@@ -94,15 +97,18 @@ def check_past(program, work):
 
 
 WAITS = HEAD.format("waits", 'end_date = "2024-03-02"\nmax_active_runs = 1\n') + "".join(TASK.format(*it) for it in (
-    ("runs", 'operator = "command"\nargv = ["sleep", "600"]\n'), ("after", PASSES + upstream("runs")), ("wide", PASSES + 'pool = "small"\npool_slots = 2\n'),
-    ("again", FAILS + "retries = 1\n"), ("fails", 'operator = "command"\nargv = ["false"]\n'), ("barred", PASSES + upstream("fails")), ("last", PASSES + upstream("after", "wide", "again", "barred") + 'trigger_rule = "all_done"\n'),
+    ("runs", 'operator = "command"\nargv = ["sleep", "600"]\n'), ("after", PASSES + upstream("runs")),
+    ("wide", PASSES + 'pool = "small"\npool_slots = 2\n'),
+    ("again", FAILS + "retries = 1\n"), ("fails", 'operator = "command"\nargv = ["false"]\n'), ("barred", PASSES + upstream("fails")),
+    ("last", PASSES + upstream("after", "wide", "again", "barred") + 'trigger_rule = "all_done"\n'),
     ("skips", 'operator = "exit"\nargv = ["99"]\n'), ("passed", PASSES + upstream("skips")), ("alarm", PASSES + upstream("skips") + 'trigger_rule = "one_failed"\n'),
 ))
 # of a task the words that the answer has, in this order
 TOLD = {
     "last": ["last none  upstream wide scheduled", "wide scheduled  pool small needs 2 open 1", "it has 1 slot in all, and this takes 2", "resize small 2",
              "last none  upstream again up_for_retry", "retry-at 20", "clear --task=again waits", "upstream after none", "upstream runs running", "handed-out "],
-    "barred": ["barred upstream_failed  finished upstream_failed, upstream fails failed", "fails failed  finished failed", "Read its log: ", "/task_id=fails/attempt=1.log", "clear --only-failed waits "],
+    "barred": ["barred upstream_failed  finished upstream_failed, upstream fails failed", "fails failed  finished failed", "Read its log: ",
+               "/task_id=fails/attempt=1.log", "clear --only-failed waits "],
     "after": ["after none  upstream runs running", "runs running  handed-out ", "Wait for its program"],
     "passed": ["passed skipped  finished skipped, upstream skips skipped", "skips skipped  finished skipped", "by status 99", "clear --task=skips waits"],
     "alarm": ["alarm skipped  finished skipped, upstream skips skipped"],
