@@ -12,7 +12,7 @@ import time
 from record import NoRecord
 
 NO_GRAPH, NO_RECORD, NO_OUTPUT = 1, 3, 4
-# at most so many graphs are named in a fault
+# at most so many of what is there are named in a fault
 NAMED = 20
 
 
@@ -47,16 +47,36 @@ def parser_of(description):
     return parser
 
 
+def logs_of(call):
+    """The folder of --logs; without it that of a service, where the record is one."""
+    beside = os.path.join(call.record, "logs")
+    return call.logs or (beside if os.path.isdir(beside) else None)
+
+
+def width_of(call):
+    """How wide lines may be: by --width or the terminal; None where nothing bounds them."""
+    width = call.width or (shutil.get_terminal_size((80, 24)).columns if sys.stdout.isatty() else None)
+    return width and max(width, 16)
+
+
 def dags_of(record, dag):
     """The graphs that are asked for: this one, or all."""
     if dag is None:
         return record.dags
     if dag in record.dags:
         return [dag]
-    close = difflib.get_close_matches(dag, record.dags, NAMED) or record.dags[:NAMED]
-    more = len(record.dags) - len(close)
-    there = ", ".join(close) + (f", and {more} more" if more else "")
-    print(f"{dag}: no graph of this record; it has {there or 'none'}", file=sys.stderr)
+    end_without(f"{dag}: no graph of this record; it has", nearest(dag, record.dags), len(record.dags))
+
+
+def nearest(name, names):
+    """The names that are most like one, the nearest first."""
+    return difflib.get_close_matches(name, names, NAMED, 0)
+
+
+def end_without(said, there, count):
+    """Ends a program since something is not there: it says what is, of so many."""
+    more = f", and {count - len(there)} more" if count > len(there) else ""
+    print(f"{said} {', '.join(there) or 'none'}{more}", file=sys.stderr)
     raise SystemExit(NO_GRAPH)
 
 

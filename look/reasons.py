@@ -10,6 +10,11 @@ SERIALS = 2**62
 USUAL_RUNS = 16
 
 
+def upstreams_without_success(task, instances):
+    """The upstreams of a task that are no success, each with its state: where the task has ended without a try, what made it end."""
+    return [(name, instances[name].state) for name in task.upstream if name in instances and instances[name].state != "success"]
+
+
 def moment_of(moment):
     return text_of(moment, "%Y-%m-%dT%H:%M:%S+00:00")
 

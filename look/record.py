@@ -4,9 +4,9 @@ import functools
 import os
 import sqlite3
 import time
-import tomllib
 from typing import NamedTuple, Optional
 
+import files
 from snapshot import NoRecord, rows_of
 
 VERSIONS = (1, 2)
@@ -19,32 +19,13 @@ PHASES = ("queued", "running", "success", "failed")
 RUNNING, SUCCESS, FAILED = (PHASES.index(it) for it in ("running", "success", "failed"))
 
 
-class Task(NamedTuple):
-    name: str
-    pool: str
-    upstream: list[str]
-    retries: int
-    rule: str
-    delay: int
-    slots: int
-    past: bool
-    operator: str
-
-    @classmethod
-    def of(cls, it):
-        """A task of a graph's file."""
-        rule, past = it.get("trigger_rule", "all_success"), it.get("depends_on_past", False)
-        delay, slots, pool = it.get("retry_delay", 300), it.get("pool_slots", 1), it.get("pool", "default_pool")
-        return cls(it["task_id"], pool, it.get("upstream", []), it.get("retries", 0), rule, delay, slots, past, it.get("operator", ""))
-
-
 class Graph(NamedTuple):
     """A graph by its file. `bound` is how many of its tries may be in flight."""
 
     name: str
     text: str
     keys: dict
-    tasks: list[Task]
+    tasks: list[files.Task]
     paused: bool
     bound: int
 
@@ -124,10 +105,9 @@ class Record:
     def graph(self, dag):
         text, paused = self.rows.execute("SELECT body, paused FROM dag WHERE dag_id = ?", (dag,)).fetchone()
         try:
-            keys = tomllib.loads(text)
-            tasks = [Task.of(it) for it in keys["task"]]
-        except (ValueError, KeyError, TypeError, AttributeError):
-            raise NoRecord(f"the text of the graph {dag} is no graph file") from None
+            keys, tasks = files.read(text)
+        except ValueError as fault:
+            raise no_graph_file(dag, fault) from None
         return Graph(dag, text, keys, tasks, bool(paused), self.bound(dag))
 
     def bound(self, dag):
@@ -159,6 +139,12 @@ class Record:
         for it in map(Run._make, self.rows.execute(asked, (dag, since, not failed))):
             if not failed or it.phase == FAILED or "failed" in self.states(dag, it.logical).values():
                 yield it
+
+    def nearest_runs(self, dag, logical, most):
+        """The dates of the runs of a graph that are nearest to a moment, and how many runs it has."""
+        asked = "SELECT logical FROM run WHERE dag_id = ? ORDER BY abs(logical - ?), logical LIMIT ?"
+        count = self.rows.execute("SELECT count(*) FROM run WHERE dag_id = ?", (dag,)).fetchone()[0]
+        return [it[0] for it in self.rows.execute(asked, (dag, logical, most))], count
 
     def runs_before(self, dag, logical):
         """How many runs of a graph lie before a date."""
@@ -237,6 +223,10 @@ class Record:
         count = self.rows.execute(f"SELECT count(*) {asked}", bounds).fetchone()[0]
         found = self.rows.execute(f"SELECT dag_id, logical, serial {asked} ORDER BY serial DESC LIMIT {most}", bounds).fetchall()
         return found, count
+
+
+def no_graph_file(dag, fault):
+    return NoRecord(f"the text of the graph {dag} is no graph file: {fault}")
 
 
 @functools.cache

@@ -55,13 +55,12 @@ class Cron:
             yield from (it for it in reversed(self.ticks_of(day)) if it <= moment)
 
 
-def verdict(rule, states):
-    """What a trigger rule makes of the states of upstreams, as Airflow 2 has it in its page "DAGs"; none where it waits."""
+def columns_of(states):
+    """Of each trigger rule, as Airflow 2 has it in its page "DAGs", whether a task runs by these states of upstreams, has failed by them, and is skipped."""
     count, all_ = collections.Counter(states), len(states)
     success, skipped, failed = count["success"], count["skipped"], count["failed"] + count["upstream_failed"]
     is_done = success + skipped + failed == all_
-    # runs, has failed by its upstreams, is skipped: the first that holds
-    columns = {
+    return {
         "all_success": (success == all_, failed, skipped),
         "all_failed": (failed == all_, 0, success or skipped),
         "all_done": (is_done, 0, 0),
@@ -73,7 +72,15 @@ def verdict(rule, states):
         "none_failed_min_one_success": (is_done and success and not failed, failed, skipped == all_),
         "none_skipped": (success + failed == all_, 0, skipped),
         "always": (1, 0, 0),
-    }[rule]
+    }
+
+
+TRIGGER_RULES = frozenset(columns_of([]))
+
+
+def verdict(rule, states):
+    """What a trigger rule makes of the states of upstreams: the first that holds; none where it waits."""
+    columns = columns_of(states)[rule]
     return next((word for word, holds in zip(("run", "upstream_failed", "skip"), columns) if holds), None) if states else "run"
 
 

@@ -165,6 +165,13 @@ def temporary_folder(place=None):
         signal.pthread_sigmask(signal.SIG_SETMASK, waiting)
 
 
+def no_copy(record, error):
+    """Why there is no copy, by an error of the system."""
+    room = error.errno in (errno.ENOSPC, errno.EDQUOT)
+    where = f": {tempfile.gettempdir()} has no room for a copy of it; TMPDIR names another folder" if room else f": {error.strerror}"
+    return NoRecord(f"{record if room else error.filename or record}{where}")
+
+
 @contextlib.contextmanager
 def rows_of(path, seconds=LONGEST):
     """The rows of a record at a path, of one moment: those of a copy, in which nobody writes, and which is made for so many seconds at most."""
@@ -174,8 +181,6 @@ def rows_of(path, seconds=LONGEST):
         with temporary_folder() as folder:
             rows = copied(record, folder, seconds)
     except OSError as error:
-        room = error.errno in (errno.ENOSPC, errno.EDQUOT)
-        where = f": {tempfile.gettempdir()} has no room for a copy of it; TMPDIR names another folder" if room else f": {error.strerror}"
-        raise NoRecord(f"{record if room else error.filename or record}{where}") from None
+        raise no_copy(record, error) from None
     with contextlib.closing(rows):
         yield rows

@@ -9,8 +9,8 @@ from drawn import Line, cells_of, row_of, square, try_of
 from layered import CURVES, reduced
 from letters import LETTERS, heads
 from markupsafe import Markup, escape
-from reasons import Situation
-from record import KINDS, PHASES, log_of, text_of
+from reasons import Situation, upstreams_without_success
+from record import KINDS, PHASES, log_of, no_graph_file, text_of
 from rules import next_tick
 from words import address_of, counted, date_of, day_of, file_of, length_of, time_of
 
@@ -79,7 +79,10 @@ def next_of(graph, now):
     """When the next run of a graph becomes due, in words, and how far off that is."""
     if graph.keys["schedule"] == "None":
         return "by hand", ""
-    tick = next_tick(graph.keys, now)
+    try:
+        tick = next_tick(graph.keys, now)
+    except ValueError as fault:
+        raise no_graph_file(graph.name, fault) from None
     return ("none", "") if tick is None else (date_of(tick), f"in {length_of(tick - now)}")
 
 
@@ -304,8 +307,7 @@ class RunPage:
     def why(self, task, state):
         """The reasons of one that waits, and what made a task end that was not tried."""
         if state in ("upstream_failed", "skipped") and task.name not in self.bars:
-            ends = [(name, self.instances[name].state) for name in task.upstream if name in self.instances]
-            return [f"upstream {name} {it}" for name, it in ends if it != "success"]
+            return [f"upstream {name} {it}" for name, it in upstreams_without_success(task, self.instances)]
         return self.waits.get(task.name, [])
 
     def rows(self, level):

@@ -13,9 +13,9 @@ import manuals
 import words
 from manuals import bytes_of, placed, text_of
 
-PROGRAMS = [f"service/{it}" for it in ("ask", "check", "copy", "end", "serve", "tries")] + [f"look/{it}" for it in ("gantt", "grid", "names", "page")]
+PROGRAMS = [f"service/{it}" for it in ("ask", "check", "copy", "end", "serve", "tries")] + [f"look/{it}" for it in ("gantt", "grid", "names", "page", "why")]
 MODULES = [f"service/{it}.py" for it in ("calls", "clock", "inbox", "pages", "programs", "scheduler", "service", "starting", "stops", "watch", "working")]
-MODULES += [f"look/{it}.py" for it in ("bars", "command", "drawn", "layered", "letters", "reasons", "record", "rules", "sites", "snapshot", "views", "words")]
+MODULES += [f"look/{it}.py" for it in ("advice", "asked", "bars", "chain", "command", "drawn", "files", "layered", "letters", "reasons", "record", "rules", "sites", "snapshot", "views", "words")]
 TEMPLATES = [f"look/templates/{it}" for it in ("base.html", "front.html", "graph.html", "marks.html", "run.html", "style.css")]
 PICTURES = ["docs/night.svg", "docs/page.png"]
 UNITS = ("dagsched.service", "dagsched-check.service", "dagsched-check.timer")

@@ -14,8 +14,8 @@ MANUALS = {
     "dagsched-service.7": ("Miscellanea", "dagsched as a service, and looks at its record", ["docs/IN_USE.md"]),
 }
 # what else a user reads
-PAGES = ["README.md", "docs/TUTORIAL.md", "docs/EXPLAIN.md", "docs/FROM_AIRFLOW.md", "docs/RECORD.md", "docs/PROMISES.md", "docs/PERFORMANCE.md", "docs/SCALE.md"]
-PROGRAM_OF = re.compile(r"(?<![\w/.-])(?:service|look)/(serve|ask|check|tries|end|copy|grid|gantt|page)(?=[\s`]|$)", re.M)
+PAGES = ["README.md", "docs/TUTORIAL.md", "docs/A_YEAR.md", "docs/EXPLAIN.md", "docs/FROM_AIRFLOW.md", "docs/RECORD.md", "docs/PROMISES.md", "docs/PERFORMANCE.md", "docs/SCALE.md"]
+PROGRAM_OF = re.compile(r"(?<![\w/.-])(?:service|look)/(serve|ask|check|tries|end|copy|grid|gantt|why|page)(?=[\s`]|$)", re.M)
 
 
 def spoken(manual_file):
@@ -86,7 +86,7 @@ def service_files(prefix, units):
     found = {
         f"{units}/dagsched.service": "the unit, which nobody but you enables: systemctl enable --now dagsched",
         f"{units}/dagsched-check.timer": "mails what is wrong, likewise",
-        f"{prefix}/lib/dagsched": "the programs serve, ask, check, tries, end, copy, grid, gantt and page",
+        f"{prefix}/lib/dagsched": "the programs serve, ask, check, tries, end, copy, grid, gantt, why and page",
         "/var/lib/dagsched": "the folder of the service: the record (record.db and record.db-wal), graph files, the inbox",
         "/var/log/dagsched": "what tries wrote",
     }

@@ -13,9 +13,11 @@ import night
 import programs
 import service
 import snapshot
-# of look, whose folder service has put on the path
-import paged
 from trial import HERE, expect, graph, until
+
+# tests of look, whose modules service has put on the path
+sys.path.append(os.path.join(os.path.dirname(HERE), "look", "tests"))
+import paged
 
 HANGS = "trap '' TERM; sleep 1000 & while :; do wait; done"
 # a copy for which the scheduler is held still at once

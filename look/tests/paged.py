@@ -1,12 +1,8 @@
 """What `try` asks of `page`: pages of a real night in a browser, names that would break out, sizes, readers and kills beside a writing, and faults."""
 import collections
 import contextlib
-import functools
 import html.parser
-import http.server
-import json
 import os
-import pathlib
 import random
 import re
 import resource
@@ -21,30 +17,20 @@ import urllib.parse
 
 import browser
 import made
+from browsed import look_at
+from calling import LOOK, answers_of, measured, written
+from made import ODD
 from reasons import Situation
 from record import opened, text_of
 from rules import END, next_tick
 
-HERE = pathlib.Path(__file__).resolve().parent
-SERVICE = HERE.parent / "service"
+SERVICE = LOOK.parent / "service"
 LIMIT = 300_000
-# tidy knows no links in pictures
 TIMED = 'dag_id = "d"\nschedule = "{0}"\nstart_date = "2024-02-28T01:00:00Z"\nend_date = "2032-03-01"\ncatchup = false\n{1}[[task]]\ntask_id = "t"\noperator = "noop"\n'
 CRON = ("@daily", "30 2 * * *", "*/15 * * * *", "0 6 * * MON-FRI", "0 0 29 2 *", "0 3 1 * 5", "5/20 4 * 1-3 *")
 TIMETABLES = [(it, trigger) for it in CRON for trigger in (False, True)] + [("@once", False), ("None", False)]
+# tidy knows no links in pictures
 UNKNOWN = ('proprietary attribute "href"', 'proprietary attribute "tabindex"')
-WIDTHS = (1280, 390)
-# names that no graph file may have, and that a record may be made to
-ODD = ["<script>window.ran = 1</script>", "\"><img src=x onerror=\"window.ran = 2\">", "a&amp;b 'c' \"d\"", "</pre></title><b>", "{{ title }}{% x %}", "é" * 125]
-ODD += ["../../x", "n" * 250]
-
-
-def written(*words, status=0, **more):
-    """Calls `page`, and gives what it says."""
-    done = subprocess.run([HERE / "page", *map(str, words)], capture_output=True, text=True, env={**os.environ, **more}, timeout=200)
-    assert done.returncode == status, f"page {words}: status {done.returncode}: {done.stderr}"
-    assert not done.stdout and "Traceback" not in done.stderr, done
-    return done.stderr
 
 
 class Parts(html.parser.HTMLParser):
@@ -152,81 +138,6 @@ def check_night(program, night, work, pictures):
     look_at(work / "site", pictures)
 
 
-def kinds_of(site):
-    """A page of each kind, with a word that it has."""
-    graphs = site / "graphs"
-    failed = next((graphs / "night").glob("2*.html"))
-    return {"front": (site / "index.html", "pool scales needs 1 open 0"), "graph": (graphs / "feed" / "index.html", "the state of run"),
-            "night": (graphs / "night" / "index.html", "Tries over time"), "run": (failed, "upstream check failed")}
-
-
-def look_at(site, pictures):
-    """Loads a page of each kind in a browser, at two widths, light and dark."""
-    if browser.program() is None:
-        print("chromium is not installed, so no browser has seen a page; all else is checked")
-        return
-    grounds = set()
-    with browser.Browser() as it:
-        for name, (page, word) in kinds_of(site).items():
-            for width in WIDTHS:
-                for is_dark in (False, True):
-                    seen = it.load(str(page), width, is_dark=is_dark)
-                    assert not seen["errors"] and word in seen["text"], (page, seen)
-                    assert seen["wide"] <= seen["room"] and not seen["past"], (page, width, seen["past"])
-                    assert not seen["unnamed"] and not seen["scripts"], seen
-                    grounds.add(seen["ground"])
-                    if pictures:
-                        it.picture(pictures / f"{name}-{width}-{'dark' if is_dark else 'light'}.png")
-            spoken = it.spoken()
-            roles = collections.Counter(role for role, _ in spoken)
-            assert roles["heading"] >= 2 and roles["navigation"] == roles["main"] == 1, roles
-            assert all(said for role, said in spoken if role == "link"), [it for it in spoken if it[0] == "link"]
-        assert len(grounds) == 2, f"grounds: {grounds}"
-        if pictures:
-            it.load(str(site / "index.html"), 960, 648)
-            it.picture(pictures / "page.png", is_whole=False)  # that of docs/IN_USE.md
-        look_by_server(it, site)
-        click_to_log(it, site)
-    print(f"a browser shows each kind of page at {len(WIDTHS)} widths, light and dark, and logs no error; keys lead from the front page to a log")
-
-
-def look_by_server(it, site):
-    """The same pages through a web server, which is given nothing but the folder."""
-    with http.server.ThreadingHTTPServer(("127.0.0.1", 0), functools.partial(Quiet, directory=site)) as server:
-        threading.Thread(target=server.serve_forever, daemon=True).start()
-        for page, word in kinds_of(site).values():
-            seen = it.load(f"http://127.0.0.1:{server.server_address[1]}/{page.relative_to(site)}")
-            assert not seen["errors"] and word in seen["text"] and seen["wide"] <= seen["room"], (page, seen)
-        server.shutdown()
-
-
-class Quiet(http.server.SimpleHTTPRequestHandler):
-    def log_message(self, *_):
-        pass
-
-
-def click_to_log(it, site):
-    """From the front page to the log of what failed, by the keyboard alone."""
-    it.load(str(site / "index.html"))
-    reached = None
-    for _ in range(60):
-        for kind in ("keyDown", "keyUp"):
-            it.ask("Input.dispatchKeyEvent", type=kind, key="Tab", code="Tab", windowsVirtualKeyCode=9)
-        at = "document.activeElement.getAttribute('href') || ''"
-        reached = it.ask("Runtime.evaluate", expression=at, returnByValue=True)["result"]["value"]
-        if reached.endswith(".log"):
-            break
-    log = pathlib.Path(site, urllib.parse.unquote(reached))
-    assert log.is_file() and reached.endswith(".log"), reached
-
-
-def answers_of(program, path, *lines):
-    """What a script on a record is answered."""
-    done = subprocess.run([program, "--record", path, "run"], input="".join(f"{it}\n" for it in lines), capture_output=True, text=True, cwd=path.parent)
-    assert done.returncode == 0, done
-    return done.stdout
-
-
 def check_ticks(program, work):
     """The next tick that a page tells is the next moment at which a tick makes a run."""
     for number, (schedule, trigger) in enumerate(TIMETABLES):
@@ -257,27 +168,9 @@ def check_added(program, work):
     print("tasks that came later are shown")
 
 
-def odd(path):
-    """A record of names and texts that would break out of a page: each graph has all of them as tasks."""
-    rows, tried = sqlite3.connect(path), "INSERT INTO attempt (dag_id, logical, task_id, try_number, slots, started, ended, outcome) VALUES (?, 946684800, ?, 1, 1, 946771200, ?, ?)"
-    rows.executescript(made.CREATING)
-    task = "[[task]]\ntask_id = {}\noperator = {}\npool = {}\nupstream = {}\n"
-    for name in ODD:
-        text = f'dag_id = {json.dumps(name)}\nschedule = "@daily"\nstart_date = "2000-01-01"\n# {ODD[0]} {ODD[3]}\n'
-        text += "".join(task.format(*map(json.dumps, (it, ODD[0], ODD[1], ODD[:at]))) for at, it in enumerate(ODD))
-        rows.execute("INSERT INTO dag VALUES (?, ?, 0)", (name, text))
-        rows.execute("INSERT INTO run VALUES (?, 946684800, 946684800, 946771200, 0, 1)", (name,))
-        rows.executemany("INSERT INTO instance VALUES (?, 946684800, ?, 1, 0)", ((name, it) for it in ODD))
-        rows.executemany(tried, ((name, ODD[0], 946771201, 1), (name, ODD[1], None, None)))
-    rows.executemany("INSERT INTO pool VALUES (?, 1)", ((it,) for it in ODD))
-    rows.execute("INSERT INTO meta VALUES (1, 1, 946771300, 100, 4)")
-    rows.commit()
-    rows.close()
-
-
 def check_odd(work):
     """Names and texts that would break out of a page are shown as they are."""
-    odd(work / "odd.db")
+    made.odd(work / "odd.db")
     written(work / "odd.db", work / "odd", "--title", ODD[0])
     pages = check_site(work / "odd")
     check_tidy(pages)
@@ -293,43 +186,9 @@ def check_odd(work):
     print("names and texts that would break out do not")
 
 
-def dense(path):
-    """A record of graphs as large as they may be, with names as long as they may be."""
-    rows = sqlite3.connect(path)
-    rows.executescript("PRAGMA synchronous = OFF;" + made.CREATING + made.LIMITS)
-    tasks = [f"{it:03}".rjust(250, "t") for it in range(256)]
-    for number in range(256):
-        dag = f"{number:03}".rjust(250, "d")
-        few = tasks if number == 0 else tasks[:2]
-        body = "".join(f'[[task]]\ntask_id = "{it}"\noperator = "noop"\nupstream = {json.dumps(few[max(at - 16, 0) : at])}\n' for at, it in enumerate(few))
-        rows.execute("INSERT INTO dag VALUES (?, ?, 0)", (dag, f'dag_id = "{dag}"\nschedule = "@daily"\nstart_date = "2000-01-01"\n{body}'))
-        rows.execute("INSERT INTO dag_limit VALUES (?, 16)", (dag,))
-        for day in range(30 if few is tasks else 14):
-            logical = made.FIRST + day * made.DAY
-            rows.execute("INSERT INTO run VALUES (?, ?, ?, ?, 0, 3)", (dag, logical, logical, logical + made.DAY))
-            rows.executemany("INSERT INTO instance VALUES (?, ?, ?, 1, 0)", ((dag, logical, it) for it in few))
-            tries = ((dag, logical, it, number, made.FIRST + 31 * made.DAY) for it in few for number in range(1, 4 if few is tasks else 2))
-            rows.executemany("INSERT INTO attempt (dag_id, logical, task_id, try_number, slots, started, ended, outcome) VALUES (?, ?, ?, ?, 1, ?5, ?5, 1)", tries)
-    rows.executemany("INSERT INTO pool VALUES (?, 1)", ((f"{it:03}".rjust(250, "p"),) for it in range(63)))
-    rows.execute("INSERT INTO pool VALUES ('default_pool', 128)")
-    rows.execute("INSERT INTO meta VALUES (1, 2, ?, 1000000, 4)", (made.FIRST + 31 * made.DAY + 60,))
-    rows.commit()
-    rows.close()
-
-
-def measured(name, *words):
-    """How long a program of `look` takes, in seconds of the processor and of a clock, and how much memory, in MB: what other programs do changes the first least."""
-    begun = time.monotonic()
-    process = subprocess.Popen([HERE / name, *map(str, words)], stdout=subprocess.DEVNULL, stderr=subprocess.DEVNULL)
-    _, status, used = os.wait4(process.pid, 0)
-    process.returncode = os.waitstatus_to_exitcode(status)
-    assert process.returncode == 0, (name, words)
-    return used.ru_utime + used.ru_stime, time.monotonic() - begun, used.ru_maxrss >> 10
-
-
 def check_sizes(work):
     """Pages stay small, and are made fast: thousand.db and million.db are there."""
-    dense(work / "dense.db")
+    made.dense(work / "dense.db")
     written(work / "dense.db", work / "dense", "--last", "40")
     print(f"of 256 graphs with long names {len(check_site(work / 'dense'))} pages stay below {LIMIT:,} bytes")
     for name, seconds, memory in (("thousand", 2, 500), ("million", 60, 500)):
@@ -362,7 +221,7 @@ def check_beside(work, rounds):
             rows.execute("INSERT INTO run VALUES ('orders', ?, ?, ?, 0, ?)", (day, day, day + made.DAY, number % 4))
             rows.execute("UPDATE meta SET now = ?", (day + 2 * made.DAY,))
             rows.commit()
-        process = subprocess.Popen([HERE / "page", path, site, "--last", "9"], stderr=subprocess.DEVNULL)
+        process = subprocess.Popen([LOOK / "page", path, site, "--last", "9"], stderr=subprocess.DEVNULL)
         if number % 2:
             time.sleep(random.uniform(0.1, 0.8))
             process.send_signal(random.choice((signal.SIGKILL, signal.SIGTERM)))
@@ -406,7 +265,7 @@ def check_full_disk(path, site):
     """Where the pages cannot be written, as here where no file may be larger than the copy of the record, that is said."""
     def limit():
         resource.setrlimit(resource.RLIMIT_FSIZE, (70_000, 70_000))
-    full = subprocess.run([HERE / "page", path, site, "--title", "x" * 80_000], capture_output=True, text=True, preexec_fn=limit)
+    full = subprocess.run([LOOK / "page", path, site, "--title", "x" * 80_000], capture_output=True, text=True, preexec_fn=limit)
     assert full.returncode == 4 and "the site stays as it was" in full.stderr, full
 
 
@@ -435,3 +294,25 @@ def check_faults(work):
     check_site(work / "undrawn")
     check_logs_at(work)
     print("page tells what it cannot do")
+
+
+def check_other_texts(work):
+    """A text that is no graph file, in a record that was made by hand, is told in a sentence, and nothing is written."""
+    for at, (before, after, told) in enumerate((
+        ('operator = "noop"', 'operator = "noop"\ntrigger_rule = "all_succes"', "task 0: there is no trigger_rule 'all_succes'"),
+        ('operator = "noop"', 'operator = "noop"\nretries = "two"', "task 0: retries is no whole number"),
+        ('operator = "noop"', 'operator = "noop"\nupstream = [1]', "task 0: upstream is no list of texts"),
+        ('task_id = "load"', "", "task 0: it lacks task_id"),
+        ("[[task]]", "[task]", "task is no list"),
+        ('schedule = "@daily"', "", "it lacks schedule"),
+        ('schedule = "@daily"', 'schedule = "daily"', "daily is no cron text"),
+        ('start_date = "2000-01-01"', 'start_date = "2000-13-01"', "'2000-13-01'"),
+    )):
+        path, site = work / f"text{at}.db", work / f"text{at}"
+        made.make(path, "orders", ["load"], 1)
+        with contextlib.closing(sqlite3.connect(path)) as rows:
+            rows.execute("UPDATE dag SET body = replace(body, ?, ?)", (before, after))
+            rows.commit()
+        said = written(path, site, status=3)
+        assert "the text of the graph orders is no graph file: " in said and told in said and not [*site.glob("*")], said
+    print("texts that are no graph files are told")
