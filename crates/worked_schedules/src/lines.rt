@@ -6,7 +6,7 @@ use std::str;
 #[derive(Drop)]
 pub enum Line<'a> {
     /// `== TITLE`: a new record begins, within the greatest limits.
-    Title,
+    Title(&'a str),
     /// A comment, or a line without a byte.
     Remark,
     /// `limits GRAPHS TASKS EDGES POOLS RUNS LANES`: a new record begins within these limits, where there are such.
@@ -29,12 +29,20 @@ impl Line<'_> {
     }
 }
 
+/// The first line of a text, without its newline, and the text after it.
+pub fn first_line(text: &[u8]) -> (&[u8], &[u8]) {
+    match text.iter().position(|byte| *byte == b'\n') {
+        Some(end) => (&text[..end], &text[end + 1..]),
+        None => (text, b"".as_slice()),
+    }
+}
+
 fn of_text(text: &str) -> Line<'_> {
     if text.is_empty() || text.starts_with("#") {
         return Line::Remark;
     }
-    if text.starts_with("== ") {
-        return Line::Title;
+    if let Some(title) = text.strip_prefix("== ") {
+        return Line::Title(title);
     }
     match text.split_once(' ') {
         Some(("limits", rest)) => Line::Limits(limits_of(rest)),

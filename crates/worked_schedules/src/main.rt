@@ -8,8 +8,7 @@
 //! again, with `> ` before each, and after each what it answers, as a script prints it, and what it leaves (`leaving`). So the output reads as one page.
 //! A line `sql STATEMENTS` changes a record that the same events have made, and says what that one is loaded as (`changing`).
 //!
-//! With the words `costs RUNS TASKS` no line is read: a schedule is made with so many runs of so many tasks, which end, and it is printed how
-//! long each kind of event takes then. With `costs RUNS TASKS queued` these runs stay queued.
+//! With the word `times` the events of standard input are stepped without a record, and it is printed how long they take (`timing`).
 //!
 //! ```text
 //! == a lane takes one try
@@ -21,7 +20,6 @@
 
 mod answering;
 mod changing;
-mod costs;
 mod explaining;
 mod leaving;
 mod lines;
@@ -30,26 +28,31 @@ mod records;
 mod stepping;
 mod timing;
 
-use crate::costs::{Size, write_costs};
 use crate::playing::play;
+use crate::timing::write_times;
 use std::env;
 use std::io::{self, BufWriter, Read, Write};
 
 fn main(rt: HostRuntime) -> io::Result<()> {
-    let mut words = env::args(&rt)?;
-    match words.nth(1) {
-        Some(word) if word.as_str() == "costs" => {
-            write_costs(&rt, Size::of(words.next(), words.next(), words.next()))
-        }
-        _ => write_page(&rt),
+    let is_timed = asks_for_times(&rt)?;
+    let mut text = Vec::new(rt.alloc());
+    rt.stdin().read_to_end(&mut text)?;
+    if is_timed {
+        write_times(&rt, text.as_slice())
+    } else {
+        write_page(&rt, text.as_slice())
     }
 }
 
-fn write_page(rt: &HostRuntime) -> io::Result<()> {
+// Whether the first word behind the program's name is `times`.
+fn asks_for_times(rt: &HostRuntime) -> io::Result<bool> {
+    let mut words = env::args(rt)?;
+    Ok(words.nth(1).is_some_and(|word| word.as_str() == "times"))
+}
+
+fn write_page(rt: &HostRuntime, text: &[u8]) -> io::Result<()> {
     let alloc = rt.alloc();
-    let mut text = Vec::new(alloc);
-    rt.stdin().read_to_end(&mut text)?;
     let mut output = BufWriter::new(alloc, rt.stdout())?;
-    play(alloc, text.as_slice(), &mut output)?;
+    play(alloc, text, &mut output)?;
     output.flush()
 }

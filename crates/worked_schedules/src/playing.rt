@@ -1,11 +1,11 @@
 //! The lines of a text, one after another.
 use crate::answering::answer;
 use crate::changing::load_changed;
-use crate::lines::Line;
+use crate::lines::{Line, first_line};
 use crate::records::{Played, Records};
 use crate::stepping::step;
 use command_words::CommandReader;
-use sched_core::{Event, Limits};
+use sched_core::Limits;
 use script_commands::{CommandFault, ScriptCommand, SourceFault, next_command};
 use script_lines::LineReader;
 use std::alloc::Global;
@@ -51,49 +51,53 @@ fn play_line<'a, W: Write>(
 ) -> io::Result<&'a [u8]> {
     let (line, rest) = first_line(text);
     match Line::of(line) {
-        Line::Remark => put_remark(line, output)?,
-        Line::Title => {
-            records.begin(alloc, Limits::full())?;
-            put_remark(line, output)?;
-        }
-        Line::Limits(limits) => {
-            echo(line, output)?;
-            limit(alloc, records, limits, output)?;
-        }
-        Line::Event(event) => play_event(alloc, &mut records.played, line, &event, output)?,
-        Line::Sql(statements) => {
-            echo(line, output)?;
-            load_changed(alloc, &records.played, statements, output)?;
-        }
-        Line::Script => {
-            return play_script(alloc, &mut records.played, lines, text, output);
+        Line::Script => play_script(alloc, &mut records.played, lines, text, output),
+        own => {
+            play_own(alloc, records, line, &own, output)?;
+            Ok(rest)
         }
     }
-    Ok(rest)
 }
 
-// The first line of a text, without its newline, and the text after it.
-fn first_line(text: &[u8]) -> (&[u8], &[u8]) {
-    match text.iter().position(|byte| *byte == b'\n') {
-        Some(end) => (&text[..end], &text[end + 1..]),
-        None => (text, b"".as_slice()),
+// Does a line that is none of a script.
+fn play_own<W: Write>(
+    alloc: Global,
+    records: &mut Records,
+    line: &[u8],
+    own: &Line<'_>,
+    output: &mut W,
+) -> io::Result<()> {
+    match own {
+        Line::Remark | Line::Script => put_remark(line, output),
+        Line::Title(_) => {
+            records.begin(alloc, Limits::full())?;
+            put_remark(line, output)
+        }
+        told => {
+            echo(line, output)?;
+            tell(alloc, records, told, output)
+        }
+    }
+}
+
+// Does a line that was written, and writes what comes of it.
+fn tell<W: Write>(
+    alloc: Global,
+    records: &mut Records,
+    line: &Line<'_>,
+    output: &mut W,
+) -> io::Result<()> {
+    match line {
+        Line::Limits(limits) => limit(alloc, records, *limits, output),
+        Line::Event(event) => step(alloc, &mut records.played, event, output),
+        Line::Sql(statements) => load_changed(alloc, &records.played, statements, output),
+        Line::Remark | Line::Title(_) | Line::Script => Ok(()),
     }
 }
 
 fn put_remark<W: Write>(line: &[u8], output: &mut W) -> io::Result<()> {
     output.write_all(line)?;
     output.write_all(b"\n")
-}
-
-fn play_event<W: Write>(
-    alloc: Global,
-    played: &mut Played,
-    line: &[u8],
-    event: &Event,
-    output: &mut W,
-) -> io::Result<()> {
-    echo(line, output)?;
-    step(alloc, played, event, output)
 }
 
 // Begins a new record within the limits.
@@ -153,11 +157,11 @@ fn request_or_again<'a>(
     found
 }
 
-// What a command asks for.
-type Request = Result<ScriptCommand, CommandFault>;
+/// What a command asks for.
+pub type Request = Result<ScriptCommand, CommandFault>;
 
-// The same, if there is one, and the text after it.
-type Asked<'a> = (Option<Request>, &'a [u8]);
+/// The same, if there is one, and the text after it.
+pub type Asked<'a> = (Option<Request>, &'a [u8]);
 
 // Whether memory ran out for the command, or it could not be read.
 fn lacks_memory(found: &io::Result<Asked<'_>>) -> bool {
@@ -174,8 +178,8 @@ fn is_lack(request: &Option<Request>) -> bool {
     *fault == CommandFault::Source(SourceFault::Memory)
 }
 
-// What the next command of a script asks for, and the text after it.
-fn next_request<'a>(
+/// What the next command of a script asks for, and the text after it.
+pub fn next_request<'a>(
     alloc: Global,
     lines: &mut LineReader,
     text: &'a [u8],
