@@ -1,5 +1,5 @@
 -- The tries of the runs of a graph that takes another text: each is that of its task, with its number, and what is taken of the pools stays.
-use Rattle.std.proofs.Common.{◌≡◌, ◌==◌, refl, sym, ap, subst, ◌∙◌, ℕ, ◌+◌, List, [], ◌∷◌, Bool, true, false, cond, not, ◌&&◌, inl, inr, map, filter, flat_map, find, Option, Some, None, option_map, option_and_then, is_some, is_none, slice_get, nat_lt, arith, true≢false, zip, sum_by}
+use Rattle.std.proofs.Common.{◌≡◌, refl, sym, ap, subst, ◌∙◌, ℕ, ◌+◌, List, [], ◌∷◌, Bool, true, false, cond, not, ◌&&◌, inl, inr, map, filter, flat_map, find, Option, Some, None, option_map, option_and_then, is_some, is_none, slice_get, nat_lt, arith, true≢false, zip, sum_by}
 use Rattle.std.specs.List.{list_all, enumerate_from}
 use Rattle.std.specs.List.Sorted.{IsPermutation}
 use Rattle.std.proofs.lemmas.List.{length-map}
@@ -19,7 +19,7 @@ use Rattle.sched_model.specs.sched_state.declared.runs.Run.{Run}
 use Rattle.sched_model.specs.sched_state.declared.runs.RunPhase.{RunPhase}
 use Rattle.sched_model.proofs.sched_state.OrderLemmas.{and_left, and_right}
 use Rattle.sched_model.proofs.sched_state.NameLemmas.{same_is, same_itself, find_passes}
-use Rattle.sched_model.specs.Causes.{moved_by, pairs_named, runs_of, task_named, takes_others, least_moved, lost_task, open_serials, tries_of}
+use Rattle.sched_model.specs.Causes.{moved_by, pairs_named, runs_of, task_named, takes_another_pool, least_moved, lost_task, open_serials, tries_of}
 use Rattle.sched_model.specs.Changes.{new_graph, taken_in, reloaded, with_graph}
 use Rattle.sched_model.specs.Clearing.{named_in, named_pairs, pairs_of, place_of}
 use Rattle.sched_model.specs.Lists.{all_pairs}
@@ -290,24 +290,24 @@ named_pair f n (y ∷ es) x i h = elim (f n y) as (λ b. f n y ≡ b → In x (m
   | false ↦ λ g. elim i [ inl is ↦ absurd (true≢false (sym (h n) ∙ ap (f n) (sym is) ∙ g)) | inr j ↦ named_pair f (n + 1) es x j h ]
 ] refl
 
--- a pair of a run that takes other slots is one of those that are moved
-moved_pair : (a : Schedule) (dag : Dag) (r : Run) (x : Pair) → In r a.runs → same r.graph dag.spec.dag_id ≡ true → takes_others dag x.0 ≡ true → In x (pairs_of a r) → In x (named_pairs a (moved_by dag))
-moved_pair a dag r x i own moves j = flat_member (named_in a (moved_by dag)) a.runs r x i (named_pair (moved_by dag r) 0 (pairs_of a r) x j (λ p. ap (λ b. b && takes_others dag x.0) own ∙ moves))
+-- a pair of a run that takes slots of another pool is one of those that are moved
+moved_pair : (a : Schedule) (dag : Dag) (r : Run) (x : Pair) → In r a.runs → same r.graph dag.spec.dag_id ≡ true → takes_another_pool dag x.0 ≡ true → In x (pairs_of a r) → In x (named_pairs a (moved_by dag))
+moved_pair a dag r x i own moves j = flat_member (named_in a (moved_by dag)) a.runs r x i (named_pair (moved_by dag r) 0 (pairs_of a r) x j (λ p. ap (λ b. b && takes_another_pool dag x.0) own ∙ moves))
 
 pools_alike : (text : List ℕ) (dag : Dag) (a : Schedule) → is_sound_graph a (new_graph text dag) ≡ true → least_moved a dag ≡ None → IsAlike (λ (o : OpenTry). o) dag a
 pools_alike text dag a new least r i e n x j k f =
     let ts : List Try = filter is_open x.1.tries in
     let all : List Pair = named_pairs a (moved_by dag) in
     let found : task_named dag.tasks x.0.task_id ≡ Some n = found_once (λ (t : TaskSpec). t.task_id) dag.tasks n x.0.task_id (sound_once a (new_graph text dag) new) j (ap (same n.task_id) (same_is x.0.task_id n.task_id f) ∙ same_itself n.task_id) in
-    elim (n.pool_slots == x.0.pool_slots && same n.pool x.0.pool) as (λ b. (n.pool_slots == x.0.pool_slots && same n.pool x.0.pool) ≡ b → map (λ (o : OpenTry). o) (map (opened r.graph n) ts) ≡ map (λ (o : OpenTry). o) (map (opened r.graph x.0) ts)) [
+    elim (same n.pool x.0.pool) as (λ b. same n.pool x.0.pool ≡ b → map (λ (o : OpenTry). o) (map (opened r.graph n) ts) ≡ map (λ (o : OpenTry). o) (map (opened r.graph x.0) ts)) [
       | true ↦ λ g.
-          let pool : n.pool ≡ x.0.pool = same_is n.pool x.0.pool (and_right (n.pool_slots == x.0.pool_slots) _ g) in
+          let pool : n.pool ≡ x.0.pool = same_is n.pool x.0.pool g in
           ap (λ (p : List ℕ). map (λ (o : OpenTry). o) (map (λ (u : Try). let o : OpenTry = record { graph = r.graph; pool = p; one = u } in o) ts)) pool
       | false ↦ λ g.
           let moved : List Try = flat_map (λ (y : Pair). y.1.tries) all in
           let over : list_all has_end moved ≡ true = none_open moved (best_empty nat_lt (open_serials moved) least) in
           let ended : list_all has_end x.1.tries ≡ true =
-          all_member (λ (y : Pair). list_all has_end y.1.tries) all x (all_flat has_end (λ (y : Pair). y.1.tries) all over) (moved_pair a dag r x i e (ap (holds_at (λ (u : TaskSpec). not (u.pool_slots == x.0.pool_slots && same u.pool x.0.pool))) found ∙ ap not g) k) in
+          all_member (λ (y : Pair). list_all has_end y.1.tries) all x (all_flat has_end (λ (y : Pair). y.1.tries) all over) (moved_pair a dag r x i e (ap (holds_at (λ (u : TaskSpec). not (same u.pool x.0.pool))) found ∙ ap not g) k) in
           let none : ts ≡ [] = no_open x.1.tries ended in
           ap (λ (us : List Try). map (λ (o : OpenTry). o) (map (opened r.graph n) us)) none ∙ sym (ap (λ (us : List Try). map (λ (o : OpenTry). o) (map (opened r.graph x.0) us)) none)
     ] refl

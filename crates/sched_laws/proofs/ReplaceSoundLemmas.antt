@@ -1,4 +1,4 @@
--- A text for a graph that has runs keeps a sound schedule sound, where no task is lost, and none that has a try would take other slots.
+-- A text for a graph that has runs keeps a sound schedule sound, where no task is lost, and none that has a try would take another number of slots.
 use Rattle.std.proofs.Common.{◌≡◌, refl, sym, ap, subst, ◌∙◌, ℕ, List, [], ◌∷◌, Bool, true, false, cond, not, ◌&&◌, ◌==◌, inl, inr, map, length, Option, Some, None, is_some, is_none, nat_le, nat_lt, eqb, arith, true≢false}
 use Rattle.std.specs.List.{list_all, AllByRecursion, IsDistinct}
 use Rattle.std.specs.List.Sorted.{IsPermutation}
@@ -74,7 +74,7 @@ fitted_by P ph es n new kept = elim (pair_of n.task_id es) as (λ o. pair_of n.t
 some_tries : (u : Try) (us : List Try) → nat_lt 0 (length (u ∷ us)) ≡ true
 some_tries u us = lt-ltb 0 (length (u ∷ us)) (omega arith)
 
--- a task whose tries would not take other slots
+-- a task whose tries would take as many slots
 sized_by : (k m : ℕ) (us : List Try) → (nat_lt 0 (length us) && not (k == m)) ≡ false → list_all (is_sound_try m) us ≡ true → list_all (is_sound_try k) us ≡ true
 sized_by k m [] e f = refl
 sized_by k m (u ∷ us) e f = elim (k == m) as (λ b. (k == m) ≡ b → (nat_lt 0 (length (u ∷ us)) && not b) ≡ false → list_all (is_sound_try k) (u ∷ us) ≡ true) [

@@ -82,7 +82,8 @@ pub fn replacing_keeps_the_tries()
         → try_of (replace_graph text dag a) id date task n ≡ Some t }
 {}
 
-/// Where no try without an end would take other slots either, what is taken stays: of each pool, of each graph, and in all.
+/// Where no try without an end would take slots of another pool either, what is taken stays: of each pool, of each graph, and in all. Each try
+/// takes as many slots as it took.
 pub fn replacing_keeps_what_is_taken()
     ensures occupied { (text : List ℕ) (dag : Dag) (a : Schedule) (p : List ℕ)
         → IsTrue (is_sound_graph a (new_graph text dag)) → lost_task a dag ≡ None

@@ -1,12 +1,12 @@
 -- The new task with the id of an old one, as its place says, and the first old task that has none.
-use Rattle.std.proofs.Common.{◌≡◌, ◌∙◌, refl, sym, ap, ℕ, ◌+◌, ◌<◌, ◌≤◌, ◌==◌, ◌&&◌, Bool, true, false, not, drop, find, length, Option, Some, None, option_map, is_none, is_some, slice_get, true≢false, position}
+use Rattle.std.proofs.Common.{◌≡◌, ◌∙◌, refl, sym, ap, ℕ, ◌+◌, ◌<◌, ◌≤◌, ◌==◌, Bool, true, false, not, drop, find, length, Option, Some, None, option_map, is_none, is_some, slice_get, true≢false, position}
 use Rattle.std.proofs.lemmas.Option.{slice_get-get_or}
 use Rattle.graph_file.specs.Lists.{holds_at}
 use Rattle.graph_file.specs.declared.task_specs.TaskSpec.{TaskSpec}
 use Rattle.dag_check.specs.Graphs.{Dag, no_task, task_of}
 use Rattle.sched_state.specs.Lists.{same}
 use Rattle.sched_state.proofs.ElementLemmas.{find_hit}
-use Rattle.sched_model.specs.Causes.{has_slots_of, lost_task, takes_others, task_named}
+use Rattle.sched_model.specs.Causes.{has_slots_of, lost_task, takes_another_pool, task_named}
 use Rattle.sched_model.specs.Schedule.{Schedule, dag_named}
 use Rattle.sched_replacing.proofs.ListLemmas.{find_next, find_over, place_found, place_missing, place_none}
 
@@ -23,24 +23,18 @@ pub slots_found : (dag : Dag) (t u : TaskSpec) (n : ℕ) → place_of dag t ≡ 
 slots_found dag t u n e read =
     ap (holds_at (λ (v : TaskSpec). v.pool_slots == t.pool_slots)) (place_found (λ (v : TaskSpec). same v.task_id t.task_id) dag.tasks n no_task e).1 ∙ ap (λ (v : TaskSpec). v.pool_slots == t.pool_slots) (sym read)
 
--- whether two tasks take other slots
-differs_from : TaskSpec → TaskSpec → Bool
-differs_from t v = not (v.pool_slots == t.pool_slots && same v.pool t.pool)
-
--- and whether the new task takes others
-pub others_found : (dag : Dag) (t u : TaskSpec) (n : ℕ) → place_of dag t ≡ Some n → u ≡ task_of dag n → takes_others dag t ≡ not (u.pool_slots == t.pool_slots && same u.pool t.pool)
-unfolding differs_from
-others_found dag t u n e read =
-    ap (holds_at (differs_from t)) (place_found (λ (v : TaskSpec). same v.task_id t.task_id) dag.tasks n no_task e).1 ∙ ap (differs_from t) (sym read)
+-- and whether it takes those of another pool
+pub pool_found : (dag : Dag) (t u : TaskSpec) (n : ℕ) → place_of dag t ≡ Some n → u ≡ task_of dag n → takes_another_pool dag t ≡ not (same u.pool t.pool)
+pool_found dag t u n e read =
+    ap (holds_at (λ (v : TaskSpec). not (same v.pool t.pool))) (place_found (λ (v : TaskSpec). same v.task_id t.task_id) dag.tasks n no_task e).1 ∙ ap (λ (v : TaskSpec). not (same v.pool t.pool)) (sym read)
 
 -- without a place there is no task that has the slots
 pub slots_missing : (dag : Dag) (t : TaskSpec) → place_of dag t ≡ None → false ≡ has_slots_of dag t
 slots_missing dag t e = sym (ap (holds_at (λ (v : TaskSpec). v.pool_slots == t.pool_slots)) (place_missing (λ (v : TaskSpec). same v.task_id t.task_id) dag.tasks e))
 
--- and none that takes others
-pub others_missing : (dag : Dag) (t : TaskSpec) → place_of dag t ≡ None → false ≡ takes_others dag t
-unfolding differs_from
-others_missing dag t e = sym (ap (holds_at (differs_from t)) (place_missing (λ (v : TaskSpec). same v.task_id t.task_id) dag.tasks e))
+-- and none in another pool
+pub pool_missing : (dag : Dag) (t : TaskSpec) → place_of dag t ≡ None → false ≡ takes_another_pool dag t
+pool_missing dag t e = sym (ap (holds_at (λ (v : TaskSpec). not (same v.pool t.pool))) (place_missing (λ (v : TaskSpec). same v.task_id t.task_id) dag.tasks e))
 
 -- ---- the first that is lost
 abbrev pub is_lost : Dag → TaskSpec → Bool
