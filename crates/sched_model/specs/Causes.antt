@@ -81,11 +81,11 @@ pairs_named a id = flat_map (pairs_of a) (runs_of a id)
 abbrev pub task_named : List TaskSpec → List ℕ → Option TaskSpec
 task_named tasks id = find (λ (t : TaskSpec). same t.task_id id) tasks
 
--- the new graph has the task with the id of this one, and it takes as many slots
-abbrev pub has_slots_of : Dag → TaskSpec → Bool
-has_slots_of dag t = holds_at (λ (u : TaskSpec). u.pool_slots == t.pool_slots) (task_named dag.tasks t.task_id)
+-- the new graph has the task with the id of this one, and it takes another number of slots
+abbrev pub takes_another_number : Dag → TaskSpec → Bool
+takes_another_number dag t = holds_at (λ (u : TaskSpec). not (u.pool_slots == t.pool_slots)) (task_named dag.tasks t.task_id)
 
--- the new graph has the task with the id of this one, in another pool
+-- the same, and it takes those of another pool
 abbrev pub takes_another_pool : Dag → TaskSpec → Bool
 takes_another_pool dag t = holds_at (λ (u : TaskSpec). not (same u.pool t.pool)) (task_named dag.tasks t.task_id)
 
@@ -103,7 +103,7 @@ lost_task a dag = option_map (λ (t : TaskSpec). t.task_id) (find (λ (t : TaskS
 
 -- the first task, by runs and places, that has a try and would take another number of slots: each try takes the slots of its task
 abbrev pub resized_task : Schedule → Dag → Option (List ℕ)
-resized_task a dag = option_map (λ (e : TaskSpec × InstanceValue). e.0.task_id) (find (λ (e : TaskSpec × InstanceValue). nat_lt 0 (length e.1.tries) && not (has_slots_of dag e.0)) (pairs_named a dag.spec.dag_id))
+resized_task a dag = option_map (λ (e : TaskSpec × InstanceValue). e.0.task_id) (find (λ (e : TaskSpec × InstanceValue). nat_lt 0 (length e.1.tries) && takes_another_number dag e.0) (pairs_named a dag.spec.dag_id))
 
 -- up to where the runs of a graph reach: the greatest end of their intervals, 0 where there are none
 abbrev pub greatest : List ℕ → ℕ
