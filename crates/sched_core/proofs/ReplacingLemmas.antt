@@ -41,7 +41,7 @@ use Rattle.sched_draft.specs.Drafts.{DraftValue}
 use Rattle.record_writing.specs.Before.{KeepDags}
 use Rattle.sched_core.specs.Books.{IsCounted}
 use Rattle.sched_core.specs.Inside.{IsTaken, StandsAt}
-use Rattle.sched_core.specs.Replaced.{TakeAlike, replaced_by, IsDisturbance, OwnsRunsOf}
+use Rattle.sched_core.specs.Replaced.{TakeAlike, with_other_graph, IsDisturbance, OwnsRunsOf}
 use Rattle.sched_core.proofs.GraphLemmas.{found_at}
 use Rattle.sched_core.proofs.OtherLemmas.{other_at, other_found}
 use Rattle.sched_core.proofs.PlanLemmas.{known_is, IsDraftOf, known_change}
@@ -61,7 +61,7 @@ dag_there a id i g kept stands read =
 
 -- with the text that it takes in the schedule is that of the definition
 pub replaced_is : (text : List ℕ) (dag : Dag) (a : Schedule) (i : ℕ) (old : LoadedGraph) → IsSoundAndSaid a → StandsAt dag.spec.dag_id a.graphs i → old ≡ get_or a.graphs i old → same old.text text ≡ false
-    → replaced_by (taken_in text dag old) a ≡ replace_graph text dag a
+    → with_other_graph (taken_in text dag old) a ≡ replace_graph text dag a
 replaced_is text dag a i old kept stands read other =
     let known = known_is a.graphs dag.spec.dag_id i old stands read in
     let order = kept.sound.graphs_by_id in
@@ -128,7 +128,7 @@ disturbance_is a text dag r is (inr e) =
 
 -- and where nothing stands against it, the draft is that of the event
 pub replaced_draft : (a : Schedule) (text : List ℕ) (dag : Dag) (i : ℕ) (g : LoadedGraph) → IsSoundAndSaid a → IsTaken a text dag → StandsAt dag.spec.dag_id a.graphs i → g ≡ get_or a.graphs i g
-    → ((h : LoadedGraph) → slice_get a.graphs i ≡ Some h → same h.text text ≡ false) → refused a (Replace text) ≡ None → IsDraftOf (Replace text) a (replaced_by (taken_in text dag g) a)
+    → ((h : LoadedGraph) → slice_get a.graphs i ≡ Some h → same h.text text ≡ false) → refused a (Replace text) ≡ None → IsDraftOf (Replace text) a (with_other_graph (taken_in text dag g) a)
 replaced_draft a text dag i g kept taken stands read other accepted = record {
   ranged = tt;
   accepted = accepted;
@@ -157,7 +157,7 @@ take_alike a text dag kept t quiet =
     }
 
 pub replaced_alike : (a : Schedule) (text : List ℕ) (dag : Dag) (i : ℕ) (g : LoadedGraph) → IsSoundAndSaid a → IsTaken a text dag → StandsAt dag.spec.dag_id a.graphs i → g ≡ get_or a.graphs i g
-    → ((h : LoadedGraph) → slice_get a.graphs i ≡ Some h → same h.text text ≡ false) → disturbed a dag ≡ None → TakeAlike a (replaced_by (taken_in text dag g) a)
+    → ((h : LoadedGraph) → slice_get a.graphs i ≡ Some h → same h.text text ≡ false) → disturbed a dag ≡ None → TakeAlike a (with_other_graph (taken_in text dag g) a)
 replaced_alike a text dag i g kept taken stands read other quiet =
     subst (TakeAlike a) (sym (replaced_is text dag a i g kept stands read (other g (known_is a.graphs dag.spec.dag_id i g stands read).0))) (take_alike a text dag kept taken quiet)
 
