@@ -1,5 +1,5 @@
 -- Another text for a graph that is there, which has runs.
-use Rattle.std.specs.Prelude.{◌≡◌, ℕ, true, List, map, Option, Some, ◌⊎◌, slice_get}
+use Rattle.std.specs.Prelude.{◌≡◌, ℕ, true, List, map, Some, ◌⊎◌, slice_get}
 use Rattle.std.specs.Global.{Vec}
 use Rattle.dag_check.specs.Graphs.{Dag}
 use Rattle.sched_state.specs.Lists.{same}
