@@ -1,7 +1,6 @@
 -- What has finished stays so: each instance when its graph takes another text, and when moves and hand-outs are made.
-use Rattle.std.proofs.Common.{◌≡◌, ◌∙◌, refl, sym, ap, subst, ℕ, zero, suc, List, [], ◌∷◌, Bool, true, false, cond, ◌&&◌, ◌||◌, inl, inr, Option, Some, None, option_map, option_and_then, slice_get, is_some, nat_eq, true≢false, zip}
+use Rattle.std.proofs.Common.{◌≡◌, ◌∙◌, refl, sym, ap, subst, ℕ, suc, List, [], ◌∷◌, Bool, true, false, cond, ◌&&◌, ◌||◌, inl, inr, Option, Some, None, option_map, option_and_then, slice_get, is_some, nat_eq, true≢false, zip}
 use Rattle.std.proofs.lemmas.Bool.{and_from, eqb-true, false_from_ne_true}
-use Rattle.graph_file.specs.Lists.{when}
 use Rattle.graph_file.specs.declared.task_specs.TaskSpec.{TaskSpec}
 use Rattle.dag_check.specs.Graphs.{Dag}
 use Rattle.sched_model.specs.instance_machine.Instances.{InstanceValue, recent, last_of}
@@ -37,7 +36,7 @@ use Rattle.sched_laws.proofs.HandLemmas.{best_eligible, ready_cases}
 use Rattle.sched_laws.proofs.InstanceLemmas.{parts_of}
 use Rattle.sched_laws.proofs.KeptLemmas.{failed_is, failed_stays, good_stays, set_aside_state}
 use Rattle.sched_laws.proofs.ListLemmas.{change_leaves}
-use Rattle.sched_laws.proofs.LookLemmas.{get_at, get_apart}
+use Rattle.sched_laws.proofs.LookLemmas.{get_apart}
 use Rattle.sched_laws.proofs.OnwardLemmas.{IsOnward, AllBy, by_further, by_at, by_change, by_turns, by_added}
 use Rattle.sched_laws.proofs.RefitLemmas.{instance_stays, other_after}
 use Rattle.sched_laws.proofs.ReplaceLemmas.{IsTakenIn}

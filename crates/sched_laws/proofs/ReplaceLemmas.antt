@@ -1,5 +1,5 @@
 -- A text for a graph that has runs: no run, no try and no serial goes, what is taken of the pools stays, and a sound schedule stays sound.
-use Rattle.std.proofs.Common.{◌≡◌, refl, sym, ap, subst, ◌∙◌, ℕ, List, [], ◌∷◌, Bool, true, false, cond, ◌&&◌, inl, inr, map, filter, length, Option, Some, None, option_map, unwrap_or, nat_le, true≢false, zip, sum_by, Result, Ok}
+use Rattle.std.proofs.Common.{◌≡◌, refl, sym, ap, subst, ◌∙◌, ℕ, List, [], ◌∷◌, Bool, true, false, cond, ◌&&◌, inl, inr, map, filter, length, Option, Some, option_map, unwrap_or, nat_le, true≢false, zip, sum_by, Result, Ok}
 use Rattle.std.specs.List.{list_any, list_all}
 use Rattle.graph_file.specs.declared.task_specs.TaskSpec.{TaskSpec}
 use Rattle.graph_file.specs.declared.graph_specs.GraphSpec.{GraphSpec}

@@ -1,4 +1,4 @@
-use Rattle.std.proofs.Common.{◌∙◌, ap, not, sym}
+use Rattle.std.proofs.Common.{◌∙◌, sym}
 use Rattle.sched_replacing.proofs.TaskLemmas.{pool_found, pool_missing, task_within}
 use Rattle.sched_replacing.proofs.causes.takes_another_pool.Goals as goal
 
