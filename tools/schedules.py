@@ -187,10 +187,10 @@ class Schedule:
         return [], []
 
     def refuse_change(self, old, new):
-        """What the runs of a graph have against another text of it. Of tries in flight only those of tasks that stay are asked: for a task that goes it is no help to wait."""
+        """What the runs of a graph have against another text of it. Of tries in flight only those of tasks that stay are asked, and of these the pool alone: for a task that goes, or takes another number of slots, it is no help to wait."""
         runs = self.runs_of(old.name)
         takes = [(task, new.tasks.get(task.name), one) for run in runs for task in old.tasks.values() for one in run.instances[task.name].tries]
-        moved = [one.serial for was, its, one in takes if one.ended is None and its and (its.pool, its.slots) != (was.pool, was.slots)]
+        moved = [one.serial for was, its, one in takes if one.ended is None and its and its.pool != was.pool]
         if moved:
             raise Refused(f"12 InFlight {min(moved)}")
         gone = [name for name in old.tasks if name not in new.tasks]

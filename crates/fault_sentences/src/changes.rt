@@ -18,7 +18,7 @@ pub fn change_sentence(
         Refusal::UnknownGraph => unknown_sentence(alloc, text),
         Refusal::InFlight(_) => told(
             alloc,
-            "wait until it has ended (in a script of your own: drain), or leave its pool and pool_slots as they are",
+            "wait until it has ended (in a script of your own: drain), or leave its pool as it is",
         ),
         Refusal::OtherTasks(task) => {
             let task = task.as_str();

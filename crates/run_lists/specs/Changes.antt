@@ -2,10 +2,7 @@
 use Rattle.std.specs.Prelude.{ℕ, List, length, option_map, unwrap_or, slice_get}
 use Rattle.instance_machine.specs.Instances.{InstanceValue}
 use Rattle.sched_state.specs.declared.runs.Run.{Run}
-use Rattle.sched_state.specs.declared.runs.RunPhase.{RunPhase}
-
-abbrev pub in_phase : RunPhase → Run → Run
-in_phase ph r = record r { phase = ph }
+pub use Rattle.sched_model.specs.Schedule.{in_phase}
 
 abbrev pub with_instances : List InstanceValue → Run → Run
 with_instances is r = record r { instances = is }

@@ -18,7 +18,7 @@ use Rattle.run_planner.proofs.DueLemmas.{due_sound, due_complete, due_nothing}
 
 -- ---- the last of a list
 -- an element after which none starts is the last
-last_of : (is : List Interval) (i : Interval) → starts_rise is ≡ true → Contains is i → ((j : Interval) → Contains is j → j.start ≤ i.start) → last_alone is ≡ i ∷ []
+pub last_of : (is : List Interval) (i : Interval) → starts_rise is ≡ true → Contains is i → ((j : Interval) → Contains is j → j.start ≤ i.start) → last_alone is ≡ i ∷ []
 last_of [] i rises h latest = absurd (contains_none i h)
 last_of (x ∷ []) i rises h latest =
     elim (contains_cases x [] i h) [ inl same ↦ ap (λ (j : Interval). j ∷ []) same | inr later ↦ absurd (contains_none i later) ]

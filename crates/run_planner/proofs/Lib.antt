@@ -10,3 +10,4 @@ pub mod PassedLemmas
 pub mod LatestLemmas
 pub mod ByHandLemmas
 pub mod SpanLemmas
+pub mod LaterLemmas

@@ -1,14 +1,16 @@
 //! Laws of the definitions: each is the contract of an empty function, so that the gate proves it.
-ghost use Rattle.std.specs.Prelude.{◌≡◌, ◌≢◌, ◌↔◌, ℕ, ◌<◌, ◌≤◌, true, Option, Some, option_to_list};
+ghost use Rattle.std.specs.Prelude.{◌≡◌, ◌≢◌, ◌↔◌, ℕ, ◌<◌, ◌≤◌, true, List, [], Option, Some, option_to_list};
 ghost use Rattle.std.specs.List.{Contains};
 ghost use Rattle.moment_core.specs.Moments.{seconds_end};
 ghost use Rattle.cron_timetable.specs.declared.timetables.Interval.{Interval};
 ghost use Rattle.cron_timetable.specs.declared.timetables.Timetable.{Timetable};
 ghost use Rattle.cron_timetable.specs.Intervals.{ManualInterval};
 ghost use Rattle.graph_file.specs.declared.graph_specs.GraphSpec.{GraphSpec};
-ghost use Rattle.run_planner.specs.Due.{due_intervals, starts_rise};
+ghost use Rattle.run_planner.specs.Anew.{wanted_anew};
+ghost use Rattle.run_planner.specs.Due.{due_intervals, starts_rise, wanted_intervals};
 ghost use Rattle.run_planner.specs.ByHand.{manual_intervals};
-ghost use Rattle.run_planner.specs.Spans.{span_intervals};
+ghost use Rattle.run_planner.specs.Index.{has_date};
+ghost use Rattle.run_planner.specs.Spans.{span_intervals, starts};
 ghost use Rattle.run_planner.specs.Latest.{IsDue};
 
 /// What is listed as due for a timetable are its intervals that start from the first date on and not past the last one, and have
@@ -41,4 +43,14 @@ pub fn a_span_holds_its_intervals()
         ↔ (IsDue Timetable.Once g.start_date (Some high) t i × (low ≤ i.start)) }
     ensures rise { (g : GraphSpec) (low high t : ℕ)
         → starts_rise (span_intervals g low high t) ≡ true }
+{}
+
+/// Where another text of a graph wants nothing anew at a moment, no later tick wants a run by it for an interval that had ended by then and
+/// that the old text did not want there. Other runs may have come in between.
+pub fn no_later_tick_makes_a_run_anew()
+    ensures { (old new : GraphSpec) (m t : ℕ) (dates later : List ℕ) (i : Interval) → m ≤ t
+        → t < seconds_end → wanted_anew old new m dates ≡ []
+        → ((d : ℕ) → has_date dates d ≡ true → has_date later d ≡ true)
+        → Contains (wanted_intervals new t later) i → i.end ≤ m
+        → has_date (starts (wanted_intervals old m dates)) i.start ≡ true }
 {}

@@ -17,8 +17,8 @@ use moment_core::Moment;
 use std::alloc::{AllocError, Global};
 
 /// Whether there is an interval for which the new text of a graph wants a run at `now`, and the old one does not; an [index](RunIndex) has
-/// the logical dates of the graph's runs. The only error is want of memory. The cost follows the number of intervals that the old text
-/// wants, and of those of the new one that have a run.
+/// the logical dates of the graph's runs. The only error is want of memory. The cost, in memory too, follows the number of intervals that the
+/// old text wants, and in time also that of those of the new one that have a run.
 pub fn makes_anew(
     alloc: Global,
     old: &Graph,

@@ -1,5 +1,5 @@
 -- The rows that a schedule lacks after an effect.
-use Rattle.std.proofs.Common.{◌≡◌, refl, sym, ap, subst, ◌∙◌, ℕ, zero, suc, ℤ, List, [], ◌∷◌, ◌++◌, Bool, true, map, flat_map, Option, Some, None}
+use Rattle.std.proofs.Common.{◌≡◌, refl, sym, ap, subst, ◌∙◌, zero, suc, ℤ, List, [], ◌∷◌, ◌++◌, true, map, flat_map, Option, Some, None}
 use Rattle.std.specs.List.{zip}
 use Rattle.std.proofs.lemmas.Bool.{and_from}
 use Rattle.dag_check.specs.Graphs.{Dag}
@@ -12,27 +12,26 @@ use Rattle.sched_model.specs.Lists.{rises}
 use Rattle.sched_model.specs.Schedule.{Schedule, dag_among, run_before}
 use Rattle.sched_model.specs.Sound.{IsSound}
 use Rattle.sched_model.specs.Tables.{tables, dag_row, limit_row, instance_row, instance_rows, attempt_rows, sort_by, task_before, serial_before}
-use Rattle.sched_model.specs.Changes.{with_graph, pause_graph}
+use Rattle.sched_model.specs.Changes.{with_graph}
 use Rattle.sched_model.specs.Handout.{hand_out}
 use Rattle.sched_model.specs.Settle.{settle}
 use Rattle.sched_laws.proofs.AlikeLemmas.{AllDags}
-use Rattle.sched_laws.proofs.GraphLemmas.{paused_dag}
 use Rattle.sched_laws.proofs.BesideLemmas.{no_runs_after}
 use Rattle.sched_laws.proofs.LoadLemmas.{found_after, dags_found}
 use Rattle.sched_laws.proofs.PauseLemmas.{same_dag_paused}
 use Rattle.record_restoring.specs.record_rules.Between.{lacked}
 use Rattle.record_restoring.proofs.record_rules.NumberLemmas.{number_itself}
 use Rattle.record_writing.specs.record_changes.Changes.{rows_between, same_meta_row, same_pool_row, same_dag_row, same_dag_limit_row, same_run_row, same_instance_row, same_attempt_row, same_if}
-use Rattle.record_writing.specs.Before.{AreNamedAlike, KeepDags}
+use Rattle.record_writing.specs.Before.{AreNamedAlike}
 use Rattle.record_writing.specs.Ranges.{FitsTables}
 use Rattle.record_writing.proofs.LackedLemmas.{lacked_itself}
 use Rattle.sched_draft.specs.Drafts.{HaveSameDags, SameDags}
 use Rattle.record_writing.proofs.FitLemmas.{fits_tables}
+use Rattle.record_writing.proofs.PremiseLemmas.{other_alike, pause_alike}
 use Rattle.sched_core.specs.Effects.{changed, IsQuiet}
 use Rattle.sched_core.specs.Inside.{IsOver, IsLast, LeavesDags, drafted, completed}
 use Rattle.sched_core.specs.declared.changes.GraphChange.{GraphChange}
 use Rattle.sched_core.specs.declared.changes.GraphChange.TheVariants as graphs
-use Rattle.sched_core.proofs.OtherLemmas.{ids_other}
 
 -- ---- rows of one run, over graphs that say the same of it
 instances_over : (a : Schedule) (hs : List LoadedGraph) (rs : List Run) → HaveSameDags a.graphs hs rs → flat_map (instance_rows (record a { graphs = hs })) rs ≡ flat_map (instance_rows a) rs
@@ -152,17 +151,11 @@ drafted_dags (graphs.Pause id paused) gs rs leaves = λ n r e. same_dag_paused i
 drafted_dags (graphs.Replace graph weights) gs rs leaves = absurd leaves
 
 -- at each place a graph of the same id
-ids_paused : (id : List ℕ) (paused : Bool) (gs : List LoadedGraph) → AreNamedAlike gs (map (pause_graph id paused) gs)
-ids_paused id paused [] = refl
-ids_paused id paused (g ∷ gs) =
-    ap (λ (d : Dag). d.spec.dag_id ∷ map (λ (h : LoadedGraph). h.dag.spec.dag_id) (map (pause_graph id paused) gs)) (paused_dag id paused g)
-    ∙ ap (λ is. g.dag.spec.dag_id ∷ is) (ids_paused id paused gs)
-
 drafted_ids : (g : GraphChange) (gs : List LoadedGraph) → AreNamedAlike gs (drafted g gs)
 drafted_ids graphs.Same gs = refl
 drafted_ids (graphs.Load text dag weights dates) gs = refl
-drafted_ids (graphs.Pause id paused) gs = ids_paused id paused gs
-drafted_ids (graphs.Replace graph weights) gs = ids_other graph gs
+drafted_ids (graphs.Pause id paused) gs = pause_alike (Some id) paused gs
+drafted_ids (graphs.Replace graph weights) gs = other_alike (Some graph) gs
 
 pub draft_ids : (g : GraphChange) (a d : Schedule) → IsOver g a d → AreNamedAlike a.graphs d.graphs
 draft_ids g a d over = subst (AreNamedAlike a.graphs) (sym over.graphs) (drafted_ids g a.graphs)
@@ -181,9 +174,6 @@ completed_over (graphs.Replace graph weights) a d over = ap (λ gs. record d { g
 
 pub draft_dags : (g : GraphChange) (a d : Schedule) → LeavesDags g → IsOver g a d → SameDags a d
 draft_dags g a d leaves over = subst (λ (gs : List LoadedGraph). HaveSameDags a.graphs gs d.runs) (sym over.graphs) (drafted_dags g a.graphs d.runs leaves)
-
-pub draft_kept_dags : (g : GraphChange) (a d : Schedule) (touched : List ℕ) → LeavesDags g → IsOver g a d → KeepDags touched a d
-draft_kept_dags g a d touched leaves over n r there own = draft_dags g a d leaves over n r there
 
 draft_alike : (g : GraphChange) (a d : Schedule) → IsOver g a d → IsLast g d → HaveSameDags d.graphs (changed g a.graphs) d.runs
 draft_alike g a d over last = subst (λ (gs : List LoadedGraph). HaveSameDags gs (changed g a.graphs) d.runs) (sym over.graphs) (drafted_alike g a.graphs d last)

@@ -1,5 +1,5 @@
 -- Another graph in the place of the one with its id.
-use Rattle.std.proofs.Common.{◌≡◌, ◌∙◌, refl, sym, ap, ℕ, zero, suc, List, [], ◌∷◌, true, false, cond, map, Option, Some, None, slice_get, slice_set}
+use Rattle.std.proofs.Common.{◌≡◌, ◌∙◌, refl, sym, ap, ℕ, zero, suc, List, [], ◌∷◌, true, false, cond, Option, Some, None, slice_get, slice_set}
 use Rattle.std.specs.List.{list_all, list_any}
 use Rattle.sched_state.specs.Lists.{same}
 use Rattle.sched_state.specs.declared.graphs.LoadedGraph.{LoadedGraph}
@@ -7,11 +7,10 @@ use Rattle.sched_state.proofs.NameLemmas.{same_is, same_itself}
 use Rattle.sched_state.proofs.OrderLemmas.{and_left, and_right, or_left, or_right}
 use Rattle.sched_draft.specs.Parts.{fitted_by, with_other}
 use Rattle.sched_model.specs.Lists.{rises}
-use Rattle.sched_model.specs.Schedule.{graph_before, graph_among}
+use Rattle.sched_model.specs.Schedule.{graph_before}
 use Rattle.sched_laws.proofs.GraphLemmas.{flip_same}
 use Rattle.sched_laws.proofs.ListLemmas.{all_get}
 use Rattle.sched_laws.proofs.LoadLemmas.{before_apart}
-use Rattle.record_writing.specs.Before.{AreNamedAlike}
 
 -- ---- one graph
 -- it stands for the one with its id
@@ -30,11 +29,6 @@ other_id k g = elim (same k.dag.spec.dag_id g.dag.spec.dag_id) as (λ b. same k.
 ] refl
 
 -- ---- among graphs
-pub ids_other : (k : LoadedGraph) (gs : List LoadedGraph) → AreNamedAlike gs (with_other (Some k) gs)
-ids_other k [] = refl
-ids_other k (g ∷ gs) =
-    ap (λ (i : List ℕ). i ∷ map (λ (h : LoadedGraph). h.dag.spec.dag_id) (with_other (Some k) gs)) (other_id k g) ∙ ap (λ is. g.dag.spec.dag_id ∷ is) (ids_other k gs)
-
 -- where none has its id, all stay
 pub others_stay : (k : LoadedGraph) (gs : List LoadedGraph) → list_any (λ (g : LoadedGraph). same g.dag.spec.dag_id k.dag.spec.dag_id) gs ≡ false → with_other (Some k) gs ≡ gs
 others_stay k [] none = refl
@@ -64,17 +58,3 @@ other_at k (h ∷ hs) (suc i) g at named order =
     let before : graph_before h g ≡ true = all_get (graph_before h) hs i g (and_left (list_all (graph_before h) hs) _ order) at in
     let apart : same h.dag.spec.dag_id k.dag.spec.dag_id ≡ false = ap (same h.dag.spec.dag_id) (sym (same_is g.dag.spec.dag_id k.dag.spec.dag_id named)) ∙ before_apart h g before in
     ap (λ xs. h ∷ xs) (other_at k hs i g at named (and_right (list_all (graph_before h) hs) _ order)) ∙ ap (λ x. x ∷ with_other (Some k) hs) (sym (other_apart k h apart))
-
--- graphs of other ids are found as before
-pub other_found : (k : LoadedGraph) (gs : List LoadedGraph) (id : List ℕ) → same id k.dag.spec.dag_id ≡ false → graph_among (with_other (Some k) gs) id ≡ graph_among gs id
-other_found k [] id apart = refl
-other_found k (g ∷ gs) id apart =
-    let rest = other_found k gs id apart in
-    elim (same g.dag.spec.dag_id id) as (λ b. same g.dag.spec.dag_id id ≡ b → graph_among (with_other (Some k) (g ∷ gs)) id ≡ graph_among (g ∷ gs) id) [
-      | true ↦ λ e.
-          let other : fitted_by (Some k) g ≡ g = other_apart k g (ap (λ (n : List ℕ). same n k.dag.spec.dag_id) (same_is g.dag.spec.dag_id id e) ∙ apart) in
-          ap (λ h. graph_among (h ∷ with_other (Some k) gs) id) other ∙ ap (λ b. cond b (Some g) (graph_among (with_other (Some k) gs) id)) e ∙ sym (ap (λ b. cond b (Some g) (graph_among gs id)) e)
-      | false ↦ λ e.
-          let still : same (fitted_by (Some k) g).dag.spec.dag_id id ≡ false = ap (λ (n : List ℕ). same n id) (other_id k g) ∙ e in
-          ap (λ b. cond b (Some (fitted_by (Some k) g)) (graph_among (with_other (Some k) gs) id)) still ∙ rest ∙ sym (ap (λ b. cond b (Some g) (graph_among gs id)) e)
-    ] refl

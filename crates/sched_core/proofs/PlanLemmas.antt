@@ -154,7 +154,8 @@ known_causes a text dag i g kept taken at named =
     causes a text dag taken
     ∙ ap (λ (o : Option LoadedGraph). two (is_none o && nat_le a.limits.graphs (length a.graphs)) (holds_at (λ (k : LoadedGraph). not (same k.text text)) o && has_runs a dag.spec.dag_id)) found
 
-one_left : (o : Option Refusal) → first_some (o ∷ []) ≡ o
+-- the first of one
+pub one_left : (o : Option Refusal) → first_some (o ∷ []) ≡ o
 one_left None = refl
 one_left (Some r) = refl
 

@@ -17,7 +17,7 @@ use Rattle.sched_model.specs.Causes.{least_moved, lost_task, reached, redone, re
 use Rattle.sched_model.specs.Changes.{new_graph, taken_in, with_graph, load_graph}
 use Rattle.sched_model.specs.NamedRuns.{add_runs}
 use Rattle.sched_model.specs.Replacing.{refitted, replace_graph}
-use Rattle.sched_model.specs.Schedule.{Schedule, dag_named, dates_of, no_dag, has_runs, dag_among}
+use Rattle.sched_model.specs.Schedule.{Schedule, dag_named, dates_of, no_dag, has_runs}
 use Rattle.sched_model.specs.Sound.{Says, is_sound_graph}
 use Rattle.sched_laws.proofs.RefitLemmas.{active_stays, in_flight_stays, occupied_stays}
 use Rattle.sched_laws.proofs.ReplaceLemmas.{said_taken, replace_again, replace_loads}
@@ -39,12 +39,13 @@ use Rattle.sched_events.proofs.AcceptLemmas.{fit_sound, undisturbed}
 use Rattle.sched_events.specs.Outcomes.{unnamed, IsRefusal, IsShown}
 use Rattle.sched_draft.specs.Drafts.{DraftValue}
 use Rattle.record_writing.specs.Before.{KeepDags}
+use Rattle.record_writing.proofs.PremiseLemmas.{other_kept}
 use Rattle.sched_core.specs.Books.{IsCounted}
 use Rattle.sched_core.specs.Inside.{IsTaken, StandsAt}
-use Rattle.sched_core.specs.Replaced.{TakeAlike, replaced_by, IsDisturbance, OwnsRunsOf}
+use Rattle.sched_core.specs.Replaced.{TakeAlike, with_other_graph, IsDisturbance, OwnsRunsOf}
 use Rattle.sched_core.proofs.GraphLemmas.{found_at}
-use Rattle.sched_core.proofs.OtherLemmas.{other_at, other_found}
-use Rattle.sched_core.proofs.PlanLemmas.{known_is, IsDraftOf, known_change}
+use Rattle.sched_core.proofs.OtherLemmas.{other_at}
+use Rattle.sched_core.proofs.PlanLemmas.{known_is, IsDraftOf, known_change, one_left}
 use Rattle.sched_core.proofs.TakeInLemmas.{taken_known}
 
 -- the first of what may lie in the runs of a graph
@@ -61,7 +62,7 @@ dag_there a id i g kept stands read =
 
 -- with the text that it takes in the schedule is that of the definition
 pub replaced_is : (text : List ℕ) (dag : Dag) (a : Schedule) (i : ℕ) (old : LoadedGraph) → IsSoundAndSaid a → StandsAt dag.spec.dag_id a.graphs i → old ≡ get_or a.graphs i old → same old.text text ≡ false
-    → replaced_by (taken_in text dag old) a ≡ replace_graph text dag a
+    → with_other_graph (taken_in text dag old) a ≡ replace_graph text dag a
 replaced_is text dag a i old kept stands read other =
     let known = known_is a.graphs dag.spec.dag_id i old stands read in
     let order = kept.sound.graphs_by_id in
@@ -128,7 +129,7 @@ disturbance_is a text dag r is (inr e) =
 
 -- and where nothing stands against it, the draft is that of the event
 pub replaced_draft : (a : Schedule) (text : List ℕ) (dag : Dag) (i : ℕ) (g : LoadedGraph) → IsSoundAndSaid a → IsTaken a text dag → StandsAt dag.spec.dag_id a.graphs i → g ≡ get_or a.graphs i g
-    → ((h : LoadedGraph) → slice_get a.graphs i ≡ Some h → same h.text text ≡ false) → refused a (Replace text) ≡ None → IsDraftOf (Replace text) a (replaced_by (taken_in text dag g) a)
+    → ((h : LoadedGraph) → slice_get a.graphs i ≡ Some h → same h.text text ≡ false) → refused a (Replace text) ≡ None → IsDraftOf (Replace text) a (with_other_graph (taken_in text dag g) a)
 replaced_draft a text dag i g kept taken stands read other accepted = record {
   ranged = tt;
   accepted = accepted;
@@ -157,7 +158,7 @@ take_alike a text dag kept t quiet =
     }
 
 pub replaced_alike : (a : Schedule) (text : List ℕ) (dag : Dag) (i : ℕ) (g : LoadedGraph) → IsSoundAndSaid a → IsTaken a text dag → StandsAt dag.spec.dag_id a.graphs i → g ≡ get_or a.graphs i g
-    → ((h : LoadedGraph) → slice_get a.graphs i ≡ Some h → same h.text text ≡ false) → disturbed a dag ≡ None → TakeAlike a (replaced_by (taken_in text dag g) a)
+    → ((h : LoadedGraph) → slice_get a.graphs i ≡ Some h → same h.text text ≡ false) → disturbed a dag ≡ None → TakeAlike a (with_other_graph (taken_in text dag g) a)
 replaced_alike a text dag i g kept taken stands read other quiet =
     subst (TakeAlike a) (sym (replaced_is text dag a i g kept stands read (other g (known_is a.graphs dag.spec.dag_id i g stands read).0))) (take_alike a text dag kept taken quiet)
 
@@ -196,11 +197,7 @@ pub last_cause : (a : Schedule) (dag : Dag) → least_moved a dag ≡ None → l
 last_cause a dag moved lost resized =
     ap (λ o. four o (lost_task a dag) (resized_task a dag) (redone a dag.spec)) moved
     ∙ (ap (λ o. four None o (resized_task a dag) (redone a dag.spec)) lost
-    ∙ (ap (λ o. four None None o (redone a dag.spec)) resized ∙ alone (option_map refusal.Redoes (redone a dag.spec))))
-  where
-    alone : (o : Option Refusal) → first_some (o ∷ []) ≡ o
-    alone None = refl
-    alone (Some r) = refl
+    ∙ (ap (λ o. four None None o (redone a dag.spec)) resized ∙ one_left (option_map refusal.Redoes (redone a dag.spec))))
 
 pub first_redone : (a : Schedule) (dag : Dag) → least_moved a dag ≡ None → lost_task a dag ≡ None → resized_task a dag ≡ None → is_anew a dag.spec ≡ true → disturbed a dag ≡ Some (refusal.Redoes (reached a dag.spec.dag_id))
 first_redone a dag moved lost resized anew = last_cause a dag moved lost resized ∙ ap (λ b. option_map refusal.Redoes (when b (reached a dag.spec.dag_id))) anew
@@ -229,8 +226,9 @@ anew_is a dag old index t anew there dates until is =
 -- ---- rows
 -- where the runs of the graph are touched, the graph of each other run is as it was
 pub kept_dags : (k : LoadedGraph) (a : Schedule) (d : DraftValue) → d.content.graphs ≡ with_other (Some k) a.graphs → OwnsRunsOf k.dag.spec.dag_id d.content.runs d → KeepDags d.touched a d.content
-kept_dags k a d graphs own n r there free =
-    elim (same r.graph k.dag.spec.dag_id) as (λ b. same r.graph k.dag.spec.dag_id ≡ b → dag_among d.content.graphs r.graph ≡ dag_among a.graphs r.graph) [
+kept_dags k a d graphs own =
+    other_kept d.touched k a d.content graphs (λ n r there free.
+    elim (same r.graph k.dag.spec.dag_id) as (λ b. same r.graph k.dag.spec.dag_id ≡ b → same r.graph k.dag.spec.dag_id ≡ false) [
       | true ↦ λ e. absurd (true≢false (sym (own n r there e) ∙ free))
-      | false ↦ λ e. ap (λ (gs : List LoadedGraph). dag_among gs r.graph) graphs ∙ ap (λ (o : Option LoadedGraph). unwrap_or (option_map (λ (g : LoadedGraph). g.dag) o) no_dag) (other_found k a.graphs r.graph e)
-    ] refl
+      | false ↦ λ e. e
+    ] refl)

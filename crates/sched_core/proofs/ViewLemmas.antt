@@ -13,7 +13,9 @@ use Rattle.instance_machine.specs.declared.tries.Try.{Try}
 use Rattle.sched_state.specs.declared.graphs.LoadedGraph.{LoadedGraph}
 use Rattle.sched_state.specs.declared.runs.Run.{Run}
 use Rattle.sched_state.proofs.OrderLemmas.{and_left, and_right, not_false}
+use Rattle.sched_model.specs.Clearing.{pairs_of}
 use Rattle.sched_model.specs.Lists.{all_pairs}
+use Rattle.sched_model.specs.Replacing.{pair_of}
 use Rattle.sched_model.specs.Schedule.{Schedule, dag_among, dag_named, graph_named, no_dag, tasks_of, is_at}
 use Rattle.sched_state.specs.Lists.{same}
 use Rattle.sched_state.proofs.NameLemmas.{same_is, find_passes}
@@ -23,7 +25,7 @@ use Rattle.sched_model.specs.Causes.{tries_of}
 use Rattle.sched_model.specs.Handout.{last_serial}
 use Rattle.sched_model.specs.Sound.{IsSound, is_sound_in, is_sound_run, serials_of, is_used}
 use Rattle.sched_laws.proofs.UpstreamLemmas.{short}
-use Rattle.sched_core.specs.Views.{instance_in, instance_of}
+use Rattle.sched_laws.specs.Instances.{instance_of}
 use Rattle.sched_core.specs.Inside.{open_in, open_for}
 
 -- ---- how many
@@ -183,21 +185,25 @@ beside {X} {Y} q (x ∷ xs) (y ∷ ys) =
 pub found_beside : {X Y : Type 0} (q : X → Bool) (xs : List X) (ys : List Y) → option_map (λ (e : X × Y). e.1) (find (λ (e : X × Y). q e.0) (zip xs ys)) ≡ option_and_then (slice_get ys) (position q xs)
 found_beside q xs ys = beside q xs ys ∙ ap (option_and_then (slice_get ys)) (sym (position_from-zero q xs))
 
+-- the instance alone
+abbrev pub found_of : Schedule → List ℕ → ℕ → List ℕ → Option InstanceValue
+found_of a id date task = option_map (λ (e : TaskSpec × InstanceValue). e.1) (instance_of a id date task)
+
 run_here : (a : Schedule) (id : List ℕ) (date : ℕ) (task : List ℕ) (r : Run) → find (is_at id date) a.runs ≡ Some r
-    → instance_of a id date task ≡ option_and_then (slice_get r.instances) (position (λ (t : TaskSpec). same t.task_id task) (dag_named a id).tasks)
+    → found_of a id date task ≡ option_and_then (slice_get r.instances) (position (λ (t : TaskSpec). same t.task_id task) (dag_named a id).tasks)
 run_here a id date task r e =
     let graph : r.graph ≡ id = same_is r.graph id (and_left (same r.graph id) _ (find_passes (is_at id date) a.runs r e)) in
-    ap (option_and_then (instance_in a task)) e
+    ap (λ (o : Option Run). option_map (λ (x : TaskSpec × InstanceValue). x.1) (option_and_then (λ (q : Run). pair_of task (pairs_of a q)) o)) e
     ∙ (found_beside (λ (t : TaskSpec). same t.task_id task) (tasks_of a r) r.instances
     ∙ ap (λ (n : List ℕ). option_and_then (slice_get r.instances) (position (λ (t : TaskSpec). same t.task_id task) (dag_named a n).tasks)) graph)
 
-pub no_graph : (a : Schedule) (id : List ℕ) (date : ℕ) (task : List ℕ) (r : Run) → find (is_at id date) a.runs ≡ Some r → graph_named a id ≡ None → instance_of a id date task ≡ None
+pub no_graph : (a : Schedule) (id : List ℕ) (date : ℕ) (task : List ℕ) (r : Run) → find (is_at id date) a.runs ≡ Some r → graph_named a id ≡ None → found_of a id date task ≡ None
 no_graph a id date task r e f =
     run_here a id date task r e
     ∙ ap (λ (o : Option LoadedGraph). option_and_then (slice_get r.instances) (position (λ (t : TaskSpec). same t.task_id task) (unwrap_or (option_map (λ (g : LoadedGraph). g.dag) o) no_dag).tasks)) f
 
 pub at_place : (a : Schedule) (id : List ℕ) (date : ℕ) (task : List ℕ) (r : Run) (g : LoadedGraph) (o : Option ℕ) → find (is_at id date) a.runs ≡ Some r → graph_named a id ≡ Some g
-    → o ≡ position (λ (t : TaskSpec). same t.task_id task) g.dag.tasks → instance_of a id date task ≡ option_and_then (slice_get r.instances) o
+    → o ≡ position (λ (t : TaskSpec). same t.task_id task) g.dag.tasks → found_of a id date task ≡ option_and_then (slice_get r.instances) o
 at_place a id date task r g o e f place =
     run_here a id date task r e
     ∙ (ap (λ (o : Option LoadedGraph). option_and_then (slice_get r.instances) (position (λ (t : TaskSpec). same t.task_id task) (unwrap_or (option_map (λ (g : LoadedGraph). g.dag) o) no_dag).tasks)) f

@@ -1,5 +1,5 @@
 -- Another text for a graph that is there, which has runs.
-use Rattle.std.specs.Prelude.{◌≡◌, ℕ, true, List, map, Option, Some, ◌⊎◌, slice_get}
+use Rattle.std.specs.Prelude.{◌≡◌, ℕ, true, List, map, Some, ◌⊎◌, slice_get}
 use Rattle.std.specs.Global.{Vec}
 use Rattle.dag_check.specs.Graphs.{Dag}
 use Rattle.sched_state.specs.Lists.{same}
@@ -20,11 +20,11 @@ use Rattle.sched_handout.specs.Weighing.{WeighTasks}
 use Rattle.sched_core.specs.Effects.{applied, IsEffect}
 use Rattle.sched_core.specs.declared.changes.Effect.{Effect}
 use Rattle.sched_core.specs.declared.changes.GraphChange.TheVariants as graphs
-use Rattle.sched_core.specs.declared.replacing.Closed.{Closed}
+use Rattle.sched_core.specs.declared.replacing.Aftermath.{Aftermath}
 
 -- the graph with the id of this one is this one, and its runs go on by it
-abbrev pub replaced_by : LoadedGraph → Schedule → Schedule
-replaced_by g a = record a { graphs = with_other (Some g) a.graphs; runs = map (refitted a g.dag) a.runs }
+abbrev pub with_other_graph : LoadedGraph → Schedule → Schedule
+with_other_graph g a = record a { graphs = with_other (Some g) a.graphs; runs = map (refitted a g.dag) a.runs }
 
 -- the tries without an end take the same in both
 pub record TakeAlike (a b : Schedule) : Type 0 where
@@ -41,7 +41,7 @@ abbrev pub OwnsRunsOf : List ℕ → List Run → DraftValue → Type 0
 OwnsRunsOf id rs d = (n : ℕ) (r : Run) → slice_get rs n ≡ Some r → same r.graph id ≡ true → IsOwn n d
 
 -- with the graph, and with its weights, this is the effect on a schedule in which the graph is replaced, moves are made and tries are handed out
-pub record IsClosed (a : Schedule) (g : LoadedGraph) (k : Closed) : Type 0 where
+pub record IsAftermath (a : Schedule) (g : LoadedGraph) (k : Aftermath) : Type 0 where
   pub effect : (weights : Vec ℕ) → WeighTasks g.dag weights.items → IsEffect (record { graphs = graphs.Replace g weights; rest = Some k.rest }) k.rows a
-  pub after : (weights : Vec ℕ) → (let e : Effect = record { graphs = graphs.Replace g weights; rest = Some k.rest } in applied e a ≡ hand_out (settle (replaced_by g a)))
-  pub jobs : k.jobs ≡ handed a (hand_out (settle (replaced_by g a)))
+  pub after : (weights : Vec ℕ) → (let e : Effect = record { graphs = graphs.Replace g weights; rest = Some k.rest } in applied e a ≡ hand_out (settle (with_other_graph g a)))
+  pub jobs : k.jobs ≡ handed a (hand_out (settle (with_other_graph g a)))

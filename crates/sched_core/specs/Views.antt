@@ -1,23 +1,15 @@
 -- What a schedule shows of its task instances and its pools.
-use Rattle.std.specs.Prelude.{ℕ, ◌-ℤ◌, pos, Bool, true, List, [], ◌∷◌, ◌++◌, length, map, filter, flat_map, find, Option, Some, None, option_map, option_and_then}
+use Rattle.std.specs.Prelude.{ℕ, ◌-ℤ◌, pos, Bool, true, List, [], ◌∷◌, ◌++◌, length, map, filter, flat_map, Option, Some, None}
 use Rattle.graph_file.specs.declared.task_specs.TaskSpec.{TaskSpec}
 use Rattle.instance_machine.specs.Instances.{InstanceValue}
 use Rattle.instance_machine.specs.States.{state_of}
-use Rattle.sched_state.specs.Lists.{same, name_cmp, is_less}
+use Rattle.sched_state.specs.Lists.{name_cmp, is_less}
 use Rattle.sched_state.specs.declared.runs.Run.{Run}
-use Rattle.sched_model.specs.Schedule.{Schedule, Pool, is_at}
+use Rattle.sched_model.specs.Schedule.{Schedule, Pool}
 use Rattle.sched_model.specs.States.{occupied}
 use Rattle.sched_model.specs.Clearing.{pairs_of}
 use Rattle.sched_model.specs.Tables.{sort_by}
 use Rattle.sched_events.specs.Rows.{Row, PoolLine}
-
--- the instance of a task in a run
-abbrev pub instance_in : Schedule → List ℕ → Run → Option InstanceValue
-instance_in a task r = option_map (λ (e : TaskSpec × InstanceValue). e.1) (find (λ (e : TaskSpec × InstanceValue). same e.0.task_id task) (pairs_of a r))
-
--- the instance of a task in the run of a graph with this logical date, if there is one
-abbrev pub instance_of : Schedule → List ℕ → ℕ → List ℕ → Option InstanceValue
-instance_of a graph date task = option_and_then (instance_in a task) (find (is_at graph date) a.runs)
 
 -- ---- rows
 -- the row of an instance, with its task

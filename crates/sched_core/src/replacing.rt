@@ -1,14 +1,14 @@
 //! Planning another text for a graph that is there: its runs go on by it, whether it has some or not.
-ghost use Rattle.std.specs.Prelude.{◌≡◌, ℕ, false, map, IfOk, IfErr, MatchResult, None, OnOk, Some, slice_get, ◌<◌, length, true};
+ghost use Rattle.std.specs.Prelude.{◌≡◌, false, map, IfOk, IfErr, MatchResult, None, OnOk, Some, slice_get, true};
 ghost use Rattle.record_writing.specs.record_changes.Changes.{rows_between};
 ghost use Rattle.sched_state.specs.declared.graphs.LoadedGraph as states;
-ghost use Rattle.sched_state.specs.declared.runs.Run.{Run};
 ghost use Rattle.sched_state.specs.Lists.{same};
 ghost use Rattle.sched_model.specs.Changes.{taken_in};
 ghost use Rattle.sched_model.specs.Handout.{hand_out};
+ghost use Rattle.sched_model.specs.Lists.{rises};
+ghost use Rattle.sched_model.specs.Schedule.{run_before};
 ghost use Rattle.sched_model.specs.Settle.{settle};
 ghost use Rattle.sched_model.specs.Sound.{IsSound};
-ghost use Rattle.sched_draft.specs.Drafts.{IsOwn};
 ghost use Rattle.sched_draft.specs.Parts.{with_other};
 ghost use Rattle.sched_events.specs.Causes.{disturbed, refused};
 ghost use Rattle.sched_events.specs.Outcomes.{IsRefusal};
@@ -17,7 +17,7 @@ ghost use Rattle.sched_events.specs.declared.events.Event.TheVariants.{Replace};
 ghost use Rattle.sched_handout.specs.Weighing.{WeighGraphs, WeighTasks};
 ghost use Rattle.sched_core.specs.Inside.{IsTaken, StandsAt};
 ghost use Rattle.sched_core.specs.Plans.{IsPlanned};
-ghost use Rattle.sched_core.specs.Replaced.{IsClosed, IsDisturbance, OwnsRunsOf, TakeAlike, replaced_by};
+ghost use Rattle.sched_core.specs.Replaced.{IsAftermath, IsDisturbance, OwnsRunsOf, TakeAlike, with_other_graph};
 
 use crate::changed_rows::{dags_with, limits_with};
 use crate::changes::{Change, Effect, GraphChange, Rest};
@@ -30,6 +30,7 @@ use graph_file::{Name, Sequence};
 use record_rows::Rows;
 use record_writing::rows_of;
 use run_planner::makes_anew;
+use sched_clearing::span_of_all;
 use sched_draft::Draft;
 use sched_events::{Answer, Refusal};
 use sched_handout::{hand_out, weigh_tasks};
@@ -40,7 +41,7 @@ use std::alloc::{AllocError, Global};
 
 // What a replaced graph leaves, but for the graph itself: the rest, the tries that are handed out, and the rows that the schedule lacks then.
 #[derive(Drop)]
-pub struct Closed {
+pub struct Aftermath {
     pub rest: Rest,
     pub jobs: Sequence<Job>,
     pub rows: Rows,
@@ -77,7 +78,7 @@ impl Schedule {
         }
         if self.runs.has_runs(&dag.spec().dag_id) {
             self.look_at_runs(alloc, place, &dag)?;
-            return Ok(self.gone_on(alloc, place, text, dag)?);
+            return Ok(self.changed_to(alloc, place, text, dag)?);
         }
         Ok(self.taken_in(alloc, text, dag)?)
     }
@@ -107,7 +108,7 @@ impl Schedule {
     }
 
     // The change by which the graph at the place takes the text in, which says this, and its runs go on by it.
-    fn gone_on(
+    fn changed_to(
         &self,
         alloc: Global,
         place: usize,
@@ -124,41 +125,41 @@ impl Schedule {
     {
         let graph = with_text_of(&self.graphs[place], text.copy(alloc)?, dag);
         let weights = weigh_tasks(alloc, &graph.dag)?;
-        let closed = self.closed(alloc, place, &graph, weights.as_slice())?;
+        let aftermath = self.aftermath(alloc, place, &graph, weights.as_slice())?;
         let effect = Effect {
             graphs: GraphChange::Replace(graph, weights),
-            rest: Some(closed.rest),
+            rest: Some(aftermath.rest),
         };
         let answer = Answer {
-            jobs: closed.jobs,
+            jobs: aftermath.jobs,
             ..quiet_answer(alloc)
         };
-        Ok(self.change_of(effect, answer, closed.rows))
+        Ok(self.change_of(effect, answer, aftermath.rows))
     }
 
     // What is left where the graph at the place is this one, with these weights.
-    fn closed(
+    fn aftermath(
         &self,
         alloc: Global,
         place: usize,
         graph: &LoadedGraph,
-        row: &[u64],
-    ) -> Result<Closed, AllocError>
+        own_weights: &[u64],
+    ) -> Result<Aftermath, AllocError>
         requires stands { StandsAt graph.now.dag.spec.dag_id self.now.content.graphs place }
-        requires row { WeighTasks graph.now.dag row.now }
-        requires sound { IsSound (replaced_by graph.now self.now.content) }
-        requires kept { IsSettledAndSound (hand_out (settle (replaced_by graph.now self.now.content))) }
-        requires taken { TakeAlike self.now.content (replaced_by graph.now self.now.content) }
-        ensures { IfOk result (IsClosed self.now.content graph.now) }
+        requires weighed { WeighTasks graph.now.dag own_weights.now }
+        requires sound { IsSound (with_other_graph graph.now self.now.content) }
+        requires kept { IsSettledAndSound (hand_out (settle (with_other_graph graph.now self.now.content))) }
+        requires taken { TakeAlike self.now.content (with_other_graph graph.now self.now.content) }
+        ensures { IfOk result (IsAftermath self.now.content graph.now) }
     {
-        let weights = self.weights_with(alloc, place, graph, row)?;
+        let weights = self.weights_with(alloc, place, graph, own_weights)?;
         let mut occupied = self.occupied.copy(alloc)?;
         let mut draft = self.refitted(alloc, place, graph)?;
         settle(alloc, &mut draft)?;
         let jobs = hand_out(alloc, &mut draft, weights.as_slice(), &mut occupied)?;
         own_runs_of(alloc, &mut draft, &graph.dag.spec().dag_id)?;
         let rows = self.rows_replaced(alloc, &draft, graph)?;
-        Ok(Closed {
+        Ok(Aftermath {
             rest: rest_of(draft, occupied),
             jobs,
             rows,
@@ -171,16 +172,16 @@ impl Schedule {
         alloc: Global,
         place: usize,
         graph: &LoadedGraph,
-        row: &[u64],
+        own_weights: &[u64],
     ) -> Result<Vec<Vec<u64>>, AllocError>
         requires stands { StandsAt graph.now.dag.spec.dag_id self.now.content.graphs place }
-        requires row { WeighTasks graph.now.dag row.now }
+        requires weighed { WeighTasks graph.now.dag own_weights.now }
         ensures { IfOk result (λ weights. WeighGraphs
             (with_other (Some graph.now) self.now.content.graphs) weights.items) }
     {
         let mut weights = copied(alloc, &self.weights)?;
-        let row = row.to_vec(alloc)?;
-        weights[place] = row;
+        let own = own_weights.to_vec(alloc)?;
+        weights[place] = own;
         Ok(weights)
     }
 
@@ -194,7 +195,7 @@ impl Schedule {
         requires { StandsAt graph.now.dag.spec.dag_id self.now.content.graphs place }
         ensures base { IfOk result (λ draft. draft.base ≡ self.now.content) }
         ensures content { IfOk result (λ draft. draft.content
-            ≡ replaced_by graph.now self.now.content) }
+            ≡ with_other_graph graph.now self.now.content) }
     {
         let mut draft = Draft::over_with(alloc, self.base(), graph);
         refit(alloc, &mut draft, &self.graphs[place].dag, &graph.dag)?;
@@ -242,34 +243,16 @@ fn copied(alloc: Global, weights: &[Vec<u64>]) -> Result<Vec<Vec<u64>>, AllocErr
     Ok(copies)
 }
 
-// The runs of the graph may be changed: what was not touched stays as it is.
+// The runs of the graph may be changed: what was not touched stays as it is. The runs stand in the order of their keys.
 fn own_runs_of(alloc: Global, draft: &mut Draft<'_>, id: &Name) -> Result<(), AllocError>
+    requires { rises run_before draft.old.content.runs ≡ true }
     ensures base { OnOk result (draft.new.base ≡ draft.old.base) }
     ensures content { OnOk result (draft.new.content ≡ draft.old.content) }
     ensures own { OnOk result (OwnsRunsOf id.now draft.old.content.runs draft.new) }
 {
-    for position in 0..draft.run_count() {
-        own_if(alloc, draft, position, id)?;
+    let span = span_of_all(draft, id);
+    for position in span.start..span.end {
+        draft.own(alloc, position)?;
     }
     Ok(())
-}
-
-// The run at the position may be changed, if it is of the graph.
-fn own_if(
-    alloc: Global,
-    draft: &mut Draft<'_>,
-    position: usize,
-    id: &Name,
-) -> Result<(), AllocError>
-    requires { position < length draft.old.content.runs }
-    ensures base { OnOk result (draft.new.base ≡ draft.old.base) }
-    ensures content { OnOk result (draft.new.content ≡ draft.old.content) }
-    ensures more { OnOk result ((n : ℕ) → IsOwn n draft.old → IsOwn n draft.new) }
-    ensures own { OnOk result ((r : Run) → slice_get draft.old.content.runs position ≡ Some r
-        → same r.graph id.now ≡ true → IsOwn position draft.new) }
-{
-    if draft.run(position).graph != *id {
-        return Ok(());
-    }
-    draft.own(alloc, position)
 }

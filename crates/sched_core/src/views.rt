@@ -1,9 +1,11 @@
 //! What a schedule shows of its runs and task instances. No view takes memory.
-ghost use Rattle.std.specs.Prelude.{◌≡◌, find, slice_get};
+ghost use Rattle.std.specs.Prelude.{◌≡◌, find, option_map, slice_get};
 ghost use Rattle.std.specs.Option.{option_copied};
+ghost use Rattle.graph_file.specs.declared.task_specs.TaskSpec.{TaskSpec};
+ghost use Rattle.instance_machine.specs.Instances.{InstanceValue};
+ghost use Rattle.sched_laws.specs.Instances.{instance_of};
 ghost use Rattle.sched_model.specs.Schedule.{is_at};
 ghost use Rattle.sched_model.specs.States.{active_runs, active_tries, in_flight, previous};
-ghost use Rattle.sched_core.specs.Views.{instance_of};
 
 use crate::schedules::Schedule;
 use graph_file::Name;
@@ -49,7 +51,8 @@ impl Schedule {
 
     /// The instance of a task in the run of a graph with this logical date: none where there is no such run, or no such task.
     pub fn instance_of(&self, graph: &Name, logical: Moment, task: &Name) -> Option<&Instance>
-        ensures { option_copied result ≡ instance_of self.now.content graph.now logical task.now }
+        ensures { option_copied result ≡ option_map (λ (e : TaskSpec × InstanceValue). e.1)
+            (instance_of self.now.content graph.now logical task.now) }
     {
         let run = self.runs.run_of(graph, logical)?;
         let place = self.graph_of(graph)?.dag.place(task)?;

@@ -7,6 +7,8 @@ ghost use Rattle.graph_file.specs.declared.graph_specs.GraphSpec.{GraphSpec};
 ghost use Rattle.run_planner.specs.Index.{has_date};
 ghost use Rattle.run_planner.specs.Spans.{starts};
 ghost use Rattle.instance_machine.specs.declared.tries.Try.{Try};
+ghost use Rattle.trigger_rules.specs.States.{is_finished};
+ghost use Rattle.trigger_rules.specs.declared.states.State.{State};
 ghost use Rattle.sched_state.specs.declared.clearings.Clearing.{Clearing};
 ghost use Rattle.sched_state.specs.Limits.{Bounds};
 ghost use Rattle.sched_state.specs.Lists.{same};
@@ -18,6 +20,7 @@ ghost use Rattle.sched_laws.specs.sched_model.Jobs.{handed};
 ghost use Rattle.sched_laws.specs.sched_model.Clearing.{cleared_by, named_pairs};
 ghost use Rattle.sched_laws.specs.sched_model.NamedRuns.{is_for, named_by_backfill, spanned};
 ghost use Rattle.sched_laws.specs.sched_model.Changes.{set_paused, resize};
+ghost use Rattle.sched_laws.specs.Instances.{state_of_task, IsStillFinished};
 ghost use Rattle.sched_laws.specs.Runs.{runs_named};
 ghost use Rattle.sched_laws.specs.Tries.{GoesOn, try_of};
 ghost use Rattle.sched_events.specs.Events.{named_by, IsInRange};
@@ -125,6 +128,15 @@ pub fn tries_go_on()
         (n : ℕ) (t : Try) → AreAccepted es a → IsSoundAndSaid a
         → try_of a id date task n ≡ Some t
         → (u : Try) × (try_of (steps es a) id date task n ≡ Some u) × GoesOn t u }
+{}
+
+/// What has finished has still finished after another text for its graph, and all that follows it: by graph, date and task with the state that it
+/// had, or, where it failed and the new text has tries left for it, as upstream_failed.
+pub fn another_text_leaves_what_has_finished()
+    ensures { (text : List ℕ) (a : Schedule) (id : List ℕ) (date : ℕ) (task : List ℕ) (s : State)
+        → refused a (Replace text) ≡ None → IsSoundAndSaid a
+        → state_of_task a id date task ≡ Some s → is_finished s ≡ true
+        → IsStillFinished s (state_of_task (step (Replace text) a) id date task) }
 {}
 
 /// The next serial never falls, and the serials of the tries that accepted events hand out are those that were next, one after another. So a

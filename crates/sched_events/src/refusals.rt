@@ -31,8 +31,8 @@ pub enum Refusal {
     RunExists,
     /// No interval of the graph's timetable has ended.
     NoInterval,
-    /// A task instance that would be set back, or whose task would take another number of slots or those of another pool, has a try without
-    /// an end; this is the least serial of such tries.
+    /// A task instance that would be set back, or whose task would take slots of another pool, has a try without an end; this is the least
+    /// serial of such tries.
     InFlight(u64),
     /// No try without an end has this serial.
     NotInFlight(u64),

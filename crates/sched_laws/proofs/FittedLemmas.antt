@@ -129,6 +129,10 @@ gathered_all f h (x ∷ es) ns none once apart there is =
     (put_in f x es ns (h x) none once (and_left _ _ there) (or_left _ _ apart) (λ n i. is n x i (inl refl)))
 
 -- ---- tasks beside instances
+pub zip_none : (ts : List TaskSpec) → zip {K = TaskSpec} {X = InstanceValue} ts [] ≡ []
+zip_none [] = refl
+zip_none (t ∷ ts) = refl
+
 pub zip_ids : (p : TaskSpec → InstanceValue → Bool) (ts : List TaskSpec) (is : List InstanceValue) → all_pairs p ts is ≡ true → pair_ids (zip ts is) ≡ ids_of ts
 zip_ids p [] [] e = refl
 zip_ids p [] (i ∷ is) e = absurd (true≢false (sym e))

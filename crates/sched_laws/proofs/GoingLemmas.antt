@@ -1,7 +1,7 @@
 -- Each try that is there goes on: in its run and its instance, at its position.
-use Rattle.std.proofs.Common.{◌≡◌, ◌∙◌, refl, sym, ap, subst, ℕ, zero, suc, List, [], ◌∷◌, ◌++◌, Bool, true, false, not, ◌||◌, ◌==◌, if◌then◌else◌, cond, find, map, Option, Some, None, option_map, option_and_then, slice_get, unwrap_or, is_some, true≢false}
+use Rattle.std.proofs.Common.{◌≡◌, ◌∙◌, refl, sym, ap, subst, ℕ, zero, suc, List, [], ◌∷◌, ◌++◌, Bool, true, false, ◌||◌, ◌==◌, if◌then◌else◌, cond, map, Option, Some, None, option_map, option_and_then, slice_get, unwrap_or}
 use Rattle.std.specs.List.{list_any}
-use Rattle.std.proofs.lemmas.Bool.{eqb-true, or_left, or_right}
+use Rattle.std.proofs.lemmas.Bool.{or_left, or_right}
 use Rattle.std.proofs.lemmas.Option.{slice_get-map}
 use Rattle.sched_model.specs.instance_machine.Instances.{InstanceValue, map_tries}
 use Rattle.sched_model.specs.instance_machine.Reports.{report_try, reported_try, lost_if, lost_try}
@@ -10,24 +10,21 @@ use Rattle.sched_model.specs.instance_machine.declared.tries.End.{End}
 use Rattle.sched_model.specs.instance_machine.declared.tries.Stage.{Stage}
 use Rattle.sched_model.specs.instance_machine.declared.tries.Stage.TheVariants.{Started, Ended}
 use Rattle.sched_model.specs.instance_machine.declared.tries.Outcome.TheVariants.{Success, Failed, Skipped, Lost}
-use Rattle.sched_model.specs.sched_state.Lists.{same, insert_by, repeat}
+use Rattle.sched_model.specs.sched_state.Lists.{same}
 use Rattle.sched_model.specs.sched_state.declared.runs.Run.{Run}
-use Rattle.sched_model.proofs.sched_state.NameLemmas.{same_is}
-use Rattle.sched_model.proofs.sched_state.OrderLemmas.{and_left, and_right, not_false}
-use Rattle.sched_model.proofs.sched_state.RepeatLemmas.{repeat_done, repeat_more}
+use Rattle.sched_model.proofs.sched_state.OrderLemmas.{and_left}
 use Rattle.sched_model.specs.Changes.{advance, map_tries_of, map_all_tries}
 use Rattle.sched_model.specs.Clearing.{Selection, clear, clear_run, place_of}
 use Rattle.sched_model.specs.Handout.{new_try, with_try, in_instance, hand, hand_one, best_offer, serials_left}
 use Rattle.sched_model.specs.Lists.{at}
-use Rattle.sched_model.specs.NamedRuns.{NamedRun, is_for, queued_run, add_runs}
-use Rattle.sched_model.specs.Schedule.{Schedule, is_at, run_before, dag_named, graph_named, has_runs, has_run_at}
+use Rattle.sched_model.specs.NamedRuns.{NamedRun, add_runs}
+use Rattle.sched_model.specs.Schedule.{Schedule, is_at, dag_named, has_runs}
 use Rattle.sched_model.specs.Settle.{move, move_runs, with_runs, settle, moves_left}
-use Rattle.sched_model.specs.Sound.{IsSound, is_new, are_new}
+use Rattle.sched_model.specs.Sound.{IsSound, are_new}
 use Rattle.sched_laws.specs.Runs.{named_as}
 use Rattle.sched_laws.specs.Tries.{GoesOn, run_at, try_in, try_at, try_of}
-use Rattle.sched_laws.proofs.AddLemmas.{added}
 use Rattle.sched_laws.proofs.ClearLemmas.{all_keys, all_tries}
-use Rattle.sched_laws.proofs.KeyLemmas.{is_key}
+use Rattle.sched_laws.proofs.OnwardLemmas.{IsOnward, AllBy, by_still, by_further, by_first, by_at, by_turns, by_added}
 use Rattle.sched_laws.proofs.RunLemmas.{try_lists, move_kin}
 use Rattle.sched_laws.proofs.SettleLemmas.{map_some}
 
@@ -148,28 +145,18 @@ handed_try : (v : Try) (k : ℕ) (r : Run) → RunGoesOn r (in_instance (with_tr
 handed_try v k r = record { named = refl; tries = λ p n t e. (t, handed_get v k r.instances p n t e, goes_still t) }
 
 -- ---- the runs of a schedule
--- each run of the first list stands in the second, and its tries go on
 abbrev pub AllGoOn : List Run → List Run → Type 0
-AllGoOn rs qs = (id : List ℕ) (date : ℕ) (r : Run) → run_at id date rs ≡ Some r → (q : Run) × (run_at id date qs ≡ Some q) × RunGoesOn r q
+AllGoOn rs qs = AllBy RunGoesOn rs qs
+
+run_onward : IsOnward RunGoesOn
+run_onward = record { still = run_still; further = run_further; named = λ r q g. g.named }
 
 pub all_still : (rs : List Run) → AllGoOn rs rs
-all_still rs id date r e = (r, e, run_still r)
-
-pub all_further : (rs qs ws : List Run) → AllGoOn rs qs → AllGoOn qs ws → AllGoOn rs ws
-all_further rs qs ws f g id date r e =
-    let q = f id date r e in
-    let w = g id date q.0 q.1 in
-    (w.0, w.1, run_further r q.0 w.0 q.2 w.2)
+all_still rs = by_still RunGoesOn run_onward rs
 
 -- one run after another
 first_goes : (r q : Run) (rs qs : List Run) → RunGoesOn r q → AllGoOn rs qs → AllGoOn (r ∷ rs) (q ∷ qs)
-first_goes r q rs qs g h id date w e =
-    let alike : is_at id date q ≡ is_at id date r = ap (is_key id date) g.named in
-    elim (is_at id date r) as (λ b. is_at id date q ≡ b → cond b (Some r) (find (is_at id date) rs) ≡ Some w → (v : Run) × (find (is_at id date) (q ∷ qs) ≡ Some v) × RunGoesOn w v) [
-      | true ↦ λ at_q f. let c : ◌≡◌ {A = Option Run} (Some r) (Some w) = f in let is : r ≡ w = cc in
-          (q, ap (λ b. cond b (Some q) (find (is_at id date) qs)) at_q, subst (λ (x : Run). RunGoesOn x q) is g)
-      | false ↦ λ at_q f. let v = h id date w f in (v.0, ap (λ b. cond b (Some q) (find (is_at id date) qs)) at_q ∙ v.1, v.2)
-    ] alike e
+first_goes r q rs qs g h = by_first RunGoesOn run_onward r q rs qs g h
 
 heads_are : {Y : Type 0} (x y : Y) (xs ys : List Y) → x ∷ xs ≡ y ∷ ys → (x ≡ y) × (xs ≡ ys)
 heads_are x y xs ys e = (cc, cc)
@@ -187,11 +174,6 @@ each_goes : (f : Run → Run) → ((r : Run) → RunGoesOn r (f r)) → (rs : Li
 each_goes f h [] = all_still []
 each_goes f h (r ∷ rs) = first_goes r (f r) rs (map f rs) (h r) (each_goes f h rs)
 
-at_goes : (g : Run → Run) → ((r : Run) → RunGoesOn r (g r)) → (n : ℕ) (rs : List Run) → AllGoOn rs (at g n rs)
-at_goes g h n [] = all_still []
-at_goes g h zero (r ∷ rs) = first_goes r (g r) rs rs (h r) (all_still rs)
-at_goes g h (suc n) (r ∷ rs) = first_goes r r rs (at g n rs) (run_still r) (at_goes g h n rs)
-
 -- ---- the changes of events
 pub tries_go : (f : Try → Try) → ((t : Try) → GoesOn t (f t)) → (a : Schedule) → AllGoOn a.runs (map_all_tries f a).runs
 tries_go f h a = each_goes (map_tries_of f) (changed_tries f h) a.runs
@@ -199,65 +181,30 @@ tries_go f h a = each_goes (map_tries_of f) (changed_tries f h) a.runs
 pub clear_goes : (named : Selection) (a : Schedule) → IsSound a → AllGoOn a.runs (clear named a).runs
 clear_goes named a s = lists_go a.runs (map (clear_run a named) a.runs) (all_keys a named a.runs) (all_tries a named a.runs s.runs)
 
--- new runs
-find_insert : {X : Type 0} (before : X → X → Bool) (p : X → Bool) (x : X) (xs : List X) → p x ≡ false → find p (insert_by before x xs) ≡ find p xs
-find_insert before p x [] e = rw e refl
-find_insert before p x (y ∷ ys) e = elim (before x y) as (λ b. find p (elim b [ true ↦ x ∷ y ∷ ys | false ↦ y ∷ insert_by before x ys ]) ≡ find p (y ∷ ys)) [
-  | true ↦ rw e refl
-  | false ↦ ap (λ o. cond (p y) (Some y) o) (find_insert before p x ys e)
-]
-
-found_any : {X : Type 0} (p : X → Bool) (xs : List X) (x : X) → find p xs ≡ Some x → list_any p xs ≡ true
-found_any {X} p [] x e = absurd (let c : ◌≡◌ {A = Option X} None (Some x) = e in cc)
-found_any p (y ∷ ys) x e = elim (p y) as (λ b. cond b (Some y) (find p ys) ≡ Some x → (b || list_any p ys) ≡ true) [
-  | true ↦ λ f. refl
-  | false ↦ λ f. found_any p ys x f
-] e
-
-not_for : (a : Schedule) (n : NamedRun) (id : List ℕ) (date : ℕ) → is_new a n ≡ true → has_run_at a id date ≡ true → is_for id date n ≡ false
-not_for a n id date e there = elim (is_for id date n) as (λ b. is_for id date n ≡ b → b ≡ false) [
-  | false ↦ λ f. refl
-  | true ↦ λ f.
-      let graph : n.graph ≡ id = same_is n.graph id (and_left _ _ f) in
-      let at_date : n.logical ≡ date = eqb-true n.logical date (and_right (same n.graph id) _ f) in
-      let free : has_run_at a n.graph n.logical ≡ false = not_false _ (and_right (is_some (graph_named a n.graph)) _ (and_left _ _ e)) in
-      absurd (true≢false (sym there ∙ (ap (λ (k : List ℕ). has_run_at a k date) (sym graph) ∙ (ap (has_run_at a n.graph) (sym at_date) ∙ free))))
-] refl
-
-added_find : (a : Schedule) (ns : List NamedRun) (id : List ℕ) (date : ℕ) → are_new a ns ≡ true → has_run_at a id date ≡ true → run_at id date (added a ns) ≡ run_at id date a.runs
-added_find a [] id date e there = refl
-added_find a (n ∷ ns) id date e there =
-    find_insert run_before (is_at id date) (queued_run a n) (added a ns) (not_for a n id date (and_left _ _ e) there)
-    ∙ added_find a ns id date (and_right (not (list_any (is_for n.graph n.logical) ns)) _ (and_right (is_new a n) _ e)) there
-
-pub added_go : (ns : List NamedRun) (a : Schedule) → are_new a ns ≡ true → AllGoOn a.runs (add_runs ns a).runs
-added_go ns a e id date r f = (r, added_find a ns id date e (found_any (is_at id date) a.runs r f) ∙ f, run_still r)
-
 -- ---- moves and hand-outs
-turns_go : (f : Schedule → Option Schedule) → ((a b : Schedule) → f a ≡ Some b → AllGoOn a.runs b.runs) → (n : ℕ) (a : Schedule) → AllGoOn a.runs (repeat n f a).runs
-turns_go f h zero a = all_still a.runs
-turns_go f h (suc n) a = elim (f a) as (λ o. f a ≡ o → AllGoOn a.runs (repeat (suc n) f a).runs) [
-  | None ↦ λ e. subst (λ (b : Schedule). AllGoOn a.runs b.runs) (sym (repeat_done (suc n) f a e)) (all_still a.runs)
-  | Some b ↦ λ e. subst (λ (c : Schedule). AllGoOn a.runs c.runs) (sym (repeat_more n f a b e)) (all_further a.runs b.runs (repeat n f b).runs (h a b e) (turns_go f h n b))
-] refl
+-- nothing more is said of the schedules between
+abbrev NoMore : Schedule → Type 0
+NoMore a = Unit {0}
 
-move_goes : (a b : Schedule) → move a ≡ Some b → AllGoOn a.runs b.runs
-move_goes a b e =
+move_goes : (a b : Schedule) → NoMore a → move a ≡ Some b → NoMore b × AllGoOn a.runs b.runs
+move_goes a b i e =
     let t = map_some (with_runs a) (move_runs a) b e in
     let k = move_kin a t.0 t.1 in
-    subst (λ (c : Schedule). AllGoOn a.runs c.runs) t.2 (lists_go a.runs t.0 k.keys k.tries)
+    (tt, subst (λ (c : Schedule). AllGoOn a.runs c.runs) t.2 (lists_go a.runs t.0 k.keys k.tries))
 
-hand_goes : (a b : Schedule) → hand_one a ≡ Some b → AllGoOn a.runs b.runs
-hand_goes a b e =
+hand_goes : (a b : Schedule) → NoMore a → hand_one a ≡ Some b → NoMore b × AllGoOn a.runs b.runs
+hand_goes a b i e =
     let t = map_some (hand a) (best_offer a) b e in
     let v : Try = new_try a.next t.0.slots in
-    subst (λ (c : Schedule). AllGoOn a.runs c.runs) t.2 (at_goes (in_instance (with_try v) t.0.place) (handed_try v t.0.place) t.0.run a.runs)
+    (tt, subst (λ (c : Schedule). AllGoOn a.runs c.runs) t.2 (by_at RunGoesOn run_onward (in_instance (with_try v) t.0.place) t.0.run a.runs (λ r f. handed_try v t.0.place r)))
 
 pub advance_goes : (ns : List NamedRun) (a : Schedule) → are_new a ns ≡ true → AllGoOn a.runs (advance ns a).runs
 advance_goes ns a e =
     let b : Schedule = add_runs ns a in
-    all_further a.runs b.runs (advance ns a).runs (added_go ns a e)
-    (all_further b.runs (settle b).runs (advance ns a).runs (turns_go move move_goes (moves_left b) b) (turns_go hand_one hand_goes (serials_left (settle b)) (settle b)))
+    let moved = by_turns RunGoesOn run_onward NoMore move move_goes (moves_left b) b tt in
+    let handed = by_turns RunGoesOn run_onward NoMore hand_one hand_goes (serials_left (settle b)) (settle b) tt in
+    by_further RunGoesOn run_onward a.runs b.runs (advance ns a).runs (by_added RunGoesOn run_onward ns a e)
+    (by_further RunGoesOn run_onward b.runs (settle b).runs (advance ns a).runs moved.1 handed.1)
 
 -- ---- a try
 pub try_goes : (a b : Schedule) → AllGoOn a.runs b.runs → (id : List ℕ) (date p n : ℕ) (t : Try) → try_at a id date p n ≡ Some t → (u : Try) × (try_at b id date p n ≡ Some u) × GoesOn t u
@@ -271,7 +218,7 @@ try_goes a b h id date p n t e = elim (run_at id date a.runs) as (λ o. run_at i
 ] refl e
 
 -- ---- a try by the id of its task
-run_there : (id : List ℕ) (date : ℕ) (rs : List Run) (r : Run) → run_at id date rs ≡ Some r → list_any (λ (q : Run). same q.graph id) rs ≡ true
+pub run_there : (id : List ℕ) (date : ℕ) (rs : List Run) (r : Run) → run_at id date rs ≡ Some r → list_any (λ (q : Run). same q.graph id) rs ≡ true
 run_there id date [] r e = absurd (let c : ◌≡◌ {A = Option Run} None (Some r) = e in cc)
 run_there id date (q ∷ qs) r e = elim (is_at id date q) as (λ b. is_at id date q ≡ b → cond b (Some q) (run_at id date qs) ≡ Some r → (same q.graph id || list_any (λ (w : Run). same w.graph id) qs) ≡ true) [
   | true ↦ λ f g. or_left (same q.graph id) _ (and_left (same q.graph id) (q.logical == date) f)

@@ -80,7 +80,7 @@ finished_rests : (s : State) → is_finished s ≡ true → is_up_for_retry s �
 finished_rests state.UpForRetry e = absurd (true≢false (sym e))
 finished_rests s e = refl
 
-failed_is : (s : State) → is_failed s ≡ true → s ≡ state.Failed
+pub failed_is : (s : State) → is_failed s ≡ true → s ≡ state.Failed
 failed_is state.Failed e = refl
 failed_is s e = absurd (true≢false (sym e))
 

@@ -34,6 +34,7 @@ pub mod ResizeLemmas
 pub mod SetBackLemmas
 pub mod BackfillLemmas
 pub mod ByHandLemmas
+pub mod OnwardLemmas
 pub mod GoingLemmas
 pub mod SerialLemmas
 pub mod RuleLemmas
@@ -41,5 +42,6 @@ pub mod KeptLemmas
 pub mod FittedLemmas
 pub mod ReplaceLemmas
 pub mod RefitLemmas
+pub mod FinishedLemmas
 pub mod ReplaceSoundLemmas
 pub use Rattle.sched_model.proofs.sched_state as sched_state

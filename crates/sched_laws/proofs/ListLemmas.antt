@@ -82,6 +82,32 @@ change_keeps {X} {Y} h f k i (x ∷ xs) ys e =
       ] refl
     ] refl e
 
+-- an element that f never changes stays at its place
+later_leaves : {X : Type 0} (z : X) (zs ws : List X) (p : ℕ) (x : X) → slice_get (z ∷ zs) p ≡ Some x → ((k : ℕ) → slice_get zs k ≡ Some x → slice_get ws k ≡ Some x) → slice_get (z ∷ ws) p ≡ Some x
+later_leaves z zs ws zero x e h = e
+later_leaves z zs ws (suc k) x e h = h k e
+
+here_leaves : {X : Type 0} (o : Option X) (z y : X) (zs : List X) (p : ℕ) (x : X) → slice_get (z ∷ zs) p ≡ Some x → o ≡ Some y → (z ≡ x → o ≡ None) → slice_get (y ∷ zs) p ≡ Some x
+here_leaves {X} o z y zs zero x e is none =
+    let c : ◌≡◌ {A = Option X} (Some z) (Some x) = e in
+    let d : ◌≡◌ {A = Option X} None (Some y) = sym (none cc) ∙ is in absurd (cc)
+here_leaves o z y zs (suc k) x e is none = e
+
+pub change_leaves : {X : Type 0} (f : ℕ → X → Option X) (i : ℕ) (xs ys : List X) (p : ℕ) (x : X) → change_from f i xs ≡ Some ys → slice_get xs p ≡ Some x → ((k : ℕ) → f k x ≡ None) → slice_get ys p ≡ Some x
+change_leaves {X} f i [] ys p x e there none = absurd (let c : ◌≡◌ {A = Option (List X)} None (Some ys) = e in cc)
+change_leaves {X} f i (z ∷ zs) ys p x e there none =
+    elim (f i z) as (λ o. f i z ≡ o → change_here f i z zs o ≡ Some ys → slice_get ys p ≡ Some x) [
+      | Some y ↦ λ q r. let s : ys ≡ y ∷ zs = cc in
+          ap (λ (ws : List X). slice_get ws p) s ∙ here_leaves (f i z) z y zs p x there q (λ is. ap (f i) is ∙ none i)
+      | None ↦ λ q. elim (change_from f (i + 1) zs) as (λ o. change_from f (i + 1) zs ≡ o → option_map (λ ws. z ∷ ws) o ≡ Some ys → slice_get ys p ≡ Some x) [
+        | None ↦ λ s t. absurd (let c : ◌≡◌ {A = Option (List X)} None (Some ys) = t in cc)
+        | Some ws ↦ λ s t.
+            let c : ◌≡◌ {A = Option (List X)} (Some (z ∷ ws)) (Some ys) = t in
+            let r : ys ≡ z ∷ ws = cc in
+            ap (λ (vs : List X). slice_get vs p) r ∙ later_leaves z zs ws p x there (λ k at. change_leaves f (i + 1) zs ws k x s at none)
+      ] refl
+    ] refl e
+
 -- ---- pairs
 pub pairs_change : {X Y : Type 0} (p : X → Y → Bool) (f : ℕ → Y → Option Y) → ((x : X) (i : ℕ) (y z : Y) → f i y ≡ Some z → p x y ≡ true → p x z ≡ true)
     → (i : ℕ) (xs : List X) (ys zs : List Y) → change_from f i ys ≡ Some zs → all_pairs p xs ys ≡ true → all_pairs p xs zs ≡ true

@@ -1,5 +1,5 @@
--- The tries of the runs of a graph that takes another text: each is that of its task, with its number, and what is taken of the pools stays.
-use Rattle.std.proofs.Common.{◌≡◌, ◌==◌, refl, sym, ap, subst, ◌∙◌, ℕ, ◌+◌, List, [], ◌∷◌, Bool, true, false, cond, not, ◌&&◌, inl, inr, map, filter, flat_map, find, Option, Some, None, option_map, option_and_then, is_some, is_none, slice_get, nat_lt, arith, true≢false, zip, sum_by}
+-- The runs of a graph that takes another text: each instance goes on by its task, each try is that of its task, with its number, and what is taken of the pools stays.
+use Rattle.std.proofs.Common.{◌≡◌, refl, sym, ap, subst, ◌∙◌, ℕ, ◌+◌, List, [], ◌∷◌, Bool, true, false, cond, not, ◌&&◌, inl, inr, map, filter, flat_map, find, Option, Some, None, option_map, option_and_then, is_some, is_none, slice_get, nat_lt, arith, true≢false, zip, sum_by}
 use Rattle.std.specs.List.{list_all, enumerate_from}
 use Rattle.std.specs.List.Sorted.{IsPermutation}
 use Rattle.std.proofs.lemmas.List.{length-map}
@@ -19,7 +19,7 @@ use Rattle.sched_model.specs.sched_state.declared.runs.Run.{Run}
 use Rattle.sched_model.specs.sched_state.declared.runs.RunPhase.{RunPhase}
 use Rattle.sched_model.proofs.sched_state.OrderLemmas.{and_left, and_right}
 use Rattle.sched_model.proofs.sched_state.NameLemmas.{same_is, same_itself, find_passes}
-use Rattle.sched_model.specs.Causes.{moved_by, pairs_named, runs_of, task_named, takes_others, least_moved, lost_task, open_serials, tries_of}
+use Rattle.sched_model.specs.Causes.{moved_by, pairs_named, runs_of, task_named, takes_another_pool, least_moved, lost_task, open_serials, tries_of}
 use Rattle.sched_model.specs.Changes.{new_graph, taken_in, reloaded, with_graph}
 use Rattle.sched_model.specs.Clearing.{named_in, named_pairs, pairs_of, place_of}
 use Rattle.sched_model.specs.Lists.{all_pairs}
@@ -27,13 +27,14 @@ use Rattle.sched_model.specs.Replacing.{pair_of, fitted_if, fitted, with_fitted,
 use Rattle.sched_model.specs.Schedule.{Schedule, graph_among, dag_among, dag_named, graph_before, is_at, tasks_of}
 use Rattle.sched_model.specs.Sound.{IsSound, is_sound_graph, is_sound_run, is_sound_in, has_end}
 use Rattle.sched_model.specs.States.{OpenTry, opened, open_of, open_tries, is_open, slots_in, occupied, active_tries, in_flight}
+use Rattle.sched_laws.specs.Instances.{instance_of}
 use Rattle.sched_laws.specs.Tries.{run_at, try_in, try_of}
 use Rattle.sched_laws.proofs.ClearLemmas.{best_empty, none_open}
-use Rattle.sched_laws.proofs.FittedLemmas.{Pair, pair_ids, all_member, find_member, flat_member, found_once, gathered_all, zip_ids, zip_all, zip_flat, made_flat, made_passes, made_found, beside_place, fitted_tries}
+use Rattle.sched_laws.proofs.FittedLemmas.{Pair, pair_ids, all_member, find_member, flat_member, found_once, gathered_all, zip_ids, zip_all, zip_flat, zip_passes, made_flat, made_passes, made_found, beside_place, fitted_tries}
 use Rattle.sched_laws.proofs.GraphLemmas.{find_by_id, flip_same, find_loaded, reloaded_id}
-use Rattle.sched_laws.proofs.KeptLemmas.{kept_tries, newcomer_tries}
+use Rattle.sched_laws.proofs.KeptLemmas.{kept_itself, kept_tries, newcomer_tries}
 use Rattle.sched_laws.proofs.KeyLemmas.{is_key}
-use Rattle.sched_laws.proofs.ListLemmas.{all_flat}
+use Rattle.sched_laws.proofs.ListLemmas.{all_flat, pairs_impl}
 use Rattle.sched_laws.proofs.LoadLemmas.{dag_found, reloaded_named}
 use Rattle.sched_laws.proofs.OfferLemmas.{In, into_filter}
 use Rattle.sched_laws.proofs.ReplaceLemmas.{IsTakenIn, dag_by, among_once, sound_once, refitted_key}
@@ -156,19 +157,62 @@ no_run : (o : Option ℕ) (n : ℕ) (t : Try) → option_and_then (λ (m : ℕ).
 no_run None n t e = let c : ◌≡◌ {A = Option Try} None (Some t) = e in cc
 no_run (Some m) n t e = let c : ◌≡◌ {A = Option Try} None (Some t) = e in cc
 
--- the pair of a task in a run that takes the text in has the same tries
-same_pair : (dag : Dag) (ph : RunPhase) (es : List Pair) (task : List ℕ) (n : ℕ) (t : Try) → Fits dag es → option_and_then (λ (x : Pair). slice_get x.1.tries n) (pair_of task es) ≡ Some t
-    → option_and_then (λ (x : Pair). slice_get x.1.tries n) (pair_of task (zip dag.tasks (map (fitted ph es) dag.tasks))) ≡ Some t
-same_pair dag ph es task n t fits e = elim (pair_of task es) as (λ o. pair_of task es ≡ o → option_and_then (λ (x : Pair). slice_get x.1.tries n) o ≡ Some t → option_and_then (λ (x : Pair). slice_get x.1.tries n) (pair_of task (zip dag.tasks (map (fitted ph es) dag.tasks))) ≡ Some t) [
-  | None ↦ λ f g. absurd (let c : ◌≡◌ {A = Option Try} None (Some t) = g in cc)
-  | Some x ↦ λ f g.
-      let id : x.0.task_id ≡ task = same_is x.0.task_id task (find_passes (λ (y : Pair). same y.0.task_id task) es x f) in
-      let m = is_there (task_named dag.tasks task) (ap (λ k. is_some (task_named dag.tasks k)) (sym id) ∙ all_member (λ (y : Pair). is_some (task_named dag.tasks y.0.task_id)) es x fits.there (find_member (λ (y : Pair). same y.0.task_id task) es x f)) in
-      let named : m.0.task_id ≡ task = same_is m.0.task_id task (find_passes (λ (u : TaskSpec). same u.task_id task) dag.tasks m.0 m.1) in
-      let made : fitted ph es m.0 ≡ kept_as x.0 m.0 x.1 = ap (λ k. fitted_if ph (pair_of k es) m.0) named ∙ ap (λ o. fitted_if ph o m.0) f in
-      ap (option_and_then (λ (y : Pair). slice_get y.1.tries n)) (made_found (fitted ph es) task dag.tasks m.0 m.1)
-      ∙ (ap (λ (i : InstanceValue). slice_get i.tries n) made ∙ (ap (λ (ts : List Try). slice_get ts n) (kept_tries x.0 m.0 x.1) ∙ g))
-] refl e
+-- ---- each instance
+-- the pair of a task in a run that takes the text in
+same_pair : (dag : Dag) (ph : RunPhase) (es : List Pair) (task : List ℕ) (x : Pair) → Fits dag es → pair_of task es ≡ Some x → (m : TaskSpec) × (pair_of task (zip dag.tasks (map (fitted ph es) dag.tasks)) ≡ Some (m, kept_as x.0 m x.1))
+same_pair dag ph es task x fits f =
+    let id : x.0.task_id ≡ task = same_is x.0.task_id task (find_passes (λ (y : Pair). same y.0.task_id task) es x f) in
+    let m = is_there (task_named dag.tasks task) (ap (λ k. is_some (task_named dag.tasks k)) (sym id) ∙ all_member (λ (y : Pair). is_some (task_named dag.tasks y.0.task_id)) es x fits.there (find_member (λ (y : Pair). same y.0.task_id task) es x f)) in
+    let named : m.0.task_id ≡ task = same_is m.0.task_id task (find_passes (λ (u : TaskSpec). same u.task_id task) dag.tasks m.0 m.1) in
+    let made : fitted ph es m.0 ≡ kept_as x.0 m.0 x.1 = ap (λ k. fitted_if ph (pair_of k es) m.0) named ∙ ap (λ o. fitted_if ph o m.0) f in
+    (m.0, made_found (fitted ph es) task dag.tasks m.0 m.1 ∙ ap (λ (i : InstanceValue). let o : Option Pair = Some (m.0, i) in o) made)
+
+-- in each run the instance of a task goes on by the task as it is now
+pair_stays : (text : List ℕ) (dag : Dag) (a : Schedule) (r : Run) (task : List ℕ) (x : Pair) → IsTakenIn text dag a → is_sound_graph a (new_graph text dag) ≡ true → lost_task a dag ≡ None → IsSound a → is_sound_run a.graphs r ≡ true
+    → pair_of task (pairs_of a r) ≡ Some x → (m : TaskSpec) × (pair_of task (pairs_of (replace_graph text dag a) (refitted a dag r)) ≡ Some (m, kept_as x.0 m x.1))
+pair_stays text dag a r task x taken new lost s sound f =
+    let b : Schedule = replace_graph text dag a in
+    elim (same r.graph dag.spec.dag_id) as (λ c. same r.graph dag.spec.dag_id ≡ c → (m : TaskSpec) × (pair_of task (pairs_of b (cond c (with_fitted a dag r) r)) ≡ Some (m, kept_as x.0 m x.1))) [
+      | true ↦ λ g.
+          let now = graph_after text dag a r taken sound g in
+          let p = same_pair dag r.phase (pairs_of a r) task x (run_fits text dag a r new lost s sound g) f in
+          (p.0, ap (λ (d : Dag). pair_of task (zip d.tasks (map (fitted r.phase (pairs_of a r)) dag.tasks))) now.is ∙ p.1)
+      | false ↦ λ g.
+          let pairs = zip_passes (is_sound_in r.phase) (tasks_of a r) r.instances (pairs_of_run a.graphs r sound) in
+          let own : is_sound_in r.phase x.0 x.1 ≡ true = all_member (λ (y : Pair). is_sound_in r.phase y.0 y.1) (pairs_of a r) x pairs (find_member (λ (y : Pair). same y.0.task_id task) (pairs_of a r) x f) in
+          let kept : kept_as x.0 x.0 x.1 ≡ x.1 = kept_itself x.0 x.1 (and_left _ _ own) in
+          (x.0, ap (λ (d : Dag). pair_of task (zip d.tasks r.instances)) (other_after text dag a r.graph g) ∙ (f ∙ ap (λ (i : InstanceValue). let o : Option Pair = Some (x.0, i) in o) (sym kept)))
+    ] refl
+
+-- the run of a graph and a date is sound
+run_sound : (a : Schedule) (id : List ℕ) (date : ℕ) (r : Run) → IsSound a → run_at id date a.runs ≡ Some r → is_sound_run a.graphs r ≡ true
+run_sound a id date r s f = all_member (is_sound_run a.graphs) a.runs r s.runs (find_member (is_at id date) a.runs r f)
+
+pub instance_stays : (text : List ℕ) (dag : Dag) (a : Schedule) → IsTakenIn text dag a → (id : List ℕ) (date : ℕ) (task : List ℕ) (x : Pair) → is_sound_graph a (new_graph text dag) ≡ true → lost_task a dag ≡ None → IsSound a
+    → instance_of a id date task ≡ Some x → (m : TaskSpec) × (instance_of (replace_graph text dag a) id date task ≡ Some (m, kept_as x.0 m x.1))
+instance_stays text dag a taken id date task x new lost s e =
+    let b : Schedule = replace_graph text dag a in
+    elim (run_at id date a.runs) as (λ o. run_at id date a.runs ≡ o → option_and_then (λ (r : Run). pair_of task (pairs_of a r)) o ≡ Some x → (m : TaskSpec) × (instance_of b id date task ≡ Some (m, kept_as x.0 m x.1))) [
+      | None ↦ λ f g. absurd (let c : ◌≡◌ {A = Option Pair} None (Some x) = g in cc)
+      | Some r ↦ λ f g.
+          let p = pair_stays text dag a r task x taken new lost s (run_sound a id date r s f) g in
+          (p.0, ap (option_and_then (λ (q : Run). pair_of task (pairs_of b q))) (run_after a dag id date a.runs ∙ ap (option_map (refitted a dag)) f) ∙ p.1)
+    ] refl e
+
+-- ---- its tries
+-- there is an instance for each task of the run
+run_paired : (text : List ℕ) (dag : Dag) (a : Schedule) (r : Run) → IsTakenIn text dag a → is_sound_run a.graphs r ≡ true
+    → (let q : Run = refitted a dag r in all_pairs (λ u i. true) (tasks_of (replace_graph text dag a) q) q.instances ≡ true)
+run_paired text dag a r taken sound =
+    elim (same r.graph dag.spec.dag_id) as (λ c. same r.graph dag.spec.dag_id ≡ c → (let q : Run = cond c (with_fitted a dag r) r in all_pairs (λ u i. true) (tasks_of (replace_graph text dag a) q) q.instances ≡ true)) [
+      | true ↦ λ g.
+          let now = graph_after text dag a r taken sound g in
+          let made : TaskSpec → InstanceValue = fitted r.phase (pairs_of a r) in
+          ap (λ (d : Dag). all_pairs (λ u i. true) d.tasks (map made dag.tasks)) now.is ∙ made_passes (λ u i. true) made dag.tasks (λ m i. refl)
+      | false ↦ λ g.
+          ap (λ (d : Dag). all_pairs (λ u i. true) d.tasks r.instances) (other_after text dag a r.graph g)
+          ∙ pairs_impl (is_sound_in r.phase) (λ u i. true) (λ u i e. refl) (tasks_of a r) r.instances (pairs_of_run a.graphs r sound)
+    ] refl
 
 pub try_stays : (text : List ℕ) (dag : Dag) (a : Schedule) → IsTakenIn text dag a → (id : List ℕ) (date : ℕ) (task : List ℕ) (n : ℕ) (t : Try) → is_sound_graph a (new_graph text dag) ≡ true → lost_task a dag ≡ None → IsSound a → try_of a id date task n ≡ Some t
     → try_of (replace_graph text dag a) id date task n ≡ Some t
@@ -177,23 +221,16 @@ try_stays text dag a taken id date task n t new lost s e =
     elim (run_at id date a.runs) as (λ o. run_at id date a.runs ≡ o → try_of b id date task n ≡ Some t) [
       | None ↦ λ f. absurd (no_run (place_of (dag_named a id).tasks task) n t (ap (λ o. option_and_then (λ (m : ℕ). option_and_then (try_in m n) o) (place_of (dag_named a id).tasks task)) (sym f) ∙ e))
       | Some r ↦ λ f.
-          let sound : is_sound_run a.graphs r ≡ true = all_member (is_sound_run a.graphs) a.runs r s.runs (find_member (is_at id date) a.runs r f) in
-          let paired : all_pairs (is_sound_in r.phase) (tasks_of a r) r.instances ≡ true = pairs_of_run a.graphs r sound in
-          let before : option_and_then (λ (x : Pair). slice_get x.1.tries n) (pair_of task (pairs_of a r)) ≡ Some t = sym (pair_try a id date task n r (is_sound_in r.phase) f paired) ∙ e in
+          let sound : is_sound_run a.graphs r ≡ true = run_sound a id date r s f in
+          let before : option_and_then (λ (x : Pair). slice_get x.1.tries n) (pair_of task (pairs_of a r)) ≡ Some t = sym (pair_try a id date task n r (is_sound_in r.phase) f (pairs_of_run a.graphs r sound)) ∙ e in
           let after : run_at id date b.runs ≡ Some (refitted a dag r) = run_after a dag id date a.runs ∙ ap (option_map (refitted a dag)) f in
-          elim (same r.graph dag.spec.dag_id) as (λ c. same r.graph dag.spec.dag_id ≡ c → run_at id date b.runs ≡ Some (cond c (with_fitted a dag r) r) → try_of b id date task n ≡ Some t) [
-            | true ↦ λ g h.
-                let q : Run = with_fitted a dag r in
-                let now = graph_after text dag a r taken sound g in
-                let tasks : tasks_of b r ≡ dag.tasks = ap (λ (d : Dag). d.tasks) now.is in
-                pair_try b id date task n q (λ u i. true) h (ap (λ us. all_pairs (λ u i. true) us q.instances) tasks ∙ made_passes (λ u i. true) (fitted r.phase (pairs_of a r)) dag.tasks (λ m i. refl))
-                ∙ (ap (λ us. option_and_then (λ (x : Pair). slice_get x.1.tries n) (pair_of task (zip us q.instances))) tasks
-                ∙ same_pair dag r.phase (pairs_of a r) task n t (run_fits text dag a r new lost s sound g) before)
-            | false ↦ λ g h.
-                let tasks : tasks_of b r ≡ tasks_of a r = ap (λ (d : Dag). d.tasks) (other_after text dag a r.graph g) in
-                pair_try b id date task n r (is_sound_in r.phase) h (ap (λ us. all_pairs (is_sound_in r.phase) us r.instances) tasks ∙ paired)
-                ∙ (ap (λ us. option_and_then (λ (x : Pair). slice_get x.1.tries n) (pair_of task (zip us r.instances))) tasks ∙ before)
-          ] refl after
+          elim (pair_of task (pairs_of a r)) as (λ o. pair_of task (pairs_of a r) ≡ o → option_and_then (λ (x : Pair). slice_get x.1.tries n) o ≡ Some t → try_of b id date task n ≡ Some t) [
+            | None ↦ λ g h. absurd (let c : ◌≡◌ {A = Option Try} None (Some t) = h in cc)
+            | Some x ↦ λ g h.
+                let p = pair_stays text dag a r task x taken new lost s sound g in
+                pair_try b id date task n (refitted a dag r) (λ u i. true) after (run_paired text dag a r taken sound)
+                ∙ (ap (option_and_then (λ (y : Pair). slice_get y.1.tries n)) p.1 ∙ (ap (λ (ts : List Try). slice_get ts n) (kept_tries x.0 p.0 x.1) ∙ h))
+          ] refl before
     ] refl
 
 -- ---- tries without an end
@@ -290,24 +327,24 @@ named_pair f n (y ∷ es) x i h = elim (f n y) as (λ b. f n y ≡ b → In x (m
   | false ↦ λ g. elim i [ inl is ↦ absurd (true≢false (sym (h n) ∙ ap (f n) (sym is) ∙ g)) | inr j ↦ named_pair f (n + 1) es x j h ]
 ] refl
 
--- a pair of a run that takes other slots is one of those that are moved
-moved_pair : (a : Schedule) (dag : Dag) (r : Run) (x : Pair) → In r a.runs → same r.graph dag.spec.dag_id ≡ true → takes_others dag x.0 ≡ true → In x (pairs_of a r) → In x (named_pairs a (moved_by dag))
-moved_pair a dag r x i own moves j = flat_member (named_in a (moved_by dag)) a.runs r x i (named_pair (moved_by dag r) 0 (pairs_of a r) x j (λ p. ap (λ b. b && takes_others dag x.0) own ∙ moves))
+-- a pair of a run that takes slots of another pool is one of those that are moved
+moved_pair : (a : Schedule) (dag : Dag) (r : Run) (x : Pair) → In r a.runs → same r.graph dag.spec.dag_id ≡ true → takes_another_pool dag x.0 ≡ true → In x (pairs_of a r) → In x (named_pairs a (moved_by dag))
+moved_pair a dag r x i own moves j = flat_member (named_in a (moved_by dag)) a.runs r x i (named_pair (moved_by dag r) 0 (pairs_of a r) x j (λ p. ap (λ b. b && takes_another_pool dag x.0) own ∙ moves))
 
 pools_alike : (text : List ℕ) (dag : Dag) (a : Schedule) → is_sound_graph a (new_graph text dag) ≡ true → least_moved a dag ≡ None → IsAlike (λ (o : OpenTry). o) dag a
 pools_alike text dag a new least r i e n x j k f =
     let ts : List Try = filter is_open x.1.tries in
     let all : List Pair = named_pairs a (moved_by dag) in
     let found : task_named dag.tasks x.0.task_id ≡ Some n = found_once (λ (t : TaskSpec). t.task_id) dag.tasks n x.0.task_id (sound_once a (new_graph text dag) new) j (ap (same n.task_id) (same_is x.0.task_id n.task_id f) ∙ same_itself n.task_id) in
-    elim (n.pool_slots == x.0.pool_slots && same n.pool x.0.pool) as (λ b. (n.pool_slots == x.0.pool_slots && same n.pool x.0.pool) ≡ b → map (λ (o : OpenTry). o) (map (opened r.graph n) ts) ≡ map (λ (o : OpenTry). o) (map (opened r.graph x.0) ts)) [
+    elim (same n.pool x.0.pool) as (λ b. same n.pool x.0.pool ≡ b → map (λ (o : OpenTry). o) (map (opened r.graph n) ts) ≡ map (λ (o : OpenTry). o) (map (opened r.graph x.0) ts)) [
       | true ↦ λ g.
-          let pool : n.pool ≡ x.0.pool = same_is n.pool x.0.pool (and_right (n.pool_slots == x.0.pool_slots) _ g) in
+          let pool : n.pool ≡ x.0.pool = same_is n.pool x.0.pool g in
           ap (λ (p : List ℕ). map (λ (o : OpenTry). o) (map (λ (u : Try). let o : OpenTry = record { graph = r.graph; pool = p; one = u } in o) ts)) pool
       | false ↦ λ g.
           let moved : List Try = flat_map (λ (y : Pair). y.1.tries) all in
           let over : list_all has_end moved ≡ true = none_open moved (best_empty nat_lt (open_serials moved) least) in
           let ended : list_all has_end x.1.tries ≡ true =
-          all_member (λ (y : Pair). list_all has_end y.1.tries) all x (all_flat has_end (λ (y : Pair). y.1.tries) all over) (moved_pair a dag r x i e (ap (holds_at (λ (u : TaskSpec). not (u.pool_slots == x.0.pool_slots && same u.pool x.0.pool))) found ∙ ap not g) k) in
+          all_member (λ (y : Pair). list_all has_end y.1.tries) all x (all_flat has_end (λ (y : Pair). y.1.tries) all over) (moved_pair a dag r x i e (ap (holds_at (λ (u : TaskSpec). not (same u.pool x.0.pool))) found ∙ ap not g) k) in
           let none : ts ≡ [] = no_open x.1.tries ended in
           ap (λ (us : List Try). map (λ (o : OpenTry). o) (map (opened r.graph n) us)) none ∙ sym (ap (λ (us : List Try). map (λ (o : OpenTry). o) (map (opened r.graph x.0) us)) none)
     ] refl

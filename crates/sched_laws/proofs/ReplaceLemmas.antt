@@ -1,5 +1,5 @@
 -- A text for a graph that has runs: no run, no try and no serial goes, what is taken of the pools stays, and a sound schedule stays sound.
-use Rattle.std.proofs.Common.{◌≡◌, refl, sym, ap, subst, ◌∙◌, ℕ, List, [], ◌∷◌, Bool, true, false, cond, ◌&&◌, inl, inr, map, filter, length, Option, Some, None, option_map, unwrap_or, nat_le, true≢false, zip, sum_by, Result, Ok}
+use Rattle.std.proofs.Common.{◌≡◌, refl, sym, ap, subst, ◌∙◌, ℕ, List, [], ◌∷◌, Bool, true, false, cond, ◌&&◌, inl, inr, map, filter, length, Option, Some, option_map, unwrap_or, nat_le, true≢false, zip, sum_by, Result, Ok}
 use Rattle.std.specs.List.{list_any, list_all}
 use Rattle.graph_file.specs.declared.task_specs.TaskSpec.{TaskSpec}
 use Rattle.graph_file.specs.declared.graph_specs.GraphSpec.{GraphSpec}
@@ -26,6 +26,7 @@ use Rattle.sched_laws.proofs.KeptLemmas.{kept_itself}
 use Rattle.sched_laws.proofs.LoadLemmas.{load_again}
 use Rattle.sched_laws.proofs.OfferLemmas.{In}
 use Rattle.sched_laws.proofs.RunLemmas.{Key, key, pairs_of_run}
+use Rattle.sched_laws.proofs.SaidLemmas.{said_by}
 
 -- ---- the runs
 refitted_other : (a : Schedule) (dag : Dag) (r : Run) → same r.graph dag.spec.dag_id ≡ false → refitted a dag r ≡ r
@@ -75,13 +76,6 @@ replace_loads text dag a none = ap (λ (rs : List Run). let b : Schedule = recor
 -- where the graph has this text it is this graph
 abbrev pub IsTakenIn : List ℕ → Dag → Schedule → Type 0
 IsTakenIn text dag a = (g : LoadedGraph) → graph_named a dag.spec.dag_id ≡ Some g → same g.text text ≡ true → g.dag ≡ dag
-
-said_by : (gs : List LoadedGraph) (id : List ℕ) (g : LoadedGraph) → AllSay gs → graph_among gs id ≡ Some g → Says g.text g.dag
-said_by [] id g said e = absurd (let c : ◌≡◌ {A = Option LoadedGraph} None (Some g) = e in cc)
-said_by (h ∷ hs) id g said e = elim (same h.dag.spec.dag_id id) as (λ b. cond b (Some h) (graph_among hs id) ≡ Some g → Says g.text g.dag) [
-  | true ↦ λ f. let c : ◌≡◌ {A = Option LoadedGraph} (Some h) (Some g) = f in let is : h ≡ g = cc in subst (λ (k : LoadedGraph). Says k.text k.dag) is said.0
-  | false ↦ λ f. said_by hs id g said.1 f
-] e
 
 one_file : (s t : GraphSpec) (r : Result GraphSpec GraphFault) → r ≡ Ok s → r ≡ Ok t → s ≡ t
 one_file s t r e f = let c : ◌≡◌ {A = Result GraphSpec GraphFault} (Ok s) (Ok t) = sym e ∙ f in cc

@@ -1,4 +1,4 @@
--- A text for a graph that has runs keeps a sound schedule sound, where no task is lost, and none that has a try would take other slots.
+-- A text for a graph that has runs keeps a sound schedule sound, where no task is lost, and none that has a try would take another number of slots.
 use Rattle.std.proofs.Common.{◌≡◌, refl, sym, ap, subst, ◌∙◌, ℕ, List, [], ◌∷◌, Bool, true, false, cond, not, ◌&&◌, ◌==◌, inl, inr, map, length, Option, Some, None, is_some, is_none, nat_le, nat_lt, eqb, arith, true≢false}
 use Rattle.std.specs.List.{list_all, AllByRecursion, IsDistinct}
 use Rattle.std.specs.List.Sorted.{IsPermutation}
@@ -18,7 +18,7 @@ use Rattle.sched_model.specs.sched_state.declared.runs.Run.{Run}
 use Rattle.sched_model.specs.sched_state.declared.runs.RunPhase.{RunPhase}
 use Rattle.sched_model.proofs.sched_state.OrderLemmas.{and_left, and_right, not_false}
 use Rattle.sched_model.proofs.sched_state.NameLemmas.{same_is, same_itself, find_passes}
-use Rattle.sched_model.specs.Causes.{is_unknown_graph, pairs_named, task_named, has_slots_of, lost_task, resized_task, tries_of}
+use Rattle.sched_model.specs.Causes.{is_unknown_graph, pairs_named, task_named, takes_another_number, lost_task, resized_task, tries_of}
 use Rattle.sched_model.specs.Changes.{new_graph, reloaded, with_graph}
 use Rattle.sched_model.specs.Clearing.{pairs_of}
 use Rattle.sched_model.specs.Lists.{all_pairs, rises}
@@ -74,7 +74,7 @@ fitted_by P ph es n new kept = elim (pair_of n.task_id es) as (λ o. pair_of n.t
 some_tries : (u : Try) (us : List Try) → nat_lt 0 (length (u ∷ us)) ≡ true
 some_tries u us = lt-ltb 0 (length (u ∷ us)) (omega arith)
 
--- a task whose tries would not take other slots
+-- a task whose tries would take as many slots
 sized_by : (k m : ℕ) (us : List Try) → (nat_lt 0 (length us) && not (k == m)) ≡ false → list_all (is_sound_try m) us ≡ true → list_all (is_sound_try k) us ≡ true
 sized_by k m [] e f = refl
 sized_by k m (u ∷ us) e f = elim (k == m) as (λ b. (k == m) ≡ b → (nat_lt 0 (length (u ∷ us)) && not b) ≡ false → list_all (is_sound_try k) (u ∷ us) ≡ true) [
@@ -85,9 +85,9 @@ sized_by k m (u ∷ us) e f = elim (k == m) as (λ b. (k == m) ≡ b → (nat_lt
 tries_sized : (a : Schedule) (dag : Dag) (r : Run) (n : TaskSpec) (x : Pair) → resized_task a dag ≡ None → In r a.runs → same r.graph dag.spec.dag_id ≡ true → In x (pairs_of a r) → task_named dag.tasks x.0.task_id ≡ Some n
     → list_all (is_sound_try x.0.pool_slots) x.1.tries ≡ true → list_all (is_sound_try n.pool_slots) x.1.tries ≡ true
 tries_sized a dag r n x none i e j found sound =
-    let test : Pair → Bool = λ y. nat_lt 0 (length y.1.tries) && not (has_slots_of dag y.0) in
+    let test : Pair → Bool = λ y. nat_lt 0 (length y.1.tries) && takes_another_number dag y.0 in
     let passed : test x ≡ false = none_member test (pairs_named a dag.spec.dag_id) x (unmapped (λ (y : Pair). y.0.task_id) _ none) (pair_named a dag.spec.dag_id r x i e j) in
-    sized_by n.pool_slots x.0.pool_slots x.1.tries (ap (λ (o : Option TaskSpec). nat_lt 0 (length x.1.tries) && not (holds_at (λ (u : TaskSpec). u.pool_slots == x.0.pool_slots) o)) (sym found) ∙ passed) sound
+    sized_by n.pool_slots x.0.pool_slots x.1.tries (ap (λ (o : Option TaskSpec). nat_lt 0 (length x.1.tries) && holds_at (λ (u : TaskSpec). not (u.pool_slots == x.0.pool_slots)) o) (sym found) ∙ passed) sound
 
 fitted_sound : (text : List ℕ) (dag : Dag) (a : Schedule) (r : Run) (n : TaskSpec) → is_sound_graph a (new_graph text dag) ≡ true → resized_task a dag ≡ None → is_sound_run a.graphs r ≡ true → In r a.runs → same r.graph dag.spec.dag_id ≡ true → In n dag.tasks
     → is_sound_in r.phase n (fitted r.phase (pairs_of a r) n) ≡ true

@@ -6,6 +6,7 @@ pub mod Stages
 pub mod Repairs
 pub mod Runs
 pub mod Tries
+pub mod Instances
 pub mod Rules
 pub use Rattle.sched_model.specs as sched_model
 pub use Rattle.sched_model.specs.sched_state as sched_state

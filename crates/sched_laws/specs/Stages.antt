@@ -8,6 +8,7 @@ use Rattle.sched_model.specs.sched_state.declared.runs.RunPhase.TheVariants as p
 use Rattle.sched_model.specs.sched_state.Lists.{same, first_change}
 use Rattle.sched_model.specs.Lists.{at, rises, map_places}
 use Rattle.sched_model.specs.Schedule.{Schedule, run_before}
+pub use Rattle.sched_model.specs.Schedule.{in_phase}
 use Rattle.sched_model.specs.sched_state.declared.runs.Run.{Run}
 use Rattle.sched_model.specs.sched_state.declared.graphs.LoadedGraph.{LoadedGraph}
 use Rattle.sched_model.specs.Settle.{settle, finish_run, start_run, with_runs}
@@ -26,9 +27,6 @@ ended_run a r = unwrap_or (finish_run a r) r
 
 abbrev pub finish_every : Schedule → Schedule
 finish_every a = record a { runs = map (ended_run a) a.runs }
-
-abbrev pub in_phase : RunPhase → Run → Run
-in_phase ph r = record r { phase = ph }
 
 -- the run at the position is in this phase
 abbrev pub phase_at : RunPhase → ℕ → Schedule → Schedule

@@ -11,6 +11,7 @@ ghost use Rattle.sched_model.specs.sched_state.Lists.{same};
 ghost use Rattle.sched_model.specs.sched_state.declared.graphs.LoadedGraph.{LoadedGraph};
 ghost use Rattle.sched_model.specs.sched_state.declared.runs.Run.{Run};
 ghost use Rattle.sched_model.specs.trigger_rules.States.{is_failed, is_finished};
+ghost use Rattle.sched_model.specs.trigger_rules.declared.states.State.{State};
 ghost use Rattle.sched_model.specs.trigger_rules.declared.states.State.TheVariants as state;
 ghost use Rattle.sched_model.specs.Causes.{is_unknown_graph, least_moved, lost_task, resized_task, tries_of};
 ghost use Rattle.sched_model.specs.Changes.{new_graph, load_graph};
@@ -18,6 +19,7 @@ ghost use Rattle.sched_model.specs.Replacing.{kept_as, would_wake, refitted, rep
 ghost use Rattle.sched_model.specs.Schedule.{Schedule, dates_of, graph_named, has_runs};
 ghost use Rattle.sched_model.specs.Sound.{IsSound, is_bounded, is_sound_graph, Says, AllSay};
 ghost use Rattle.sched_model.specs.States.{active_tries, in_flight, occupied};
+ghost use Rattle.sched_laws.specs.Instances.{instance_of, state_of_task, IsStillFinished};
 ghost use Rattle.sched_laws.specs.Runs.{runs_named};
 ghost use Rattle.sched_laws.specs.Tries.{try_of};
 
@@ -40,6 +42,22 @@ pub fn what_has_finished_stays_finished()
         → state_of new (kept_as old new i) ≡ state.Queued }
     ensures running { (old new : TaskSpec) (i : InstanceValue) → state_of old i ≡ state.Running
         → state_of new (kept_as old new i) ≡ state.Running }
+{}
+
+/// Where no task is lost, each instance of the schedule, by its graph, its date and its task, is what becomes of it by the task as it is now; so what
+/// has finished has still finished.
+pub fn each_instance_goes_on_by_its_task()
+    ensures each { (text : List ℕ) (dag : Dag) (a : Schedule) (id : List ℕ) (date : ℕ)
+        (task : List ℕ) (e : TaskSpec × InstanceValue)
+        → IsTrue (is_sound_graph a (new_graph text dag)) → lost_task a dag ≡ None → IsSound a
+        → AllSay a.graphs → Says text dag → instance_of a id date task ≡ Some e
+        → (t : TaskSpec)
+        × (instance_of (replace_graph text dag a) id date task ≡ Some (t, kept_as e.0 t e.1)) }
+    ensures finished { (text : List ℕ) (dag : Dag) (a : Schedule) (id : List ℕ) (date : ℕ)
+        (task : List ℕ) (s : State) → IsTrue (is_sound_graph a (new_graph text dag))
+        → lost_task a dag ≡ None → IsSound a → AllSay a.graphs → Says text dag
+        → state_of_task a id date task ≡ Some s → is_finished s ≡ true
+        → IsStillFinished s (state_of_task (replace_graph text dag a) id date task) }
 {}
 
 /// A text that no task of the graph is lost by, and that changes the slots of no task with a try, keeps a sound schedule sound. Here, and
@@ -82,7 +100,8 @@ pub fn replacing_keeps_the_tries()
         → try_of (replace_graph text dag a) id date task n ≡ Some t }
 {}
 
-/// Where no try without an end would take other slots either, what is taken stays: of each pool, of each graph, and in all.
+/// Where no try without an end would take slots of another pool either, what is taken stays: of each pool, of each graph, and in all. Each try
+/// takes as many slots as it took.
 pub fn replacing_keeps_what_is_taken()
     ensures occupied { (text : List ℕ) (dag : Dag) (a : Schedule) (p : List ℕ)
         → IsTrue (is_sound_graph a (new_graph text dag)) → lost_task a dag ≡ None

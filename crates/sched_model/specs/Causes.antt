@@ -81,17 +81,17 @@ pairs_named a id = flat_map (pairs_of a) (runs_of a id)
 abbrev pub task_named : List TaskSpec → List ℕ → Option TaskSpec
 task_named tasks id = find (λ (t : TaskSpec). same t.task_id id) tasks
 
--- the task of the new graph with the id of this one takes as many slots
-abbrev pub has_slots_of : Dag → TaskSpec → Bool
-has_slots_of dag t = holds_at (λ (u : TaskSpec). u.pool_slots == t.pool_slots) (task_named dag.tasks t.task_id)
+-- the new graph has the task with the id of this one, and it takes another number of slots
+abbrev pub takes_another_number : Dag → TaskSpec → Bool
+takes_another_number dag t = holds_at (λ (u : TaskSpec). not (u.pool_slots == t.pool_slots)) (task_named dag.tasks t.task_id)
 
--- there is one, and it takes other slots: another number of them, or of another pool
-abbrev pub takes_others : Dag → TaskSpec → Bool
-takes_others dag t = holds_at (λ (u : TaskSpec). not (u.pool_slots == t.pool_slots && same u.pool t.pool)) (task_named dag.tasks t.task_id)
+-- the same, and it takes those of another pool
+abbrev pub takes_another_pool : Dag → TaskSpec → Bool
+takes_another_pool dag t = holds_at (λ (u : TaskSpec). not (same u.pool t.pool)) (task_named dag.tasks t.task_id)
 
--- the instances of the graph's runs whose task would take other slots
+-- the instances of the graph's runs whose task would take slots of another pool
 abbrev pub moved_by : Dag → Selection
-moved_by dag r p e = same r.graph dag.spec.dag_id && takes_others dag e.0
+moved_by dag r p e = same r.graph dag.spec.dag_id && takes_another_pool dag e.0
 
 -- the least serial among their tries without an end, if there is one
 abbrev pub least_moved : Schedule → Dag → Option ℕ
@@ -103,7 +103,7 @@ lost_task a dag = option_map (λ (t : TaskSpec). t.task_id) (find (λ (t : TaskS
 
 -- the first task, by runs and places, that has a try and would take another number of slots: each try takes the slots of its task
 abbrev pub resized_task : Schedule → Dag → Option (List ℕ)
-resized_task a dag = option_map (λ (e : TaskSpec × InstanceValue). e.0.task_id) (find (λ (e : TaskSpec × InstanceValue). nat_lt 0 (length e.1.tries) && not (has_slots_of dag e.0)) (pairs_named a dag.spec.dag_id))
+resized_task a dag = option_map (λ (e : TaskSpec × InstanceValue). e.0.task_id) (find (λ (e : TaskSpec × InstanceValue). nat_lt 0 (length e.1.tries) && takes_another_number dag e.0) (pairs_named a dag.spec.dag_id))
 
 -- up to where the runs of a graph reach: the greatest end of their intervals, 0 where there are none
 abbrev pub greatest : List ℕ → ℕ
@@ -113,7 +113,8 @@ greatest (x ∷ xs) = max x (greatest xs)
 abbrev pub reached : Schedule → List ℕ → ℕ
 reached a id = greatest (map (λ (r : Run). r.interval.end) (runs_of a id))
 
--- up to there, where a tick at that moment would make a run by the new file that it would not make by the file as it is
+-- the moment up to which the runs of the graph reach, where a tick at it would make a run by the new file that it would not make by the file
+-- as it is
 abbrev pub redone : Schedule → GraphSpec → Option ℕ
 redone a spec =
     let old : GraphSpec = (dag_named a spec.dag_id).spec in

@@ -1,5 +1,5 @@
 -- One run of the graph after another gets its instances.
-use Rattle.std.proofs.Common.{◌≡◌, ◌∙◌, refl, sym, ap, ℕ, suc, ◌+◌, ◌<◌, ◌≤◌, List, [], ◌∷◌, true, false, cond, map, length, Some, slice_get, arith, zip}
+use Rattle.std.proofs.Common.{◌≡◌, ◌∙◌, refl, sym, ap, ℕ, suc, ◌+◌, ◌<◌, ◌≤◌, List, [], ◌∷◌, true, false, if◌then◌else◌, cond, map, length, Some, slice_get, arith, zip}
 use Rattle.graph_file.proofs.WriteLemmas.{written, written_begins, written_all}
 use Rattle.dag_check.specs.Graphs.{Dag}
 use Rattle.instance_machine.specs.Instances.{InstanceValue}
@@ -14,10 +14,13 @@ use Rattle.sched_clearing.specs.Spans.{AreRunsOf}
 use Rattle.sched_clearing.proofs.ClearLemmas.{written_at, written_get, written_long, written_passed}
 use Rattle.sched_clearing.proofs.SetBackLemmas.{at_same}
 use Rattle.sched_clearing.proofs.SpanLemmas.{other_before, other_behind, own_inside}
-use Rattle.sched_replacing.specs.Fitting.{refitted_from, with_fitted_from}
+use Rattle.sched_replacing.specs.Fitting.{with_fitted_from}
 
 -- ---- one run
--- a run of the graph gets its instances
+-- a run of the graph gets the instances of the new tasks; another stays
+abbrev pub refitted_from : Dag → Dag → Run → Run
+refitted_from old new r = if same r.graph new.spec.dag_id then with_fitted_from old new r else r
+
 own_fits : (old new : Dag) (r : Run) → same r.graph new.spec.dag_id ≡ true → with_fitted_from old new r ≡ refitted_from old new r
 own_fits old new r own = ap (λ b. cond b (with_fitted_from old new r) r) (sym own)
 

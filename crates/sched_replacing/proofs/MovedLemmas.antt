@@ -1,4 +1,4 @@
--- The instances at the marked places are those whose task would take other slots.
+-- The instances at the marked places are those whose task would take slots of another pool.
 use Rattle.std.proofs.Common.{◌≡◌, ◌∙◌, refl, sym, ap, ℕ, suc, ◌+◌, List, [], ◌∷◌, ◌++◌, Bool, true, false, cond, ◌&&◌, map, filter, flat_map, Option, Some, option_map, slice_get, unwrap_or, arith, zip}
 use Rattle.std.specs.List.{enumerate_from}
 use Rattle.std.proofs.lemmas.Option.{slice_get-map}
@@ -8,7 +8,7 @@ use Rattle.instance_machine.specs.Instances.{InstanceValue}
 use Rattle.sched_state.specs.Lists.{same}
 use Rattle.sched_state.specs.declared.runs.Run.{Run}
 use Rattle.sched_state.proofs.NameLemmas.{same_is}
-use Rattle.sched_model.specs.Causes.{least_in_flight, least_moved, moved_by, open_serials, takes_others}
+use Rattle.sched_model.specs.Causes.{least_in_flight, least_moved, moved_by, open_serials, takes_another_pool}
 use Rattle.sched_model.specs.Clearing.{Selection, named_in, pairs_of}
 use Rattle.sched_model.specs.Lists.{least}
 use Rattle.sched_model.specs.Schedule.{Schedule, dag_named}
@@ -39,13 +39,13 @@ marks_pass f all i (t ∷ ts) (h ∷ hs) e =
     ]
 
 -- of each run the same instances are named
-run_named : (a : Schedule) (old new : Dag) (r : Run) → dag_named a new.spec.dag_id ≡ old → named_in a (placed_by new.spec.dag_id (map (takes_others new) old.tasks)) r ≡ named_in a (moved_by new) r
+run_named : (a : Schedule) (old new : Dag) (r : Run) → dag_named a new.spec.dag_id ≡ old → named_in a (placed_by new.spec.dag_id (map (takes_another_pool new) old.tasks)) r ≡ named_in a (moved_by new) r
 run_named a old new r is = elim (same r.graph new.spec.dag_id) as (λ b. same r.graph new.spec.dag_id ≡ b
-    → passing_from (λ p e. b && marked_at (map (takes_others new) old.tasks) p e) 0 (pairs_of a r) ≡ passing_from (λ p e. b && takes_others new e.0) 0 (pairs_of a r)) [
+    → passing_from (λ p e. b && marked_at (map (takes_another_pool new) old.tasks) p e) 0 (pairs_of a r) ≡ passing_from (λ p e. b && takes_another_pool new e.0) 0 (pairs_of a r)) [
       | true ↦ λ e.
           let graph : old ≡ dag_named a r.graph = sym is ∙ ap (dag_named a) (sym (same_is r.graph new.spec.dag_id e)) in
-          ap (λ (g : Dag). passing_from (marked_at (map (takes_others new) g.tasks)) 0 (pairs_of a r)) graph
-          ∙ marks_pass (takes_others new) (dag_named a r.graph).tasks 0 (dag_named a r.graph).tasks r.instances (λ k. let z : 0 + k ≡ k = omega arith in ap (slice_get (dag_named a r.graph).tasks) z)
+          ap (λ (g : Dag). passing_from (marked_at (map (takes_another_pool new) g.tasks)) 0 (pairs_of a r)) graph
+          ∙ marks_pass (takes_another_pool new) (dag_named a r.graph).tasks 0 (dag_named a r.graph).tasks r.instances (λ k. let z : 0 + k ≡ k = omega arith in ap (slice_get (dag_named a r.graph).tasks) z)
       | false ↦ λ e. refl
     ] refl
 
@@ -55,7 +55,7 @@ runs_named a f g [] h = refl
 runs_named a f g (r ∷ rs) h = ap (λ (es : List Pair). es ++ flat_map (named_in a f) rs) (h r) ∙ ap (λ (es : List Pair). named_in a g r ++ es) (runs_named a f g rs h)
 
 -- the least serial among them is that of the model
-pub moved_is : (a : Schedule) (old new : Dag) → dag_named a new.spec.dag_id ≡ old → least_in_flight a (placed_by new.spec.dag_id (map (takes_others new) old.tasks)) ≡ least_moved a new
+pub moved_is : (a : Schedule) (old new : Dag) → dag_named a new.spec.dag_id ≡ old → least_in_flight a (placed_by new.spec.dag_id (map (takes_another_pool new) old.tasks)) ≡ least_moved a new
 moved_is a old new is =
     ap (λ (es : List Pair). least (open_serials (flat_map (λ (e : Pair). e.1.tries) es)))
-    (runs_named a (placed_by new.spec.dag_id (map (takes_others new) old.tasks)) (moved_by new) a.runs (λ r. run_named a old new r is))
+    (runs_named a (placed_by new.spec.dag_id (map (takes_another_pool new) old.tasks)) (moved_by new) a.runs (λ r. run_named a old new r is))

@@ -1,5 +1,5 @@
 -- What is read of the runs of a graph, one after another: the first task that takes another number of slots, and the greatest end.
-use Rattle.std.proofs.Common.{◌≡◌, ◌∙◌, refl, sym, ap, ℕ, zero, suc, ◌+◌, ◌<◌, ◌≤◌, List, [], ◌∷◌, Bool, true, false, cond, not, ◌&&◌, map, filter, flat_map, find, drop, length, max, Option, Some, None, option_map, slice_get, get_or, nat_lt, arith, zip}
+use Rattle.std.proofs.Common.{◌≡◌, ◌∙◌, refl, sym, ap, ℕ, zero, suc, ◌+◌, ◌<◌, ◌≤◌, List, [], ◌∷◌, Bool, true, false, cond, ◌&&◌, map, filter, flat_map, find, drop, length, max, Option, Some, None, option_map, slice_get, get_or, nat_lt, arith, zip}
 use Rattle.std.specs.Option.{option_or}
 use Rattle.std.proofs.lemmas.List.{drop_all}
 use Rattle.std.proofs.lemmas.List.Folds.{find-append}
@@ -10,13 +10,13 @@ use Rattle.sched_state.specs.Lists.{same}
 use Rattle.sched_state.specs.declared.runs.Run.{Run}
 use Rattle.sched_state.proofs.ElementLemmas.{drop_at}
 use Rattle.sched_state.proofs.NameLemmas.{same_is}
-use Rattle.sched_model.specs.Causes.{greatest, has_slots_of, reached, resized_task}
+use Rattle.sched_model.specs.Causes.{greatest, reached, resized_task, takes_another_number}
 use Rattle.sched_model.specs.Clearing.{pairs_of}
 use Rattle.sched_model.specs.Schedule.{Schedule, dag_named}
 use Rattle.sched_laws.proofs.FittedLemmas.{Pair}
 use Rattle.sched_clearing.specs.Spans.{AreRunsOf}
 use Rattle.sched_clearing.proofs.SpanLemmas.{other_before, other_behind, own_inside}
-use Rattle.sched_replacing.specs.Marking.{first_tried, is_resized, tried_from}
+use Rattle.sched_replacing.specs.Marking.{first_tried, tried_from}
 
 -- ---- the runs of the graph from a position on
 abbrev pub own_from : List ℕ → List Run → ℕ → List Run
@@ -73,7 +73,7 @@ end_over id rs low high n now all span over so =
 
 -- ---- the first task that takes another number of slots
 abbrev pub resizes : Dag → Pair → Bool
-resizes dag e = nat_lt 0 (length e.1.tries) && not (has_slots_of dag e.0)
+resizes dag e = nat_lt 0 (length e.1.tries) && takes_another_number dag e.0
 
 abbrev pub resized_from : Schedule → Dag → ℕ → Option (List ℕ)
 resized_from a dag n = option_map (λ (e : Pair). e.0.task_id) (find (resizes dag) (flat_map (pairs_of a) (own_from dag.spec.dag_id a.runs n)))
@@ -92,18 +92,18 @@ id_of ts k = (get_or ts k no_task).task_id
 
 -- of pairs, beside the places of their marks
 tried_is : (dag : Dag) (all : List TaskSpec) (i : ℕ) (ts : List TaskSpec) (hs : List InstanceValue) → ((k : ℕ) → get_or all (i + k) no_task ≡ get_or ts k no_task)
-    → option_map (λ (e : Pair). e.0.task_id) (find (resizes dag) (zip ts hs)) ≡ option_map (id_of all) (tried_from i (map (is_resized dag) ts) hs)
+    → option_map (λ (e : Pair). e.0.task_id) (find (resizes dag) (zip ts hs)) ≡ option_map (id_of all) (tried_from i (map (takes_another_number dag) ts) hs)
 tried_is dag all i [] hs e = refl
 tried_is dag all i (t ∷ ts) [] e = refl
 tried_is dag all i (t ∷ ts) (h ∷ hs) e =
-    elim (nat_lt 0 (length h.tries) && not (has_slots_of dag t)) as (λ b. option_map (λ (x : Pair). x.0.task_id) (cond b (Some (t, h)) (find (resizes dag) (zip ts hs))) ≡ option_map (id_of all) (cond b (Some i) (tried_from (i + 1) (map (is_resized dag) ts) hs))) [
+    elim (nat_lt 0 (length h.tries) && takes_another_number dag t) as (λ b. option_map (λ (x : Pair). x.0.task_id) (cond b (Some (t, h)) (find (resizes dag) (zip ts hs))) ≡ option_map (id_of all) (cond b (Some i) (tried_from (i + 1) (map (takes_another_number dag) ts) hs))) [
       | true ↦ let z : i + 0 ≡ i = omega arith in ap (λ (u : TaskSpec). Some u.task_id) (sym (e 0) ∙ ap (λ k. get_or all k no_task) z)
       | false ↦ tried_is dag all (i + 1) ts hs (λ k. let z : (i + 1) + k ≡ i + suc k = omega arith in ap (λ m. get_or all m no_task) z ∙ e (suc k))
     ]
 
 -- of a run of the graph
 run_tried : (a : Schedule) (old dag : Dag) (r : Run) → dag_named a dag.spec.dag_id ≡ old → same r.graph dag.spec.dag_id ≡ true
-    → option_map (λ (e : Pair). e.0.task_id) (find (resizes dag) (pairs_of a r)) ≡ option_map (id_of old.tasks) (first_tried (map (is_resized dag) old.tasks) r.instances)
+    → option_map (λ (e : Pair). e.0.task_id) (find (resizes dag) (pairs_of a r)) ≡ option_map (id_of old.tasks) (first_tried (map (takes_another_number dag) old.tasks) r.instances)
 run_tried a old dag r is own =
     let graph : dag_named a r.graph ≡ old = ap (dag_named a) (same_is r.graph dag.spec.dag_id own) ∙ is in
     ap (λ (g : Dag). option_map (λ (e : Pair). e.0.task_id) (find (resizes dag) (zip g.tasks r.instances))) graph
@@ -116,7 +116,7 @@ option_first f (Some x) p = refl
 
 -- it is in this run, or in one behind it
 resized_split : (a : Schedule) (old dag : Dag) (low high n : ℕ) (r : Run) → AreRunsOf dag.spec.dag_id a.runs low high → low ≤ n → n < high → slice_get a.runs n ≡ Some r → dag_named a dag.spec.dag_id ≡ old
-    → resized_from a dag n ≡ option_or (option_map (id_of old.tasks) (first_tried (map (is_resized dag) old.tasks) r.instances)) (resized_from a dag (n + 1))
+    → resized_from a dag n ≡ option_or (option_map (id_of old.tasks) (first_tried (map (takes_another_number dag) old.tasks) r.instances)) (resized_from a dag (n + 1))
 resized_split a old dag low high n r span behind before there is =
     let id : Pair → List ℕ = λ e. e.0.task_id in
     let rest : List Pair = flat_map (pairs_of a) (own_from dag.spec.dag_id a.runs (n + 1)) in
@@ -127,12 +127,12 @@ resized_split a old dag low high n r span behind before there is =
 
 -- a run with such a task ends the search
 pub resized_hit : (a : Schedule) (old dag : Dag) (low high n p : ℕ) (r : Run) → AreRunsOf dag.spec.dag_id a.runs low high → low ≤ n → n < high → slice_get a.runs n ≡ Some r → dag_named a dag.spec.dag_id ≡ old
-    → first_tried (map (is_resized dag) old.tasks) r.instances ≡ Some p → resized_from a dag n ≡ Some (id_of old.tasks p)
+    → first_tried (map (takes_another_number dag) old.tasks) r.instances ≡ Some p → resized_from a dag n ≡ Some (id_of old.tasks p)
 resized_hit a old dag low high n p r span behind before there is tried =
     resized_split a old dag low high n r span behind before there is ∙ ap (λ (o : Option ℕ). option_or (option_map (id_of old.tasks) o) (resized_from a dag (n + 1))) tried
 
 -- a run without one is passed over
 pub resized_next : (a : Schedule) (old dag : Dag) (low high n : ℕ) (r : Run) → AreRunsOf dag.spec.dag_id a.runs low high → low ≤ n → n < high → slice_get a.runs n ≡ Some r → dag_named a dag.spec.dag_id ≡ old
-    → first_tried (map (is_resized dag) old.tasks) r.instances ≡ None → resized_from a dag n ≡ resized_from a dag (n + 1)
+    → first_tried (map (takes_another_number dag) old.tasks) r.instances ≡ None → resized_from a dag n ≡ resized_from a dag (n + 1)
 resized_next a old dag low high n r span behind before there is tried =
     resized_split a old dag low high n r span behind before there is ∙ ap (λ (o : Option ℕ). option_or (option_map (id_of old.tasks) o) (resized_from a dag (n + 1))) tried

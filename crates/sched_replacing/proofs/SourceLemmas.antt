@@ -10,13 +10,8 @@ use Rattle.instance_machine.specs.Instances.{InstanceValue}
 use Rattle.sched_state.specs.Lists.{same}
 use Rattle.sched_state.specs.declared.runs.Run.{Run}
 use Rattle.sched_model.specs.Replacing.{fitted, fitted_if, kept_as, newcomer}
-use Rattle.sched_laws.proofs.FittedLemmas.{Pair}
+use Rattle.sched_laws.proofs.FittedLemmas.{Pair, zip_none}
 use Rattle.sched_replacing.specs.Fitting.{instance_from, source_of, sources_of}
-
--- without instances there are no pairs
-zip_none : (ts : List TaskSpec) → zip {K = TaskSpec} {X = InstanceValue} ts [] ≡ []
-zip_none [] = refl
-zip_none (t ∷ ts) = refl
 
 -- the pair at the place of the first task that passes is the first whose task passes
 placed_from : (p : TaskSpec → Bool) (i : ℕ) (ts : List TaskSpec) (hs : List InstanceValue) (es : List Pair) → ((k : ℕ) → slice_get es (i + k) ≡ slice_get (zip ts hs) k)

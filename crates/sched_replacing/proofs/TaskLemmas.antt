@@ -1,12 +1,12 @@
 -- The new task with the id of an old one, as its place says, and the first old task that has none.
-use Rattle.std.proofs.Common.{◌≡◌, ◌∙◌, refl, sym, ap, ℕ, ◌+◌, ◌<◌, ◌≤◌, ◌==◌, ◌&&◌, Bool, true, false, not, drop, find, length, Option, Some, None, option_map, is_none, is_some, slice_get, true≢false, position}
+use Rattle.std.proofs.Common.{◌≡◌, ◌∙◌, refl, sym, ap, ℕ, ◌+◌, ◌<◌, ◌≤◌, ◌==◌, Bool, true, false, not, drop, find, length, Option, Some, None, option_map, is_none, is_some, slice_get, true≢false, position}
 use Rattle.std.proofs.lemmas.Option.{slice_get-get_or}
 use Rattle.graph_file.specs.Lists.{holds_at}
 use Rattle.graph_file.specs.declared.task_specs.TaskSpec.{TaskSpec}
 use Rattle.dag_check.specs.Graphs.{Dag, no_task, task_of}
 use Rattle.sched_state.specs.Lists.{same}
 use Rattle.sched_state.proofs.ElementLemmas.{find_hit}
-use Rattle.sched_model.specs.Causes.{has_slots_of, lost_task, takes_others, task_named}
+use Rattle.sched_model.specs.Causes.{lost_task, takes_another_number, takes_another_pool, task_named}
 use Rattle.sched_model.specs.Schedule.{Schedule, dag_named}
 use Rattle.sched_replacing.proofs.ListLemmas.{find_next, find_over, place_found, place_missing, place_none}
 
@@ -18,29 +18,27 @@ place_of dag t = position (λ (u : TaskSpec). same u.task_id t.task_id) dag.task
 pub task_within : (dag : Dag) (t : TaskSpec) (n : ℕ) → place_of dag t ≡ Some n → n < length dag.tasks
 task_within dag t n e = (place_found (λ (u : TaskSpec). same u.task_id t.task_id) dag.tasks n no_task e).0
 
--- the task there has the slots that are asked for, or has not
-pub slots_found : (dag : Dag) (t u : TaskSpec) (n : ℕ) → place_of dag t ≡ Some n → u ≡ task_of dag n → has_slots_of dag t ≡ (u.pool_slots == t.pool_slots)
-slots_found dag t u n e read =
-    ap (holds_at (λ (v : TaskSpec). v.pool_slots == t.pool_slots)) (place_found (λ (v : TaskSpec). same v.task_id t.task_id) dag.tasks n no_task e).1 ∙ ap (λ (v : TaskSpec). v.pool_slots == t.pool_slots) (sym read)
+-- whether the task there passes a test
+found_holds : (p : TaskSpec → Bool) (dag : Dag) (t u : TaskSpec) (n : ℕ) → place_of dag t ≡ Some n → u ≡ task_of dag n → holds_at p (task_named dag.tasks t.task_id) ≡ p u
+found_holds p dag t u n e read = ap (holds_at p) (place_found (λ (v : TaskSpec). same v.task_id t.task_id) dag.tasks n no_task e).1 ∙ ap p (sym read)
 
--- whether two tasks take other slots
-differs_from : TaskSpec → TaskSpec → Bool
-differs_from t v = not (v.pool_slots == t.pool_slots && same v.pool t.pool)
+-- and without a place there is none that does
+missing_holds : (p : TaskSpec → Bool) (dag : Dag) (t : TaskSpec) → place_of dag t ≡ None → false ≡ holds_at p (task_named dag.tasks t.task_id)
+missing_holds p dag t e = sym (ap (holds_at p) (place_missing (λ (v : TaskSpec). same v.task_id t.task_id) dag.tasks e))
 
--- and whether the new task takes others
-pub others_found : (dag : Dag) (t u : TaskSpec) (n : ℕ) → place_of dag t ≡ Some n → u ≡ task_of dag n → takes_others dag t ≡ not (u.pool_slots == t.pool_slots && same u.pool t.pool)
-unfolding differs_from
-others_found dag t u n e read =
-    ap (holds_at (differs_from t)) (place_found (λ (v : TaskSpec). same v.task_id t.task_id) dag.tasks n no_task e).1 ∙ ap (differs_from t) (sym read)
+-- whether it takes another number of slots
+pub number_found : (dag : Dag) (t u : TaskSpec) (n : ℕ) → place_of dag t ≡ Some n → u ≡ task_of dag n → takes_another_number dag t ≡ not (u.pool_slots == t.pool_slots)
+number_found dag t u n e read = found_holds (λ (v : TaskSpec). not (v.pool_slots == t.pool_slots)) dag t u n e read
 
--- without a place there is no task that has the slots
-pub slots_missing : (dag : Dag) (t : TaskSpec) → place_of dag t ≡ None → false ≡ has_slots_of dag t
-slots_missing dag t e = sym (ap (holds_at (λ (v : TaskSpec). v.pool_slots == t.pool_slots)) (place_missing (λ (v : TaskSpec). same v.task_id t.task_id) dag.tasks e))
+pub number_missing : (dag : Dag) (t : TaskSpec) → place_of dag t ≡ None → false ≡ takes_another_number dag t
+number_missing dag t e = missing_holds (λ (v : TaskSpec). not (v.pool_slots == t.pool_slots)) dag t e
 
--- and none that takes others
-pub others_missing : (dag : Dag) (t : TaskSpec) → place_of dag t ≡ None → false ≡ takes_others dag t
-unfolding differs_from
-others_missing dag t e = sym (ap (holds_at (differs_from t)) (place_missing (λ (v : TaskSpec). same v.task_id t.task_id) dag.tasks e))
+-- whether it takes slots of another pool
+pub pool_found : (dag : Dag) (t u : TaskSpec) (n : ℕ) → place_of dag t ≡ Some n → u ≡ task_of dag n → takes_another_pool dag t ≡ not (same u.pool t.pool)
+pool_found dag t u n e read = found_holds (λ (v : TaskSpec). not (same v.pool t.pool)) dag t u n e read
+
+pub pool_missing : (dag : Dag) (t : TaskSpec) → place_of dag t ≡ None → false ≡ takes_another_pool dag t
+pool_missing dag t e = missing_holds (λ (v : TaskSpec). not (same v.pool t.pool)) dag t e
 
 -- ---- the first that is lost
 abbrev pub is_lost : Dag → TaskSpec → Bool

@@ -1,5 +1,5 @@
 -- One run whose graph is another one now, by places.
-use Rattle.std.specs.Prelude.{ℕ, if◌then◌else◌, List, map, Option, option_and_then, slice_get}
+use Rattle.std.specs.Prelude.{ℕ, List, map, Option, option_and_then, slice_get}
 use Rattle.std.specs.List.{position, zip}
 use Rattle.graph_file.specs.declared.task_specs.TaskSpec.{TaskSpec}
 use Rattle.dag_check.specs.Graphs.{Dag}
@@ -20,10 +20,6 @@ sources_of old new = map (source_of old) new
 abbrev pub instance_from : Run → List TaskSpec → Option ℕ → TaskSpec → InstanceValue
 instance_from r old source new = fitted_if r.phase (option_and_then (slice_get (zip old r.instances)) source) new
 
--- a run with the instances of the new tasks
+-- a run with the instances of the new tasks, of those that it has by the old ones
 abbrev pub with_fitted_from : Dag → Dag → Run → Run
 with_fitted_from old new r = record r { instances = map (fitted r.phase (zip old.tasks r.instances)) new.tasks }
-
--- a run of the graph gets the instances of the new tasks, of those that it has by the old ones; another stays
-abbrev pub refitted_from : Dag → Dag → Run → Run
-refitted_from old new r = if same r.graph new.spec.dag_id then with_fitted_from old new r else r

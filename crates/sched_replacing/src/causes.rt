@@ -1,12 +1,11 @@
 //! What in the runs of a graph stands against another text for it.
-ghost use Rattle.std.specs.Prelude.{◌≡◌, ◌==◌, ◌&&◌, length, max, map, nat_lt, true, IfOk};
+ghost use Rattle.std.specs.Prelude.{◌≡◌, ◌&&◌, length, max, map, nat_lt, true, IfOk};
 ghost use Rattle.std.specs.Option.{option_copied};
 ghost use Rattle.sched_model.specs.Causes as model;
-ghost use Rattle.sched_model.specs.Causes.{has_slots_of, takes_others};
+ghost use Rattle.sched_model.specs.Causes.{takes_another_number, takes_another_pool};
 ghost use Rattle.sched_model.specs.Lists.{rises};
 ghost use Rattle.sched_model.specs.Schedule.{Schedule, dag_named, run_before};
-ghost use Rattle.sched_replacing.specs.Marking.{first_tried, is_resized};
-ghost use Rattle.sched_state.specs.Lists.{same};
+ghost use Rattle.sched_replacing.specs.Marking.{first_tried};
 
 use dag_check::Graph;
 use graph_file::{Name, TaskSpec};
@@ -17,64 +16,50 @@ use sched_draft::Draft;
 use sched_state::Run;
 use std::alloc::{AllocError, Global};
 
-// Whether the new task with the id of this one takes as many slots.
-fn has_slots_of(new: &Graph, task: &TaskSpec) -> bool
-    ensures { result ≡ has_slots_of new.now task.now }
+// Whether the new task with the id of this one takes another number of slots.
+fn takes_another_number(new: &Graph, task: &TaskSpec) -> bool
+    ensures { result ≡ takes_another_number new.now task.now }
 {
     match new.place(&task.task_id) {
-        Some(place) => new.task(place).pool_slots.get() == task.pool_slots.get(),
+        Some(place) => new.task(place).pool_slots.get() != task.pool_slots.get(),
         None => false,
     }
 }
 
-// Whether it takes another number of slots, or those of another pool.
-fn takes_others(new: &Graph, task: &TaskSpec) -> bool
-    ensures { result ≡ takes_others new.now task.now }
+// Whether it takes slots of another pool.
+fn takes_another_pool(new: &Graph, task: &TaskSpec) -> bool
+    ensures { result ≡ takes_another_pool new.now task.now }
 {
     match new.place(&task.task_id) {
-        Some(place) => !takes_same(new.task(place), task),
+        Some(place) => new.task(place).pool != task.pool,
         None => false,
     }
 }
 
-// Whether the tasks take as many slots, and of the same pool.
-fn takes_same(one: &TaskSpec, other: &TaskSpec) -> bool
-    ensures { result ≡ (one.now.pool_slots == other.now.pool_slots && same one.now.pool other.now.pool) }
-{
-    one.pool_slots.get() == other.pool_slots.get() && one.pool == other.pool
-}
-
-// Which of the old tasks would take other slots, by place.
+// Which of the old tasks would take slots of another pool, by place.
 fn moved_places(alloc: Global, old: &Graph, new: &Graph) -> Result<Vec<bool>, AllocError>
-    ensures { IfOk result (λ marks. marks.items ≡ map (takes_others new.now) old.now.tasks) }
+    ensures { IfOk result (λ marks. marks.items ≡ map (takes_another_pool new.now) old.now.tasks) }
 {
     let mut marks = Vec::new(alloc);
     for place in 0..old.len() {
-        marks.push(takes_others(new, old.task(place)))?;
+        marks.push(takes_another_pool(new, old.task(place)))?;
     }
     Ok(marks)
-}
-
-// Whether it takes another number of slots.
-fn is_resized(new: &Graph, task: &TaskSpec) -> bool
-    ensures { result ≡ is_resized new.now task.now }
-{
-    !has_slots_of(new, task)
 }
 
 // Which of the old tasks would take another number of slots, by place.
 fn resized_places(alloc: Global, old: &Graph, new: &Graph) -> Result<Vec<bool>, AllocError>
-    ensures { IfOk result (λ marks. marks.items ≡ map (is_resized new.now) old.now.tasks) }
+    ensures { IfOk result (λ marks. marks.items ≡ map (takes_another_number new.now) old.now.tasks) }
 {
     let mut marks = Vec::new(alloc);
     for place in 0..old.len() {
-        marks.push(is_resized(new, old.task(place)))?;
+        marks.push(takes_another_number(new, old.task(place)))?;
     }
     Ok(marks)
 }
 
-/// The least serial of the tries without an end of the graph's runs whose tasks would take other slots: a text waits until there is none. The
-/// runs stand in the order of their keys.
+/// The least serial of the tries without an end of the graph's runs whose tasks would take slots of another pool: a text waits until there is
+/// none. The runs stand in the order of their keys.
 ///
 /// It goes through the runs of the graph, and once through the new tasks for each old one.
 pub fn least_moved(

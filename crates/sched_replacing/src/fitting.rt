@@ -4,7 +4,7 @@ ghost use Rattle.std.specs.List.{zip};
 ghost use Rattle.sched_model.specs.Lists.{at, rises};
 ghost use Rattle.sched_model.specs.Replacing.{fitted, refitted};
 ghost use Rattle.sched_model.specs.Schedule.{Schedule, dag_named, run_before};
-ghost use Rattle.sched_replacing.specs.Fitting.{instance_from, refitted_from, sources_of, with_fitted_from};
+ghost use Rattle.sched_replacing.specs.Fitting.{instance_from, sources_of, with_fitted_from};
 
 use crate::keeping::{kept_as, newcomer};
 use dag_check::Graph;
@@ -90,8 +90,8 @@ fn refit_run(
 /// Each run of the graph gets one instance for each task of the new graph, by place: that of the old task with its id, where there is one
 /// (Airflow 2, "DAGs": a DAG's file may change while it has runs). The runs stand in the order of their keys.
 ///
-/// It copies each run of the graph: in time, and in memory, of their tries and of their tasks, and once of the old tasks for each new one. The
-/// clause `model` says it of each schedule whose graph is the old one, as of that which stands under the draft.
+/// It copies each run of the graph: in time, and in memory, of their tries and of their tasks, and once of the old tasks for each new one. It
+/// is said by each schedule whose graph is the old one, as by that which stands under the draft.
 pub fn refit(
     alloc: Global,
     draft: &mut Draft<'_>,
@@ -100,8 +100,6 @@ pub fn refit(
 ) -> Result<(), AllocError>
     requires { rises run_before draft.old.content.runs ≡ true }
     ensures base { OnOk result (draft.new.base ≡ draft.old.base) }
-    ensures draft { OnOk result (draft.new.content ≡ record draft.old.content
-        { runs = map (refitted_from old.now new.now) draft.old.content.runs }) }
     ensures model { (a : Schedule) → dag_named a new.now.spec.dag_id ≡ old.now
         → OnOk result (draft.new.content ≡ record draft.old.content
         { runs = map (refitted a new.now) draft.old.content.runs }) }

@@ -5,7 +5,8 @@ use Rattle.graph_file.specs.declared.graph_specs.GraphSpec.{GraphSpec}
 use Rattle.dag_check.specs.Graphs.{Dag}
 use Rattle.sched_state.specs.declared.runs.Run.{Run}
 use Rattle.sched_clearing.specs.Spans.{AreRunsOf}
-use Rattle.sched_replacing.specs.Marking.{first_tried, is_resized}
+use Rattle.sched_model.specs.Causes.{takes_another_number}
+use Rattle.sched_replacing.specs.Marking.{first_tried}
 use Rattle.sched_replacing.proofs.OwnLemmas.{resized_begin, resized_hit, resized_next, resized_over}
 use Rattle.sched_replacing.proofs.TriedLemmas.{tried_within}
 use Rattle.sched_replacing.proofs.causes.resized_task.Goals as goal
@@ -20,10 +21,10 @@ task-requires c =
     let old : Dag = c.args.old.now in
     let new : Dag = c.args.new.now in
     let r : Run = c.run.result.now in
-    let tried : first_tried (map (is_resized new) old.tasks) r.instances ≡ Some c.in-Some.place =
+    let tried : first_tried (map (takes_another_number new) old.tasks) r.instances ≡ Some c.in-Some.place =
     sym (ap (λ (ms : List Bool). first_tried ms r.instances) (c.deref.ensures.value ∙ c.in_ok-marks.ensures)) ∙ (sym c.first_tried.ensures ∙ c.in-Some.is) in
-    let within = tried_within 0 c.in-Some.place (map (is_resized new) old.tasks) r.instances tried in
-    omega (arith, within, length-map old.tasks (is_resized new))
+    let within = tried_within 0 c.in-Some.place (map (takes_another_number new) old.tasks) r.instances tried in
+    omega (arith, within, length-map old.tasks (takes_another_number new))
 
 pub loop-position-preserved : goal.loop-position-preserved
 loop-position-preserved c =
@@ -31,7 +32,7 @@ loop-position-preserved c =
     let old : Dag = c.args.old.now in
     let new : Dag = c.args.new.now in
     let r : Run = c.run.result.now in
-    let tried : first_tried (map (is_resized new) old.tasks) r.instances ≡ None =
+    let tried : first_tried (map (takes_another_number new) old.tasks) r.instances ≡ None =
     sym (ap (λ (ms : List Bool). first_tried ms r.instances) (c.deref.ensures.value ∙ c.in_ok-marks.ensures)) ∙ (sym c.first_tried.ensures ∙ c.in_default.is) in
     sym (resized_next c.args.draft.now.content old new c.span_of_all-span.result.start c.span_of_all-span.result.end c.loop-position.position r span c.loop-position.auto.position c.loop-position-test.true c.run.ensures c.requires.old tried)
     ∙ c.loop-position.invariant
@@ -42,7 +43,7 @@ returns-in-Some c =
     let old : Dag = c.args.old.now in
     let new : Dag = c.args.new.now in
     let r : Run = c.run.result.now in
-    let tried : first_tried (map (is_resized new) old.tasks) r.instances ≡ Some c.in-Some.place =
+    let tried : first_tried (map (takes_another_number new) old.tasks) r.instances ≡ Some c.in-Some.place =
     sym (ap (λ (ms : List Bool). first_tried ms r.instances) (c.deref.ensures.value ∙ c.in_ok-marks.ensures)) ∙ (sym c.first_tried.ensures ∙ c.in-Some.is) in
     ap (λ (u : TaskSpec). Some u.task_id) c.task.ensures
     ∙ (sym (resized_hit c.args.draft.now.content old new c.span_of_all-span.result.start c.span_of_all-span.result.end c.loop-position.position c.in-Some.place r span c.loop-position.auto.position c.loop-position-test.true c.run.ensures c.requires.old tried)

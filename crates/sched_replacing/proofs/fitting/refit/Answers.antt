@@ -33,12 +33,6 @@ loop-position-preserved c =
           c.loop-position.invariant.content c.in_ok-refit_run.ensures.draft;
     }
 
-pub returns-clause-draft : goal.returns-clause-draft
-returns-clause-draft c =
-    let span = subst (λ (s : GraphSpec). AreRunsOf s.dag_id c.args.draft.now.content.runs c.span_of_all-span.result.start c.span_of_all-span.result.end) c.spec.ensures.spec c.span_of_all-span.ensures in
-    refit_over c.args.old.now c.args.new.now c.args.draft.now.content c.loop-position.draft.content c.span_of_all-span.result.start c.span_of_all-span.result.end c.loop-position.position span (omega (arith, c.loop-position-test.false))
-    c.loop-position.invariant.content
-
 pub returns-clause-model : goal.returns-clause-model
 returns-clause-model c a is =
     let span = subst (λ (s : GraphSpec). AreRunsOf s.dag_id c.args.draft.now.content.runs c.span_of_all-span.result.start c.span_of_all-span.result.end) c.spec.ensures.spec c.span_of_all-span.ensures in

@@ -1,4 +1,4 @@
-use Rattle.std.proofs.Common.{◌≡◌, ◌∙◌, ◌<◌, ap, subst, sym, inr, ℕ, List, Some, None, length, true, false, get_or, slice_get, arith}
+use Rattle.std.proofs.Common.{◌≡◌, ◌∙◌, ◌<◌, ap, subst, sym, inr, ℕ, List, Some, None, length, true, get_or, slice_get, arith}
 use Rattle.std.specs.Option.{option_copied}
 use Rattle.std.proofs.lemmas.Option.{slice_get-get_or}
 use Rattle.graph_file.specs.declared.graph_specs.GraphSpec.{GraphSpec}

@@ -54,22 +54,22 @@ returns-in_err-look_at_runs-clause-refused c =
     let shown = err_from_is_err_and c.from_residual-in_err-look_at_runs.result c.from_residual-in_err-look_at_runs.ensures.1 in
     rw shown.1 (subst (IsRefusal a (Replace c.args.text.now)) (sym shown.2) waits)
 
-pub gone_on-requires-clause-other : goal.gone_on-requires-clause-other
-gone_on-requires-clause-other c g there =
+pub changed_to-requires-clause-other : goal.changed_to-requires-clause-other
+changed_to-requires-clause-other c g there =
     let h : LoadedGraph = c.index.result.now in
-    let known = known_is c.args.self.now.content.graphs c.args.dag.spec.dag_id c.args.place h c.requires.stands (read (goal.at.gone_on-requires-clause-other c).After-index) in
+    let known = known_is c.args.self.now.content.graphs c.args.dag.spec.dag_id c.args.place h c.requires.stands (read (goal.at.changed_to-requires-clause-other c).After-index) in
     let same_graph : ◌≡◌ {A = Option LoadedGraph} (Some h) (Some g) = sym known.0 ∙ there in
     let is : h ≡ g = cc in
     ap (λ (k : LoadedGraph). same k.text c.args.text.now) (sym is) ∙ sym c.if-is_same.ensures
 
-pub gone_on-requires-clause-accepted : goal.gone_on-requires-clause-accepted
-gone_on-requires-clause-accepted c =
+pub changed_to-requires-clause-accepted : goal.changed_to-requires-clause-accepted
+changed_to-requires-clause-accepted c =
     let a : Schedule = c.args.self.now.content in
     let g : LoadedGraph = c.index.result.now in
     let kept : IsSoundAndSaid a = subst (λ (h : ScheduleValue). IsSoundAndSaid h.content) c.self.view_is c.self.invariant.held.kept in
     let runs : has_runs a c.args.dag.spec.dag_id ≡ true = subst (λ (h : ScheduleValue). has_runs h.content c.args.dag.spec.dag_id ≡ true) c.self.view_is
     (subst (λ (s : GraphSpec). has_runs (content_inside c.self.inside) s.dag_id ≡ true) c.spec.ensures.spec (sym c.if-has_runs.ensures)) in
-    disturbs a c.args.text.now c.args.dag c.args.place g kept c.requires.taken c.requires.stands (read (goal.at.gone_on-requires-clause-accepted c).After-index) (sym c.if-is_same.ensures) runs ∙ c.in_ok-look_at_runs.ensures
+    disturbs a c.args.text.now c.args.dag c.args.place g kept c.requires.taken c.requires.stands (read (goal.at.changed_to-requires-clause-accepted c).After-index) (sym c.if-is_same.ensures) runs ∙ c.in_ok-look_at_runs.ensures
 
 -- without runs it is a load
 loaded : (c : After-index) → same c.index.result.now.text c.args.text.now ≡ false → has_runs c.args.self.now.content c.args.dag.spec.dag_id ≡ false

@@ -4,13 +4,14 @@ use Rattle.record_rows.specs.Rows.{Rows, DagRow, DagLimitRow}
 use Rattle.record_restoring.specs.record_rules.Between.{lacked}
 use Rattle.record_writing.specs.record_changes.Changes.{rows_between, same_dag_row, same_dag_limit_row}
 use Rattle.record_writing.specs.Before.{AreNamedAlike, KeepDags}
+use Rattle.record_writing.proofs.PremiseLemmas.{same_kept}
 use Rattle.sched_state.specs.declared.graphs.LoadedGraph.{LoadedGraph}
 use Rattle.sched_model.specs.Schedule.{Schedule}
 use Rattle.sched_model.specs.Tables.{dag_row, limit_row}
 use Rattle.sched_core.specs.Changes.{ScheduleValue}
 use Rattle.sched_core.specs.Effects.{changed}
 use Rattle.sched_core.specs.Inside.{completed}
-use Rattle.sched_core.proofs.ChangedRowLemmas.{AreRowsOf, draft_kept_dags, draft_ids, draft_order, draft_fits, draft_rows}
+use Rattle.sched_core.proofs.ChangedRowLemmas.{AreRowsOf, draft_dags, draft_ids, draft_order, draft_fits, draft_rows}
 use Rattle.sched_core.proofs.schedules.Schedule.rows_changed.Goals as goal
 
 pub rows_of-requires-clause-base : goal.rows_of-requires-clause-base
@@ -29,7 +30,7 @@ rows_of-requires-clause-graphs c =
 pub rows_of-requires-clause-dags : goal.rows_of-requires-clause-dags
 rows_of-requires-clause-dags c =
     subst (λ (s : Schedule). KeepDags c.args.draft.now.touched s c.args.draft.now.content) (sym c.requires.based)
-    (draft_kept_dags c.args.graphs.now c.args.self.now.content c.args.draft.now.content c.args.draft.now.touched c.requires.leaves c.requires.over)
+    (same_kept c.args.draft.now.touched c.args.self.now.content c.args.draft.now.content (draft_dags c.args.graphs.now c.args.self.now.content c.args.draft.now.content c.requires.leaves c.requires.over))
 
 pub returns : goal.returns
 returns c =

@@ -5,13 +5,13 @@ use Rattle.record_restoring.specs.record_rules.Between.{lacked}
 use Rattle.record_writing.specs.Before.{AreNamedAlike, KeepDags}
 use Rattle.record_writing.specs.record_changes.Changes.{rows_between, same_dag_row, same_dag_limit_row}
 use Rattle.record_writing.proofs.FitLemmas.{fits_tables}
+use Rattle.record_writing.proofs.PremiseLemmas.{other_alike}
 use Rattle.sched_state.specs.declared.graphs.LoadedGraph.{LoadedGraph}
 use Rattle.sched_model.specs.Schedule.{Schedule}
 use Rattle.sched_model.specs.Tables.{dag_row, limit_row}
 use Rattle.sched_draft.specs.Parts.{with_other}
 use Rattle.sched_core.specs.Changes.{ScheduleValue}
 use Rattle.sched_core.proofs.ChangedRowLemmas.{AreRowsOf, rest_rows}
-use Rattle.sched_core.proofs.OtherLemmas.{ids_other}
 use Rattle.sched_core.proofs.ReplacingLemmas.{kept_dags}
 use Rattle.sched_core.proofs.schedules.Schedule.rows_replaced.Goals as goal
 
@@ -27,7 +27,7 @@ rows_of-requires-clause-after c = fits_tables c.args.draft.now.content c.require
 pub rows_of-requires-clause-graphs : goal.rows_of-requires-clause-graphs
 rows_of-requires-clause-graphs c =
     subst (λ (s : Schedule). AreNamedAlike s.graphs c.args.draft.now.content.graphs) (sym c.requires.based)
-    (subst (AreNamedAlike c.args.self.now.content.graphs) (sym c.requires.graphs) (ids_other c.args.graph.now c.args.self.now.content.graphs))
+    (subst (AreNamedAlike c.args.self.now.content.graphs) (sym c.requires.graphs) (other_alike (Some c.args.graph.now) c.args.self.now.content.graphs))
 
 pub rows_of-requires-clause-dags : goal.rows_of-requires-clause-dags
 rows_of-requires-clause-dags c =

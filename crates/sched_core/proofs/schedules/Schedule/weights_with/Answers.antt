@@ -22,8 +22,8 @@ index_mut-requires c =
 pub returns : goal.returns
 returns c =
     let k : LoadedGraph = c.args.graph.now in
-    let row : Vec ℕ = c.in_ok-row.row in
+    let row : Vec ℕ = c.in_ok-own.own in
     let stands : StandsAt k.dag.spec.dag_id c.self.inside.graphs.items c.args.place = subst (λ (h : ScheduleValue). StandsAt k.dag.spec.dag_id h.content.graphs c.args.place) (sym c.self.view_is) c.requires.stands in
-    let new : WeighTasks k.dag row.items = subst (WeighTasks k.dag) (sym (c.in_ok-row.ensures.items_if_clones_equal (λ x y e. e))) c.requires.row in
+    let new : WeighTasks k.dag row.items = subst (WeighTasks k.dag) (sym (c.in_ok-own.ensures.items_if_clones_equal (λ x y e. e))) c.requires.weighed in
     subst (λ (h : ScheduleValue). WeighGraphs (with_other (Some k) h.content.graphs) (slice_set c.in_ok-weights.weights.items c.args.place row)) c.self.view_is
     (weigh_other c.self.inside.graphs.items c.in_ok-weights.weights.items c.self.inside.weights.items c.args.place k row c.self.invariant.held.kept.sound.graphs_by_id stands (same_rows (goal.at.returns c).In_ok-weights) c.self.invariant.weights new)

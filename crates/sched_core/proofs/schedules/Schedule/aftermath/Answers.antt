@@ -20,18 +20,18 @@ use Rattle.sched_handout.proofs.JobLemmas.{sound_none}
 use Rattle.sched_core.specs.Books.{IsCounted, IsHeldWith}
 use Rattle.sched_core.specs.Changes.{ScheduleValue}
 use Rattle.sched_core.specs.Inside.{IsOver}
-use Rattle.sched_core.specs.Replaced.{OwnsRunsOf, replaced_by}
+use Rattle.sched_core.specs.Replaced.{OwnsRunsOf, with_other_graph}
 use Rattle.sched_core.specs.declared.changes.GraphChange.TheVariants as graphs
 use Rattle.sched_core.proofs.FinishLemmas.{closed_effect, closed_is, finished_held, finished_over, settled_next, settled_occupied}
 use Rattle.sched_core.proofs.ReplacingLemmas.{counted_alike, occupied_alike}
-use Rattle.sched_core.proofs.schedules.Schedule.closed.Goals.{In_ok-settle, In_ok-jobs}
-use Rattle.sched_core.proofs.schedules.Schedule.closed.Goals as goal
+use Rattle.sched_core.proofs.schedules.Schedule.aftermath.Goals.{In_ok-settle, In_ok-jobs}
+use Rattle.sched_core.proofs.schedules.Schedule.aftermath.Goals as goal
 
 -- what the draft has, step by step
-settled : (c : In_ok-settle) → c.settle.new.draft.content ≡ settle (replaced_by c.args.graph.now c.args.self.now.content)
+settled : (c : In_ok-settle) → c.settle.new.draft.content ≡ settle (with_other_graph c.args.graph.now c.args.self.now.content)
 settled c = c.in_ok-settle.ensures.settled ∙ ap settle c.in_ok-draft.ensures.content
 
-handed_out : (c : In_ok-jobs) → c.settle.new.draft.content ≡ settle (replaced_by c.args.graph.now c.args.self.now.content) → c.hand_out.new.draft.content ≡ hand_out (settle (replaced_by c.args.graph.now c.args.self.now.content))
+handed_out : (c : In_ok-jobs) → c.settle.new.draft.content ≡ settle (with_other_graph c.args.graph.now c.args.self.now.content) → c.hand_out.new.draft.content ≡ hand_out (settle (with_other_graph c.args.graph.now c.args.self.now.content))
 handed_out c is = c.in_ok-jobs.ensures.draft ∙ ap hand_out is
 
 pub settle-requires : goal.settle-requires
@@ -41,7 +41,7 @@ settle-requires c =
 
 pub hand_out-requires-clause-weights : goal.hand_out-requires-clause-weights
 hand_out-requires-clause-weights c =
-    let b : Schedule = replaced_by c.args.graph.now c.args.self.now.content in
+    let b : Schedule = with_other_graph c.args.graph.now c.args.self.now.content in
     let is : c.settle.new.draft.content ≡ settle b = settled (goal.at.hand_out-requires-clause-weights c).In_ok-settle in
     subst (λ (rows : List (Vec ℕ)). WeighGraphs c.settle.new.draft.content.graphs rows) (sym c.as_slice.ensures.value)
     (subst (λ (gs : List LoadedGraph). WeighGraphs gs c.in_ok-weights.weights.items) (sym (ap (λ (s : Schedule). s.graphs) is ∙ settle_graphs b)) c.in_ok-weights.ensures)
@@ -49,7 +49,7 @@ hand_out-requires-clause-weights c =
 pub hand_out-requires-clause-taken : goal.hand_out-requires-clause-taken
 hand_out-requires-clause-taken c =
     let a : Schedule = c.args.self.now.content in
-    let b : Schedule = replaced_by c.args.graph.now a in
+    let b : Schedule = with_other_graph c.args.graph.now a in
     let t : Occupied = c.in_ok-occupied.occupied in
     let before : AreOccupied a c.self.inside.occupied = subst (λ (h : ScheduleValue). AreOccupied h.content c.self.inside.occupied) c.self.view_is c.self.invariant.held.occupied in
     let numbers : AreOccupied b t = occupied_alike a b c.self.inside.occupied t c.requires.taken refl c.in_ok-occupied.ensures.in_flight c.in_ok-occupied.ensures.pools c.in_ok-occupied.ensures.active before in
@@ -57,15 +57,22 @@ hand_out-requires-clause-taken c =
 
 pub hand_out-requires-clause-serials : goal.hand_out-requires-clause-serials
 hand_out-requires-clause-serials c =
-    let b : Schedule = replaced_by c.args.graph.now c.args.self.now.content in
+    let b : Schedule = with_other_graph c.args.graph.now c.args.self.now.content in
     subst NoneFrom (sym (settled (goal.at.hand_out-requires-clause-serials c).In_ok-settle)) (sound_none (settle b) (settle_sound b c.requires.sound))
+
+pub own_runs_of-requires : goal.own_runs_of-requires
+own_runs_of-requires c =
+    let b : Schedule = with_other_graph c.args.graph.now c.args.self.now.content in
+    let at = goal.at.own_runs_of-requires c in
+    let sound : IsSound c.hand_out.new.draft.content = subst IsSound (sym (handed_out at.In_ok-jobs (settled at.In_ok-settle))) (without_settled (hand_out (settle b)) c.requires.kept).sound in
+    sound.runs_by_key
 
 pub rows_replaced-requires-clause-based : goal.rows_replaced-requires-clause-based
 rows_replaced-requires-clause-based c = c.in_ok-own_runs_of.ensures.base ∙ (c.in_ok-jobs.ensures.base ∙ (c.in_ok-settle.ensures.base ∙ c.in_ok-draft.ensures.base))
 
 pub rows_replaced-requires-clause-graphs : goal.rows_replaced-requires-clause-graphs
 rows_replaced-requires-clause-graphs c =
-    let b : Schedule = replaced_by c.args.graph.now c.args.self.now.content in
+    let b : Schedule = with_other_graph c.args.graph.now c.args.self.now.content in
     let at = goal.at.rows_replaced-requires-clause-graphs c in
     let end = c.in_ok-own_runs_of.ensures.content ∙ handed_out at.In_ok-jobs (settled at.In_ok-settle) in
     ap (λ (s : Schedule). s.graphs) end ∙ (out_graphs (settle b) ∙ settle_graphs b)
@@ -78,7 +85,7 @@ rows_replaced-requires-clause-own c =
 
 pub rows_replaced-requires-clause-sound : goal.rows_replaced-requires-clause-sound
 rows_replaced-requires-clause-sound c =
-    let b : Schedule = replaced_by c.args.graph.now c.args.self.now.content in
+    let b : Schedule = with_other_graph c.args.graph.now c.args.self.now.content in
     let at = goal.at.rows_replaced-requires-clause-sound c in
     let end = c.in_ok-own_runs_of.ensures.content ∙ handed_out at.In_ok-jobs (settled at.In_ok-settle) in
     subst IsSound (sym end) (without_settled (hand_out (settle b)) c.requires.kept).sound
@@ -90,7 +97,7 @@ pub returns : goal.returns
 returns c =
     let a : Schedule = c.args.self.now.content in
     let k : LoadedGraph = c.args.graph.now in
-    let b : Schedule = replaced_by k a in
+    let b : Schedule = with_other_graph k a in
     let e : Schedule = hand_out (settle b) in
     let d : DraftValue = c.own_runs_of.new.draft in
     let t : Occupied = c.hand_out.new.taken in
