@@ -13,11 +13,11 @@ ghost use Rattle.sched_events.specs.SettledAndSound.{IsSoundAndSaid};
 ghost use Rattle.sched_core.specs.Books.{IsCounted};
 ghost use Rattle.sched_core.specs.Finding.{IsFoundIn, IsFoundAt, tries_in};
 
-use crate::lookups::graph_named;
 use crate::schedules::Schedule;
 use instance_machine::{Instance, Stage, Try};
 use pool_book::Slots;
 use run_lists::Runs;
+use sched_draft::graph_named;
 use sched_handout::Occupied;
 use std::alloc::{AllocError, Global};
 

@@ -57,7 +57,10 @@ pub struct Draft<'a> {
 }
 
 impl<'a> Model for Draft<'a> {
+    ghost use Rattle.std.specs.Prelude.{◌≡◌, true};
     ghost use Rattle.std.specs.Option.{option_copied};
+    ghost use Rattle.run_lists.specs.sched_model.Lists.{rises};
+    ghost use Rattle.run_lists.specs.sched_model.Schedule.{graph_before};
     ghost use Rattle.sched_draft.specs.Books.{pools_in};
     ghost use Rattle.sched_draft.specs.Drafts.{DraftValue};
     ghost use Rattle.sched_draft.specs.Parts.{with_other, with_pause};
@@ -77,6 +80,8 @@ impl<'a> Model for Draft<'a> {
       };
       touched = d.runs.touched;
     } };
+
+    ghost invariant = { λ d. (rises graph_before d.graphs.now ≡ true) × (d.graphs.now ≡ d.base.graphs) };
 }
 
 impl<'a> Draft<'a> {
