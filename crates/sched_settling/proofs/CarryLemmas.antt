@@ -10,7 +10,7 @@ use Rattle.std.proofs.lemmas.List.Elements.{filter-append}
 use Rattle.std.proofs.lemmas.Option.{slice_get_within}
 use Rattle.sched_state.specs.Lists.{same, name_cmp}
 use Rattle.sched_state.specs.declared.runs.Run.{Run}
-use Rattle.sched_state.proofs.NameLemmas.{same_is, same_itself}
+use Rattle.sched_state.proofs.NameLemmas.{same_itself}
 use Rattle.sched_state.proofs.OrderLemmas.{and_left, and_right, tie_then, nat_tie, less_no_tie}
 use Rattle.sched_model.specs.Lists.{rises}
 use Rattle.sched_model.specs.Schedule.{Schedule, run_before, is_at, is_queued, is_running}

@@ -1,5 +1,5 @@
 -- The line of a graph in the schedule under a draft: its runs by the positions of the running ones and of the queued ones.
-use Rattle.std.proofs.Common.{◌≡◌, None, subst, ◌++◌, ◌∙◌, refl, ap, ℕ, zero, suc, ◌+◌, ◌≤◌, List, [], ◌∷◌, Bool, true, false, cond, length, map, filter, drop, count_by, Option, Some, slice_get, nat_lt, ◌||◌, arith}
+use Rattle.std.proofs.Common.{◌≡◌, None, subst, ◌++◌, ◌∙◌, refl, ap, ℕ, zero, suc, ◌+◌, ◌≤◌, List, [], ◌∷◌, Bool, true, cond, length, map, filter, drop, count_by, Option, Some, slice_get, nat_lt, ◌||◌, arith}
 use Rattle.std.proofs.lemmas.Bool.{lt-ltb, and_from, or_left}
 use Rattle.std.proofs.lemmas.List.Sums.{sum_by-cons}
 use Rattle.dag_check.specs.Orders.{is_in}

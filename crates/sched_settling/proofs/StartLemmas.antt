@@ -4,7 +4,7 @@ use Rattle.std.specs.List.{list_all}
 use Rattle.std.proofs.lemmas.Bool.{and_from}
 use Rattle.std.proofs.lemmas.List.Sums.{sum_by-cons}
 use Rattle.graph_file.specs.Lists.{when}
-use Rattle.sched_state.specs.Lists.{first_change, same}
+use Rattle.sched_state.specs.Lists.{same}
 use Rattle.sched_state.specs.declared.graphs.LoadedGraph.{LoadedGraph}
 use Rattle.sched_state.specs.declared.runs.Run.{Run}
 use Rattle.sched_state.specs.declared.runs.RunPhase.TheVariants.{Running}
@@ -13,8 +13,7 @@ use Rattle.sched_state.proofs.OrderLemmas.{and_left, and_right, not_false}
 use Rattle.sched_model.specs.Schedule.{Schedule, graph_among, graph_named, is_queued, is_running, no_dag}
 use Rattle.sched_model.specs.Settle.{can_start, move, start_run}
 use Rattle.sched_model.specs.States.{active_runs}
-use Rattle.sched_laws.specs.Stages.{finish_one, start_one, CoversStarts}
-use Rattle.sched_laws.specs.Sweep.{decide_one}
+use Rattle.sched_laws.specs.Stages.{CoversStarts}
 use Rattle.sched_laws.proofs.DecisionLemmas.{by_bool}
 use Rattle.sched_laws.proofs.SettleLemmas.{when_some}
 use Rattle.sched_settling.specs.Marks.{HasLineOf, has_line, ids_of}

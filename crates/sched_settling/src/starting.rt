@@ -1,5 +1,5 @@
 //! Starts of runs.
-ghost use Rattle.std.specs.Prelude.{◌≡◌, ◌&&◌, true, nat_lt, IfOk, IfSome, MatchOption, OnOk, is_some};
+ghost use Rattle.std.specs.Prelude.{◌≡◌, true, IfOk, IfSome, MatchOption, OnOk, is_some};
 ghost use Rattle.sched_model.specs.Lists.{rises};
 ghost use Rattle.sched_model.specs.Schedule.{is_queued, run_before};
 ghost use Rattle.sched_settling.specs.Marks.{AreLines, DatesRise, IsKeyed, IsLine, IsQueue, IsFirstQueued, IsQueuedOn, NoneQueued, NoneQueuedOn, IsStartIn, NoStartIn, IsStartAt};

@@ -1,14 +1,13 @@
-use Rattle.std.proofs.Common.{◌≡◌, ◌∙◌, ◌||◌, refl, List, ℕ, ap, sym, Option, Some, None, option_map}
+use Rattle.std.proofs.Common.{◌≡◌, ◌∙◌, List, ℕ, ap, sym, Option, Some, None, option_map}
 use Rattle.std.proofs.lemmas.Bool.{or_left, or_right}
 use Rattle.std.proofs.lemmas.Result.{on_ok_weaker}
 use Rattle.dag_check.specs.Graphs.{Dag}
 use Rattle.sched_state.specs.Lists.{same}
 use Rattle.sched_state.specs.declared.graphs.LoadedGraph.{LoadedGraph}
 use Rattle.sched_state.proofs.NameLemmas.{find_passes}
-use Rattle.sched_model.specs.Schedule.{Schedule, graph_named}
+use Rattle.sched_model.specs.Schedule.{Schedule}
 use Rattle.sched_settling.specs.Marks.{has_line}
 use Rattle.sched_settling.specs.Touched.{IsLineAdded, over_runs}
-use Rattle.sched_settling.specs.declared.lines.Line.{Line}
 use Rattle.sched_settling.proofs.counting.add_line_of.Goals as goal
 
 pub returns-in-Some : goal.returns-in-Some

@@ -1,4 +1,4 @@
-use Rattle.std.proofs.Common.{◌∙◌, List, ap, refl, sym, length, true, false}
+use Rattle.std.proofs.Common.{◌∙◌, List, ap, refl, sym, length}
 use Rattle.sched_state.specs.declared.runs.Run.{Run}
 use Rattle.run_lists.specs.Positions.{positions_where, stands_in}
 use Rattle.run_lists.specs.declared.positions.Standing.TheVariants.{Running, Queued}

@@ -1,4 +1,4 @@
-use Rattle.std.proofs.Common.{◌≡◌, ◌∙◌, [], ℕ, List, ap, sym, subst, length, take, slice_get, Option, Some, None, get_or}
+use Rattle.std.proofs.Common.{◌≡◌, ℕ, List, ap, sym, subst, length, take, Option, Some, None}
 use Rattle.std.proofs.lemmas.List.{take_all}
 use Rattle.sched_state.specs.declared.runs.Run.{Run}
 use Rattle.sched_model.specs.Lists.{rises}

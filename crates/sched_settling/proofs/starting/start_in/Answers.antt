@@ -7,7 +7,7 @@ use Rattle.sched_model.specs.States.{active_runs}
 use Rattle.sched_state.specs.declared.runs.RunPhase.TheVariants as phase
 use Rattle.sched_laws.specs.Stages.{phase_at}
 use Rattle.sched_draft.specs.Drafts.{DraftValue}
-use Rattle.sched_settling.specs.Marks.{IsFirstQueued, IsLine, IsStartIn, NoneBefore, NoneQueued}
+use Rattle.sched_settling.specs.Marks.{IsFirstQueued, IsLine, IsStartIn, NoneBefore}
 use Rattle.sched_settling.specs.declared.lines.Line.{Line}
 use Rattle.sched_settling.proofs.LineLemmas.{graph_at, none_paused, none_full, none_unknown, paused_at, dag_at, not_below, queued_run, started_in, not_started}
 use Rattle.sched_settling.proofs.starting.start_in.Goals as goal

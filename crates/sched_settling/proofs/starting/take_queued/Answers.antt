@@ -1,4 +1,3 @@
-use Rattle.std.proofs.Common.{◌∙◌, ap, subst}
 use Rattle.sched_settling.proofs.LineLemmas.{queued_first}
 use Rattle.sched_settling.proofs.starting.take_queued.Goals as goal
 
