@@ -25,7 +25,7 @@ use Rattle.record_rules.proofs.NumberLemmas.{less_more, same_number}
 use Rattle.record_rules.proofs.FreeLemmas.{rises_kept}
 use Rattle.record_restoring.specs.Dealing.{tries_among}
 use Rattle.record_restoring.specs.Places.{StandsAt}
-use Rattle.record_rules.proofs.SearchLemmas.{find_only, one_place}
+use Rattle.sched_draft.proofs.SearchLemmas.{find_only, one_place}
 use Rattle.record_restoring.proofs.SearchLemmas.{any_at, any_nowhere, instance_like, instance_key}
 use Rattle.record_restoring.proofs.DealLemmas.{none_by}
 

@@ -15,7 +15,7 @@ use Rattle.sched_model.specs.Schedule.{Pool, pool_before}
 use Rattle.sched_model.specs.Tables.{pool_row}
 use Rattle.record_changes.proofs.record_rules.NumberLemmas.{same_naturals}
 use Rattle.record_changes.specs.Changes.{same_pool_row}
-use Rattle.record_changes.proofs.record_rules.SearchLemmas.{eq_is}
+use Rattle.sched_draft.proofs.SearchLemmas.{eq_is}
 
 -- a pool of this size is there
 abbrev pub is_size : ℕ → Option ℕ → Bool

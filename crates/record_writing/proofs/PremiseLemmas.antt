@@ -10,7 +10,7 @@ use Rattle.sched_model.specs.Changes.{pause_graph}
 use Rattle.sched_model.specs.Schedule.{Schedule, dag_among, graph_among}
 use Rattle.sched_draft.specs.Drafts.{SameDags}
 use Rattle.sched_draft.specs.Parts.{fitted_by, with_other, with_pause}
-use Rattle.record_changes.proofs.record_rules.SearchLemmas.{graph_id}
+use Rattle.sched_draft.proofs.SearchLemmas.{graph_id}
 use Rattle.record_changes.proofs.sched_laws.GraphLemmas.{flip_same}
 use Rattle.record_changes.proofs.sched_laws.LoadLemmas.{dag_found}
 use Rattle.record_writing.specs.Before.{AreNamedAlike, KeepDags}

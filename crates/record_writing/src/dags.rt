@@ -10,9 +10,9 @@ ghost use Rattle.sched_model.specs.Schedule.{graph_before};
 ghost use Rattle.sched_model.specs.Tables.{dag_row, flag_code};
 
 use crate::codes::flag_code;
-use crate::finding::graph_named;
 use graph_file::Name;
 use record_rows::DagRow;
+use sched_draft::graph_named;
 use sched_state::{GraphText, LoadedGraph};
 use std::alloc::{AllocError, Global};
 

@@ -9,11 +9,10 @@ ghost use Rattle.sched_model.specs.Sound.{IsSound};
 ghost use Rattle.sched_state.specs.declared.runs.Run as states;
 ghost use Rattle.record_writing.specs.Before.{AreNamedAlike, earlier_of, instance_named};
 
-use crate::finding::position_named;
 use dag_check::Graph;
 use graph_file::Name;
 use instance_machine::Instance;
-use sched_draft::{Base, Draft};
+use sched_draft::{Base, Draft, position_named};
 use sched_state::Run;
 use std::marker::Model;
 

@@ -16,6 +16,7 @@ use Rattle.sched_model.specs.Lists.{rises}
 use Rattle.sched_model.specs.Schedule.{run_before}
 use Rattle.run_lists.specs.Orders.{graph_below, graph_up_to, holds_of, holds_at}
 use Rattle.run_lists.specs.Positions.{positions_from, positions_where, stands, stands_in}
+use Rattle.run_lists.specs.declared.positions.Standing.{Standing}
 use Rattle.run_lists.proofs.OrderLemmas.{less_only, rise_pair, turned}
 use Rattle.run_lists.proofs.PlaceLemmas.{by_bool, rises_get}
 
@@ -38,9 +39,9 @@ both_from q p all (x ∷ xs) i d =
     let f = first_dropped all i x xs d in
     picked (p x) (q x) (holds_at q all) i (positions_from p (suc i) xs) (positions_from (λ r. q r && p r) (suc i) xs) (ap (holds_of q) f.0) (both_from q p all xs (suc i) f.1)
 
-pub stand_in : (id : List ℕ) (running : Bool) (rs : List Run) (ps : List ℕ) → ps ≡ positions_where (stands running) rs
-    → filter (holds_at (λ (r : Run). same r.graph id) rs) ps ≡ positions_where (stands_in id running) rs
-stand_in id running rs ps e = ap (filter (holds_at (λ (r : Run). same r.graph id) rs)) e ∙ both_from (λ (r : Run). same r.graph id) (stands running) rs rs 0 refl
+pub stand_in : (id : List ℕ) (standing : Standing) (rs : List Run) (ps : List ℕ) → ps ≡ positions_where (stands standing) rs
+    → filter (holds_at (λ (r : Run). same r.graph id) rs) ps ≡ positions_where (stands_in id standing) rs
+stand_in id standing rs ps e = ap (filter (holds_at (λ (r : Run). same r.graph id) rs)) e ∙ both_from (λ (r : Run). same r.graph id) (stands standing) rs rs 0 refl
 
 -- ---- a test that holds between two places, and nowhere else
 none_passes : (p : ℕ → Bool) (ks : List ℕ) → ((i x : ℕ) → slice_get ks i ≡ Some x → p x ≡ false) → filter p ks ≡ []
@@ -93,13 +94,13 @@ up_to_before id r q e f = by_bool {C = graph_up_to id r ≡ true} (is_less (name
     (λ g. ap not g)
 
 -- ---- what a test of a position tells
-pub record Standing (p : Run → Bool) (rs : List Run) (n : ℕ) : Type 0 where
+pub record Held (p : Run → Bool) (rs : List Run) (n : ℕ) : Type 0 where
   pub run : Run
   pub there : slice_get rs n ≡ Some run
   pub holds : p run ≡ true
 
-held_there : (p : Run → Bool) (rs : List Run) (n : ℕ) → holds_at p rs n ≡ true → Standing p rs n
-held_there p rs n e = elim (slice_get rs n) as (λ o. slice_get rs n ≡ o → Standing p rs n) [
+held_there : (p : Run → Bool) (rs : List Run) (n : ℕ) → holds_at p rs n ≡ true → Held p rs n
+held_there p rs n e = elim (slice_get rs n) as (λ o. slice_get rs n ≡ o → Held p rs n) [
   | None ↦ λ f. absurd (true≢false (sym (sym (ap (holds_of p) f) ∙ e)))
   | Some r ↦ λ f. record { run = r; there = f; holds = sym (ap (holds_of p) f) ∙ e }
 ] refl

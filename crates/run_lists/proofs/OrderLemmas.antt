@@ -17,7 +17,7 @@ use Rattle.sched_state.proofs.OrderLemmas.{and_left, and_right, on_total, then_t
 use Rattle.sched_model.specs.Lists.{rises}
 use Rattle.sched_model.specs.Schedule.{run_before, is_at}
 use Rattle.run_lists.specs.Orders.{key_before, IsPositionFor, position_in_order}
-use Rattle.run_lists.proofs.PastLemmas.{all_get}
+use Rattle.run_lists.proofs.PastLemmas.{rises_pair}
 
 -- ---- the order of keys
 pub key_total : IsTotalOrder (λ (k l : List ℕ × ℕ). ordering_then (name_cmp k.0 l.0) (nat_cmp k.1 l.1))
@@ -33,10 +33,7 @@ key_on : (id : List ℕ) (date : ℕ) (r q : Run) → key_before id date r ≡ t
 key_on id date r q h g = ap is_less (key_total.trans (id, date) (r.graph, r.logical) (q.graph, q.logical) (less_only _ h) (less_only _ g))
 
 pub rise_pair : (rs : List Run) (m n : ℕ) (r q : Run) → rises run_before rs ≡ true → m < n → slice_get rs m ≡ Some r → slice_get rs n ≡ Some q → run_before r q ≡ true
-rise_pair [] m n r q h l e f = absurd (let c : ◌≡◌ {A = Option Run} None (Some r) = e in cc)
-rise_pair (z ∷ zs) m zero r q h l e f = absurd (omega arith)
-rise_pair (z ∷ zs) zero (suc n) r q h l e f = let is : z ≡ r = cc in ap (λ (x : Run). run_before x q) (sym is) ∙ all_get (run_before z) zs n q (and_left _ _ h) f
-rise_pair (z ∷ zs) (suc m) (suc n) r q h l e f = rise_pair zs m n r q (and_right (list_all (run_before z) zs) _ h) (omega arith) e f
+rise_pair rs m n r q h l e f = rises_pair run_before rs m n r q h l e f
 
 -- ---- a search that is under way: what was passed, and what was reached
 pub record IsBetween (id : List ℕ) (date : ℕ) (rs : List Run) (low high : ℕ) : Type 0 where

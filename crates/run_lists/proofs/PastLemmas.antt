@@ -90,6 +90,15 @@ all_get {X} p [] n x h g = absurd (let c : ◌≡◌ {A = Option X} None (Some x
 all_get p (y ∷ ys) zero x h g = let e : y ≡ x = cc in ap p (sym e) ∙ and_left (p y) _ h
 all_get p (y ∷ ys) (suc n) x h g = all_get p ys n x (and_right (p y) _ h) g
 
+-- of a list that rises, each element stands before each behind it
+pub rises_pair : {X : Type 0} (before : X → X → Bool) (xs : List X) (m n : ℕ) (x y : X) → rises before xs ≡ true → m < n → slice_get xs m ≡ Some x → slice_get xs n ≡ Some y → before x y ≡ true
+rises_pair {X} before [] m n x y r l e f = absurd (let c : ◌≡◌ {A = Option X} None (Some x) = e in cc)
+rises_pair before (z ∷ xs) m zero x y r l e f = absurd (omega arith)
+rises_pair {X} before (z ∷ xs) zero (suc n) x y r l e f =
+    let c : ◌≡◌ {A = Option X} (Some z) (Some x) = e in let q : z ≡ x = cc in
+    ap (λ (w : X). before w y) (sym q) ∙ all_get (before z) xs n y (and_left _ _ r) f
+rises_pair before (z ∷ xs) (suc m) (suc n) x y r l e f = rises_pair before xs m n x y (and_right (list_all (before z) xs) _ r) (omega arith) e f
+
 pub none_passes : {X : Type 0} (p : X → Bool) (xs : List X) → ((n : ℕ) (x : X) → slice_get xs n ≡ Some x → p x ≡ false) → last_passing p xs ≡ None
 none_passes p [] h = refl
 none_passes p (x ∷ xs) h = ap (λ o. or_else o (when (p x) x)) (none_passes p xs (λ n y g. h (suc n) y g)) ∙ ap (λ b. when b x) (h zero x refl)

@@ -9,18 +9,13 @@ use Rattle.std.proofs.Math.Nat.{eq-or-lt_of_le}
 use Rattle.sched_state.proofs.OrderLemmas.{and_left, and_right}
 use Rattle.sched_model.specs.Lists.{rises}
 use Rattle.run_lists.specs.Positions.{is_position, place_of, with_position, without_position}
-use Rattle.run_lists.proofs.PastLemmas.{all_get}
+use Rattle.run_lists.proofs.PastLemmas.{rises_pair}
 
 pub by_bool : {C : Type 0} (b : Bool) → (b ≡ true → C) → (b ≡ false → C) → C
 by_bool {C} b f g = elim b as (λ c. b ≡ c → C) [ true ↦ λ e. f e | false ↦ λ e. g e ] refl
 
 pub rises_get : (xs : List ℕ) (i j : ℕ) (x y : ℕ) → rises nat_lt xs ≡ true → slice_get xs i ≡ Some x → slice_get xs j ≡ Some y → i < j → nat_lt x y ≡ true
-rises_get [] i j x y e f g l = absurd (let c : ◌≡◌ {A = Option ℕ} None (Some x) = f in cc)
-rises_get (z ∷ xs) i zero x y e f g l = absurd (omega arith)
-rises_get (z ∷ xs) zero (suc j) x y e f g l =
-    let c : ◌≡◌ {A = Option ℕ} (Some z) (Some x) = f in let r : z ≡ x = cc in
-    ap (λ w. nat_lt w y) (sym r) ∙ all_get (nat_lt z) xs j y (and_left _ _ e) g
-rises_get (z ∷ xs) (suc i) (suc j) x y e f g l = rises_get xs i j x y (and_right (list_all (nat_lt z) xs) _ e) f g (omega arith)
+rises_get xs i j x y e f g l = rises_pair nat_lt xs i j x y e l f g
 
 -- what an answer gives where it can be no error
 pub ok_only : {A B : Type 0} (P Q : Type 0) (r : Result A B) → OnOk r P → OnErr r Q → (Q → ⊥) → P

@@ -1,8 +1,13 @@
 -- Where the runs stand of which something holds.
 use Rattle.std.specs.Prelude.{◌≡◌, ℕ, suc, ◌≤◌, ◌&&◌, Bool, true, false, cond, List, [], ◌∷◌, length, min, Option, Some, None, nat_lt, nat_eq}
+use Rattle.std.specs.List.{list_any}
+use Rattle.instance_machine.specs.Instances.{InstanceValue}
 use Rattle.sched_state.specs.Lists.{same}
 use Rattle.sched_state.specs.declared.runs.Run.{Run}
 use Rattle.sched_model.specs.Schedule.{is_queued, is_running}
+use Rattle.sched_model.specs.States.{is_open}
+use Rattle.run_lists.specs.declared.positions.Standing.{Standing}
+use Rattle.run_lists.specs.declared.positions.Standing.TheVariants.{Running, Queued, InFlight}
 use Rattle.run_lists.specs.Touched.{shifted_from}
 
 -- their positions, where the first of these runs stands at position i
@@ -47,20 +52,25 @@ placed false holds n ns = marked holds n ns
 
 -- ---- those that runs keep
 
--- the run is running, or else queued
-abbrev pub stands : Bool → Run → Bool
-stands true r = is_running r.phase
-stands false r = is_queued r.phase
+-- a try of the run has no end
+abbrev pub has_open : Run → Bool
+has_open r = list_any (λ (i : InstanceValue). list_any is_open i.tries) r.instances
 
--- the run is one of this graph, and running, or else queued
-abbrev pub stands_in : List ℕ → Bool → Run → Bool
-stands_in id running r = same r.graph id && stands running r
+-- the run is running, or is queued, or has a try in flight
+abbrev pub stands : Standing → Run → Bool
+stands Running r = is_running r.phase
+stands Queued r = is_queued r.phase
+stands InFlight r = has_open r
+
+-- the run is one of this graph, and stands so
+abbrev pub stands_in : List ℕ → Standing → Run → Bool
+stands_in id standing r = same r.graph id && stands standing r
 
 -- these are the positions of the runs of which p holds, and there is room for that of each run
 pub record IsIndex (p : Run → Bool) (rs : List Run) (ns : List ℕ) (capacity : ℕ) : Type 0 where
   pub positions : ns ≡ positions_where p rs
   pub room : length rs ≤ capacity
 
--- the least of three rooms
-abbrev pub room_of : ℕ → ℕ → ℕ → ℕ
-room_of a b c = min a (min b c)
+-- the least of four rooms
+abbrev pub room_of : ℕ → ℕ → ℕ → ℕ → ℕ
+room_of a b c d = min a (min b (min c d))

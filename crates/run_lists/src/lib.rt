@@ -27,5 +27,6 @@ pub use laws::{
     the_past_goes_by_touched_runs, the_past_stands_before, touched_runs_stand_at_their_positions,
 };
 pub use overlays::Overlay;
+pub use positions::has_open;
 pub use rows::RunRows;
 pub use runs::Runs;

@@ -17,6 +17,7 @@ ghost use Rattle.run_lists.specs.Edits.{AreEditsOf, edited, positions_in};
 ghost use Rattle.run_lists.specs.Overlays.{IsOwned, IsAdded, IsInstanceAt, AreAllTouched};
 ghost use Rattle.run_lists.specs.Positions.{positions_where, stands};
 ghost use Rattle.run_lists.specs.Touched.{touched_with};
+ghost use Rattle.run_lists.specs.declared.positions.Standing.TheVariants.{Running};
 
 use crate::edits::{Edit, Edits, all_added, base_position, find, move_up, place_of, positions};
 use crate::positions::place_edit;
@@ -184,7 +185,7 @@ impl<'a> Overlay<'a> {
     /// The positions of the runs that are running, in their order. It copies the positions of those that were there, and looks at the touched
     /// runs. An `Err` says that memory ran out.
     pub fn running(&self, alloc: Global) -> Result<Vec<usize>, AllocError>
-        ensures { IfOk result (λ positions. positions.items ≡ positions_where (stands true) self.now.runs) }
+        ensures { IfOk result (λ positions. positions.items ≡ positions_where (stands Running) self.now.runs) }
     {
         let mut positions = self.base.running().to_vec(alloc)?;
         // So no position can pass the greatest number.

@@ -1,13 +1,27 @@
 //! Positions of runs, as runs are put in and written over.
 ghost use Rattle.std.specs.Prelude.{◌≡◌, ◌+◌, ◌^◌, ◌<◌, ◌≤◌, true, length, nat_lt, slice_get, vec_capacity, IfOk, OnOk, ◌++◌, ◌∷◌, [], cond};
-ghost use Rattle.std.specs.List.{list_all};
+ghost use Rattle.std.specs.List.{list_all, list_any};
 ghost use Rattle.sched_model.specs.Lists.{rises};
-ghost use Rattle.run_lists.specs.Positions.{is_position, place_of, placed, positions_where, stands, with_position, without_position};
+ghost use Rattle.sched_model.specs.States.{is_open};
+ghost use Rattle.run_lists.specs.Positions.{has_open, is_position, place_of, placed, positions_where, stands, with_position, without_position};
+ghost use Rattle.run_lists.specs.declared.positions.Standing.TheVariants.{Running};
 ghost use Rattle.run_lists.specs.Touched.{shifted_from};
 
 use crate::edits::Edit;
+use instance_machine::Instance;
 use sched_state::{Run, RunPhase};
 use std::alloc::{AllocError, Global};
+
+/// Of which runs the positions are kept.
+#[derive(Clone, Copy, Debug, PartialEq, Eq)]
+pub enum Standing {
+    /// Of those that are running.
+    Running,
+    /// Of those that are queued.
+    Queued,
+    /// Of those that have a try in flight, that is one without an end.
+    InFlight,
+}
 
 // The place of the first that is not below the position, by a binary search.
 fn place_of(positions: &[usize], position: usize) -> usize
@@ -84,14 +98,28 @@ pub fn place(positions: &mut Vec<usize>, is_new: bool, position: usize, holds: b
     }
 }
 
-/// Whether the run is running, or else queued.
-pub fn stands(run: &Run, running: bool) -> bool
-    ensures { result ≡ stands running run.now }
+// Whether a try of the instance has no end.
+fn is_open(instance: &Instance) -> bool
+    ensures { result ≡ list_any is_open instance.now.tries }
 {
-    if running {
-        matches!(run.phase, RunPhase::Running)
-    } else {
-        matches!(run.phase, RunPhase::Queued)
+    instance.tries().iter().any(|one| one.ended.is_none())
+}
+
+/// Whether a try of the run is in flight, that is without an end.
+pub fn has_open(run: &Run) -> bool
+    ensures { result ≡ has_open run.now }
+{
+    run.instances.as_slice().iter().any(is_open)
+}
+
+/// Whether the run stands so.
+pub fn stands(run: &Run, standing: Standing) -> bool
+    ensures { result ≡ stands standing run.now }
+{
+    match standing {
+        Standing::Running => matches!(run.phase, RunPhase::Running),
+        Standing::Queued => matches!(run.phase, RunPhase::Queued),
+        Standing::InFlight => has_open(run),
     }
 }
 
@@ -106,14 +134,18 @@ fn push_if(positions: &mut Vec<usize>, position: usize, holds: bool) -> Result<(
     Ok(())
 }
 
-/// The positions of the runs that are running, or else of those that are queued, with room for that of each run. An `Err` says that memory ran out.
-pub fn positions_in(alloc: Global, runs: &[Run], running: bool) -> Result<Vec<usize>, AllocError>
-    ensures positions { IfOk result (λ positions. positions.items ≡ positions_where (stands running) runs.now) }
+/// The positions of the runs that stand so, with room for that of each run. An `Err` says that memory ran out.
+pub fn positions_in(
+    alloc: Global,
+    runs: &[Run],
+    standing: Standing,
+) -> Result<Vec<usize>, AllocError>
+    ensures positions { IfOk result (λ positions. positions.items ≡ positions_where (stands standing) runs.now) }
     ensures room { IfOk result (λ positions. length runs.now ≤ vec_capacity positions) }
 {
     let mut positions = Vec::with_capacity(alloc, runs.len())?;
     for position in 0..runs.len() {
-        let holds = stands(&runs[position], running);
+        let holds = stands(&runs[position], standing);
         push_if(&mut positions, position, holds)?;
     }
     Ok(positions)
@@ -134,9 +166,10 @@ pub fn make_room(positions: &mut Vec<usize>, count: usize) -> Result<(), AllocEr
 pub fn place_edit(positions: &mut Vec<usize>, edit: &Edit) -> Result<(), AllocError>
     requires rising { rises nat_lt positions.old.items ≡ true }
     requires small { list_all (λ n. nat_lt (n + 1) (2 ^ 64)) positions.old.items ≡ true }
-    ensures { OnOk result (positions.new.items ≡ placed edit.now.is_new (stands true edit.now.run) edit.now.from positions.old.items) }
+    ensures { OnOk result (positions.new.items ≡ placed edit.now.is_new (stands Running edit.now.run) edit.now.from positions.old.items) }
 {
     positions.reserve(1)?;
-    place(positions, edit.is_new, edit.from, stands(&edit.run, true));
+    let running = stands(&edit.run, Standing::Running);
+    place(positions, edit.is_new, edit.from, running);
     Ok(())
 }

@@ -1,5 +1,5 @@
 //! The runs of a schedule, and how edits are written into them.
-ghost use Rattle.std.specs.Prelude.{◌≡◌, ◌+◌, ◌^◌, ◌<◌, ◌≤◌, ◌&&◌, [], true, false, length, find, nat_lt, IfOk, OnOk, Some, slice_get};
+ghost use Rattle.std.specs.Prelude.{◌≡◌, ◌+◌, ◌^◌, ◌<◌, ◌≤◌, ◌&&◌, [], true, length, find, nat_lt, IfOk, OnOk, Some, slice_get};
 ghost use Rattle.std.specs.List.{list_any};
 ghost use Rattle.std.specs.Option.{option_copied};
 ghost use Rattle.sched_state.specs.Lists.{same};
@@ -10,11 +10,12 @@ ghost use Rattle.run_lists.specs.Edits.{AreEditsOf, added, edited, hidden, put_i
 ghost use Rattle.run_lists.specs.Orders.{IsPositionFrom};
 ghost use Rattle.run_lists.specs.Positions.{positions_where, stands, stands_in};
 ghost use Rattle.run_lists.specs.Rooms.{HasPlaces, all_added};
+ghost use Rattle.run_lists.specs.declared.positions.Standing.TheVariants.{Running, Queued, InFlight};
 
 use crate::Overlay;
 use crate::edits::{Edit, Edits};
 use crate::ordering::{has_key, positions_of};
-use crate::positions::{make_room, place, positions_in, stands};
+use crate::positions::{Standing, make_room, place, positions_in, stands};
 use graph_file::Name;
 use moment_core::Moment;
 use sched_state::Run;
@@ -22,7 +23,8 @@ use std::alloc::{AllocError, Global};
 use std::marker::Model;
 use tiered_vec::TieredVec;
 
-/// The runs of a schedule, by graph and logical date, with the positions of those that are running and of those that are queued.
+/// The runs of a schedule, by graph and logical date, with the positions of those that are running, of those that are queued, and of those
+/// that have a try in flight.
 ///
 /// Contracts see the runs, and for how many more there is room.
 #[derive(Debug, Drop)]
@@ -30,19 +32,26 @@ pub struct Runs {
     runs: TieredVec<Run>,
     running: Vec<usize>,
     queued: Vec<usize>,
+    in_flight: Vec<usize>,
 }
 
 impl Model for Runs {
-    ghost use Rattle.std.specs.Prelude.{◌-◌, true, false, length, vec_capacity};
+    ghost use Rattle.std.specs.Prelude.{◌-◌, length, vec_capacity};
     ghost use Rattle.run_lists.specs.Positions.{IsIndex, room_of, stands};
     ghost use Rattle.run_lists.specs.Rooms.{RunsValue};
+    ghost use Rattle.run_lists.specs.declared.positions.Standing.TheVariants.{Running, Queued, InFlight};
 
     ghost Value = { RunsValue };
 
-    ghost view = { λ r. record { runs = r.runs.items; room = room_of r.runs.room (vec_capacity r.running - length r.runs.items) (vec_capacity r.queued - length r.runs.items) } };
+    ghost view = { λ r. record {
+      runs = r.runs.items;
+      room = room_of r.runs.room (vec_capacity r.running - length r.runs.items) (vec_capacity r.queued - length r.runs.items)
+          (vec_capacity r.in_flight - length r.runs.items);
+    } };
 
-    ghost invariant = { λ r. IsIndex (stands true) r.runs.items r.running.items (vec_capacity r.running)
-        × IsIndex (stands false) r.runs.items r.queued.items (vec_capacity r.queued) };
+    ghost invariant = { λ r. IsIndex (stands Running) r.runs.items r.running.items (vec_capacity r.running)
+        × IsIndex (stands Queued) r.runs.items r.queued.items (vec_capacity r.queued)
+        × IsIndex (stands InFlight) r.runs.items r.in_flight.items (vec_capacity r.in_flight) };
 }
 
 impl Runs {
@@ -54,19 +63,22 @@ impl Runs {
             runs: TieredVec::new(alloc),
             running: Vec::new(alloc),
             queued: Vec::new(alloc),
+            in_flight: Vec::new(alloc),
         }
     }
 
-    /// These runs. It goes through them three times. An `Err` says that memory ran out.
+    /// These runs. It goes through them four times. An `Err` says that memory ran out.
     pub fn of(alloc: Global, runs: Vec<Run>) -> Result<Runs, AllocError>
         ensures { IfOk result (λ made. made.runs ≡ runs.items) }
     {
-        let running = positions_in(alloc, &runs, true)?;
-        let queued = positions_in(alloc, &runs, false)?;
+        let running = positions_in(alloc, &runs, Standing::Running)?;
+        let queued = positions_in(alloc, &runs, Standing::Queued)?;
+        let in_flight = positions_in(alloc, &runs, Standing::InFlight)?;
         Ok(Runs {
             runs: TieredVec::of(alloc, runs)?,
             running,
             queued,
+            in_flight,
         })
     }
 
@@ -88,51 +100,58 @@ impl Runs {
 
     /// The positions of the runs that are running, in their order.
     pub fn running(&self) -> &[usize]
-        ensures { result.now ≡ positions_where (stands true) self.now.runs }
+        ensures { result.now ≡ positions_where (stands Running) self.now.runs }
     {
-        self.standing(true)
+        self.standing(Standing::Running)
     }
 
     /// The positions of the runs that are queued, in their order.
     pub fn queued(&self) -> &[usize]
-        ensures { result.now ≡ positions_where (stands false) self.now.runs }
+        ensures { result.now ≡ positions_where (stands Queued) self.now.runs }
     {
-        self.standing(false)
+        self.standing(Standing::Queued)
     }
 
-    // The positions of the runs that are running, in their order, or else of those that are queued.
-    pub(crate) fn standing(&self, running: bool) -> &[usize]
-        ensures { result.now ≡ positions_where (stands running) self.now.runs }
+    /// The positions of the runs that have a try in flight, that is one without an end, in their order.
+    pub fn in_flight(&self) -> &[usize]
+        ensures { result.now ≡ positions_where (stands InFlight) self.now.runs }
     {
-        if running {
-            self.running.as_slice()
-        } else {
-            self.queued.as_slice()
+        self.standing(Standing::InFlight)
+    }
+
+    // The positions of the runs that stand so, in their order.
+    fn standing(&self, standing: Standing) -> &[usize]
+        ensures { result.now ≡ positions_where (stands standing) self.now.runs }
+    {
+        match standing {
+            Standing::Running => self.running.as_slice(),
+            Standing::Queued => self.queued.as_slice(),
+            Standing::InFlight => self.in_flight.as_slice(),
         }
     }
 
     /// The positions of the runs of this graph that are running, in their order. They are found by two binary searches among the running ones.
     pub fn running_of(&self, graph: &Name) -> &[usize]
         requires { rises run_before self.now.runs ≡ true }
-        ensures { result.now ≡ positions_where (stands_in graph.now true) self.now.runs }
+        ensures { result.now ≡ positions_where (stands_in graph.now Running) self.now.runs }
     {
-        self.standing_of(graph, true)
+        self.standing_of(graph, Standing::Running)
     }
 
     /// The same, of those that are queued.
     pub fn queued_of(&self, graph: &Name) -> &[usize]
         requires { rises run_before self.now.runs ≡ true }
-        ensures { result.now ≡ positions_where (stands_in graph.now false) self.now.runs }
+        ensures { result.now ≡ positions_where (stands_in graph.now Queued) self.now.runs }
     {
-        self.standing_of(graph, false)
+        self.standing_of(graph, Standing::Queued)
     }
 
-    // The positions of the runs of this graph that are running, in their order, or else of those that are queued.
-    fn standing_of(&self, graph: &Name, running: bool) -> &[usize]
+    // The positions of the runs of this graph that stand so, in their order.
+    fn standing_of(&self, graph: &Name, standing: Standing) -> &[usize]
         requires { rises run_before self.now.runs ≡ true }
-        ensures { result.now ≡ positions_where (stands_in graph.now running) self.now.runs }
+        ensures { result.now ≡ positions_where (stands_in graph.now standing) self.now.runs }
     {
-        positions_of(self.standing(running), self, graph)
+        positions_of(self.standing(standing), self, graph)
     }
 
     // Where the runs begin that do not stand before one of this graph and date.
@@ -193,6 +212,7 @@ impl Runs {
         let count = self.runs.len() + added;
         make_room(&mut self.running, count)?;
         make_room(&mut self.queued, count)?;
+        make_room(&mut self.in_flight, count)?;
         self.runs.reserve(added)
     }
 
@@ -222,9 +242,12 @@ impl Runs {
             run,
             ..
         } = edit;
-        let (running, queued) = (stands(&run, true), stands(&run, false));
+        let running = stands(&run, Standing::Running);
+        let queued = stands(&run, Standing::Queued);
+        let in_flight = stands(&run, Standing::InFlight);
         place(&mut self.running, is_new, at, running);
         place(&mut self.queued, is_new, at, queued);
+        place(&mut self.in_flight, is_new, at, in_flight);
         if is_new {
             self.runs.insert(at, run);
         } else {

@@ -20,7 +20,7 @@ use Rattle.record_restoring.proofs.record_rules.NumberLemmas.{number_itself}
 use Rattle.record_writing.specs.record_changes.Changes.{same_dag_row, same_dag_limit_row}
 use Rattle.record_writing.proofs.record_changes.KeyLemmas.{any_get, found_by}
 use Rattle.record_writing.proofs.CollectLemmas.{lacked_there}
-use Rattle.record_restoring.proofs.record_rules.SearchLemmas.{unfound}
+use Rattle.sched_draft.proofs.SearchLemmas.{unfound}
 use Rattle.sched_core.specs.Inside.{taken_among}
 use Rattle.sched_draft.specs.Parts.{fitted_by, with_other}
 use Rattle.sched_core.proofs.OtherLemmas.{other_apart, other_named}

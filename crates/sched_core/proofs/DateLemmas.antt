@@ -1,6 +1,8 @@
 -- The dates of graphs' runs: what edits leave of them, where there is room for them, and how they stay beside their graphs.
-use Rattle.std.proofs.Common.{◌≡◌, ◌∙◌, refl, sym, ap, subst, inl, inr, ℕ, zero, suc, ◌+◌, ◌<◌, ◌≤◌, Bool, true, false, ◌&&◌, ◌||◌, ◌==◌, cond, List, [], ◌∷◌, ◌++◌, length, map, take, drop, count_by, insert, Option, Some, None, option_map, get_or, slice_get, slice_set, true≢false, arith}
-use Rattle.std.proofs.lemmas.Bool.{cases_lt}
+use Rattle.std.proofs.Common.{◌≡◌, ◌∙◌, ◌⊎◌, refl, sym, ap, subst, inl, inr, ℕ, zero, suc, ◌+◌, ◌<◌, ◌≤◌, Bool, true, false, ◌&&◌, ◌||◌, ◌==◌, cond, List, [], ◌∷◌, ◌++◌, length, map, take, drop, count_by, insert, Option, Some, None, option_and_then, option_map, get_or, slice_get, slice_set, true≢false, arith}
+use Rattle.std.proofs.lemmas.Bool.{eq-eqb, eqb-true, false_from_ne_true}
+use Rattle.std.proofs.lemmas.Cmp.{nat_list_cmp_total}
+use Rattle.std.specs.Cmp.Lexicographic.{nat_list_eq_equiv}
 use Rattle.std.proofs.lemmas.List.{length-map, take_all, take_more}
 use Rattle.std.proofs.lemmas.List.Folds.{list_any-append}
 use Rattle.std.specs.List.{list_any}
@@ -8,25 +10,29 @@ use Rattle.std.proofs.lemmas.List.Sums.{sum_by-cons}
 use Rattle.std.proofs.lemmas.Option.{slice_get_within, get_or_from_slice_get, slice_get-map}
 use Rattle.run_planner.specs.Index.{Index, has_date}
 use Rattle.run_lists.specs.declared.edits.Edit.{Edit}
-use Rattle.run_lists.specs.Edits.{put_in, edited, added, hidden, adds, FitsAt, RiseFrom, AreEditsOf}
+use Rattle.run_lists.specs.Edits.{put_in, edited, added, added_run, hidden, adds, FitsAt, RiseFrom, AreEditsOf}
 use Rattle.run_lists.proofs.EditLemmas.{get_before}
 use Rattle.run_lists.proofs.KeyLemmas.{keys_after}
 use Rattle.sched_state.specs.Lists.{same}
 use Rattle.sched_state.specs.declared.graphs.LoadedGraph.{LoadedGraph}
 use Rattle.sched_state.specs.declared.runs.Run.{Run}
 use Rattle.dag_check.specs.Graphs.{Dag}
-use Rattle.sched_state.proofs.OrderLemmas.{or_left, or_right}
+use Rattle.graph_file.specs.Lists.{when}
+use Rattle.sched_state.proofs.NameLemmas.{find_passes, same_is, same_itself}
+use Rattle.sched_state.proofs.OrderLemmas.{and_right, or_left, or_right}
 use Rattle.sched_laws.proofs.GraphLemmas.{paused_dag}
 use Rattle.sched_laws.proofs.SettleLemmas.{map_some}
 use Rattle.sched_model.specs.Changes.{pause_graph}
 use Rattle.sched_state.proofs.ElementLemmas.{element_at, drop_at}
-use Rattle.sched_model.specs.Lists.{at}
-use Rattle.sched_model.specs.Schedule.{is_at}
+use Rattle.sched_model.specs.Lists.{at, rises}
+use Rattle.sched_model.specs.Schedule.{graph_among, graph_before, is_at}
 use Rattle.sched_creation.specs.Dates.{HasDates, HaveDates}
 use Rattle.sched_draft.specs.Parts.{fitted_by, with_other}
+use Rattle.sched_draft.proofs.SearchLemmas.{graph_id, graph_key, one_place, unfound}
+use Rattle.sched_laws.proofs.DecisionLemmas.{by_bool}
 use Rattle.sched_core.proofs.OtherLemmas.{other_id}
 use Rattle.sched_core.specs.Changes.{count_of}
-use Rattle.sched_core.specs.Dates.{is_of, added_of, AreNoted, AreNotedWith, IsNoted}
+use Rattle.sched_core.specs.Dates.{is_of, added_of, AreNoted, AreNotedAt, AreNotedWith, CanNoteAt, HaveRoom, HaveRoomTo, IsNoted, IsNotedOne}
 use Rattle.sched_core.specs.declared.changes.Rest.{Rest}
 
 -- ---- how many runs a graph has after edits
@@ -92,17 +98,6 @@ adds_none : (a b c : Bool) → (a && b) ≡ false → (a && (b && c)) ≡ false
 adds_none true true c e = absurd (true≢false e)
 adds_none true false c e = refl
 adds_none false b c e = refl
-
-pub none_added : (id : List ℕ) (d : ℕ) (es : List Edit) → added_of id es ≡ 0 → list_any (adds id d) es ≡ false
-none_added id d [] z = refl
-none_added id d (e ∷ es) z = by (is_of id e) refl (count_cons (is_of id) e es) (none_added id d es)
-  where
-    by : (b : Bool) → is_of id e ≡ b → added_of id (e ∷ es) ≡ cond b 1 0 + added_of id es → (added_of id es ≡ 0 → list_any (adds id d) es ≡ false) → list_any (adds id d) (e ∷ es) ≡ false
-    by true is all less = absurd (omega (arith, z, all))
-    by false is all less =
-        let here : adds id d e ≡ false = adds_none e.is_new (same e.run.graph id) (e.run.logical == d) is in
-        let rest : list_any (adds id d) es ≡ false = less (omega (arith, z, all)) in
-        ap (λ b. b || list_any (adds id d) es) here ∙ rest
 
 -- what is noted of the first k edits, and the room that is left for the others
 pub record IsNotedTo (id : List ℕ) (es : List Edit) (k : ℕ) (x y : Index) : Type 0 where
@@ -175,53 +170,218 @@ same_set (v ∷ xs) (suc k) x y e read = ap (λ (dss : List (List ℕ)). v.dates
 pub same_long : (xs ys : List Index) → map (λ (v : Index). v.dates) ys ≡ map (λ (v : Index). v.dates) xs → length ys ≡ length xs
 same_long xs ys e = sym (length-map ys (λ (v : Index). v.dates)) ∙ (ap (λ (dss : List (List ℕ)). length dss) e ∙ length-map xs (λ (v : Index). v.dates))
 
--- there is room in the first k
-abbrev pub HaveRoomTo : List LoadedGraph → List Edit → ℕ → List Index → Type 0
-HaveRoomTo gs es k xs = (n : ℕ) (g : LoadedGraph) (x : Index) → n < k → slice_get gs n ≡ Some g → slice_get xs n ≡ Some x → added_of g.dag.spec.dag_id es ≤ x.room
-
-pub room_next : (gs : List LoadedGraph) (es : List Edit) (k : ℕ) (xs : List Index) (h : LoadedGraph) (y : Index) → k < length xs → slice_get gs k ≡ Some h → added_of h.dag.spec.dag_id es ≤ y.room → HaveRoomTo gs es k xs
-    → HaveRoomTo gs es (k + 1) (slice_set xs k y)
-room_next gs es k xs h y b graph room so_far n g x low there now = elim (cases_lt n k) [
-  | inl less ↦ so_far n g x less there (sym (set_other xs k n y (λ e. omega (arith, e, less))) ∙ now)
-  | inr more ↦
-      let e : n ≡ k = omega (arith, more, low) in
-      let c : ◌≡◌ {A = Option LoadedGraph} (Some g) (Some h) = sym there ∙ (ap (slice_get gs) e ∙ graph) in
-      let i : h ≡ g = cc in
-      let d : ◌≡◌ {A = Option Index} (Some x) (Some y) = sym now ∙ (ap (slice_get (slice_set xs k y)) e ∙ set_there xs k y b) in
-      let j : y ≡ x = cc in
-      subst (λ (v : Index). added_of g.dag.spec.dag_id es ≤ v.room) j (subst (λ (k : LoadedGraph). added_of k.dag.spec.dag_id es ≤ y.room) i room)
-]
-
--- the first k are noted, and the others are as they were
-pub record AreNotedTo (gs : List LoadedGraph) (es : List Edit) (k : ℕ) (xs ys : List Index) : Type 0 where
-  pub long : length ys ≡ length xs
-  pub each : (n : ℕ) (g : LoadedGraph) (x y : Index) → n < k → slice_get gs n ≡ Some g → slice_get xs n ≡ Some x → slice_get ys n ≡ Some y → IsNoted g.dag.spec.dag_id es x y
-  pub others : (n : ℕ) → k ≤ n → slice_get ys n ≡ slice_get xs n
-
-pub all_begins : (gs : List LoadedGraph) (es : List Edit) (xs : List Index) → AreNotedTo gs es 0 xs xs
-all_begins gs es xs = record { long = refl; each = λ n g x y low there was now. absurd (omega (arith, low)); others = λ n b. refl }
-
-pub all_next : (gs : List LoadedGraph) (es : List Edit) (k : ℕ) (xs ys : List Index) (h : LoadedGraph) (v w : Index) → k < length ys → slice_get gs k ≡ Some h → slice_get ys k ≡ Some v → IsNoted h.dag.spec.dag_id es v w
-    → AreNotedTo gs es k xs ys → AreNotedTo gs es (k + 1) xs (slice_set ys k w)
-all_next gs es k xs ys h v w b graph old noted so_far = record {
-  long = set_long ys k w ∙ so_far.long;
-  each = λ n g x y low there was now. elim (cases_lt n k) [
-    | inl less ↦ so_far.each n g x y less there was (sym (set_other ys k n w (λ e. omega (arith, e, less))) ∙ now)
-    | inr more ↦
-        let e : n ≡ k = omega (arith, more, low) in
-        let c : ◌≡◌ {A = Option LoadedGraph} (Some g) (Some h) = sym there ∙ (ap (slice_get gs) e ∙ graph) in
-        let i : h ≡ g = cc in
-        let d : ◌≡◌ {A = Option Index} (Some y) (Some w) = sym now ∙ (ap (slice_get (slice_set ys k w)) e ∙ set_there ys k w b) in
-        let j : w ≡ y = cc in
-        let f : ◌≡◌ {A = Option Index} (Some x) (Some v) = sym was ∙ (ap (slice_get xs) e ∙ (sym (so_far.others k (omega arith)) ∙ old)) in
-        let l : v ≡ x = cc in
-        subst (λ (q : Index). IsNoted g.dag.spec.dag_id es q y) l (subst (λ (q : Index). IsNoted g.dag.spec.dag_id es v q) j (subst (λ (q : LoadedGraph). IsNoted q.dag.spec.dag_id es v w) i noted))
-  ];
-  others = λ n low. set_other ys k n w (λ e. omega (arith, e, low)) ∙ so_far.others n (omega (arith, low));
+-- where an edit adds no run of the graph
+nothing_noted : (id : List ℕ) (e : Edit) (x : Index) → is_of id e ≡ false → IsNotedOne id e x x
+nothing_noted id e x off = record {
+  dates = λ d. ap (λ b. b || has_date x.dates d) (sym (adds_none e.is_new (same e.run.graph id) (e.run.logical == d) off));
+  room = omega arith;
 }
 
-pub all_over : (gs : List LoadedGraph) (es : List Edit) (k : ℕ) (xs ys : List Index) → length gs ≤ k → AreNotedTo gs es k xs ys → AreNoted gs es xs ys
-all_over gs es k xs ys over h = record { long = h.long; each = λ n g x y there was now. h.each n g x y (let l : n < length gs = slice_get_within gs n g there in omega (arith, l, over)) there was now }
+-- ---- the run that an edit adds
+no_run : (e : Edit) → None ≡ added_run e → e.is_new ≡ false
+no_run e = elim e.is_new as (λ b. ◌≡◌ {A = Option Run} None (when b e.run) → b ≡ false) [
+  | true ↦ λ f. absurd (let c : ◌≡◌ {A = Option Run} None (Some e.run) = f in cc)
+  | false ↦ λ f. refl
+]
+
+pub the_run : (e : Edit) (r : Run) → Some r ≡ added_run e → (e.is_new ≡ true) × (e.run ≡ r)
+the_run e r = elim e.is_new as (λ b. ◌≡◌ {A = Option Run} (Some r) (when b e.run) → (b ≡ true) × (e.run ≡ r)) [
+  | true ↦ λ f. let c : ◌≡◌ {A = Option Run} (Some r) (Some e.run) = f in let i : e.run ≡ r = cc in (refl, i)
+  | false ↦ λ f. absurd (let c : ◌≡◌ {A = Option Run} (Some r) None = f in cc)
+]
+
+-- it adds a run of none of the graphs
+abbrev pub AddsNone : List LoadedGraph → Edit → Type 0
+AddsNone gs e = (n : ℕ) (g : LoadedGraph) → slice_get gs n ≡ Some g → is_of g.dag.spec.dag_id e ≡ false
+
+pub adds_no_run : (gs : List LoadedGraph) (e : Edit) → None ≡ added_run e → AddsNone gs e
+adds_no_run gs e none n g there = ap (λ b. b && same e.run.graph g.dag.spec.dag_id) (no_run e none)
+
+-- where its graph is not there
+pub adds_unknown : (gs : List LoadedGraph) (e : Edit) (r : Run) → Some r ≡ added_run e → graph_among gs r.graph ≡ None → AddsNone gs e
+adds_unknown gs e r is none n g there =
+    let run = the_run e r is in
+    ap (λ b. b && same e.run.graph g.dag.spec.dag_id) run.0
+    ∙ (ap (λ (q : Run). same q.graph g.dag.spec.dag_id) run.1
+    ∙ (nat_list_eq_equiv.symm r.graph g.dag.spec.dag_id ∙ unfound (λ (h : LoadedGraph). same h.dag.spec.dag_id r.graph) gs none n g there))
+
+-- it adds a run of the graph at the position, and of no other
+pub record AddsTo (gs : List LoadedGraph) (e : Edit) (p : ℕ) : Type 0 where
+  pub graph : LoadedGraph
+  pub there : slice_get gs p ≡ Some graph
+  pub is_new : e.is_new ≡ true
+  pub named : graph.dag.spec.dag_id ≡ e.run.graph
+  pub others : (n : ℕ) (g : LoadedGraph) → slice_get gs n ≡ Some g → is_of g.dag.spec.dag_id e ≡ true → n ≡ p
+
+pub adds_to : (gs : List LoadedGraph) (e : Edit) (r : Run) (p : ℕ) → rises graph_before gs ≡ true → Some r ≡ added_run e → p < length gs → option_and_then (slice_get gs) (Some p) ≡ graph_among gs r.graph → AddsTo gs e p
+adds_to gs e r p rise is inside found =
+    let run = the_run e r is in
+    let g = element_at gs p inside in
+    let here : same g.0.dag.spec.dag_id r.graph ≡ true = find_passes (λ (h : LoadedGraph). same h.dag.spec.dag_id r.graph) gs g.0 (sym found ∙ g.1) in
+    record {
+      graph = g.0;
+      there = g.1;
+      is_new = run.0;
+      named = same_is _ _ here ∙ ap (λ (q : Run). q.graph) (sym run.1);
+      others = λ n h at of.
+          let mine : same r.graph h.dag.spec.dag_id ≡ true = ap (λ (q : Run). same q.graph h.dag.spec.dag_id) (sym run.1) ∙ and_right e.is_new _ of in
+          one_place nat_list_cmp_total graph_id (λ (k : LoadedGraph). same k.dag.spec.dag_id r.graph) r.graph (graph_key r.graph) gs n p h g.0 rise at g.1 (nat_list_eq_equiv.symm h.dag.spec.dag_id r.graph ∙ mine) here;
+    }
+
+-- what it adds to is of its run's graph
+to_graph : (gs : List LoadedGraph) (e : Edit) (p n : ℕ) (g : LoadedGraph) (t : AddsTo gs e p) → slice_get gs n ≡ Some g → n ≡ p → g.dag.spec.dag_id ≡ e.run.graph
+to_graph gs e p n g t there is =
+    let c : ◌≡◌ {A = Option LoadedGraph} (Some g) (Some t.graph) = sym there ∙ (ap (slice_get gs) is ∙ t.there) in
+    let i : g ≡ t.graph = cc in
+    ap (λ (h : LoadedGraph). h.dag.spec.dag_id) i ∙ t.named
+
+-- ---- room, edit by edit
+any_more : (p : Edit → Bool) (es : List Edit) (k : ℕ) (e : Edit) → slice_get es k ≡ Some e → list_any p (take (k + 1) es) ≡ true → (list_any p (take k es) ≡ true) ⊎ (p e ≡ true)
+any_more p es k e there any = either (list_any p (take k es)) (p e) (sym (ap (list_any p) (take_one es k e there) ∙ list_any-append p (take k es) (e ∷ [])) ∙ any)
+  where
+    either : (b c : Bool) → (b || (c || false)) ≡ true → (b ≡ true) ⊎ (c ≡ true)
+    either true c f = inl refl
+    either false true f = inr refl
+    either false false f = absurd (true≢false (sym f))
+
+pub room_begins : (gs : List LoadedGraph) (es : List Edit) (xs : List Index) → HaveRoomTo gs es 0 xs
+room_begins gs es xs n g x at now any = absurd (true≢false (sym any ∙ none_first es))
+  where
+    none_first : (ds : List Edit) → list_any (is_of g.dag.spec.dag_id) (take 0 ds) ≡ false
+    none_first [] = refl
+    none_first (d ∷ ds) = refl
+
+pub room_stays : (gs : List LoadedGraph) (es : List Edit) (k : ℕ) (e : Edit) (xs : List Index) → slice_get es k ≡ Some e → HaveRoomTo gs es k xs
+    → ((n : ℕ) (g : LoadedGraph) → slice_get gs n ≡ Some g → is_of g.dag.spec.dag_id e ≡ true → list_any (is_of g.dag.spec.dag_id) (take k es) ≡ true) → HaveRoomTo gs es (k + 1) xs
+room_stays gs es k e xs there so_far back n g x at now any = elim (any_more (is_of g.dag.spec.dag_id) es k e there any) [
+  | inl before ↦ so_far n g x at now before
+  | inr here ↦ so_far n g x at now (back n g at here)
+]
+
+-- it adds a run of no graph
+pub room_none : (gs : List LoadedGraph) (es : List Edit) (k : ℕ) (e : Edit) (xs : List Index) → slice_get es k ≡ Some e → AddsNone gs e → HaveRoomTo gs es k xs → HaveRoomTo gs es (k + 1) xs
+room_none gs es k e xs there none so_far = room_stays gs es k e xs there so_far (λ n g at of. absurd (true≢false (sym of ∙ none n g at)))
+
+-- an edit before it adds a run of its graph
+pub room_before : (gs : List LoadedGraph) (es : List Edit) (k : ℕ) (e : Edit) (r : Run) (xs : List Index) → slice_get es k ≡ Some e → Some r ≡ added_run e → list_any (is_of r.graph) (take k es) ≡ true → HaveRoomTo gs es k xs → HaveRoomTo gs es (k + 1) xs
+room_before gs es k e r xs there is any so_far =
+    let run = the_run e r is in
+    room_stays gs es k e xs there so_far (λ n g at of.
+    let named : r.graph ≡ g.dag.spec.dag_id = ap (λ (q : Run). q.graph) (sym run.1) ∙ same_is _ _ (and_right e.is_new _ of) in
+    ap (λ (id : List ℕ). list_any (is_of id) (take k es)) (sym named) ∙ any)
+
+-- room is made at its graph
+pub room_made : (gs : List LoadedGraph) (es : List Edit) (k : ℕ) (e : Edit) (p : ℕ) (xs : List Index) (y : Index) → slice_get es k ≡ Some e → AddsTo gs e p → p < length xs → added_of e.run.graph es ≤ y.room → HaveRoomTo gs es k xs
+    → HaveRoomTo gs es (k + 1) (slice_set xs p y)
+room_made gs es k e p xs y there to inside room so_far n g x at now any = by_bool {C = added_of g.dag.spec.dag_id es ≤ x.room} (n == p)
+    (λ same_place.
+    let is : n ≡ p = eqb-true n p same_place in
+    let c : ◌≡◌ {A = Option Index} (Some x) (Some y) = sym now ∙ (ap (slice_get (slice_set xs p y)) is ∙ set_there xs p y inside) in
+    let j : y ≡ x = cc in
+    let id : e.run.graph ≡ g.dag.spec.dag_id = sym (to_graph gs e p n g to at is) in
+    subst (λ (v : Index). added_of g.dag.spec.dag_id es ≤ v.room) j (subst (λ (i : List ℕ). added_of i es ≤ y.room) id room))
+    (λ apart.
+    let old : slice_get xs n ≡ Some x = sym (set_other xs p n y (λ is. true≢false (sym (eq-eqb n p is) ∙ apart))) ∙ now in
+    elim (any_more (is_of g.dag.spec.dag_id) es k e there any) [
+      | inl before ↦ so_far n g x at old before
+      | inr here ↦ absurd (true≢false (sym (eq-eqb n p (to.others n g at here)) ∙ apart))
+    ])
+
+-- there is room for all dates once all edits were looked at
+pub room_over : (gs : List LoadedGraph) (es : List Edit) (k : ℕ) (xs : List Index) → length es ≤ k → HaveRoomTo gs es k xs → HaveRoom gs es xs
+room_over gs es k xs over h n g x there now = by_bool {C = added_of g.dag.spec.dag_id es ≤ x.room} (list_any (is_of g.dag.spec.dag_id) es)
+    (λ any. h n g x there now (ap (list_any (is_of g.dag.spec.dag_id)) (take_all k es over) ∙ any))
+    (λ none. let z : added_of g.dag.spec.dag_id es ≡ 0 = none_of g.dag.spec.dag_id es none in omega (arith, z))
+  where
+    none_of : (id : List ℕ) (ds : List Edit) → list_any (is_of id) ds ≡ false → added_of id ds ≡ 0
+    none_of id [] f = refl
+    none_of id (d ∷ ds) f =
+        let one : ◌≡◌ {A = ℕ} (cond (is_of id d) 1 0) 0 = ap (λ b. cond b 1 0) (or_left (is_of id d) _ f) in
+        let rest : added_of id ds ≡ 0 = none_of id ds (or_right (is_of id d) _ f) in
+        let all = count_cons (is_of id) d ds in
+        omega (arith, all, one, rest)
+
+-- ---- dates, edit by edit
+-- there is room for the date of the run that it adds
+pub room_there : (gs : List LoadedGraph) (es : List Edit) (k : ℕ) (e : Edit) (p : ℕ) (xs : List Index) (x : Index) → slice_get es k ≡ Some e → AddsTo gs e p → CanNoteAt gs es k xs → slice_get xs p ≡ Some x → 0 < x.room
+room_there gs es k e p xs x there to can old =
+    let mine : same e.run.graph to.graph.dag.spec.dag_id ≡ true = ap (same e.run.graph) to.named ∙ same_itself e.run.graph in
+    let of : is_of to.graph.dag.spec.dag_id e ≡ true = ap (λ b. b && same e.run.graph to.graph.dag.spec.dag_id) to.is_new ∙ mine in
+    let one : 1 ≤ x.room = subst (λ b. cond b 1 0 ≤ x.room) of (can p to.graph e x to.there there old) in
+    omega (arith, one)
+
+pub noted_none : (gs : List LoadedGraph) (es : List Edit) (k : ℕ) (e : Edit) (xs : List Index) → slice_get es k ≡ Some e → AddsNone gs e → AreNotedAt gs es k xs xs
+noted_none gs es k e xs there none = record {
+  long = refl;
+  each = λ n g d x y at this was now.
+      let c : ◌≡◌ {A = Option Edit} (Some e) (Some d) = sym there ∙ this in
+      let i : e ≡ d = cc in
+      let f : ◌≡◌ {A = Option Index} (Some x) (Some y) = sym was ∙ now in
+      let j : x ≡ y = cc in
+      subst (λ (z : Index). IsNotedOne g.dag.spec.dag_id d x z) j (nothing_noted g.dag.spec.dag_id d x (subst (λ (q : Edit). is_of g.dag.spec.dag_id q ≡ false) i (none n g at)));
+}
+
+pub noted_made : (gs : List LoadedGraph) (es : List Edit) (k : ℕ) (e : Edit) (p : ℕ) (xs : List Index) (x y : Index) → slice_get es k ≡ Some e → AddsTo gs e p → slice_get xs p ≡ Some x
+    → ((d : ℕ) → has_date y.dates d ≡ (e.run.logical == d || has_date x.dates d)) → x.room ≤ y.room + 1 → AreNotedAt gs es k xs (slice_set xs p y)
+noted_made gs es k e p xs x y there to old dates room = record {
+  long = set_long xs p y;
+  each = λ n g d v w at this was now.
+      let c : ◌≡◌ {A = Option Edit} (Some e) (Some d) = sym there ∙ this in
+      let i : e ≡ d = cc in
+      subst (λ (q : Edit). IsNotedOne g.dag.spec.dag_id q v w) i (by_bool {C = IsNotedOne g.dag.spec.dag_id e v w} (n == p)
+      (λ same_place. here n g v w at was now (eqb-true n p same_place))
+      (λ apart.
+      let f : ◌≡◌ {A = Option Index} (Some v) (Some w) = sym was ∙ (sym (set_other xs p n y (λ is. true≢false (sym (eq-eqb n p is) ∙ apart))) ∙ now) in
+      let j : v ≡ w = cc in
+      subst (λ (z : Index). IsNotedOne g.dag.spec.dag_id e v z) j (nothing_noted g.dag.spec.dag_id e v (false_from_ne_true (is_of g.dag.spec.dag_id e) (λ of. true≢false (sym (eq-eqb n p (to.others n g at of)) ∙ apart))))));
+}
+  where
+    here : (n : ℕ) (g : LoadedGraph) (v w : Index) → slice_get gs n ≡ Some g → slice_get xs n ≡ Some v → slice_get (slice_set xs p y) n ≡ Some w → n ≡ p → IsNotedOne g.dag.spec.dag_id e v w
+    here n g v w at was now is =
+        let named : g.dag.spec.dag_id ≡ e.run.graph = to_graph gs e p n g to at is in
+        let f : ◌≡◌ {A = Option Index} (Some v) (Some x) = sym was ∙ (ap (slice_get xs) is ∙ old) in
+        let j : x ≡ v = cc in
+        let h : ◌≡◌ {A = Option Index} (Some w) (Some y) = sym now ∙ (ap (slice_get (slice_set xs p y)) is ∙ set_there xs p y (slice_get_within xs p x old)) in
+        let l : y ≡ w = cc in
+        let mine : same e.run.graph g.dag.spec.dag_id ≡ true = ap (same e.run.graph) named ∙ same_itself e.run.graph in
+        subst (λ (z : Index). IsNotedOne g.dag.spec.dag_id e z w) j (subst (λ (z : Index). IsNotedOne g.dag.spec.dag_id e x z) l (record {
+          dates = λ m. dates m ∙ ap (λ b. b || has_date x.dates m) (sym (ap (λ b. b && (same e.run.graph g.dag.spec.dag_id && e.run.logical == m)) to.is_new ∙ ap (λ b. b && e.run.logical == m) mine));
+          room = subst (λ b. x.room ≤ y.room + cond b 1 0) (sym (ap (λ b. b && same e.run.graph g.dag.spec.dag_id) to.is_new ∙ mine)) room;
+        }))
+
+-- the first k edits are noted
+pub record AreNotedTo (gs : List LoadedGraph) (es : List Edit) (k : ℕ) (xs ys : List Index) : Type 0 where
+  pub long : length ys ≡ length xs
+  pub each : (n : ℕ) (g : LoadedGraph) (x y : Index) → slice_get gs n ≡ Some g → slice_get xs n ≡ Some x → slice_get ys n ≡ Some y → IsNotedTo g.dag.spec.dag_id es k x y
+
+pub all_begins : (gs : List LoadedGraph) (es : List Edit) (xs : List Index) → HaveRoom gs es xs → AreNotedTo gs es 0 xs xs
+all_begins gs es xs room = record {
+  long = refl;
+  each = λ n g x y at was now.
+      let c : ◌≡◌ {A = Option Index} (Some x) (Some y) = sym was ∙ now in
+      let j : x ≡ y = cc in
+      subst (λ (z : Index). IsNotedTo g.dag.spec.dag_id es 0 x z) j (noted_begins g.dag.spec.dag_id es x (room n g x at was));
+}
+
+pub all_can : (gs : List LoadedGraph) (es : List Edit) (k : ℕ) (xs ys : List Index) → AreNotedTo gs es k xs ys → CanNoteAt gs es k ys
+all_can gs es k xs ys h n g e y at this now =
+    let b : n < length xs = let l : n < length ys = slice_get_within ys n y now in omega (arith, l, h.long) in
+    let x = element_at xs n b in
+    noted_room g.dag.spec.dag_id es k e x.0 y this (h.each n g x.0 y at x.1 now)
+
+pub all_next : (gs : List LoadedGraph) (es : List Edit) (k : ℕ) (xs ys zs : List Index) → k < length es → AreNotedAt gs es k ys zs → AreNotedTo gs es k xs ys → AreNotedTo gs es (k + 1) xs zs
+all_next gs es k xs ys zs inside one h = record {
+  long = one.long ∙ h.long;
+  each = λ n g x z at was now.
+      let b : n < length ys = let l : n < length zs = slice_get_within zs n z now in omega (arith, l, one.long) in
+      let y = element_at ys n b in
+      let e = element_at es k inside in
+      let step = one.each n g e.0 y.0 z at e.1 y.1 now in
+      noted_next g.dag.spec.dag_id es k e.0 x y.0 z e.1 (h.each n g x y.0 at was y.1) step.dates step.room;
+}
+
+pub all_over : (gs : List LoadedGraph) (es : List Edit) (k : ℕ) (xs ys : List Index) → length es ≤ k → AreNotedTo gs es k xs ys → AreNoted gs es xs ys
+all_over gs es k xs ys over h = record { long = h.long; each = λ n g x y at was now. noted_over g.dag.spec.dag_id es k x y over (h.each n g x y at was now) }
 
 -- ---- dates beside their graphs
 dates_first : (g : LoadedGraph) (x : Index) (gs : List LoadedGraph) (rs : List Run) (xs : List Index) → HaveDates (g ∷ gs) rs (x ∷ xs) → HasDates g.dag.spec.dag_id rs x

@@ -12,7 +12,7 @@ use Rattle.sched_model.specs.Lists.{at}
 use Rattle.sched_model.specs.Schedule.{Schedule}
 use Rattle.sched_model.specs.States.{is_open}
 use Rattle.sched_clearing.proofs.SetBackLemmas.{at_get, at_at, at_same, at_none}
-use Rattle.sched_core.specs.Inside.{has_open}
+use Rattle.run_lists.specs.Positions.{has_open}
 
 -- ---- the first k elements are changed
 abbrev pub changed_to : {X : Type 0} → (X → X) → ℕ → List X → List X

@@ -1,5 +1,5 @@
 -- The dates of graphs' runs beside the edits that add some.
-use Rattle.std.specs.Prelude.{◌≡◌, ℕ, ◌≤◌, Bool, ◌&&◌, ◌||◌, List, length, count_by, Option, Some, None, slice_get}
+use Rattle.std.specs.Prelude.{◌≡◌, ℕ, ◌+◌, ◌≤◌, Bool, true, cond, ◌&&◌, ◌||◌, List, length, count_by, take, Option, Some, None, slice_get}
 use Rattle.std.specs.List.{list_any}
 use Rattle.run_planner.specs.Index.{Index, has_date}
 use Rattle.run_lists.specs.declared.edits.Edit.{Edit}
@@ -27,6 +27,24 @@ pub record AreNoted (gs : List LoadedGraph) (es : List Edit) (xs ys : List Index
 -- there is room for the dates of the runs that the edits add
 abbrev pub HaveRoom : List LoadedGraph → List Edit → List Index → Type 0
 HaveRoom gs es xs = (n : ℕ) (g : LoadedGraph) (x : Index) → slice_get gs n ≡ Some g → slice_get xs n ≡ Some x → added_of g.dag.spec.dag_id es ≤ x.room
+
+-- the same, of each graph to which one of the first k edits adds a run
+abbrev pub HaveRoomTo : List LoadedGraph → List Edit → ℕ → List Index → Type 0
+HaveRoomTo gs es k xs = (n : ℕ) (g : LoadedGraph) (x : Index) → slice_get gs n ≡ Some g → slice_get xs n ≡ Some x → list_any (is_of g.dag.spec.dag_id) (take k es) ≡ true → added_of g.dag.spec.dag_id es ≤ x.room
+
+-- y has the dates of x, and that of the run of the graph that the edit adds, where it adds one, which takes no more room than for one date
+pub record IsNotedOne (id : List ℕ) (e : Edit) (x y : Index) : Type 0 where
+  pub dates : (d : ℕ) → has_date y.dates d ≡ (adds id d e || has_date x.dates d)
+  pub room : x.room ≤ y.room + cond (is_of id e) 1 0
+
+-- so it is of each graph, with the edit at the place
+pub record AreNotedAt (gs : List LoadedGraph) (es : List Edit) (k : ℕ) (xs ys : List Index) : Type 0 where
+  pub long : length ys ≡ length xs
+  pub each : (n : ℕ) (g : LoadedGraph) (e : Edit) (x y : Index) → slice_get gs n ≡ Some g → slice_get es k ≡ Some e → slice_get xs n ≡ Some x → slice_get ys n ≡ Some y → IsNotedOne g.dag.spec.dag_id e x y
+
+-- there is room for the date of the run that the edit at the place adds
+abbrev pub CanNoteAt : List LoadedGraph → List Edit → ℕ → List Index → Type 0
+CanNoteAt gs es k xs = (n : ℕ) (g : LoadedGraph) (e : Edit) (x : Index) → slice_get gs n ≡ Some g → slice_get es k ≡ Some e → slice_get xs n ≡ Some x → cond (is_of g.dag.spec.dag_id e) 1 0 ≤ x.room
 
 -- the same of the rest of a change, where there is one: otherwise nothing is added
 abbrev pub AreNotedWith : List LoadedGraph → Option Rest → List Index → List Index → Type 0

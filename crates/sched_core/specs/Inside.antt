@@ -140,10 +140,6 @@ open_in r = sum_by (λ (i : InstanceValue). count_by is_open i.tries) r.instance
 abbrev pub open_for : List ℕ → Run → ℕ
 open_for id r = cond (same r.graph id) (open_in r) 0
 
--- whether a try of a run is without an end
-abbrev pub has_open : Run → Bool
-has_open r = list_any (λ (i : InstanceValue). list_any is_open i.tries) r.instances
-
 -- ---- the search for the next row
 -- the first of two
 abbrev pub put_first : Row → Option Row → Row

@@ -14,12 +14,11 @@ ghost use Rattle.sched_core.specs.Inside.{IsOver, IsLast, LeavesDags, completed}
 
 use crate::changes::GraphChange;
 use crate::graph_texts::bound_after;
-use crate::lookups::graph_named;
 use crate::schedules::Schedule;
 use graph_file::Name;
 use record_rows::{DagLimitRow, DagRow, Rows};
 use record_writing::{dag_lacked, limit_lacked, rows_of};
-use sched_draft::{Base, Draft};
+use sched_draft::{Base, Draft, graph_named};
 use sched_state::LoadedGraph;
 use std::alloc::{AllocError, Global};
 
@@ -156,6 +155,7 @@ pub(crate) fn limits_with(
 
 // Whether the graph with this id is there and paused.
 fn is_paused(graphs: &[LoadedGraph], id: &Name) -> bool
+    requires { rises graph_before graphs.now ≡ true }
     ensures { result ≡ unwrap_or (option_map (λ (g : Graph). g.paused)
         (graph_among graphs.now id.now)) false }
 {

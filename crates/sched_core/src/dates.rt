@@ -1,14 +1,19 @@
-//! The dates of the graphs' runs, beside the graphs: room for those that a change adds, and how they are added.
-ghost use Rattle.std.specs.Prelude.{◌≡◌, ◌+◌, ◌<◌, ◌≤◌, ◌||◌, ℕ, cond, length, map, vec_capacity, OnOk};
-ghost use Rattle.run_lists.specs.Edits.{adds};
+//! The dates of the graphs' runs, beside the graphs: room for those that a change adds, and how they are added. Each graph is found by a binary
+//! search, and none is looked at to which no run is added.
+ghost use Rattle.std.specs.Prelude.{◌≡◌, ◌+◌, ◌<◌, ◌≤◌, ◌||◌, ◌==◌, true, ℕ, length, map, take, vec_capacity, OnOk};
+ghost use Rattle.std.specs.List.{list_any};
 ghost use Rattle.run_planner.specs.Index.{Index, has_date};
-ghost use Rattle.sched_core.specs.Dates.{is_of, added_of, IsNoted, AreNoted, HaveRoom, AreNotedWith, HaveRoomWith};
+ghost use Rattle.sched_model.specs.Lists.{rises};
+ghost use Rattle.sched_model.specs.Schedule.{graph_before};
+ghost use Rattle.sched_core.specs.Dates.{is_of, added_of, AreNoted, AreNotedAt, CanNoteAt, HaveRoom, HaveRoomTo, AreNotedWith, HaveRoomWith};
 
 use crate::changes::Rest;
 use dag_check::Graph;
 use graph_file::Name;
+use moment_core::Moment;
 use run_lists::Edit;
 use run_planner::RunIndex;
+use sched_draft::position_named;
 use sched_state::LoadedGraph;
 use std::alloc::AllocError;
 
@@ -29,19 +34,57 @@ fn added_of(edits: &[Edit], id: &Name) -> usize
     edits.iter().filter(|edit| is_of(edit, id)).count()
 }
 
-// Makes room in the index of each graph for the dates of its runs that the edits add.
+// Whether the edit before this place adds a run of the graph with this id.
+fn is_behind_one(edits: &[Edit], place: usize, id: &Name) -> bool
+    requires { place ≤ length edits.now }
+    ensures { result ≡ true → list_any (is_of id.now) (take place edits.now) ≡ true }
+{
+    match place.checked_sub(1) {
+        Some(before) => is_of(&edits[before], id),
+        None => false,
+    }
+}
+
+// Makes room for the dates of all runs of a graph that the edits add, where the edit at this place adds one. If the edit before it adds one
+// of that graph too, there is that room already.
+fn room_at(
+    graphs: &[LoadedGraph],
+    dates: &mut Vec<RunIndex>,
+    edits: &[Edit],
+    place: usize,
+) -> Result<(), AllocError>
+    requires order { rises graph_before graphs.now ≡ true }
+    requires long { length dates.old.items ≡ length graphs.now }
+    requires within { place < length edits.now }
+    requires so_far { HaveRoomTo graphs.now edits.now place dates.old.items }
+    ensures dates { map (λ (x : Index). x.dates) dates.new.items ≡ map (λ (x : Index). x.dates) dates.old.items }
+    ensures room { OnOk result (HaveRoomTo graphs.now edits.now (place + 1) dates.new.items) }
+{
+    let Some(run) = edits[place].added() else {
+        return Ok(());
+    };
+    if is_behind_one(edits, place, &run.graph) {
+        return Ok(());
+    }
+    let Some(graph) = position_named(graphs, &run.graph) else {
+        return Ok(());
+    };
+    dates[graph].reserve(added_of(edits, &run.graph))
+}
+
+// Makes room in the indices of the graphs for the dates of the runs that the edits add.
 fn room_in(
     graphs: &[LoadedGraph],
     dates: &mut Vec<RunIndex>,
     edits: &[Edit],
 ) -> Result<(), AllocError>
-    requires { length dates.old.items ≡ length graphs.now }
+    requires order { rises graph_before graphs.now ≡ true }
+    requires long { length dates.old.items ≡ length graphs.now }
     ensures dates { map (λ (x : Index). x.dates) dates.new.items ≡ map (λ (x : Index). x.dates) dates.old.items }
     ensures room { OnOk result (HaveRoom graphs.now edits.now dates.new.items) }
 {
-    for place in 0..graphs.len() {
-        let count = added_of(edits, &graphs[place].dag.spec().dag_id);
-        dates[place].reserve(count)?;
+    for place in 0..edits.len() {
+        room_at(graphs, dates, edits, place)?;
     }
     Ok(())
 }
@@ -52,7 +95,8 @@ pub fn room_for_dates(
     dates: &mut Vec<RunIndex>,
     rest: &Option<Rest>,
 ) -> Result<(), AllocError>
-    requires { length dates.old.items ≡ length graphs.now }
+    requires order { rises graph_before graphs.now ≡ true }
+    requires long { length dates.old.items ≡ length graphs.now }
     ensures dates { map (λ (x : Index). x.dates) dates.new.items ≡ map (λ (x : Index). x.dates) dates.old.items }
     ensures room { OnOk result (HaveRoomWith graphs.now rest.now dates.new.items) }
 {
@@ -62,48 +106,63 @@ pub fn room_for_dates(
     }
 }
 
-// The date of the run that the edit adds is added, where the run is of the graph.
-fn note_one(index: &mut RunIndex, id: &Name, edit: &Edit)
-    requires { cond (is_of id.now edit.now) 1 0 ≤ index.old.room }
-    ensures dates { (d : ℕ) → has_date index.new.dates d ≡ (adds id.now d edit.now || has_date index.old.dates d) }
-    ensures room { index.old.room ≤ index.new.room + cond (is_of id.now edit.now) 1 0 }
+// A date of a run of the graph is added, and the index is settled for the graph behind the last one.
+fn note_one(index: &mut RunIndex, dag: &Graph, date: Moment, is_last: bool)
+    requires { 0 < index.old.room }
+    ensures dates { (d : ℕ) → has_date index.new.dates d ≡ ((date == d) || has_date index.old.dates d) }
+    ensures room { index.old.room ≤ index.new.room + 1 }
 {
-    if let Some(run) = edit.added() {
-        if run.graph == *id {
-            index.add(run.logical);
-        }
+    index.add(date);
+    if is_last {
+        index.settle(dag);
     }
 }
 
-// The dates of the graph's runs that the edits add are added, and the index is settled for the graph where there are any.
-fn note_in(index: &mut RunIndex, dag: &Graph, edits: &[Edit])
-    requires { added_of dag.now.spec.dag_id edits.now ≤ index.old.room }
-    ensures { IsNoted dag.now.spec.dag_id edits.now index.old index.new }
+// Whether no edit behind this place adds a run of the graph with this id, where those of one graph stand one after another.
+fn is_last(edits: &[Edit], place: usize, id: &Name) -> bool
+    requires { place < length edits.now }
 {
-    let id = &dag.spec().dag_id;
-    if added_of(edits, id) == 0 {
+    match edits.get(place + 1) {
+        Some(edit) => !is_of(edit, id),
+        None => true,
+    }
+}
+
+// The date of the run that the edit at this place adds is added to those of its graph.
+fn note_at(graphs: &[LoadedGraph], dates: &mut Vec<RunIndex>, edits: &[Edit], place: usize)
+    requires order { rises graph_before graphs.now ≡ true }
+    requires long { length dates.old.items ≡ length graphs.now }
+    requires within { place < length edits.now }
+    requires room { CanNoteAt graphs.now edits.now place dates.old.items }
+    ensures noted { AreNotedAt graphs.now edits.now place dates.old.items dates.new.items }
+    ensures places { vec_capacity dates.new ≡ vec_capacity dates.old }
+{
+    let Some(run) = edits[place].added() else {
         return;
-    }
-    for edit in edits {
-        note_one(index, id, edit);
-    }
-    index.settle(dag);
+    };
+    let Some(graph) = position_named(graphs, &run.graph) else {
+        return;
+    };
+    let is_last = is_last(edits, place, &run.graph);
+    note_one(&mut dates[graph], &graphs[graph].dag, run.logical, is_last);
 }
 
-// The same for each graph.
+// The dates of the runs that the edits add are added.
 fn note_all(graphs: &[LoadedGraph], dates: &mut Vec<RunIndex>, edits: &[Edit])
+    requires order { rises graph_before graphs.now ≡ true }
     requires long { length dates.old.items ≡ length graphs.now }
     requires room { HaveRoom graphs.now edits.now dates.old.items }
     ensures noted { AreNoted graphs.now edits.now dates.old.items dates.new.items }
     ensures places { vec_capacity dates.new ≡ vec_capacity dates.old }
 {
-    for place in 0..graphs.len() {
-        note_in(&mut dates[place], &graphs[place].dag, edits);
+    for place in 0..edits.len() {
+        note_at(graphs, dates, edits, place);
     }
 }
 
 // The dates of the runs that a change adds are added.
 pub fn note(graphs: &[LoadedGraph], dates: &mut Vec<RunIndex>, rest: &Option<Rest>)
+    requires order { rises graph_before graphs.now ≡ true }
     requires long { length dates.old.items ≡ length graphs.now }
     requires room { HaveRoomWith graphs.now rest.now dates.old.items }
     ensures noted { AreNotedWith graphs.now rest.now dates.old.items dates.new.items }

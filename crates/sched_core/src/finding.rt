@@ -13,11 +13,11 @@ ghost use Rattle.sched_events.specs.SettledAndSound.{IsSoundAndSaid};
 ghost use Rattle.sched_core.specs.Books.{IsCounted};
 ghost use Rattle.sched_core.specs.Finding.{IsFoundIn, IsFoundAt, tries_in};
 
-use crate::lookups::graph_named;
 use crate::schedules::Schedule;
 use instance_machine::{Instance, Stage, Try};
 use pool_book::Slots;
 use run_lists::Runs;
+use sched_draft::graph_named;
 use sched_handout::Occupied;
 use std::alloc::{AllocError, Global};
 
@@ -80,18 +80,14 @@ fn open_at(runs: &Runs, positions: &[usize], serial: u64) -> Option<Found>
 }
 
 impl Schedule {
-    // The try without an end that has this serial. It looks at the running runs, and then at the queued ones; a finished run has none.
+    // The try without an end that has this serial. It looks at the runs that have a try in flight.
     pub(crate) fn open_try(&self, serial: u64) -> Option<Found>
         ensures one { option_map (λ f. f.one) result ≡ open_try self.now.content serial }
         ensures place { IfSome result (IsFoundAt serial self.now.content.runs) }
         ensures kept { IsSoundAndSaid self.now.content }
         ensures counted { IsCounted self.now.content }
     {
-        let found = open_at(&self.runs, self.runs.running(), serial);
-        if found.is_some() {
-            return found;
-        }
-        open_at(&self.runs, self.runs.queued(), serial)
+        open_at(&self.runs, self.runs.in_flight(), serial)
     }
 
     // What is occupied after a report on the try that was found: a try that ends gives its lane and its slots back.

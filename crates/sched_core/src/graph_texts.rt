@@ -1,14 +1,15 @@
 //! What a text makes of a graph, with the most of its tries that may be without an end.
-ghost use Rattle.std.specs.Prelude.{◌≡◌};
+ghost use Rattle.std.specs.Prelude.{◌≡◌, true};
 ghost use Rattle.sched_model.specs.Schedule as schedule;
 ghost use Rattle.sched_model.specs.Changes.{new_graph, taken_in, with_text};
-ghost use Rattle.sched_model.specs.Schedule.{graph_among};
+ghost use Rattle.sched_model.specs.Lists.{rises};
+ghost use Rattle.sched_model.specs.Schedule.{graph_among, graph_before};
 ghost use Rattle.sched_core.specs.Inside.{taken_among};
 
-use crate::lookups::graph_named;
 use dag_check::Graph;
 use graph_file::{Bounded, GraphSpec};
 use record_restoring::USUAL_BOUND;
+use sched_draft::graph_named;
 use sched_state::{GraphText, LoadedGraph};
 
 /// The bound that a file says, or the usual one (Airflow 2, the class DAG: max_active_tasks).
@@ -45,6 +46,7 @@ pub fn take_text(graph: &mut LoadedGraph, text: GraphText, dag: Graph)
 
 /// The bound of the graph that takes a text in, or of the new graph that it says: its own, where that is the text that it has already.
 pub fn bound_after(graphs: &[LoadedGraph], text: &GraphText, dag: &Graph) -> u32
+    requires { rises graph_before graphs.now ≡ true }
     ensures { result ≡ (taken_among text.now dag.now
         (graph_among graphs.now dag.now.spec.dag_id)).max_active_tasks }
 {

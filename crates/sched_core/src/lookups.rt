@@ -1,27 +1,17 @@
 //! Looking up graphs.
-ghost use Rattle.std.specs.Prelude.{◌≡◌, ◌<◌, find, Some};
-ghost use Rattle.std.specs.Option.{option_copied};
-ghost use Rattle.sched_state.specs.Lists.{same};
+ghost use Rattle.std.specs.Prelude.{◌≡◌, true};
+ghost use Rattle.sched_model.specs.Lists.{rises};
+ghost use Rattle.sched_model.specs.Schedule.{graph_before};
 ghost use Rattle.sched_core.specs.Inside.{IsPlaceOf};
 
 use graph_file::Name;
+use sched_draft::position_named;
 use sched_state::LoadedGraph;
 
-// The graph with this id.
-pub fn graph_named<'a>(graphs: &'a [LoadedGraph], id: &Name) -> Option<&'a LoadedGraph>
-    ensures { option_copied result ≡ find (λ g. same g.dag.spec.dag_id id.now) graphs.now }
-{
-    graphs.iter().find(|graph| graph.dag.spec().dag_id == *id)
-}
-
-// The place of the graph with this id.
+// The place of the graph with this id, by a binary search.
 pub fn position_of(graphs: &[LoadedGraph], id: &Name) -> Option<usize>
+    requires { rises graph_before graphs.now ≡ true }
     ensures { IsPlaceOf id.now graphs.now result }
 {
-    for (place, graph) in graphs.iter().enumerate() {
-        if graph.dag.spec().dag_id == *id {
-            return Some(place);
-        }
-    }
-    None
+    position_named(graphs, id)
 }

@@ -1,31 +1,13 @@
 //! Tries that were lost: those that had no end when a scheduler stopped.
 ghost use Rattle.std.specs.Prelude.{◌≡◌, ◌<◌, OnOk, length};
-ghost use Rattle.std.specs.List.{list_any};
 ghost use Rattle.instance_machine.specs.Reports.{lost_try};
 ghost use Rattle.sched_draft.specs.Drafts.{IsOwn};
 ghost use Rattle.sched_model.specs.Changes.{map_all_tries, map_tries_of};
 ghost use Rattle.sched_model.specs.Lists.{at};
-ghost use Rattle.sched_model.specs.States.{is_open};
-ghost use Rattle.sched_core.specs.Inside.{has_open};
 
-use instance_machine::{Instance, Try};
+use run_lists::has_open;
 use sched_draft::Draft;
-use sched_state::Run;
 use std::alloc::{AllocError, Global};
-
-// Whether a try of the instance has no end.
-fn is_open(instance: &Instance) -> bool
-    ensures { result ≡ list_any is_open instance.now.tries }
-{
-    instance.tries().iter().any(|one| one.ended.is_none())
-}
-
-// Whether a try of the run has no end.
-fn has_open(run: &Run) -> bool
-    ensures { result ≡ has_open run.now }
-{
-    run.instances.as_slice().iter().any(is_open)
-}
 
 // The tries without an end of the run at a position, which is the draft's own, are lost.
 fn lose_in(draft: &mut Draft<'_>, position: usize)

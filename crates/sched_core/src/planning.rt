@@ -18,7 +18,6 @@ ghost use Rattle.sched_core.specs.Effects.{applied, with_change, IsEffect, IsQui
 ghost use Rattle.sched_core.specs.Inside.{IsOver, IsLast, LeavesDags, completed, drafted_as, over};
 
 use crate::changes::{Change, Effect, GraphChange, Rest};
-use crate::lookups::graph_named;
 use crate::losing::lose_all;
 use crate::schedules::Schedule;
 use graph_file::{Name, Sequence};
@@ -27,7 +26,7 @@ use moment_core::Moment;
 use pool_book::{PoolFault, Pools, Slots};
 use record_rows::Rows;
 use sched_creation::{add, named_by_tick};
-use sched_draft::Draft;
+use sched_draft::{Draft, graph_named};
 use sched_events::{Answer, Event, Refusal, RunId};
 use sched_handout::{Occupied, hand_out};
 use sched_settling::{settle, settle_touched};

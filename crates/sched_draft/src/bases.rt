@@ -5,7 +5,8 @@ use run_lists::Runs;
 use sched_state::{Limits, LoadedGraph};
 use std::marker::Model;
 
-/// A schedule that is there, by its parts. Its pools are those of a book; what that has of taken slots is not looked at.
+/// A schedule that is there, by its parts. Its graphs stand in the order of their ids. Its pools are those of a book; what that has of taken
+/// slots is not looked at.
 ///
 /// Contracts see the schedule.
 #[derive(Drop)]
@@ -20,7 +21,9 @@ pub struct Base<'a> {
 }
 
 impl<'a> Model for Base<'a> {
-    ghost use Rattle.run_lists.specs.sched_model.Schedule.{Schedule};
+    ghost use Rattle.std.specs.Prelude.{◌≡◌, true};
+    ghost use Rattle.run_lists.specs.sched_model.Lists.{rises};
+    ghost use Rattle.run_lists.specs.sched_model.Schedule.{Schedule, graph_before};
     ghost use Rattle.sched_draft.specs.Books.{pools_in};
 
     ghost Value = { Schedule };
@@ -34,4 +37,6 @@ impl<'a> Model for Base<'a> {
       next = b.next;
       runs = b.runs.now.runs;
     } };
+
+    ghost invariant = { λ b. rises graph_before b.graphs.now ≡ true };
 }

@@ -12,6 +12,7 @@ ghost use Rattle.run_lists.specs.Orders.{IsFirstOf, IsRunAt, IsSpanOf, position_
 ghost use Rattle.run_lists.specs.Overlays.{AreAllTouched};
 ghost use Rattle.run_lists.specs.Positions.{positions_where, stands};
 ghost use Rattle.run_lists.specs.Touched.{touched_with};
+ghost use Rattle.run_lists.specs.declared.positions.Standing.TheVariants.{Running};
 ghost use Rattle.sched_state.specs.Lists.{insert_by};
 ghost use Rattle.sched_state.specs.declared.runs.Run.{Run};
 ghost use Rattle.run_lists.specs.sched_model.Clearing.{cleared};
@@ -56,7 +57,10 @@ pub struct Draft<'a> {
 }
 
 impl<'a> Model for Draft<'a> {
+    ghost use Rattle.std.specs.Prelude.{◌≡◌, true};
     ghost use Rattle.std.specs.Option.{option_copied};
+    ghost use Rattle.run_lists.specs.sched_model.Lists.{rises};
+    ghost use Rattle.run_lists.specs.sched_model.Schedule.{graph_before};
     ghost use Rattle.sched_draft.specs.Books.{pools_in};
     ghost use Rattle.sched_draft.specs.Drafts.{DraftValue};
     ghost use Rattle.sched_draft.specs.Parts.{with_other, with_pause};
@@ -76,6 +80,8 @@ impl<'a> Model for Draft<'a> {
       };
       touched = d.runs.touched;
     } };
+
+    ghost invariant = { λ d. (rises graph_before d.graphs.now ≡ true) × (d.graphs.now ≡ d.base.graphs) };
 }
 
 impl<'a> Draft<'a> {
@@ -181,7 +187,7 @@ impl<'a> Draft<'a> {
     /// The positions of the runs that are running, in their order. It looks at those of the schedule under it, and at the runs that are its own.
     /// An `Err` says that memory ran out.
     pub fn running(&self, alloc: Global) -> Result<Vec<usize>, AllocError>
-        ensures { IfOk result (λ positions. positions.items ≡ positions_where (stands true) self.now.content.runs) }
+        ensures { IfOk result (λ positions. positions.items ≡ positions_where (stands Running) self.now.content.runs) }
     {
         self.runs.running(alloc)
     }

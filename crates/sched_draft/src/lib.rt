@@ -11,9 +11,11 @@
 
 mod bases;
 mod drafts;
+mod finding;
 mod graphs;
 mod laws;
 
 pub use bases::Base;
 pub use drafts::Draft;
+pub use finding::{graph_named, position_named};
 pub use laws::tries_are_changed_at_one_place;

@@ -12,6 +12,7 @@ use Rattle.sched_model.specs.Schedule.{graph_among, is_running}
 use Rattle.sched_laws.proofs.DecisionLemmas.{by_bool}
 use Rattle.sched_handout.specs.Candidates.{AllMayOffer, AreCandidates, Head, IsCandidate, IsOffering, MayOffer, head, heads, is_going, may_offer, positions}
 use Rattle.sched_draft.specs.Parts.{positions_from, positions_where, stands}
+use Rattle.sched_draft.specs.run_lists.declared.positions.Standing.TheVariants.{Running}
 use Rattle.sched_handout.specs.declared.candidates.Candidate.{Candidate}
 use Rattle.sched_handout.proofs.ListLemmas.{added_get, map_get}
 
@@ -157,16 +158,16 @@ not_going gs h e = ap (λ b. h.running && b) e ∙ none_and h.running
 pub record IsFinding (gs : List LoadedGraph) (rs : List Run) (ps : List ℕ) (cs : List Candidate) : Type 0 where
   pub reached : ℕ
   pub found : AreFound gs (heads rs) reached cs
-  pub left : ps ≡ positions_from (stands true) reached (drop reached rs)
+  pub left : ps ≡ positions_from (stands Running) reached (drop reached rs)
 
 -- the first position that is left: its run is running, and before it nothing else may offer
 pub record IsNext (gs : List LoadedGraph) (rs : List Run) (n : ℕ) (ps : List ℕ) (cs : List Candidate) : Type 0 where
   pub within : n < length rs
   pub running : (r : Run) → slice_get rs n ≡ Some r → is_running r.phase ≡ true
   pub found : AreFound gs (heads rs) n cs
-  pub left : ps ≡ positions_from (stands true) (suc n) (drop (suc n) rs)
+  pub left : ps ≡ positions_from (stands Running) (suc n) (drop (suc n) rs)
 
-pub finding_first : (gs : List LoadedGraph) (rs : List Run) (left : List ℕ) → left ≡ positions_where (stands true) rs → IsFinding gs rs left []
+pub finding_first : (gs : List LoadedGraph) (rs : List Run) (left : List ℕ) → left ≡ positions_where (stands Running) rs → IsFinding gs rs left []
 finding_first gs rs left h = record { reached = 0; found = found_none gs (heads rs); left = h }
 
 first_dropped : (rs : List Run) (n : ℕ) (x : Run) (xs : List Run) → drop n rs ≡ x ∷ xs → (slice_get rs n ≡ Some x) × (drop (suc n) rs ≡ xs)
@@ -178,19 +179,19 @@ first_dropped (r ∷ rs) (suc n) x xs e = first_dropped rs n x xs e
 quiet_run : (gs : List LoadedGraph) (rs : List Run) (n : ℕ) (x : Run) → slice_get rs n ≡ Some x → is_running x.phase ≡ false → (h : Head) → slice_get (heads rs) n ≡ Some h → may_offer gs h ≡ false
 quiet_run gs rs n x there off h e = passed_over gs rs n x there (not_running gs (head x) off) h e
 
-next_in : (gs : List LoadedGraph) (rs : List Run) (cs : List Candidate) (xs : List Run) (n q : ℕ) (rest : List ℕ) → drop n rs ≡ xs → q ∷ rest ≡ positions_from (stands true) n xs → AreFound gs (heads rs) n cs → IsNext gs rs q rest cs
+next_in : (gs : List LoadedGraph) (rs : List Run) (cs : List Candidate) (xs : List Run) (n q : ℕ) (rest : List ℕ) → drop n rs ≡ xs → q ∷ rest ≡ positions_from (stands Running) n xs → AreFound gs (heads rs) n cs → IsNext gs rs q rest cs
 next_in gs rs cs [] n q rest d e h = absurd (let c : ◌≡◌ {A = List ℕ} (q ∷ rest) [] = e in cc)
 next_in gs rs cs (x ∷ xs) n q rest d e h =
     let f = first_dropped rs n x xs d in
     by_bool {C = IsNext gs rs q rest cs} (is_running x.phase)
     (λ on.
-    let c : ◌≡◌ {A = List ℕ} (q ∷ rest) (n ∷ positions_from (stands true) (suc n) xs) = e ∙ ap (λ b. cond b (n ∷ positions_from (stands true) (suc n) xs) (positions_from (stands true) (suc n) xs)) on in
+    let c : ◌≡◌ {A = List ℕ} (q ∷ rest) (n ∷ positions_from (stands Running) (suc n) xs) = e ∙ ap (λ b. cond b (n ∷ positions_from (stands Running) (suc n) xs) (positions_from (stands Running) (suc n) xs)) on in
     let i : n ≡ q = cc in
-    let j : rest ≡ positions_from (stands true) (suc n) xs = cc in
+    let j : rest ≡ positions_from (stands Running) (suc n) xs = cc in
     subst (λ m. IsNext gs rs m rest cs) i
-    (record { within = slice_get_within rs n x f.0; running = λ r g. let d : ◌≡◌ {A = Option Run} (Some r) (Some x) = sym g ∙ f.0 in let is : r ≡ x = cc in ap (λ (q : Run). is_running q.phase) is ∙ on; found = h; left = j ∙ ap (positions_from (stands true) (suc n)) (sym f.1) }))
+    (record { within = slice_get_within rs n x f.0; running = λ r g. let d : ◌≡◌ {A = Option Run} (Some r) (Some x) = sym g ∙ f.0 in let is : r ≡ x = cc in ap (λ (q : Run). is_running q.phase) is ∙ on; found = h; left = j ∙ ap (positions_from (stands Running) (suc n)) (sym f.1) }))
     (λ off.
-    let c : q ∷ rest ≡ positions_from (stands true) (suc n) xs = e ∙ ap (λ b. cond b (n ∷ positions_from (stands true) (suc n) xs) (positions_from (stands true) (suc n) xs)) off in
+    let c : q ∷ rest ≡ positions_from (stands Running) (suc n) xs = e ∙ ap (λ b. cond b (n ∷ positions_from (stands Running) (suc n) xs) (positions_from (stands Running) (suc n) xs)) off in
     let one : n + 1 ≡ suc n = omega arith in
     next_in gs rs cs xs (suc n) q rest f.1 c (subst (λ m. AreFound gs (heads rs) m cs) one (found_over gs (heads rs) n cs (quiet_run gs rs n x f.0 off) h)))
 
@@ -200,7 +201,7 @@ finding_next gs rs cs left rest q e h = next_in gs rs cs (drop h.reached rs) h.r
 pub finding_on : (gs : List LoadedGraph) (rs : List Run) (cs ds : List Candidate) (n : ℕ) (rest : List ℕ) → IsNext gs rs n rest cs → AreFound gs (heads rs) (n + 1) ds → IsFinding gs rs rest ds
 finding_on gs rs cs ds n rest h found = let one : n + 1 ≡ suc n = omega arith in record { reached = suc n; found = subst (λ m. AreFound gs (heads rs) m ds) one found; left = h.left }
 
-end_in : (gs : List LoadedGraph) (rs : List Run) (cs : List Candidate) (xs : List Run) (n : ℕ) → drop n rs ≡ xs → [] ≡ positions_from (stands true) n xs → AreFound gs (heads rs) n cs → AreCandidates gs (heads rs) cs
+end_in : (gs : List LoadedGraph) (rs : List Run) (cs : List Candidate) (xs : List Run) (n : ℕ) → drop n rs ≡ xs → [] ≡ positions_from (stands Running) n xs → AreFound gs (heads rs) n cs → AreCandidates gs (heads rs) cs
 end_in gs rs cs [] n d e h = found_all gs rs n cs (none_left rs n d) h
   where
     none_left : (qs : List Run) (n : ℕ) → drop n qs ≡ [] → length qs ≤ n
@@ -210,9 +211,9 @@ end_in gs rs cs [] n d e h = found_all gs rs n cs (none_left rs n d) h
 end_in gs rs cs (x ∷ xs) n d e h =
     let f = first_dropped rs n x xs d in
     by_bool {C = AreCandidates gs (heads rs) cs} (is_running x.phase)
-    (λ on. absurd (let c : ◌≡◌ {A = List ℕ} [] (n ∷ positions_from (stands true) (suc n) xs) = e ∙ ap (λ b. cond b (n ∷ positions_from (stands true) (suc n) xs) (positions_from (stands true) (suc n) xs)) on in cc))
+    (λ on. absurd (let c : ◌≡◌ {A = List ℕ} [] (n ∷ positions_from (stands Running) (suc n) xs) = e ∙ ap (λ b. cond b (n ∷ positions_from (stands Running) (suc n) xs) (positions_from (stands Running) (suc n) xs)) on in cc))
     (λ off.
-    let c : [] ≡ positions_from (stands true) (suc n) xs = e ∙ ap (λ b. cond b (n ∷ positions_from (stands true) (suc n) xs) (positions_from (stands true) (suc n) xs)) off in
+    let c : [] ≡ positions_from (stands Running) (suc n) xs = e ∙ ap (λ b. cond b (n ∷ positions_from (stands Running) (suc n) xs) (positions_from (stands Running) (suc n) xs)) off in
     let one : n + 1 ≡ suc n = omega arith in
     end_in gs rs cs xs (suc n) f.1 c (subst (λ m. AreFound gs (heads rs) m cs) one (found_over gs (heads rs) n cs (quiet_run gs rs n x f.0 off) h)))
 

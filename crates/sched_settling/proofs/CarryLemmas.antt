@@ -9,24 +9,24 @@ use Rattle.std.proofs.lemmas.List.Sums.{sum_by-append, sum_by-cons}
 use Rattle.std.proofs.lemmas.List.Elements.{filter-append}
 use Rattle.std.proofs.lemmas.Option.{slice_get_within}
 use Rattle.sched_state.specs.Lists.{same, name_cmp}
-use Rattle.sched_state.specs.declared.graphs.LoadedGraph.{LoadedGraph}
 use Rattle.sched_state.specs.declared.runs.Run.{Run}
-use Rattle.sched_state.proofs.NameLemmas.{same_is, same_itself}
+use Rattle.sched_state.proofs.NameLemmas.{same_itself}
 use Rattle.sched_state.proofs.OrderLemmas.{and_left, and_right, tie_then, nat_tie, less_no_tie}
 use Rattle.sched_model.specs.Lists.{rises}
-use Rattle.sched_model.specs.Schedule.{Schedule, graph_among, run_before, graph_before, is_at, is_queued, is_running}
+use Rattle.sched_model.specs.Schedule.{Schedule, run_before, is_at, is_queued, is_running}
 use Rattle.sched_laws.proofs.RunLemmas.{map_append}
 use Rattle.sched_laws.proofs.DecisionLemmas.{by_bool}
 use Rattle.std.proofs.lemmas.Map.Text.{is_eq-slice_cmp}
-use Rattle.sched_settling.specs.Marks.{CoversRuns, are_within, one_fewer, date_at, kept_dates, IsLine, AreLines, IsCountedDown}
+use Rattle.sched_settling.specs.Marks.{CoversRuns, are_within, id_before, ids_of, one_fewer, date_at, kept_dates, IsLine, IsCountedDown}
 use Rattle.sched_model.specs.States.{active_runs}
 use Rattle.dag_check.specs.Orders.{is_in}
 use Rattle.sched_settling.proofs.BeforeLemmas.{earlier_is}
 use Rattle.sched_settling.proofs.TouchedLemmas.{counted_over, line_over, touched_decisions, touched_ends}
 use Rattle.sched_laws.specs.Stages.{IsOrdered, CoversEnds}
-use Rattle.sched_settling.specs.Touched.{Mark, Kept, Changed, Added, Over, is_active, touched_of, replaced_of, positions_of, runs_at, bases_at, with_key, dates_queued, IsCountedIn, IsCountedOff, IsRunCounted, EachLine, AreFresh, IsCarried, over_runs, is_marked, is_near, IsTouched}
+use Rattle.sched_settling.specs.Touched.{Mark, Kept, Changed, Added, Over, is_active, touched_of, replaced_of, positions_of, runs_at, bases_at, with_key, dates_queued, IsCountedIn, IsCountedOff, IsRunCounted, EachLine, AreFresh, AreRecounted, IsCarried, over_runs, is_marked, is_near, IsTouched}
 use Rattle.sched_settling.specs.declared.lines.Line.{Line}
-use Rattle.sched_settling.proofs.LineLemmas.{same_dates, same_within, same_flips, same_both, graphs_apart, find_none, set_there, set_apart, set_long, queued_run, run_date}
+use Rattle.sched_settling.proofs.AmongLemmas.{ids_set, line_id, lines_differ, same_flips}
+use Rattle.sched_settling.proofs.LineLemmas.{same_dates, same_within, same_both, set_there, set_apart, queued_run, run_date}
 use Rattle.sched_laws.proofs.ListLemmas.{all_get}
 
 -- ---- the touched runs
@@ -248,49 +248,46 @@ off_one id r l e = by_bool {C = IsCountedOff id (r ∷ []) l (cond (same r.graph
     rw f (record { active = omega (arith, c); runs = refl; kept = refl; from = refl; touched = refl }))
 
 -- ---- all lines
-pub each_then : (P Q S : List ℕ → Line → Line → Type 0) → ((id : List ℕ) (l m n : Line) → P id l m → Q id m n → S id l n) → (gs : List LoadedGraph) (ls ms ns : List Line) → EachLine P gs ls ms → EachLine Q gs ms ns → EachLine S gs ls ns
-each_then P Q S f gs ls ms ns s t = (
+pub each_then : (P Q S : List ℕ → Line → Line → Type 0) → ((id : List ℕ) (l m n : Line) → P id l m → Q id m n → S id l n) → (ls ms ns : List Line) → EachLine P ls ms → EachLine Q ms ns → EachLine S ls ns
+each_then P Q S f ls ms ns s t = (
   t.0 ∙ s.0,
-  λ g n h x y.
-      let u = t.1 g n h x y in
-      let v = s.1 g u.0 h u.1.0 y in
-      (v.0, (v.1.0, f h.dag.spec.dag_id v.0 u.0 n v.1.1 u.1.1)),
+  λ i n x.
+      let u = t.1 i n x in
+      let v = s.1 i u.0 u.1.0 in
+      (v.0, (v.1.0, (u.1.1.0 ∙ v.1.1.0, f (v.0).id.now v.0 u.0 n v.1.1.1 (subst (λ (j : List ℕ). Q j u.0 n) v.1.1.0 u.1.1.1)))),
 )
 
-pub each_same : (P : List ℕ → Line → Line → Type 0) → (gs : List LoadedGraph) (ls : List Line) → ((h : LoadedGraph) (g : ℕ) (l : Line) → slice_get gs g ≡ Some h → P h.dag.spec.dag_id l l) → EachLine P gs ls ls
-each_same P gs ls f = (refl, λ g m h x y. (m, (x, f h g m y)))
+pub each_same : (P : List ℕ → Line → Line → Type 0) → (ls : List Line) → ((n : ℕ) (l : Line) → slice_get ls n ≡ Some l → P l.id.now l l) → EachLine P ls ls
+each_same P ls f = (refl, λ n m x. (m, (x, (refl, f n m x))))
 
 -- one line is another
-pub each_set : (P : List ℕ → Line → Line → Type 0) → (gs : List LoadedGraph) (id : List ℕ) (ls : List Line) (p : ℕ) (g : LoadedGraph) (l m : Line) → rises graph_before gs ≡ true → slice_get gs p ≡ Some g → same g.dag.spec.dag_id id ≡ true
-    → slice_get ls p ≡ Some l → P g.dag.spec.dag_id l m → ((h : LoadedGraph) (k : Line) → same id h.dag.spec.dag_id ≡ false → P h.dag.spec.dag_id k k) → EachLine P gs ls (set ls p m)
-each_set P gs id ls p g l m r e s f here others =
-    let id_is : g.dag.spec.dag_id ≡ id = same_is g.dag.spec.dag_id id s in
+pub each_set : (P : List ℕ → Line → Line → Type 0) → (ls : List Line) (p : ℕ) (l m : Line) → rises id_before (ids_of ls) ≡ true → slice_get ls p ≡ Some l → m.id.now ≡ l.id.now → P l.id.now l m
+    → ((k : Line) → same l.id.now k.id.now ≡ false → P k.id.now k k) → EachLine P ls (set ls p m)
+each_set P ls p l m r f named here others =
     let inside : p < length ls = slice_get_within ls p l f in (
-      set_long ls p m,
-      λ i n h x y. by_bool {C = (k : Line) × ((slice_get ls i ≡ Some k) × P h.dag.spec.dag_id k n)} (nat_eq i p)
+      ids_set ls p l m f named,
+      λ i n x. by_bool {C = (k : Line) × ((slice_get ls i ≡ Some k) × ((n.id.now ≡ k.id.now) × P k.id.now k n))} (nat_eq i p)
           (λ u.
           let j : i ≡ p = eqb-true i p u in
           let c : ◌≡◌ {A = Option Line} (Some m) (Some n) = sym (set_there ls p m inside) ∙ (ap (slice_get (set ls p m)) (sym j) ∙ x) in
           let n_is : m ≡ n = cc in
-          let d : ◌≡◌ {A = Option LoadedGraph} (Some g) (Some h) = sym e ∙ (ap (slice_get gs) (sym j) ∙ y) in
-          let h_is : g ≡ h = cc in
-          (l, (ap (slice_get ls) j ∙ f, subst (λ (z : Line). P h.dag.spec.dag_id l z) n_is (subst (λ (z : LoadedGraph). P z.dag.spec.dag_id l m) h_is here))))
+          (l, (ap (slice_get ls) j ∙ f, (ap line_id (sym n_is) ∙ named, subst (λ (z : Line). P l.id.now l z) n_is here))))
           (λ u.
-          let t : same id h.dag.spec.dag_id ≡ false = ap (λ z. same z h.dag.spec.dag_id) (sym id_is) ∙ graphs_apart gs p i g h r e y u in
-          (n, (sym (set_apart ls p i m u) ∙ x, others h n t))),
+          let old : slice_get ls i ≡ Some n = sym (set_apart ls p i m u) ∙ x in
+          (n, (old, (refl, others n (lines_differ ls p i l n r f old u))))),
     )
 
--- no graph has the id
-pub absent : (gs : List LoadedGraph) (id : List ℕ) (g : ℕ) (h : LoadedGraph) → graph_among gs id ≡ None → slice_get gs g ≡ Some h → same id h.dag.spec.dag_id ≡ false
-absent gs id g h e y = same_flips id h.dag.spec.dag_id ∙ find_none (λ (x : LoadedGraph). same x.dag.spec.dag_id id) gs g h e y
-
-pub off_each : (gs : List LoadedGraph) (r : Run) (ls ms : List Line) → is_running r.phase ≡ true → IsCountedDown gs r.graph ls ms → EachLine (λ id. IsCountedOff id (r ∷ [])) gs ls ms
-off_each gs r ls ms e s = (
-  s.long,
-  λ g m h x y.
-      let u = s.each g m h x y in
-      (u.0, (u.1.0, subst (IsCountedOff h.dag.spec.dag_id (r ∷ []) u.0) (sym u.1.1) (off_one h.dag.spec.dag_id r u.0 e))),
+pub off_each : (r : Run) (ls ms : List Line) → is_running r.phase ≡ true → IsCountedDown r.graph ls ms → EachLine (λ id. IsCountedOff id (r ∷ [])) ls ms
+off_each r ls ms e s = (
+  s.ids,
+  λ g m x.
+      let u = s.each g m x in
+      (u.0, (u.1.0, (ap line_id u.1.1 ∙ fewer_id (same r.graph (u.0).id.now) u.0, subst (IsCountedOff (u.0).id.now (r ∷ []) u.0) (sym u.1.1) (off_one (u.0).id.now r u.0 e)))),
 )
+  where
+    fewer_id : (b : Bool) (l : Line) → line_id (cond b (one_fewer l) l) ≡ l.id.now
+    fewer_id true l = refl
+    fewer_id false l = refl
 
 -- ---- the lines of the draft
 same_all : (p : Run → Bool) (ms : List Mark) (b : List Run) → list_all p b ≡ true → list_all p (touched_of ms b) ≡ true
@@ -345,7 +342,7 @@ in_at id (x ∷ rs) (suc n) r e f =
     (λ g. rw g (or_right (nat_eq x.logical r.logical) _ rest))
     (λ g. rw g rest)
 
-touched_has : (ms : List Mark) (b : List Run) (n : ℕ) (r : Run) → is_marked ms n ≡ true → slice_get b n ≡ Some r → (k : ℕ) × (slice_get (touched_of ms b) k ≡ Some r)
+pub touched_has : (ms : List Mark) (b : List Run) (n : ℕ) (r : Run) → is_marked ms n ≡ true → slice_get b n ≡ Some r → (k : ℕ) × (slice_get (touched_of ms b) k ≡ Some r)
 touched_has [] b n r m e = absurd (true≢false (sym m))
 touched_has (x ∷ ms) [] n r m e = absurd (let c : ◌≡◌ {A = Option Run} None (Some r) = e in cc)
 touched_has (Kept ∷ ms) (s ∷ b) zero r m e = absurd (true≢false (sym m))
@@ -390,15 +387,18 @@ carried a b ms id l m n h o s fresh t u =
           ∙ in_at id (touched_of ms b.runs) e.0 v.run e.1 (and_from (same (v.run).graph id) _ v.of v.queued));
     }
 
-pub carried_lines : (b : Schedule) (rs : List Run) (ms : List Mark) (ls ks ns : List Line) → rises run_before b.runs ≡ true → Over ms rs b.runs → AreLines ls (over_runs b rs) → AreFresh ls
-    → EachLine (λ id. IsCountedIn id (touched_of ms b.runs)) b.graphs ls ks → EachLine (λ id. IsCountedOff id (replaced_of ms rs)) b.graphs ks ns → AreLines ns b
-carried_lines b rs ms ls ks ns h o s fresh t u = record {
-  long = u.0 ∙ (t.0 ∙ s.long);
-  each = λ g n k x y.
-      let v = u.1 g n k x y in
-      let w = t.1 g v.0 k v.1.0 y in
-      line_over (over_runs b rs) b ms k.dag.spec.dag_id w.0 n o (s.each g w.0 k w.1.0 y)
-      (carried (over_runs b rs) b ms k.dag.spec.dag_id w.0 v.0 n h o (s.each g w.0 k w.1.0 y) (fresh g w.0 w.1.0) w.1.1 v.1.1);
+pub carried_lines : (b : Schedule) (rs : List Run) (ms : List Mark) (ls ks ns : List Line) → rises run_before b.runs ≡ true → Over ms rs b.runs → AreFresh (over_runs b rs) ls
+    → EachLine (λ id. IsCountedIn id (touched_of ms b.runs)) ls ks → EachLine (λ id. IsCountedOff id (replaced_of ms rs)) ks ns → AreRecounted b ls ns
+carried_lines b rs ms ls ks ns h o fresh t u = record {
+  ids = u.0 ∙ t.0;
+  each = λ n k x.
+      let v = u.1 n k x in
+      let w = t.1 n v.0 v.1.0 in
+      let id : List ℕ = (w.0).id.now in
+      let was = fresh n w.0 w.1.0 in
+      let off : IsCountedOff id (replaced_of ms rs) v.0 k = subst (λ (j : List ℕ). IsCountedOff j (replaced_of ms rs) v.0 k) w.1.1.0 v.1.1.1 in
+      subst (λ (j : List ℕ). IsLine b j k) (sym (v.1.1.0 ∙ w.1.1.0))
+      (line_over (over_runs b rs) b ms id w.0 k o was.0 (carried (over_runs b rs) b ms id w.0 v.0 k h o was.0 was.1 w.1.1.1 off));
 }
 
 -- ---- the positions of marks

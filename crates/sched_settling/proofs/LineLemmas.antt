@@ -1,9 +1,8 @@
 -- Graphs by position, and the first start.
-use Rattle.std.proofs.Common.{◌≡◌, ◌∙◌, refl, sym, ap, subst, ℕ, zero, suc, ◌+◌, ◌<◌, ◌≤◌, List, [], ◌∷◌, Bool, true, false, not, ◌&&◌, ◌||◌, cond, length, map, set, drop, drop-cons, get_or, slice_get, nat_lt, nat_eq, Option, Some, None, option_map, unwrap_or, inl, inr, true≢false, arith}
+use Rattle.std.proofs.Common.{◌≡◌, ◌∙◌, refl, sym, ap, subst, ℕ, zero, suc, ◌+◌, ◌<◌, ◌≤◌, List, [], ◌∷◌, Bool, true, false, not, ◌&&◌, ◌||◌, cond, length, map, set, drop, drop-cons, get_or, slice_get, nat_lt, nat_eq, Option, Some, None, option_and_then, option_map, unwrap_or, inl, inr, true≢false, arith}
 use Rattle.std.specs.List.{list_all, find}
-use Rattle.std.specs.Ordering.{nat_cmp, is_eq, ordering_then}
-use Rattle.std.specs.declared.cmp.Ordering.{Ordering}
-use Rattle.std.specs.declared.cmp.Ordering.TheVariants.{Less, Equal, Greater}
+use Rattle.std.specs.Ordering.{nat_cmp, ordering_then}
+use Rattle.std.specs.declared.cmp.Ordering.TheVariants.{Less}
 use Rattle.std.specs.List.{list_any}
 use Rattle.std.proofs.lemmas.Bool.{eqb-true, eqb-false, eq-eqb, ltb-true, ltb-false, lt-ltb, and_from, or_left, or_right, cases_lt}
 use Rattle.std.proofs.lemmas.Map.Text.{is_eq-slice_cmp}
@@ -17,23 +16,29 @@ use Rattle.sched_state.specs.declared.runs.Run.{Run}
 use Rattle.sched_state.specs.declared.runs.RunPhase.{RunPhase}
 use Rattle.sched_state.specs.declared.runs.RunPhase.TheVariants as phase
 use Rattle.sched_state.specs.declared.runs.RunPhase.TheVariants.{Running}
+use Rattle.sched_state.proofs.ElementLemmas.{element_at}
 use Rattle.sched_state.proofs.NameLemmas.{same_is, same_itself, find_passes}
 use Rattle.sched_state.proofs.OrderLemmas as order
 use Rattle.sched_state.proofs.OrderLemmas.{and_left, and_right, not_false}
 use Rattle.sched_model.specs.Lists.{at, rises}
-use Rattle.sched_model.specs.Schedule.{Schedule, graph_among, graph_before, run_before, is_queued, is_running, is_paused, max_active_runs_of, no_dag, is_at}
+use Rattle.sched_model.specs.Schedule.{Schedule, graph_among, graph_before, graph_named, run_before, is_queued, is_running, is_paused, max_active_runs_of, no_dag, is_at}
 use Rattle.sched_model.specs.States.{active_runs, is_earlier}
-use Rattle.sched_model.specs.Settle.{can_start, start_run}
-use Rattle.sched_laws.specs.Stages.{start_one, in_phase, phase_at}
+use Rattle.sched_model.specs.Settle.{can_start, finish_run, start_run}
+use Rattle.sched_laws.specs.Stages.{start_one, in_phase, phase_at, CoversStarts, also_graph}
+use Rattle.sched_laws.proofs.SettleLemmas.{when_some}
+use Rattle.sched_laws.proofs.StageLemmas.{phase_covers_starts}
 use Rattle.sched_laws.proofs.AddLemmas.{run_total}
 use Rattle.sched_laws.proofs.ListLemmas.{all_get}
 use Rattle.sched_laws.proofs.RankLemmas.{not_both}
 use Rattle.sched_laws.proofs.DecisionLemmas.{by_bool, change_first, change_quiet, at_known}
 use Rattle.run_lists.specs.Orders as lists
-use Rattle.sched_settling.specs.Marks.{DatesRise, are_within, date_in, dates_from, kept_dates, IsNextDate, IsQueuedOn, IsRunAt, NoneQueuedOn, IsTouchedFirst, is_waiting, comes_first, before_kept, date_at, IsQueue, IsFirstQueued, IsLine, AreLines, IsCountedDown, IsStartIn, NoStartIn, NoneBefore, NoneQueued, is_queued_run, is_queued_at, one_fewer}
+use Rattle.run_lists.proofs.OrderLemmas.{less_only}
+use Rattle.sched_settling.specs.Marks.{DatesRise, HasLineOf, has_line, id_before, ids_of, are_within, date_in, dates_from, kept_dates, IsNextDate, IsQueuedOn, IsRunAt, NoneQueuedOn, IsTouchedFirst, is_waiting, comes_first, before_kept, date_at, IsQueue, IsFirstQueued, IsLine, AreLines, IsCountedDown, IsStartIn, NoStartIn, NoneBefore, NoneQueued, is_queued_run, is_queued_at, one_fewer}
 use Rattle.sched_settling.specs.declared.lines.Line.{Line}
 use Rattle.sched_settling.proofs.MarkLemmas.{first_low, in_tail}
-use Rattle.sched_settling.proofs.PhaseLemmas.{phase_active, phase_queued, phase_date, phase_queue}
+use Rattle.sched_settling.specs.Touched.{HaveLinesOfAll}
+use Rattle.sched_settling.proofs.AmongLemmas.{among, has_at, has_same, id_at, ids_get, ids_set, less_apart, line_id, lines_differ, none_at, same_flips}
+use Rattle.sched_settling.proofs.PhaseLemmas.{end_facts, end_line, phase_active, phase_queued, phase_date, phase_queue}
 use Rattle.sched_settling.proofs.BeforeLemmas.{earlier_is}
 
 -- ---- lists in order
@@ -45,30 +50,9 @@ rises_get {X} before (z ∷ xs) zero (suc j) x y e f g l =
     ap (λ w. before w y) (sym r) ∙ all_get (before z) xs j y (and_left _ _ e) g
 rises_get before (z ∷ xs) (suc i) (suc j) x y e f g l = rises_get before xs i j x y (and_right (list_all (before z) xs) _ e) f g (omega arith)
 
-less_apart : (k : Ordering) → is_less k ≡ true → is_eq k ≡ false
-less_apart Less e = refl
-less_apart Equal e = absurd (true≢false (sym e))
-less_apart Greater e = refl
-
 -- graphs that stand in order have different ids
 before_apart : (g h : LoadedGraph) → graph_before g h ≡ true → same g.dag.spec.dag_id h.dag.spec.dag_id ≡ false
 before_apart g h e = sym (is_eq-slice_cmp g.dag.spec.dag_id h.dag.spec.dag_id) ∙ less_apart (name_cmp g.dag.spec.dag_id h.dag.spec.dag_id) e
-
-pub same_flips : (x y : List ℕ) → same x y ≡ same y x
-same_flips x y = by_bool {C = same x y ≡ same y x} (same x y)
-    (λ e. let i : x ≡ y = same_is x y e in ap (λ z. same z y) i ∙ ap (same y) (sym i))
-    (λ e. by_bool {C = same x y ≡ same y x} (same y x)
-    (λ f. let i : y ≡ x = same_is y x f in absurd (true≢false (sym (ap (λ z. same z y) (sym i) ∙ same_itself y) ∙ e)))
-    (λ f. e ∙ sym f))
-
-pub graphs_apart : (gs : List LoadedGraph) (i j : ℕ) (g h : LoadedGraph) → rises graph_before gs ≡ true → slice_get gs i ≡ Some g → slice_get gs j ≡ Some h → nat_eq j i ≡ false → same g.dag.spec.dag_id h.dag.spec.dag_id ≡ false
-graphs_apart gs i j g h r e f d = elim (cases_lt i j) [
-  | inl l ↦ before_apart g h (rises_get graph_before gs i j g h r e f l)
-  | inr l ↦
-      let n : (j ≡ i) → ⊥ = eqb-false j i d in
-      let k : j < i = omega arith in
-      same_flips g.dag.spec.dag_id h.dag.spec.dag_id ∙ before_apart h g (rises_get graph_before gs j i h g r f e k)
-]
 
 -- the graph at a position is that with its id
 pub found_at : (gs : List LoadedGraph) (i : ℕ) (g : LoadedGraph) → rises graph_before gs ≡ true → slice_get gs i ≡ Some g → graph_among gs g.dag.spec.dag_id ≡ Some g
@@ -120,32 +104,29 @@ set_long [] (suc i) y = refl
 set_long (x ∷ xs) zero y = refl
 set_long (x ∷ xs) (suc i) y = ap suc (set_long xs i y)
 
-pub counted_some : (gs : List LoadedGraph) (id : List ℕ) (ls : List Line) (p : ℕ) (g : LoadedGraph) (l : Line) → rises graph_before gs ≡ true → slice_get gs p ≡ Some g → same g.dag.spec.dag_id id ≡ true
-    → slice_get ls p ≡ Some l → IsCountedDown gs id ls (set ls p (one_fewer l))
-counted_some gs id ls p g l r e s f =
-    let id_is : g.dag.spec.dag_id ≡ id = same_is g.dag.spec.dag_id id s in
+pub counted_some : (id : List ℕ) (ls : List Line) (p : ℕ) (l : Line) → rises id_before (ids_of ls) ≡ true → slice_get ls p ≡ Some l → l.id.now ≡ id → IsCountedDown id ls (set ls p (one_fewer l))
+counted_some id ls p l r f named =
     let inside : p < length ls = slice_get_within ls p l f in
     record {
-      long = set_long ls p (one_fewer l);
-      each = λ i m h x y. by_bool {C = (k : Line) × ((slice_get ls i ≡ Some k) × (m ≡ cond (same id h.dag.spec.dag_id) (one_fewer k) k))} (nat_eq i p)
+      ids = ids_set ls p l (one_fewer l) f refl;
+      each = λ i m x. by_bool {C = (k : Line) × ((slice_get ls i ≡ Some k) × (m ≡ cond (same id k.id.now) (one_fewer k) k))} (nat_eq i p)
           (λ u.
           let j : i ≡ p = eqb-true i p u in
           let c : ◌≡◌ {A = Option Line} (Some (one_fewer l)) (Some m) = sym (set_there ls p (one_fewer l) inside) ∙ (ap (slice_get (set ls p (one_fewer l))) (sym j) ∙ x) in
           let m_is : one_fewer l ≡ m = cc in
-          let d : ◌≡◌ {A = Option LoadedGraph} (Some g) (Some h) = sym e ∙ (ap (slice_get gs) (sym j) ∙ y) in
-          let h_is : g ≡ h = cc in
-          let t : same id h.dag.spec.dag_id ≡ true = subst (λ (z : LoadedGraph). same id z.dag.spec.dag_id ≡ true) h_is (ap (same id) id_is ∙ same_itself id) in
+          let t : same id l.id.now ≡ true = ap (same id) named ∙ same_itself id in
           (l, (ap (slice_get ls) j ∙ f, sym m_is ∙ sym (ap (λ b. cond b (one_fewer l) l) t))))
           (λ u.
-          let t : same id h.dag.spec.dag_id ≡ false = ap (λ z. same z h.dag.spec.dag_id) (sym id_is) ∙ graphs_apart gs p i g h r e y u in
-          (m, (sym (set_apart ls p i (one_fewer l) u) ∙ x, sym (ap (λ b. cond b (one_fewer m) m) t))));
+          let old : slice_get ls i ≡ Some m = sym (set_apart ls p i (one_fewer l) u) ∙ x in
+          let t : same id m.id.now ≡ false = ap (λ (j : List ℕ). same j m.id.now) (sym named) ∙ lines_differ ls p i l m r f old u in
+          (m, (old, sym (ap (λ b. cond b (one_fewer m) m) t))));
     }
 
-pub counted_none : (gs : List LoadedGraph) (id : List ℕ) (ls : List Line) → graph_among gs id ≡ None → IsCountedDown gs id ls ls
-counted_none gs id ls e = record {
-  long = refl;
-  each = λ i m h x y.
-      let t : same id h.dag.spec.dag_id ≡ false = same_flips id h.dag.spec.dag_id ∙ find_none (λ (g : LoadedGraph). same g.dag.spec.dag_id id) gs i h e y in
+pub counted_none : (id : List ℕ) (ls : List Line) → has_line ls id ≡ false → IsCountedDown id ls ls
+counted_none id ls e = record {
+  ids = refl;
+  each = λ i m x.
+      let t : same id m.id.now ≡ false = same_flips id m.id.now ∙ none_at (ids_of ls) i m.id.now id e (ids_get ls i m x) in
       (m, (x, sym (ap (λ b. cond b (one_fewer m) m) t)));
 }
 
@@ -372,55 +353,67 @@ other_line a n w id l e s t =
       queue = phase_queue phase.Running n a id l refl t.queue;
     }
 
-pub start_lines : (a b : Schedule) (p n : ℕ) (g : LoadedGraph) (ls : List Line) (l : Line) → rises graph_before a.graphs ≡ true → slice_get a.graphs p ≡ Some g → AreLines ls a → IsStartIn g.dag.spec.dag_id l a b n
-    → AreLines (set ls p l) b
-start_lines a b p n g ls l r e s t =
-    let inside : p < length ls = let k : p < length a.graphs = slice_get_within a.graphs p g e in let long : length ls ≡ length a.graphs = s.long in omega arith in
-    let id_is : t.run.graph ≡ g.dag.spec.dag_id = same_is t.run.graph g.dag.spec.dag_id t.of in
-    let here : IsLine (phase_at phase.Running n a) g.dag.spec.dag_id l = subst (λ (x : Schedule). IsLine x g.dag.spec.dag_id l) t.after t.line in
+-- where the lines are of the same graphs and of one more, what can start is of them too
+more_startings : (a : Schedule) (id : List ℕ) (ls ms : List Line) → ids_of ms ≡ ids_of ls → CoversStarts (also_graph id (has_line ls)) a → ((m : ℕ) (r : Run) → slice_get a.runs m ≡ Some r → can_start a r ≡ true → same id r.graph ≡ true → has_line ls r.graph ≡ true)
+    → CoversStarts (has_line ms) a
+more_startings a id ls ms ids s one m r q there f =
+    let can : can_start a r ≡ true = (when_some (can_start a r) (record r { phase = Running }) q f).0 in
+    let old : has_line ls r.graph ≡ true = by_bool {C = has_line ls r.graph ≡ true} (same id r.graph)
+    (λ e. one m r there can e)
+    (λ e. or_first (has_line ls r.graph) (same id r.graph) (s m r q there f) e) in
+    ap (λ js. among js r.graph) ids ∙ old
+
+pub start_lines : (a b : Schedule) (p n : ℕ) (ls : List Line) (k l : Line) → slice_get ls p ≡ Some k → l.id.now ≡ k.id.now → AreLines ls a → IsStartIn k.id.now l a b n → AreLines (set ls p l) b
+start_lines a b p n ls k l e named s t =
+    let inside : p < length ls = slice_get_within ls p k e in
+    let id_is : t.run.graph ≡ k.id.now = same_is t.run.graph k.id.now t.of in
+    let here : IsLine (phase_at phase.Running n a) k.id.now l = subst (λ (x : Schedule). IsLine x k.id.now l) t.after t.line in
+    let ids : ids_of (set ls p l) ≡ ids_of ls = ids_set ls p k l e named in
     subst (AreLines (set ls p l)) (sym t.after) (record {
-      long = set_long ls p l ∙ s.long;
-      each = λ i m h x y. by_bool {C = IsLine (phase_at phase.Running n a) h.dag.spec.dag_id m} (nat_eq i p)
+      rising = ap (rises id_before) ids ∙ s.rising;
+      each = λ i m x. by_bool {C = IsLine (phase_at phase.Running n a) m.id.now m} (nat_eq i p)
           (λ u.
           let j : i ≡ p = eqb-true i p u in
           let c : ◌≡◌ {A = Option Line} (Some l) (Some m) = sym (set_there ls p l inside) ∙ (ap (slice_get (set ls p l)) (sym j) ∙ x) in
           let m_is : l ≡ m = cc in
-          let d : ◌≡◌ {A = Option LoadedGraph} (Some g) (Some h) = sym e ∙ (ap (slice_get a.graphs) (sym j) ∙ y) in
-          let h_is : g ≡ h = cc in
-          subst (λ (z : Line). IsLine (phase_at phase.Running n a) h.dag.spec.dag_id z) m_is (subst (λ (z : LoadedGraph). IsLine (phase_at phase.Running n a) z.dag.spec.dag_id l) h_is here))
-          (λ u. other_line a n t.run h.dag.spec.dag_id m t.run_is (ap (λ z. same z h.dag.spec.dag_id) id_is ∙ graphs_apart a.graphs p i g h r e y u)
-          (s.each i m h (sym (set_apart ls p i l u) ∙ x) y));
+          subst (λ (z : Line). IsLine (phase_at phase.Running n a) z.id.now z) m_is (subst (λ (i : List ℕ). IsLine (phase_at phase.Running n a) i l) (sym named) here))
+          (λ u.
+          let old : slice_get ls i ≡ Some m = sym (set_apart ls p i l u) ∙ x in
+          other_line a n t.run m.id.now m t.run_is (ap (λ (z : List ℕ). same z m.id.now) id_is ∙ lines_differ ls p i k m s.rising e old u) (s.each i m old));
+      startings = more_startings (phase_at phase.Running n a) t.run.graph ls (set ls p l) ids (phase_covers_starts (has_line ls) a phase.Running n t.run t.run_is s.startings)
+          (λ m r there can f. has_at (ids_of ls) p k.id.now r.graph (ids_get ls p k e) (ap (λ (i : List ℕ). same i r.graph) (sym id_is) ∙ f));
     })
 
-pub same_lines : (a b : Schedule) (p : ℕ) (g : LoadedGraph) (ls : List Line) (l : Line) → slice_get a.graphs p ≡ Some g → AreLines ls a → NoStartIn g.dag.spec.dag_id l a b → AreLines (set ls p l) b
-same_lines a b p g ls l e s t =
-    let inside : p < length ls = let k : p < length a.graphs = slice_get_within a.graphs p g e in let long : length ls ≡ length a.graphs = s.long in omega arith in
+pub same_lines : (a b : Schedule) (p : ℕ) (ls : List Line) (k l : Line) → slice_get ls p ≡ Some k → l.id.now ≡ k.id.now → AreLines ls a → NoStartIn k.id.now l a b → AreLines (set ls p l) b
+same_lines a b p ls k l e named s t =
+    let inside : p < length ls = slice_get_within ls p k e in
+    let ids : ids_of (set ls p l) ≡ ids_of ls = ids_set ls p k l e named in
     subst (AreLines (set ls p l)) (sym t.same) (record {
-      long = set_long ls p l ∙ s.long;
-      each = λ i m h x y. by_bool {C = IsLine a h.dag.spec.dag_id m} (nat_eq i p)
+      rising = ap (rises id_before) ids ∙ s.rising;
+      each = λ i m x. by_bool {C = IsLine a m.id.now m} (nat_eq i p)
           (λ u.
           let j : i ≡ p = eqb-true i p u in
           let c : ◌≡◌ {A = Option Line} (Some l) (Some m) = sym (set_there ls p l inside) ∙ (ap (slice_get (set ls p l)) (sym j) ∙ x) in
           let m_is : l ≡ m = cc in
-          let d : ◌≡◌ {A = Option LoadedGraph} (Some g) (Some h) = sym e ∙ (ap (slice_get a.graphs) (sym j) ∙ y) in
-          let h_is : g ≡ h = cc in
-          subst (λ (z : Line). IsLine a h.dag.spec.dag_id z) m_is (subst (λ (z : LoadedGraph). IsLine a z.dag.spec.dag_id l) h_is t.line))
-          (λ u. s.each i m h (sym (set_apart ls p i l u) ∙ x) y);
+          subst (λ (z : Line). IsLine a z.id.now z) m_is (subst (λ (i : List ℕ). IsLine a i l) (sym named) t.line))
+          (λ u. s.each i m (sym (set_apart ls p i l u) ∙ x));
+      startings = λ m r q there f. ap (λ js. among js r.graph) ids ∙ s.startings m r q there f;
     })
 
 -- ---- the first start
--- no run of the graphs before a position can start
-abbrev pub NoneIn : Schedule → ℕ → Type 0
-NoneIn a p = (i : ℕ) (g : LoadedGraph) → i < p → slice_get a.graphs i ≡ Some g → NoneBefore a g.dag.spec.dag_id (length a.runs)
+-- no run of the first graphs can start
+abbrev pub NoneIn : Schedule → List (List ℕ) → ℕ → Type 0
+NoneIn a is p = (n : ℕ) (i : List ℕ) → n < p → slice_get is n ≡ Some i → NoneBefore a i (length a.runs)
 
 -- a run that can start has its graph
 pub record StartPlace (a : Schedule) (r : Run) : Type 0 where
   pub place : ℕ
   pub graph : LoadedGraph
+  pub found : graph_named a r.graph ≡ Some graph
   pub there : slice_get a.graphs place ≡ Some graph
   pub of : same r.graph graph.dag.spec.dag_id ≡ true
 
-start_place : (a : Schedule) (r : Run) → can_start a r ≡ true → StartPlace a r
+pub start_place : (a : Schedule) (r : Run) → can_start a r ≡ true → StartPlace a r
 start_place a r e = elim (graph_among a.graphs r.graph) as (λ o. graph_among a.graphs r.graph ≡ o → StartPlace a r) [
   | None ↦ λ f.
       let room : nat_lt (active_runs a r.graph) (max_active_runs_of a r.graph) ≡ true = and_right (not (is_paused a r.graph)) _ (and_right (is_queued r.phase) _ e) in
@@ -429,42 +422,8 @@ start_place a r e = elim (graph_among a.graphs r.graph) as (λ o. graph_among a.
       absurd (omega arith)
   | Some g ↦ λ f.
       let t = find_place (λ (h : LoadedGraph). same h.dag.spec.dag_id r.graph) a.graphs g f in
-      record { place = t.0; graph = g; there = t.1; of = same_flips r.graph g.dag.spec.dag_id ∙ find_passes (λ (h : LoadedGraph). same h.dag.spec.dag_id r.graph) a.graphs g f }
+      record { place = t.0; graph = g; found = f; there = t.1; of = same_flips r.graph g.dag.spec.dag_id ∙ find_passes (λ (h : LoadedGraph). same h.dag.spec.dag_id r.graph) a.graphs g f }
 ] refl
-
-less_is : (k : Ordering) → is_less k ≡ true → k ≡ Less
-less_is Less e = refl
-less_is Equal e = absurd (true≢false (sym e))
-less_is Greater e = absurd (true≢false (sym e))
-
-graph_first : (r q : Run) (g h : LoadedGraph) → same r.graph g.dag.spec.dag_id ≡ true → same q.graph h.dag.spec.dag_id ≡ true → graph_before g h ≡ true → run_before r q ≡ true
-graph_first r q g h s t e =
-    let i : r.graph ≡ g.dag.spec.dag_id = same_is r.graph g.dag.spec.dag_id s in
-    let j : q.graph ≡ h.dag.spec.dag_id = same_is q.graph h.dag.spec.dag_id t in
-    let k : name_cmp r.graph q.graph ≡ Less = ap (λ z. name_cmp z q.graph) i ∙ (ap (name_cmp g.dag.spec.dag_id) j ∙ less_is (name_cmp g.dag.spec.dag_id h.dag.spec.dag_id) e) in
-    ap (λ z. is_less (ordering_then z (nat_cmp r.logical q.logical))) k
-
--- of runs before that which starts none can start
-first_starts : (a b : Schedule) (p n : ℕ) (g : LoadedGraph) (l : Line) → rises run_before a.runs ≡ true → rises graph_before a.graphs ≡ true → slice_get a.graphs p ≡ Some g → NoneIn a p
-    → IsStartIn g.dag.spec.dag_id l a b n → (k : ℕ) (q : Run) → k < n → slice_get a.runs k ≡ Some q → can_start a q ≡ false
-first_starts a b p n g l r o e none t k q below there = by_bool {C = can_start a q ≡ false} (can_start a q)
-    (λ can. absurd (
-    let u = start_place a q can in
-    let inside : k < length a.runs = slice_get_within a.runs k q there in
-    elim (cases_lt u.place p) [
-      | inl lower ↦ true≢false (sym can ∙ none u.place u.graph lower u.there k q inside there u.of)
-      | inr upper ↦ by_bool {C = ⊥} (nat_eq u.place p)
-          (λ d.
-          let c : ◌≡◌ {A = Option LoadedGraph} (Some u.graph) (Some g) = sym u.there ∙ (ap (slice_get a.graphs) (eqb-true u.place p d) ∙ e) in
-          let same_graph : u.graph ≡ g = cc in
-          true≢false (sym can ∙ t.before k q below there (subst (λ (x : LoadedGraph). same q.graph x.dag.spec.dag_id ≡ true) same_graph u.of)))
-          (λ d.
-          let apart : (u.place ≡ p) → ⊥ = eqb-false u.place p d in
-          let later : p < u.place = omega arith in
-          let after : run_before t.run q ≡ true = graph_first t.run q g u.graph t.of u.of (rises_get graph_before a.graphs p u.place g u.graph o e u.there later) in
-          true≢false (sym after ∙ not_both run_total q t.run (rises_get run_before a.runs k n q t.run r there t.run_is below)))
-    ]))
-    (λ can. can)
 
 stays : (a : Schedule) (r : Run) → can_start a r ≡ false → start_run a r ≡ None
 stays a r e = ap (λ b. when b (record r { phase = Running })) e
@@ -472,30 +431,112 @@ stays a r e = ap (λ b. when b (record r { phase = Running })) e
 starts : (a : Schedule) (r : Run) → can_start a r ≡ true → start_run a r ≡ Some (in_phase Running r)
 starts a r e = ap (λ b. when b (record r { phase = Running })) e
 
-pub start_there : (a b : Schedule) (p n : ℕ) (g : LoadedGraph) (l : Line) → rises run_before a.runs ≡ true → rises graph_before a.graphs ≡ true → slice_get a.graphs p ≡ Some g → NoneIn a p
-    → IsStartIn g.dag.spec.dag_id l a b n → start_one a ≡ Some b
-start_there a b p n g l r o e none t =
+id_first : (r q : Run) (i j : List ℕ) → same r.graph i ≡ true → same q.graph j ≡ true → id_before i j ≡ true → run_before r q ≡ true
+id_first r q i j s t e =
+    let k : name_cmp r.graph q.graph ≡ Less = ap (λ z. name_cmp z q.graph) (same_is r.graph i s) ∙ (ap (name_cmp i) (same_is q.graph j t) ∙ less_only (name_cmp i j) e) in
+    ap (λ z. is_less (ordering_then z (nat_cmp r.logical q.logical))) k
+
+-- of runs before that which starts none can start
+first_starts : (a b : Schedule) (is : List (List ℕ)) (p n : ℕ) (id : List ℕ) (l : Line) → rises run_before a.runs ≡ true → rises id_before is ≡ true → CoversStarts (among is) a → slice_get is p ≡ Some id → NoneIn a is p
+    → IsStartIn id l a b n → (k : ℕ) (q : Run) → k < n → slice_get a.runs k ≡ Some q → can_start a q ≡ false
+first_starts a b is p n id l r o covers e none t k q below there = by_bool {C = can_start a q ≡ false} (can_start a q)
+    (λ can. absurd (
+    let u = id_at is q.graph (covers k q (in_phase Running q) there (starts a q can)) in
+    let inside : k < length a.runs = slice_get_within a.runs k q there in
+    elim (cases_lt u.place p) [
+      | inl lower ↦ true≢false (sym can ∙ none u.place q.graph lower u.there k q inside there (same_itself q.graph))
+      | inr upper ↦ by_bool {C = ⊥} (nat_eq u.place p)
+          (λ d.
+          let c : ◌≡◌ {A = Option (List ℕ)} (Some q.graph) (Some id) = sym u.there ∙ (ap (slice_get is) (eqb-true u.place p d) ∙ e) in
+          let named : q.graph ≡ id = cc in
+          true≢false (sym can ∙ t.before k q below there (ap (same q.graph) (sym named) ∙ same_itself q.graph)))
+          (λ d.
+          let apart : (u.place ≡ p) → ⊥ = eqb-false u.place p d in
+          let later : p < u.place = omega arith in
+          let after : run_before t.run q ≡ true = id_first t.run q id q.graph t.of (same_itself q.graph) (rises_get id_before is p u.place id q.graph o e u.there later) in
+          true≢false (sym after ∙ not_both run_total q t.run (rises_get run_before a.runs k n q t.run r there t.run_is below)))
+    ]))
+    (λ can. can)
+
+pub start_there : (a b : Schedule) (is : List (List ℕ)) (p n : ℕ) (id : List ℕ) (l : Line) → rises run_before a.runs ≡ true → rises id_before is ≡ true → CoversStarts (among is) a → slice_get is p ≡ Some id → NoneIn a is p
+    → IsStartIn id l a b n → start_one a ≡ Some b
+start_there a b is p n id l r o covers e none t =
     let first : first_change (start_run a) a.runs ≡ Some (at (λ z. in_phase Running t.run) n a.runs) =
-    change_first (λ i q. start_run a q) 0 n a.runs t.run (in_phase Running t.run) t.run_is (starts a t.run t.can) (λ k q below there. stays a q (first_starts a b p n g l r o e none t k q below there)) in
+    change_first (λ i q. start_run a q) 0 n a.runs t.run (in_phase Running t.run) t.run_is (starts a t.run t.can) (λ k q below there. stays a q (first_starts a b is p n id l r o covers e none t k q below there)) in
     ap (option_map (λ rs. record a { runs = rs })) (first ∙ ap (λ rs. Some rs) (at_known (in_phase Running) n a.runs t.run t.run_is)) ∙ ap (λ s. Some s) (sym t.after)
 
-pub start_none : (a : Schedule) (p : ℕ) → NoneIn a p → length a.graphs ≤ p → start_one a ≡ None
-start_none a p none l =
+pub start_none : (a : Schedule) (is : List (List ℕ)) (p : ℕ) → CoversStarts (among is) a → NoneIn a is p → length is ≤ p → start_one a ≡ None
+start_none a is p covers none l =
     ap (option_map (λ rs. record a { runs = rs }))
     (change_quiet (λ i q. start_run a q) 0 a.runs (λ k q there. stays a q (by_bool {C = can_start a q ≡ false} (can_start a q)
     (λ can.
-    let u = start_place a q can in
-    let lower : u.place < length a.graphs = slice_get_within a.graphs u.place u.graph u.there in
-    absurd (true≢false (sym can ∙ none u.place u.graph (omega arith) u.there k q (slice_get_within a.runs k q there) there u.of)))
+    let u = id_at is q.graph (covers k q (in_phase Running q) there (starts a q can)) in
+    let lower : u.place < length is = slice_get_within is u.place q.graph u.there in
+    absurd (true≢false (sym can ∙ none u.place q.graph (omega arith) u.there k q (slice_get_within a.runs k q there) there (same_itself q.graph))))
     (λ can. can))))
 
-pub none_next : (a : Schedule) (p : ℕ) (g : LoadedGraph) → NoneIn a p → slice_get a.graphs p ≡ Some g → NoneBefore a g.dag.spec.dag_id (length a.runs) → NoneIn a (p + 1)
-none_next a p g none e f i h l there = by_bool {C = NoneBefore a h.dag.spec.dag_id (length a.runs)} (nat_eq i p)
+pub none_next : (a : Schedule) (is : List (List ℕ)) (p : ℕ) (id : List ℕ) → NoneIn a is p → slice_get is p ≡ Some id → NoneBefore a id (length a.runs) → NoneIn a is (p + 1)
+none_next a is p id none e f n i l there = by_bool {C = NoneBefore a i (length a.runs)} (nat_eq n p)
     (λ u.
-    let c : ◌≡◌ {A = Option LoadedGraph} (Some g) (Some h) = sym e ∙ (ap (slice_get a.graphs) (sym (eqb-true i p u)) ∙ there) in
-    let is : g ≡ h = cc in
-    subst (λ (x : LoadedGraph). NoneBefore a x.dag.spec.dag_id (length a.runs)) is f)
-    (λ u. let apart : (i ≡ p) → ⊥ = eqb-false i p u in none i h (omega arith) there)
+    let c : ◌≡◌ {A = Option (List ℕ)} (Some id) (Some i) = sym e ∙ (ap (slice_get is) (sym (eqb-true n p u)) ∙ there) in
+    let is_id : id ≡ i = cc in
+    subst (λ (x : List ℕ). NoneBefore a x (length a.runs)) is_id f)
+    (λ u. let apart : (n ≡ p) → ⊥ = eqb-false n p u in none n i (omega arith) there)
+
+-- no run of a graph that is not there can start
+pub none_unknown : (a : Schedule) (id : List ℕ) (n : ℕ) → graph_named a id ≡ None → NoneBefore a id n
+none_unknown a id n e k q l there of = by_bool {C = can_start a q ≡ false} (can_start a q)
+    (λ can.
+    let u = start_place a q can in
+    let c : ◌≡◌ {A = Option LoadedGraph} (Some u.graph) None = sym u.found ∙ (ap (graph_named a) (same_is q.graph id of) ∙ e) in
+    absurd cc)
+    (λ can. can)
+
+-- ---- lines under an end
+pub end_lines : (a b : Schedule) (n : ℕ) (w : Run) (ph : RunPhase) (ls ms : List Line) → slice_get a.runs n ≡ Some w → finish_run a w ≡ Some (in_phase ph w) → b ≡ phase_at ph n a
+    → AreLines ls a → HasLineOf a w.graph ls → IsCountedDown w.graph ls ms → AreLines ms b
+end_lines a b n w ph ls ms e f is s has d =
+    let t = end_facts a w ph f in
+    subst (AreLines ms) (sym is) (record {
+      rising = ap (rises id_before) d.ids ∙ s.rising;
+      each = λ g m x.
+          let u = d.each g m x in
+          let named : m.id.now ≡ (u.0).id.now = ap line_id u.1.1 ∙ fewer_id (same w.graph (u.0).id.now) u.0 in
+          subst (λ (i : List ℕ). IsLine (phase_at ph n a) i m) (sym named)
+          (subst (IsLine (phase_at ph n a) (u.0).id.now) (sym u.1.1) (end_line a n w ph (u.0).id.now u.0 e t (s.each g u.0 u.1.0)));
+      startings = more_startings (phase_at ph n a) w.graph ls ms d.ids (phase_covers_starts (has_line ls) a ph n w e s.startings)
+          (λ m r there can g.
+          let p = start_place (phase_at ph n a) r can in
+          let same_graph : w.graph ≡ r.graph = same_is w.graph r.graph g in
+          has_same (ids_of ls) w.graph r.graph g (has p.graph (ap (graph_named a) same_graph ∙ p.found)));
+    })
+  where
+    fewer_id : (b : Bool) (l : Line) → line_id (cond b (one_fewer l) l) ≡ l.id.now
+    fewer_id true l = refl
+    fewer_id false l = refl
+
+-- there is a line of each graph of which a run can start, where there is one of each graph
+pub all_startings : (a : Schedule) (ls ms : List Line) → ids_of ms ≡ ids_of ls → HaveLinesOfAll a.graphs ls → CoversStarts (has_line ms) a
+all_startings a ls ms ids all m r q there f =
+    let can : can_start a r ≡ true = (when_some (can_start a r) (record r { phase = Running }) q f).0 in
+    let p = start_place a r can in
+    ap (λ js. among js r.graph) ids ∙ has_same (ids_of ls) p.graph.dag.spec.dag_id r.graph (same_flips p.graph.dag.spec.dag_id r.graph ∙ p.of) (all p.place p.graph p.there)
+
+pub all_has : (gs : List LoadedGraph) (ls : List Line) (id : List ℕ) (g : LoadedGraph) → HaveLinesOfAll gs ls → graph_among gs id ≡ Some g → has_line ls id ≡ true
+all_has gs ls id g all e =
+    let t = find_place (λ (h : LoadedGraph). same h.dag.spec.dag_id id) gs g e in
+    has_same (ids_of ls) g.dag.spec.dag_id id (find_passes (λ (h : LoadedGraph). same h.dag.spec.dag_id id) gs g e) (all t.0 g t.1)
+
+-- ---- the graph with an id, at a position
+pub record GraphAt (a : Schedule) (id : List ℕ) (p : ℕ) : Type 0 where
+  pub graph : LoadedGraph
+  pub there : slice_get a.graphs p ≡ Some graph
+  pub named : graph.dag.spec.dag_id ≡ id
+
+pub graph_at : (a : Schedule) (id : List ℕ) (p : ℕ) → p < length a.graphs → option_and_then (slice_get a.graphs) (Some p) ≡ graph_named a id → GraphAt a id p
+graph_at a id p inside e =
+    let g = element_at a.graphs p inside in
+    record { graph = g.0; there = g.1; named = same_is (g.0).dag.spec.dag_id id (find_passes (λ (h : LoadedGraph). same h.dag.spec.dag_id id) a.graphs g.0 (sym e ∙ g.1)) }
 
 -- ---- what is read of the graph at a position
 pub paused_at : (gs : List LoadedGraph) (p : ℕ) (g : LoadedGraph) (b : Bool) → slice_get gs p ≡ Some g → option_map (λ (h : LoadedGraph). h.paused) (slice_get gs p) ≡ Some b → g.paused ≡ b

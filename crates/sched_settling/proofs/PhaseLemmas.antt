@@ -1,5 +1,5 @@
 -- Changes of a run's phase: ends by position, and what is known of each graph's runs.
-use Rattle.std.proofs.Common.{◌≡◌, ◌∙◌, refl, sym, ap, subst, ℕ, zero, suc, ◌+◌, List, [], ◌∷◌, Bool, true, false, ◌&&◌, cond, length, map, slice_get, count_by, nat_eq, Option, Some, None, option_map, unwrap_or, true≢false, arith}
+use Rattle.std.proofs.Common.{◌≡◌, ◌∙◌, refl, sym, ap, subst, ℕ, zero, suc, ◌+◌, List, [], ◌∷◌, Bool, true, false, not, ◌&&◌, cond, length, map, slice_get, count_by, nat_eq, nat_lt, Option, Some, None, option_map, unwrap_or, true≢false, arith}
 use Rattle.std.specs.List.{list_all}
 use Rattle.std.proofs.lemmas.Bool.{eqb-true}
 use Rattle.std.proofs.lemmas.List.Sums.{sum_by-cons}
@@ -8,23 +8,24 @@ use Rattle.graph_file.specs.Lists.{when}
 use Rattle.trigger_rules.specs.States.{is_finished}
 use Rattle.dag_check.specs.Orders.{is_in}
 use Rattle.sched_state.specs.Lists.{same}
+use Rattle.sched_state.specs.declared.graphs.LoadedGraph.{LoadedGraph}
 use Rattle.sched_state.specs.declared.runs.Run.{Run}
 use Rattle.sched_state.specs.declared.runs.RunPhase.{RunPhase}
 use Rattle.sched_state.specs.declared.runs.RunPhase.TheVariants as phase
 use Rattle.sched_state.proofs.OrderLemmas.{and_left}
 use Rattle.sched_model.specs.Lists.{at}
 use Rattle.sched_model.specs.Handout.{in_instance}
-use Rattle.sched_model.specs.Schedule.{Schedule, is_running, is_queued}
+use Rattle.sched_model.specs.Schedule.{Schedule, graph_among, is_running, is_queued, no_dag}
 use Rattle.sched_model.specs.States.{states, active_runs}
-use Rattle.sched_model.specs.Settle.{finish_run, has_bad_leaf}
+use Rattle.sched_model.specs.Settle.{can_start, finish_run, has_bad_leaf}
 use Rattle.sched_laws.specs.Sweep.{decision, decide_at, sweep, sweep_places, sweep_runs}
-use Rattle.sched_laws.specs.Stages.{finish_every, ended_run, in_phase, phase_at, CoversEnds}
-use Rattle.sched_laws.proofs.SettleLemmas.{when_some}
+use Rattle.sched_laws.specs.Stages.{finish_every, ended_run, in_phase, phase_at, CoversEnds, CoversStarts}
+use Rattle.sched_laws.proofs.SettleLemmas.{map_some, when_some}
 use Rattle.sched_laws.proofs.HandLemmas.{map_at}
 use Rattle.sched_laws.proofs.LookLemmas.{get_at, get_apart}
 use Rattle.sched_laws.proofs.SweepLemmas.{length_at}
 use Rattle.sched_laws.proofs.DecisionLemmas.{by_bool}
-use Rattle.sched_settling.specs.Marks.{IsKeyed, IsEndedAt, IsQueue, IsLine, AreLines, is_queued_run, is_queued_at, is_waiting, date_at, one_fewer, IsCountedDown}
+use Rattle.sched_settling.specs.Marks.{IsKeyed, IsEndedAt, IsQueue, IsLine, AreLines, has_line, is_queued_run, is_queued_at, is_waiting, date_at, one_fewer}
 use Rattle.sched_settling.specs.declared.lines.Line.{Line}
 use Rattle.sched_settling.proofs.StageLemmas.{phase_keyed}
 use Rattle.sched_settling.proofs.MarkLemmas.{in_tail, places_graphs}
@@ -167,7 +168,7 @@ one_queue : (a : Schedule) (id : List ℕ) (l : Line) → IsQueue a id l → IsQ
 one_queue a id l s = record { rise = record { within = s.rise.within; kept = s.rise.kept; touched = s.rise.touched }; queued = s.queued }
 
 -- ---- lines under an end
-end_line : (a : Schedule) (n : ℕ) (w : Run) (ph : RunPhase) (id : List ℕ) (l : Line) → slice_get a.runs n ≡ Some w → Ends w ph → IsLine a id l → IsLine (phase_at ph n a) id (cond (same w.graph id) (one_fewer l) l)
+pub end_line : (a : Schedule) (n : ℕ) (w : Run) (ph : RunPhase) (id : List ℕ) (l : Line) → slice_get a.runs n ≡ Some w → Ends w ph → IsLine a id l → IsLine (phase_at ph n a) id (cond (same w.graph id) (one_fewer l) l)
 end_line a n w ph id l e t s =
     let count = phase_active ph n a w id e in
     let was : is_running w.phase ≡ true = t.was in
@@ -183,15 +184,6 @@ end_line a n w ph id l e t s =
     (λ g.
     let c : active_runs (phase_at ph n a) id + 0 ≡ active_runs a id + 0 = subst (λ (b : Bool). active_runs (phase_at ph n a) id + cond (b && is_running w.phase) 1 0 ≡ active_runs a id + cond (b && is_running ph) 1 0) g count in
     rw g (record { active = omega arith; queue = queue }))
-
-pub end_lines : (a b : Schedule) (n : ℕ) (w : Run) (ph : RunPhase) (ls ms : List Line) → slice_get a.runs n ≡ Some w → finish_run a w ≡ Some (in_phase ph w) → b ≡ phase_at ph n a
-    → AreLines ls a → IsCountedDown a.graphs w.graph ls ms → AreLines ms b
-end_lines a b n w ph ls ms e f is s d =
-    let t = end_facts a w ph f in
-    subst (AreLines ms) (sym is) (record {
-      long = d.long ∙ s.long;
-      each = λ g m h x y. let u = d.each g m h x y in subst (IsLine (phase_at ph n a) h.dag.spec.dag_id) (sym u.1.1) (end_line a n w ph h.dag.spec.dag_id u.0 e t (s.each g u.0 h u.1.0 y));
-    })
 
 -- ---- lines under decisions
 -- what lines are about
@@ -264,10 +256,28 @@ sweep_graphs : (rs : List Run) (n : ℕ) (a : Schedule) → (sweep_runs rs n a).
 sweep_graphs [] n a = refl
 sweep_graphs (r ∷ rs) n a = sweep_graphs rs (n + 1) (sweep_places (length r.instances) n 0 a) ∙ places_graphs (length r.instances) n 0 a
 
+-- whether a run can start, by what lines are about
+abbrev can_as : List LoadedGraph → ℕ → Phased → Bool
+can_as gs n r =
+    is_queued r.phase && (not (unwrap_or (option_map (λ (g : LoadedGraph). g.paused) (graph_among gs r.graph)) false) && nat_lt n (unwrap_or (option_map (λ (g : LoadedGraph). g.dag) (graph_among gs r.graph)) no_dag).spec.max_active_runs)
+
+starts_by : (marked : List ℕ → Bool) (a b : Schedule) → b.graphs ≡ a.graphs → map phased b.runs ≡ map phased a.runs → CoversStarts marked a → CoversStarts marked b
+starts_by marked a b graphs e s m r q there f =
+    let o : option_map phased (slice_get a.runs m) ≡ Some (phased r) = sym (phased_at a b m e) ∙ ap (option_map phased) there in
+    let w = map_some phased (slice_get a.runs m) (phased r) o in
+    let test : Phased → Bool = λ (x : Phased). same x.graph r.graph && is_running x.phase in
+    let count : active_runs b r.graph ≡ active_runs a r.graph = sym (count_map test phased b.runs) ∙ (ap (count_by test) e ∙ count_map test phased a.runs) in
+    let can : can_start b r ≡ true = (when_some (can_start b r) (record r { phase = phase.Running }) q f).0 in
+    let graph : (w.0).graph ≡ r.graph = ap (λ (x : Phased). x.graph) w.2 in
+    let was : can_start a w.0 ≡ true =
+    ap (λ (i : List ℕ). can_as a.graphs (active_runs a i) (phased w.0)) graph
+    ∙ (ap (can_as a.graphs (active_runs a r.graph)) w.2
+    ∙ (ap (λ gs. can_as gs (active_runs a r.graph) (phased r)) (sym graphs) ∙ (ap (λ n. can_as b.graphs n (phased r)) (sym count) ∙ can))) in
+    ap marked (sym graph) ∙ s m w.0 (record w.0 { phase = phase.Running }) w.1 (ap (λ c. when c (record w.0 { phase = phase.Running })) was)
+
 pub sweep_lines : (a : Schedule) (ls : List Line) → AreLines ls a → AreLines ls (sweep a)
-sweep_lines a ls s =
-    let graphs : (sweep a).graphs ≡ a.graphs = sweep_graphs a.runs 0 a in
-    record {
-      long = s.long ∙ ap length (sym graphs);
-      each = λ g l h x y. line_by a (sweep a) h.dag.spec.dag_id l (runs_phased a.runs 0 a) (s.each g l h x (ap (λ gs. slice_get gs g) (sym graphs) ∙ y));
-    }
+sweep_lines a ls s = record {
+  rising = s.rising;
+  each = λ n l x. line_by a (sweep a) l.id.now l (runs_phased a.runs 0 a) (s.each n l x);
+  startings = starts_by (has_line ls) a (sweep a) (sweep_graphs a.runs 0 a) (runs_phased a.runs 0 a) s.startings;
+}

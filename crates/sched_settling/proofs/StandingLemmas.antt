@@ -1,5 +1,5 @@
 -- The line of a graph in the schedule under a draft: its runs by the positions of the running ones and of the queued ones.
-use Rattle.std.proofs.Common.{◌≡◌, None, subst, ◌++◌, ◌∙◌, refl, ap, ℕ, zero, suc, ◌+◌, ◌≤◌, List, [], ◌∷◌, Bool, true, false, cond, length, map, filter, drop, count_by, Option, Some, slice_get, nat_lt, ◌||◌, arith}
+use Rattle.std.proofs.Common.{◌≡◌, None, subst, ◌++◌, ◌∙◌, refl, ap, ℕ, zero, suc, ◌+◌, ◌≤◌, List, [], ◌∷◌, Bool, true, cond, length, map, filter, drop, count_by, Option, Some, slice_get, nat_lt, ◌||◌, arith}
 use Rattle.std.proofs.lemmas.Bool.{lt-ltb, and_from, or_left}
 use Rattle.std.proofs.lemmas.List.Sums.{sum_by-cons}
 use Rattle.dag_check.specs.Orders.{is_in}
@@ -8,6 +8,7 @@ use Rattle.sched_state.specs.declared.runs.Run.{Run}
 use Rattle.sched_model.specs.Lists.{rises}
 use Rattle.sched_model.specs.Schedule.{Schedule, is_queued, run_before}
 use Rattle.run_lists.specs.Positions.{positions_from, positions_where, stands_in}
+use Rattle.run_lists.specs.declared.positions.Standing.TheVariants.{Running, Queued}
 use Rattle.run_lists.proofs.GraphLemmas.{first_dropped}
 use Rattle.sched_laws.proofs.DecisionLemmas.{by_bool}
 use Rattle.sched_settling.specs.Marks.{IsLine, are_within, date_at, date_in, dates_from}
@@ -54,19 +55,19 @@ dates_there p all (x ∷ xs) i d =
     (λ off. rw off t)
 
 -- ---- the line
-pub line_is : (a : Schedule) (id : List ℕ) (l : Line) → rises run_before a.runs ≡ true → l.runs.now.runs ≡ a.runs → l.active ≡ length (positions_where (stands_in id true) a.runs)
-    → l.kept.now ≡ positions_where (stands_in id false) a.runs → l.from ≡ 0 → l.touched.items ≡ [] → IsLine a id l
+pub line_is : (a : Schedule) (id : List ℕ) (l : Line) → rises run_before a.runs ≡ true → l.runs.now.runs ≡ a.runs → l.active ≡ length (positions_where (stands_in id Running) a.runs)
+    → l.kept.now ≡ positions_where (stands_in id Queued) a.runs → l.from ≡ 0 → l.touched.items ≡ [] → IsLine a id l
 line_is a id l rise runs active kept from fresh =
-    let left : drop l.from l.kept.now ≡ positions_where (stands_in id false) a.runs = ap (λ (i : ℕ). drop i l.kept.now) from ∙ kept in
+    let left : drop l.from l.kept.now ≡ positions_where (stands_in id Queued) a.runs = ap (λ (i : ℕ). drop i l.kept.now) from ∙ kept in
     let dates : dates_from l l.from ≡ dates_queued id a.runs =
-    ap (λ (rs : List Run). map (date_in rs) (drop l.from l.kept.now)) runs ∙ (ap (map (date_in a.runs)) left ∙ dates_there (stands_in id false) a.runs a.runs 0 refl) in
+    ap (λ (rs : List Run). map (date_in rs) (drop l.from l.kept.now)) runs ∙ (ap (map (date_in a.runs)) left ∙ dates_there (stands_in id Queued) a.runs a.runs 0 refl) in
     record {
-      active = active ∙ count_from (stands_in id true) 0 a.runs;
+      active = active ∙ count_from (stands_in id Running) 0 a.runs;
       queue = record {
         rise = record {
           within =
               ap (λ (rs : List Run). are_within (length rs) (drop l.from l.kept.now)) runs
-              ∙ (ap (are_within (length a.runs)) left ∙ within_from (stands_in id false) 0 (length a.runs) a.runs (omega arith));
+              ∙ (ap (are_within (length a.runs)) left ∙ within_from (stands_in id Queued) 0 (length a.runs) a.runs (omega arith));
           kept = ap (rises nat_lt) dates ∙ dates_rise_too id a.runs rise;
           touched = ap (rises nat_lt) fresh;
         };

@@ -17,7 +17,7 @@ use Rattle.sched_state.proofs.OrderLemmas.{and_left, and_right}
 use Rattle.sched_model.specs.Lists.{rises, zip_with, map_places}
 use Rattle.sched_model.specs.Schedule.{Schedule, dag_named, is_running}
 use Rattle.sched_model.specs.States.{previous}
-use Rattle.sched_model.specs.Settle.{move, finish_run, is_leaf}
+use Rattle.sched_model.specs.Settle.{move, finish_run, is_leaf, start_run}
 use Rattle.sched_laws.specs.Sweep.{decide_one, decision, decision_in}
 use Rattle.sched_laws.specs.Stages.{finish_one, start_one, IsOrdered, CoversEnds}
 use Rattle.sched_laws.proofs.DecisionLemmas.{by_bool}
@@ -34,7 +34,7 @@ use Rattle.sched_settling.proofs.MarkLemmas.{next_above, next_over, next_up, nex
 use Rattle.sched_settling.proofs.StageLemmas.{quiet_each}
 
 -- ---- where a run that is kept stood
-base_at : List Mark → ℕ → ℕ
+pub base_at : List Mark → ℕ → ℕ
 base_at [] n = n
 base_at (m ∷ ms) zero = 0
 base_at (Kept ∷ ms) (suc n) = suc (base_at ms n)
@@ -56,7 +56,7 @@ base_next (Kept ∷ ms) (suc n) e = ap suc (base_next ms n e)
 base_next (Changed ∷ ms) (suc n) e = ap suc (base_next ms n e)
 base_next (Added ∷ ms) (suc n) e = base_next ms n e
 
-kept_at : (ms : List Mark) (a b : List Run) (n : ℕ) → Over ms a b → is_marked ms n ≡ false → slice_get a (base_at ms n) ≡ slice_get b n
+pub kept_at : (ms : List Mark) (a b : List Run) (n : ℕ) → Over ms a b → is_marked ms n ≡ false → slice_get a (base_at ms n) ≡ slice_get b n
 unfolding base_at
 kept_at [] [] [] n o e = refl
 kept_at [] [] (s ∷ b) n o e = absurd o
@@ -98,6 +98,11 @@ no_decide a e = (first_none (decide_one a) (finish_one a ∷ start_one a ∷ [])
 
 no_finish : (a : Schedule) → move a ≡ None → finish_one a ≡ None
 no_finish a e = (first_none (finish_one a) (start_one a ∷ []) (first_none (decide_one a) (finish_one a ∷ start_one a ∷ []) (sym (move_of a) ∙ e)).1).0
+
+pub no_start : (a : Schedule) → move a ≡ None → (n : ℕ) (r : Run) → slice_get a.runs n ≡ Some r → start_run a r ≡ None
+no_start a e n r there =
+    let starts : start_one a ≡ None = (first_none (start_one a) [] (first_none (finish_one a) (start_one a ∷ []) (first_none (decide_one a) (finish_one a ∷ start_one a ∷ []) (sym (move_of a) ∙ e)).1).1).0 in
+    quiet_each (start_run a) 0 n a.runs r (mapped_none (λ rs. record a { runs = rs }) (first_change (start_run a) a.runs) starts) there
 
 pub touched_decisions : (a b : Schedule) (ms : List Mark) → move a ≡ None → IsOrdered a → IsOrdered b → Over ms a.runs b.runs → SameDags a b → CoversRuns (is_near (is_marked ms)) b
 touched_decisions a b ms still s t o d n q j e = by_bool {C = is_near (is_marked ms) n ≡ true} (is_near (is_marked ms) n) (λ f. f)

@@ -1,20 +1,20 @@
 -- Marked runs, and what is known of the runs of each graph.
 use Rattle.std.specs.Prelude.{◌≡◌, ℕ, zero, suc, ◌+◌, ◌-◌, ◌<◌, ◌≤◌, ◌&&◌, ◌||◌, Bool, true, false, cond, ◌==◌, List, [], ◌∷◌, length, map, drop, Option, Some, None, option_map, unwrap_or, slice_get, nat_lt, nat_eq}
-use Rattle.std.specs.List.{list_all}
+use Rattle.std.specs.List.{insert, list_all, list_any}
 use Rattle.graph_file.specs.Lists.{when}
 use Rattle.dag_check.specs.Graphs.{Dag}
 use Rattle.dag_check.specs.Orders.{is_in}
 use Rattle.instance_machine.specs.Instances.{InstanceValue}
-use Rattle.sched_state.specs.Lists.{same}
+use Rattle.sched_state.specs.Lists.{is_less, name_cmp, same}
 use Rattle.sched_state.specs.declared.graphs.LoadedGraph.{LoadedGraph}
 use Rattle.sched_state.specs.declared.runs.Run.{Run}
 use Rattle.sched_state.specs.declared.runs.RunPhase.TheVariants as phase
 use Rattle.sched_model.specs.Lists.{rises}
-use Rattle.sched_model.specs.Schedule.{Schedule, graph_before, is_queued, is_at, dag_named}
+use Rattle.sched_model.specs.Schedule.{Schedule, graph_before, graph_named, is_queued, is_at, dag_named}
 use Rattle.sched_model.specs.Settle.{finish_run, can_start}
 use Rattle.sched_model.specs.States.{active_runs}
 use Rattle.sched_laws.specs.Sweep.{decision}
-use Rattle.sched_laws.specs.Stages.{IsOrdered, CoversEnds, finish_every, phase_at}
+use Rattle.sched_laws.specs.Stages.{IsOrdered, CoversEnds, CoversStarts, finish_every, phase_at}
 use Rattle.sched_settling.specs.declared.lines.Line.{Line}
 
 -- the runs stand in the order of their keys, the graphs in that of their ids, and each edge of a graph leads from a lower place to a higher one
@@ -124,19 +124,48 @@ pub record IsLine (a : Schedule) (id : List ℕ) (l : Line) : Type 0 where
   pub active : l.active ≡ active_runs a id
   pub queue : IsQueue a id l
 
--- a line for each graph, by position
+-- ids in their order
+abbrev pub id_before : List ℕ → List ℕ → Bool
+id_before i j = is_less (name_cmp i j)
+
+-- the ids of the lines' graphs
+abbrev pub ids_of : List Line → List (List ℕ)
+ids_of ls = map (λ (l : Line). l.id.now) ls
+
+-- one of the lines is of the graph with this id
+abbrev pub has_line : List Line → List ℕ → Bool
+has_line ls id = list_any (λ (i : List ℕ). same i id) (ids_of ls)
+
+-- lines by the ids of their graphs, one for each graph of which a run can start
 pub record AreLines (ls : List Line) (a : Schedule) : Type 0 where
-  pub long : length ls ≡ length a.graphs
-  pub each : (g : ℕ) (l : Line) (h : LoadedGraph) → slice_get ls g ≡ Some l → slice_get a.graphs g ≡ Some h → IsLine a h.dag.spec.dag_id l
+  pub rising : rises id_before (ids_of ls) ≡ true
+  pub each : (n : ℕ) (l : Line) → slice_get ls n ≡ Some l → IsLine a l.id.now l
+  pub startings : CoversStarts (has_line ls) a
+
+-- the line of the graph with this id stands at the place
+pub record IsLineAt (ls : List Line) (id : List ℕ) (n : ℕ) : Type 0 where
+  pub line : Line
+  pub there : slice_get ls n ≡ Some line
+  pub named : line.id.now ≡ id
+
+-- none is of that graph, and at the place one of it would stand in the order
+pub record IsGapFor (ls : List Line) (id : List ℕ) (n : ℕ) : Type 0 where
+  pub within : n ≤ length ls
+  pub none : has_line ls id ≡ false
+  pub rising : rises id_before (insert (ids_of ls) n id) ≡ true
+
+-- there is a line of the graph with this id, where that is a graph of the schedule
+abbrev pub HasLineOf : Schedule → List ℕ → List Line → Type 0
+HasLineOf a id ls = (g : LoadedGraph) → graph_named a id ≡ Some g → has_line ls id ≡ true
 
 -- the line of the graph, if it is there, counts one running run fewer
 abbrev pub one_fewer : Line → Line
 one_fewer l = record l { active = l.active - 1 }
 
-pub record IsCountedDown (gs : List LoadedGraph) (id : List ℕ) (ls ms : List Line) : Type 0 where
-  pub long : length ms ≡ length ls
-  pub each : (g : ℕ) (m : Line) (h : LoadedGraph) → slice_get ms g ≡ Some m → slice_get gs g ≡ Some h
-      → (l : Line) × ((slice_get ls g ≡ Some l) × (m ≡ cond (same id h.dag.spec.dag_id) (one_fewer l) l))
+pub record IsCountedDown (id : List ℕ) (ls ms : List Line) : Type 0 where
+  pub ids : ids_of ms ≡ ids_of ls
+  pub each : (n : ℕ) (m : Line) → slice_get ms n ≡ Some m
+      → (l : Line) × ((slice_get ls n ≡ Some l) × (m ≡ cond (same id l.id.now) (one_fewer l) l))
 
 -- ---- starts
 abbrev pub NoneQueued : Schedule → List ℕ → Type 0

@@ -1,15 +1,16 @@
-//! The line of each graph: as it is in the schedule under the draft, and then with the touched runs counted anew.
-ghost use Rattle.std.specs.Prelude.{◌≡◌, ◌<◌, [], ◌∷◌, length, IfOk, OnOk, Some, true, slice_get};
+//! The lines of graphs: as they are in the schedule under the draft, and then with the touched runs counted anew.
+ghost use Rattle.std.specs.Prelude.{◌≡◌, ◌<◌, [], ◌∷◌, None, length, IfOk, OnOk, Some, true, slice_get};
 ghost use Rattle.std.specs.Option.{option_to_list};
+ghost use Rattle.run_lists.specs.Overlays.{AreAllTouched};
 ghost use Rattle.sched_state.specs.declared.runs.Run as states;
 ghost use Rattle.sched_model.specs.Lists.{rises};
-ghost use Rattle.sched_model.specs.Schedule.{Schedule, graph_before, is_running, run_before};
-ghost use Rattle.sched_settling.specs.Marks.{AreLines, IsLine, are_within};
-ghost use Rattle.sched_settling.specs.Touched.{AreFresh, EachLine, IsCountedIn, IsCountedOff, IsRunCounted, bases_at, over_runs, runs_at, with_key};
+ghost use Rattle.sched_model.specs.Schedule.{Schedule, is_running, run_before};
+ghost use Rattle.sched_model.specs.Settle.{move};
+ghost use Rattle.sched_settling.specs.Marks.{AreLines, IsLine, are_within, id_before, ids_of};
+ghost use Rattle.sched_settling.specs.Touched.{AreFresh, AreRecounted, EachLine, HaveLinesOfAll, HaveLinesOf, IsCountedIn, IsCountedOff, IsLineAdded, IsLineOffered, IsRunCounted, bases_at, over_runs, runs_at, with_key};
 
 use crate::ending::count_down;
-use crate::graphs::graph_from;
-use crate::lines::Line;
+use crate::lines::{Line, place_of};
 use graph_file::Name;
 use run_lists::Runs;
 use sched_draft::Draft;
@@ -18,12 +19,14 @@ use std::alloc::{AllocError, Global};
 use std::collections::VecDeque;
 
 // The line of a graph, of these runs alone. Its running runs are counted, and the dates of its queued ones are left where they stand.
-fn line_in<'a>(alloc: Global, runs: &'a Runs, id: &Name) -> Line<'a>
+fn line_in<'a>(alloc: Global, runs: &'a Runs, id: &'a Name) -> Line<'a>
     requires { rises run_before runs.now.runs ≡ true }
+    ensures id { result.id.now ≡ id.now }
     ensures line { (a : Schedule) → runs.now.runs ≡ a.runs → IsLine a id.now result }
     ensures fresh { result.touched.items ≡ [] }
 {
     Line {
+        id,
         active: runs.running_of(id).len(),
         runs,
         kept: runs.queued_of(id),
@@ -32,17 +35,71 @@ fn line_in<'a>(alloc: Global, runs: &'a Runs, id: &Name) -> Line<'a>
     }
 }
 
+// The line of a graph, of these runs alone, is put in at its place, where it is not there.
+fn add_line<'a>(
+    alloc: Global,
+    lines: &mut Vec<Line<'a>>,
+    runs: &'a Runs,
+    id: &'a Name,
+) -> Result<(), AllocError>
+    requires runs { rises run_before runs.now.runs ≡ true }
+    requires rising { rises id_before (ids_of lines.old.items) ≡ true }
+    ensures { OnOk result (IsLineAdded runs.now.runs id.now lines.old.items lines.new.items) }
+{
+    if let Err(place) = place_of(lines, id) {
+        lines.insert(place, line_in(alloc, runs, id))?;
+    }
+    Ok(())
+}
+
+// The same, of the graph with this id, where that is there: of the runs of the schedule under the draft.
+fn add_line_of<'a>(
+    alloc: Global,
+    draft: &Draft<'a>,
+    lines: &mut Vec<Line<'a>>,
+    id: &Name,
+) -> Result<(), AllocError>
+    requires runs { rises run_before draft.now.base.runs ≡ true }
+    requires rising { rises id_before (ids_of lines.old.items) ≡ true }
+    ensures { OnOk result (IsLineOffered draft.now.content draft.now.base.runs id.now lines.old.items lines.new.items) }
+{
+    match draft.dag(id) {
+        Some(dag) => add_line(alloc, lines, draft.runs_below(), &dag.spec().dag_id),
+        None => Ok(()),
+    }
+}
+
 // A line for each graph, of the runs of the schedule under the draft.
 fn lines_below<'a>(alloc: Global, draft: &Draft<'a>) -> Result<Vec<Line<'a>>, AllocError>
     requires { rises run_before draft.now.base.runs ≡ true }
-    ensures lines { IfOk result (λ lines. AreLines lines.items (over_runs draft.now.content draft.now.base.runs)) }
-    ensures fresh { IfOk result (λ lines. AreFresh lines.items) }
+    ensures rising { IfOk result (λ lines. rises id_before (ids_of lines.items) ≡ true) }
+    ensures fresh { IfOk result (λ lines. AreFresh (over_runs draft.now.content draft.now.base.runs) lines.items) }
+    ensures all { IfOk result (λ lines. HaveLinesOfAll draft.now.content.graphs lines.items) }
 {
     let runs = draft.runs_below();
     let mut lines = Vec::new(alloc);
     for graph in 0..draft.graph_count() {
         let spec = draft.dag_at(graph).spec();
-        lines.push(line_in(alloc, runs, &spec.dag_id))?;
+        add_line(alloc, &mut lines, runs, &spec.dag_id)?;
+    }
+    Ok(lines)
+}
+
+// A line for the graph of each run at these positions, where it is there, of the runs of the schedule under the draft.
+fn lines_at<'a>(
+    alloc: Global,
+    draft: &Draft<'a>,
+    positions: &[usize],
+) -> Result<Vec<Line<'a>>, AllocError>
+    requires runs { rises run_before draft.now.base.runs ≡ true }
+    requires within { are_within (length draft.now.content.runs) positions.now ≡ true }
+    ensures rising { IfOk result (λ lines. rises id_before (ids_of lines.items) ≡ true) }
+    ensures fresh { IfOk result (λ lines. AreFresh (over_runs draft.now.content draft.now.base.runs) lines.items) }
+    ensures these { IfOk result (λ lines. HaveLinesOf draft.now.content (runs_at draft.now.content.runs positions.now) lines.items) }
+{
+    let mut lines = Vec::new(alloc);
+    for position in positions {
+        add_line_of(alloc, draft, &mut lines, &draft.run(*position).graph)?;
     }
     Ok(lines)
 }
@@ -64,23 +121,15 @@ fn count_run(line: &mut Line<'_>, run: &Run) -> Result<(), AllocError>
     Ok(())
 }
 
-// The run is counted in, where its graph is there. That is looked for from a position on, and where it was found is told.
-fn count_in(
-    draft: &Draft<'_>,
-    lines: &mut Vec<Line<'_>>,
-    from: usize,
-    run: &Run,
-) -> Result<usize, AllocError>
-    requires graphs { rises graph_before draft.now.content.graphs ≡ true }
-    requires long { length lines.old.items ≡ length draft.now.content.graphs }
-    ensures { OnOk result (EachLine (λ id. IsCountedIn id (run.now ∷ []))
-        draft.now.content.graphs lines.old.items lines.new.items) }
+// The run is counted in, where there is a line of its graph.
+fn count_in(lines: &mut Vec<Line<'_>>, run: &Run) -> Result<(), AllocError>
+    requires { rises id_before (ids_of lines.old.items) ≡ true }
+    ensures { OnOk result (EachLine (λ id. IsCountedIn id (run.now ∷ [])) lines.old.items lines.new.items) }
 {
-    let Some(graph) = graph_from(draft, from, &run.graph) else {
-        return Ok(from);
-    };
-    count_run(&mut lines[graph], run)?;
-    Ok(graph)
+    match place_of(lines, &run.graph) {
+        Ok(place) => count_run(&mut lines[place], run),
+        Err(_) => Ok(()),
+    }
 }
 
 // The touched runs are counted in.
@@ -89,16 +138,13 @@ fn count_all_in(
     lines: &mut Vec<Line<'_>>,
     touched: &[usize],
 ) -> Result<(), AllocError>
-    requires graphs { rises graph_before draft.now.content.graphs ≡ true }
     requires within { are_within (length draft.now.content.runs) touched.now ≡ true }
-    requires long { length lines.old.items ≡ length draft.now.content.graphs }
+    requires rising { rises id_before (ids_of lines.old.items) ≡ true }
     ensures { OnOk result (EachLine (λ id. IsCountedIn id (runs_at draft.now.content.runs touched.now))
-        draft.now.content.graphs lines.old.items lines.new.items) }
+        lines.old.items lines.new.items) }
 {
-    // They stand in the order of their graphs.
-    let mut graph = 0;
     for position in touched {
-        graph = count_in(draft, lines, graph, draft.run(*position))?;
+        count_in(lines, draft.run(*position))?;
     }
     Ok(())
 }
@@ -110,49 +156,80 @@ fn is_running(run: &Run) -> bool
     matches!(run.phase, RunPhase::Running)
 }
 
-// The run that was there with the key of the one at a position is counted off, if it was running. Its graph is looked for from a position
-// on, and where it was found is told.
-fn count_off(draft: &Draft<'_>, lines: &mut Vec<Line<'_>>, from: usize, position: usize) -> usize
-    requires graphs { rises graph_before draft.now.content.graphs ≡ true }
+// The run that was there with the key of the one at a position is counted off, if it was running and there is a line of its graph.
+fn count_off(draft: &Draft<'_>, lines: &mut Vec<Line<'_>>, position: usize)
     requires runs { rises run_before draft.now.content.runs ≡ true }
     requires within { position < length draft.now.content.runs }
-    requires long { length lines.old.items ≡ length draft.now.content.graphs }
+    requires rising { rises id_before (ids_of lines.old.items) ≡ true }
     ensures { (r : states.Run) → slice_get draft.now.content.runs position ≡ Some r
         → EachLine (λ id. IsCountedOff id (option_to_list (with_key draft.now.base.runs r)))
-        draft.now.content.graphs lines.old.items lines.new.items }
+        lines.old.items lines.new.items }
 {
     if let Some(base) = draft.before(position) {
         if is_running(base) {
-            return count_down(draft, lines, from, &base.graph);
+            count_down(lines, &base.graph);
         }
     }
-    from
 }
 
 // The runs that were there with the keys of the touched ones are counted off.
 fn count_all_off(draft: &Draft<'_>, lines: &mut Vec<Line<'_>>, touched: &[usize])
-    requires graphs { rises graph_before draft.now.content.graphs ≡ true }
     requires runs { rises run_before draft.now.content.runs ≡ true }
     requires within { are_within (length draft.now.content.runs) touched.now ≡ true }
-    requires long { length lines.old.items ≡ length draft.now.content.graphs }
+    requires rising { rises id_before (ids_of lines.old.items) ≡ true }
     ensures { EachLine (λ id. IsCountedOff id (bases_at draft.now.base.runs draft.now.content.runs touched.now))
-        draft.now.content.graphs lines.old.items lines.new.items }
+        lines.old.items lines.new.items }
 {
-    let mut graph = 0;
     for position in touched {
-        graph = count_off(draft, lines, graph, *position);
+        count_off(draft, lines, *position);
     }
 }
 
-// The lines of a draft: those of the schedule under it, and of its runs it looks at the touched ones alone.
-pub fn lines_of<'a>(alloc: Global, draft: &Draft<'a>) -> Result<Vec<Line<'a>>, AllocError>
-    requires graphs { rises graph_before draft.now.content.graphs ≡ true }
+// The touched runs are counted anew in lines of the runs under the draft: no other run is looked at.
+fn recount(
+    draft: &Draft<'_>,
+    lines: &mut Vec<Line<'_>>,
+    touched: &[usize],
+) -> Result<(), AllocError>
+    requires touched { AreAllTouched touched.now draft.now.base.runs draft.now.content.runs }
     requires runs { rises run_before draft.now.content.runs ≡ true }
-    ensures { IfOk result (λ lines. AreLines lines.items draft.now.content) }
+    requires rising { rises id_before (ids_of lines.old.items) ≡ true }
+    requires fresh { AreFresh (over_runs draft.now.content draft.now.base.runs) lines.old.items }
+    ensures { OnOk result (AreRecounted draft.now.content lines.old.items lines.new.items) }
+{
+    count_all_in(draft, lines, touched)?;
+    count_all_off(draft, lines, touched);
+    Ok(())
+}
+
+// A line of each graph of the draft: that of the schedule under it, and of its runs the touched ones alone are looked at.
+pub fn lines_of<'a>(alloc: Global, draft: &Draft<'a>) -> Result<Vec<Line<'a>>, AllocError>
+    requires runs { rises run_before draft.now.content.runs ≡ true }
+    ensures lines { IfOk result (λ lines. AreLines lines.items draft.now.content) }
+    ensures all { IfOk result (λ lines. HaveLinesOfAll draft.now.content.graphs lines.items) }
 {
     let touched = draft.touched(alloc)?;
     let mut lines = lines_below(alloc, draft)?;
-    count_all_in(draft, &mut lines, touched.as_slice())?;
-    count_all_off(draft, &mut lines, touched.as_slice());
+    recount(draft, &mut lines, touched.as_slice())?;
+    Ok(lines)
+}
+
+// The lines of a draft over a schedule in which no move is possible: those of the graphs of its touched runs, if its graphs are those of that
+// schedule.
+pub fn lines_of_touched<'a>(
+    alloc: Global,
+    draft: &Draft<'a>,
+    touched: &[usize],
+) -> Result<Vec<Line<'a>>, AllocError>
+    requires touched { AreAllTouched touched.now draft.now.base.runs draft.now.content.runs }
+    requires runs { rises run_before draft.now.content.runs ≡ true }
+    requires still { move draft.now.base ≡ None }
+    ensures { IfOk result (λ lines. AreLines lines.items draft.now.content) }
+{
+    if !draft.keeps_graphs() {
+        return lines_of(alloc, draft);
+    }
+    let mut lines = lines_at(alloc, draft, touched)?;
+    recount(draft, &mut lines, touched)?;
     Ok(lines)
 }

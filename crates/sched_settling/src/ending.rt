@@ -3,15 +3,15 @@ ghost use Rattle.std.specs.Prelude.{◌≡◌, ◌<◌, ◌&&◌, true, length, 
 ghost use Rattle.std.specs.List.{list_all, list_any};
 ghost use Rattle.trigger_rules.specs.States.{is_finished, is_bad};
 ghost use Rattle.sched_model.specs.Lists.{map_places, rises};
-ghost use Rattle.sched_model.specs.Schedule.{graph_before};
+ghost use Rattle.sched_model.specs.Schedule.{run_before};
 ghost use Rattle.sched_model.specs.Settle.{is_leaf, finish_run};
 ghost use Rattle.sched_laws.specs.Stages.{finish_every, in_phase, CoversEnds};
 ghost use Rattle.dag_check.specs.Orders.{is_in};
-ghost use Rattle.sched_settling.specs.Marks.{IsKeyed, IsEndedAt, AreLines, are_within, one_fewer, IsCountedDown};
+ghost use Rattle.sched_settling.specs.Marks.{IsKeyed, IsEndedAt, AreLines, HasLineOf, are_within, id_before, ids_of, one_fewer, IsCountedDown};
 ghost use Rattle.sched_settling.specs.States.{states_in};
 
-use crate::graphs::graph_from;
-use crate::lines::Line;
+use crate::counting::lines_of;
+use crate::lines::{Line, place_of};
 use crate::states::{dag_of, state_in};
 use dag_check::Graph;
 use graph_file::Name;
@@ -81,24 +81,40 @@ fn count_one(line: &mut Line<'_>)
     line.active = line.active.saturating_sub(1);
 }
 
-// One running run of the graph fewer, where the graph is there. That is looked for from a position on, and where it was found is told.
-pub fn count_down(draft: &Draft<'_>, lines: &mut Vec<Line<'_>>, from: usize, id: &Name) -> usize
-    requires graphs { rises graph_before draft.now.content.graphs ≡ true }
-    requires long { length lines.old.items ≡ length draft.now.content.graphs }
-    ensures { IsCountedDown draft.now.content.graphs id.now lines.old.items lines.new.items }
+// One running run of the graph fewer, where there is a line of it.
+pub fn count_down(lines: &mut Vec<Line<'_>>, id: &Name)
+    requires { rises id_before (ids_of lines.old.items) ≡ true }
+    ensures { IsCountedDown id.now lines.old.items lines.new.items }
 {
-    let Some(graph) = graph_from(draft, from, id) else {
-        return from;
-    };
-    count_one(&mut lines[graph]);
-    graph
+    if let Ok(place) = place_of(lines, id) {
+        count_one(&mut lines[place]);
+    }
+}
+
+// There is a line of the graph with this id, if the graph is there. Where it was missing, a line of each graph is made.
+fn provide_line<'a>(
+    alloc: Global,
+    draft: &Draft<'a>,
+    lines: &mut Vec<Line<'a>>,
+    id: &Name,
+) -> Result<(), AllocError>
+    requires runs { rises run_before draft.now.content.runs ≡ true }
+    requires lines { AreLines lines.old.items draft.now.content }
+    ensures lines { OnOk result (AreLines lines.new.items draft.now.content) }
+    ensures there { OnOk result (HasLineOf draft.now.content id.now lines.new.items) }
+{
+    match place_of(lines, id) {
+        Ok(_) => {}
+        Err(_) => *lines = lines_of(alloc, draft)?,
+    }
+    Ok(())
 }
 
 // The run at a position ends, if it can.
-fn end_at(
+fn end_at<'a>(
     alloc: Global,
-    draft: &mut Draft<'_>,
-    lines: &mut Vec<Line<'_>>,
+    draft: &mut Draft<'a>,
+    lines: &mut Vec<Line<'a>>,
     position: usize,
 ) -> Result<(), AllocError>
     requires keyed { IsKeyed draft.old.content }
@@ -110,17 +126,18 @@ fn end_at(
 {
     if let Some(phase) = end_of(draft, draft.run(position)) {
         draft.own(alloc, position)?;
-        count_down(draft, lines, 0, &draft.run(position).graph);
+        provide_line(alloc, draft, lines, &draft.run(position).graph)?;
+        count_down(lines, &draft.run(position).graph);
         draft.set_phase(position, phase);
     }
     Ok(())
 }
 
 // Each run ends that can, where those are among the positions.
-pub fn end_marked(
+pub fn end_marked<'a>(
     alloc: Global,
-    draft: &mut Draft<'_>,
-    lines: &mut Vec<Line<'_>>,
+    draft: &mut Draft<'a>,
+    lines: &mut Vec<Line<'a>>,
     marks: &[usize],
 ) -> Result<(), AllocError>
     requires keyed { IsKeyed draft.old.content }

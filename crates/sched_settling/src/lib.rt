@@ -11,7 +11,6 @@
 mod counting;
 mod deciding;
 mod ending;
-mod graphs;
 mod lines;
 mod marking;
 mod settling;

@@ -1,21 +1,32 @@
 //! What is known of the runs of one graph.
-ghost use Rattle.std.specs.Prelude.{◌≡◌, ◌+◌, ◌<◌, [], ◌∷◌, IfSome, MatchOption, length};
-ghost use Rattle.sched_settling.specs.Marks.{DatesRise, IsNextDate, NoDate, IsTouchedFirst, KeptComesFirst, comes_first, dates_from, dates_left, kept_dates};
+ghost use Rattle.std.specs.Prelude.{◌≡◌, ◌+◌, ◌<◌, [], ◌∷◌, true, IfSome, MatchOption, MatchResult, length};
+ghost use Rattle.sched_model.specs.Lists.{rises};
+ghost use Rattle.sched_settling.specs.Marks.{DatesRise, IsGapFor, IsLineAt, IsNextDate, NoDate, IsTouchedFirst, KeptComesFirst, comes_first, dates_from, dates_left, id_before, ids_of, kept_dates};
 
+use graph_file::Name;
 use moment_core::Moment;
 use run_lists::Runs;
 use std::collections::VecDeque;
 
-/// Of one graph: how many of its runs are running, and at which logical dates its queued ones may stand. These are the kept dates, and
+/// Of the graph with this id: how many of its runs are running, and at which logical dates its queued ones may stand. These are the kept dates, and
 /// those of touched runs. The kept dates are read where they are needed: they are those of the runs of the schedule under the draft at
 /// the kept positions, from a place on.
 #[derive(Drop)]
 pub struct Line<'a> {
+    pub id: &'a Name,
     pub active: usize,
     pub runs: &'a Runs,
     pub kept: &'a [usize],
     pub from: usize,
     pub touched: VecDeque<Moment>,
+}
+
+// The place of the line of the graph with this id, by a binary search, or the one at which it would stand.
+pub fn place_of(lines: &[Line<'_>], id: &Name) -> Result<usize, usize>
+    requires { rises id_before (ids_of lines.now) ≡ true }
+    ensures { MatchResult result (IsLineAt lines.now id.now) (IsGapFor lines.now id.now) }
+{
+    lines.binary_search_by(|line| line.id.cmp(id))
 }
 
 // The first kept date that is left.
@@ -56,6 +67,7 @@ fn touched_date(line: &Line<'_>) -> Option<Moment>
 // The first of the dates that are left, which is taken out.
 pub fn take_date(line: &mut Line<'_>) -> Option<Moment>
     requires { DatesRise line.old }
+    ensures id { line.new.id.now ≡ line.old.id.now }
     ensures active { line.new.active ≡ line.old.active }
     ensures rise { DatesRise line.new }
     ensures next { MatchOption result (NoDate line.old) (IsNextDate line.old line.new) }

@@ -9,7 +9,7 @@ ghost use Rattle.sched_laws.specs.Stages.{IsOrdered, CoversEnds};
 ghost use Rattle.sched_settling.specs.Marks.{CoversRuns, IsCovered, IsKeyed, are_within};
 ghost use Rattle.sched_settling.specs.Touched.{is_near};
 
-use crate::counting::lines_of;
+use crate::counting::{lines_of, lines_of_touched};
 use crate::deciding::mark_next;
 use crate::settling::settle_from;
 use sched_draft::Draft;
@@ -72,6 +72,6 @@ pub fn settle_touched(alloc: Global, draft: &mut Draft<'_>) -> Result<(), AllocE
 {
     let touched = draft.touched(alloc)?;
     let marks = marks_from(alloc, touched.as_slice(), draft.run_count())?;
-    let mut lines = lines_of(alloc, draft)?;
+    let mut lines = lines_of_touched(alloc, draft, touched.as_slice())?;
     settle_from(alloc, draft, marks, &mut lines)
 }

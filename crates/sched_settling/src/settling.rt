@@ -14,11 +14,11 @@ use std::alloc::{AllocError, Global};
 use std::collections::VecDeque;
 
 // All decisions, then all ends.
-fn decide_and_end(
+fn decide_and_end<'a>(
     alloc: Global,
-    draft: &mut Draft<'_>,
+    draft: &mut Draft<'a>,
     marks: VecDeque<usize>,
-    lines: &mut Vec<Line<'_>>,
+    lines: &mut Vec<Line<'a>>,
 ) -> Result<(), AllocError>
     requires keyed { IsKeyed draft.old.content }
     requires covered { IsCovered marks.items draft.old.content }
@@ -32,11 +32,11 @@ fn decide_and_end(
 }
 
 // The same, where the run at the position is the marked one.
-fn decide_and_end_at(
+fn decide_and_end_at<'a>(
     alloc: Global,
-    draft: &mut Draft<'_>,
+    draft: &mut Draft<'a>,
     position: usize,
-    lines: &mut Vec<Line<'_>>,
+    lines: &mut Vec<Line<'a>>,
 ) -> Result<(), AllocError>
     requires keyed { IsKeyed draft.old.content }
     requires covered { IsCovered (position ∷ []) draft.old.content }
@@ -51,11 +51,11 @@ fn decide_and_end_at(
 }
 
 // Moves are made until none is possible, beginning at the marked runs.
-pub fn settle_from(
+pub fn settle_from<'a>(
     alloc: Global,
-    draft: &mut Draft<'_>,
+    draft: &mut Draft<'a>,
     marks: VecDeque<usize>,
-    lines: &mut Vec<Line<'_>>,
+    lines: &mut Vec<Line<'a>>,
 ) -> Result<(), AllocError>
     requires keyed { IsKeyed draft.old.content }
     requires covered { IsCovered marks.items draft.old.content }

@@ -1,10 +1,9 @@
 //! Starts of runs.
-ghost use Rattle.std.specs.Prelude.{◌≡◌, ◌<◌, ◌&&◌, true, length, nat_lt, slice_get, IfOk, IfSome, MatchOption, OnOk, Some, is_some};
+ghost use Rattle.std.specs.Prelude.{◌≡◌, true, IfOk, IfSome, MatchOption, OnOk, is_some};
 ghost use Rattle.sched_model.specs.Lists.{rises};
 ghost use Rattle.sched_model.specs.Schedule.{is_queued, run_before};
 ghost use Rattle.sched_settling.specs.Marks.{AreLines, DatesRise, IsKeyed, IsLine, IsQueue, IsFirstQueued, IsQueuedOn, NoneQueued, NoneQueuedOn, IsStartIn, NoStartIn, IsStartAt};
 ghost use Rattle.sched_settling.specs.States.{IsFirstStart};
-ghost use Rattle.sched_state.specs.declared.graphs.LoadedGraph as states;
 
 use crate::lines::{Line, take_date};
 use graph_file::Name;
@@ -36,13 +35,15 @@ fn queued_on(draft: &Draft<'_>, id: &Name, date: Moment) -> Option<usize>
 }
 
 // The first queued run of the graph, whose date is taken out of the line.
-fn take_queued(draft: &Draft<'_>, id: &Name, line: &mut Line<'_>) -> Option<usize>
+fn take_queued(draft: &Draft<'_>, line: &mut Line<'_>) -> Option<usize>
     requires ordered { rises run_before draft.now.content.runs ≡ true }
-    requires queue { IsQueue draft.now.content id.now line.old }
+    requires queue { IsQueue draft.now.content line.old.id.now line.old }
+    ensures id { line.new.id.now ≡ line.old.id.now }
     ensures active { line.new.active ≡ line.old.active }
     ensures rise { DatesRise line.new }
-    ensures found { MatchOption result (NoneQueued draft.now.content id.now) (IsFirstQueued draft.now.content id.now line.new) }
+    ensures found { MatchOption result (NoneQueued draft.now.content line.old.id.now) (IsFirstQueued draft.now.content line.old.id.now line.new) }
 {
+    let id = line.id;
     while let Some(date) = take_date(line) {
         if let Some(position) = queued_on(draft, id, date) {
             return Some(position);
@@ -51,29 +52,28 @@ fn take_queued(draft: &Draft<'_>, id: &Name, line: &mut Line<'_>) -> Option<usiz
     None
 }
 
-// The first queued run of the graph at a position starts, if one can, and where it stands.
+// The first queued run of a line's graph starts, if one can, and where it stands.
 fn start_in(
     alloc: Global,
     draft: &mut Draft<'_>,
     line: &mut Line<'_>,
-    graph: usize,
 ) -> Result<Option<usize>, AllocError>
-    requires within { graph < length draft.old.content.graphs }
     requires keyed { IsKeyed draft.old.content }
-    requires line { (h : states.LoadedGraph) → slice_get draft.old.content.graphs graph ≡ Some h
-        → IsLine draft.old.content h.dag.spec.dag_id line.old }
+    requires line { IsLine draft.old.content line.old.id.now line.old }
+    ensures id { line.new.id.now ≡ line.old.id.now }
     ensures base { OnOk result (draft.new.base ≡ draft.old.base) }
-    ensures started { (h : states.LoadedGraph) → slice_get draft.old.content.graphs graph ≡ Some h
-        → IfOk result (λ started. MatchOption started
-        (NoStartIn h.dag.spec.dag_id line.new draft.old.content draft.new.content)
-        (IsStartIn h.dag.spec.dag_id line.new draft.old.content draft.new.content)) }
+    ensures started { IfOk result (λ started. MatchOption started
+        (NoStartIn line.old.id.now line.new draft.old.content draft.new.content)
+        (IsStartIn line.old.id.now line.new draft.old.content draft.new.content)) }
 {
-    let dag = draft.dag_at(graph);
-    let most = dag.spec().max_active_runs.get() as usize;
+    let Some(graph) = draft.position_of(line.id) else {
+        return Ok(None);
+    };
+    let most = draft.dag_at(graph).spec().max_active_runs.get() as usize;
     if draft.is_paused_at(graph) || most <= line.active {
         return Ok(None);
     }
-    let Some(position) = take_queued(draft, &dag.spec().dag_id, line) else {
+    let Some(position) = take_queued(draft, line) else {
         return Ok(None);
     };
     draft.own(alloc, position)?;
@@ -95,8 +95,8 @@ pub fn start_first(
     ensures started { IfOk result (λ started. IfSome started (IsStartAt draft.old.content draft.new.content)) }
     ensures lines { OnOk result (AreLines lines.new.items draft.new.content) }
 {
-    for graph in 0..lines.len() {
-        if let Some(position) = start_in(alloc, draft, &mut lines[graph], graph)? {
+    for place in 0..lines.len() {
+        if let Some(position) = start_in(alloc, draft, &mut lines[place])? {
             return Ok(Some(position));
         }
     }

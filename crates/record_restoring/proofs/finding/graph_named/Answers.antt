@@ -5,7 +5,7 @@ use Rattle.std.proofs.lemmas.Option.{get_or_from_slice_get, slice_get_read}
 use Rattle.std.specs.declared.cmp.Ordering.TheVariants.{Equal}
 use Rattle.sched_state.specs.Lists.{name_cmp, same}
 use Rattle.sched_state.specs.declared.graphs.LoadedGraph.{LoadedGraph}
-use Rattle.record_rules.proofs.SearchLemmas.{graph_id, graph_key, found_by_search, missed_by_search}
+use Rattle.sched_draft.proofs.SearchLemmas.{graph_id, graph_key, found_by_search, missed_by_search}
 use Rattle.record_restoring.proofs.finding.graph_named.Goals as goal
 
 pub returns-in-Ok : goal.returns-in-Ok

@@ -6,7 +6,7 @@ use Rattle.record_rows.specs.Rows.{RunRow}
 use Rattle.sched_state.proofs.ElementLemmas.{element_at}
 use Rattle.record_rules.specs.Faults.{is_run_row_of}
 use Rattle.record_rules.proofs.KeyedLemmas.{run_cmp}
-use Rattle.record_rules.proofs.SearchLemmas.{found_by_search, missed_by_search}
+use Rattle.sched_draft.proofs.SearchLemmas.{found_by_search, missed_by_search}
 use Rattle.record_restoring.proofs.SearchLemmas.{any_there, any_nowhere, run_order, run_like, run_key}
 use Rattle.record_restoring.proofs.finding.has_run.Goals as goal
 

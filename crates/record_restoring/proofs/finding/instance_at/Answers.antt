@@ -7,7 +7,7 @@ use Rattle.record_rows.specs.Rows.{InstanceRow}
 use Rattle.sched_state.proofs.ElementLemmas.{element_at}
 use Rattle.record_rules.specs.Reading.{is_of}
 use Rattle.record_rules.proofs.KeyedLemmas.{instance_cmp}
-use Rattle.record_rules.proofs.SearchLemmas.{missed_by_search}
+use Rattle.sched_draft.proofs.SearchLemmas.{missed_by_search}
 use Rattle.record_restoring.proofs.SearchLemmas.{any_nowhere, instance_order, instance_like, instance_key}
 use Rattle.record_restoring.proofs.finding.instance_at.Goals as goal
 

@@ -1,6 +1,6 @@
 use Rattle.std.proofs.Common.{◌≡◌, map}
 use Rattle.run_planner.specs.Index.{Index}
-use Rattle.sched_core.proofs.DateLemmas.{HaveRoomTo}
+use Rattle.sched_core.specs.Dates.{HaveRoomTo}
 use Rattle.sched_core.proofs.dates.room_in.Given as goal
 
 abbrev pub invariant-loop-place : goal.invariant-loop-place

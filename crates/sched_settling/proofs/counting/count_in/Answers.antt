@@ -1,34 +1,37 @@
-use Rattle.std.proofs.Common.{◌≡◌, ◌∙◌, ◌<◌, ◌∷◌, [], ℕ, sym, length, Some, true, arith}
+use Rattle.std.proofs.Common.{◌≡◌, ◌∙◌, ◌∷◌, [], ℕ, List, ap, sym, subst, slice_get, Option, Some, false}
+use Rattle.std.proofs.lemmas.Option.{slice_get_within}
+use Rattle.std.proofs.lemmas.Result.{on_ok_weaker}
 use Rattle.sched_state.specs.Lists.{same}
-use Rattle.sched_state.specs.declared.graphs.LoadedGraph.{LoadedGraph}
 use Rattle.sched_state.specs.declared.runs.Run.{Run}
-use Rattle.sched_state.proofs.ElementLemmas.{element_at}
-use Rattle.sched_state.proofs.NameLemmas.{find_passes}
-use Rattle.sched_model.specs.Schedule.{Schedule, graph_among}
-use Rattle.sched_settling.specs.Touched.{IsCountedIn}
+use Rattle.sched_state.proofs.NameLemmas.{same_itself}
+use Rattle.sched_settling.specs.Marks.{IsLineAt, has_line, ids_of}
+use Rattle.sched_settling.specs.Touched.{IsCountedIn, IsRunCounted}
 use Rattle.sched_settling.specs.declared.lines.Line.{Line}
 use Rattle.sched_settling.proofs.StateLemmas.{read_at}
-use Rattle.sched_settling.proofs.LineLemmas.{same_flips}
-use Rattle.sched_settling.proofs.CarryLemmas.{each_set, each_same, absent, counted_same, counted_other}
+use Rattle.sched_settling.proofs.AmongLemmas.{ids_get, line_id, none_at, same_flips}
+use Rattle.sched_settling.proofs.CarryLemmas.{each_set, each_same, counted_same, counted_other}
 use Rattle.sched_settling.proofs.counting.count_in.Goals as goal
 
-pub returns : goal.returns
-returns c =
-    let a : Schedule = c.args.draft.now.content in
+pub returns-in-Ok : goal.returns-in-Ok
+returns-in-Ok c =
     let r : Run = c.args.run.now in
-    let p : ℕ = c.in-Some.graph in
+    let ls : List Line = c.args.lines.now.items in
+    let p : ℕ = c.in-Ok.place in
     let l : Line = c.index_mut.result.now in
-    let t = element_at a.graphs p c.in-Some.ensures.within in
-    let found : graph_among a.graphs r.graph ≡ Some t.0 = sym c.in-Some.ensures.position ∙ t.1 in
-    let of : same t.0.dag.spec.dag_id r.graph ≡ true = find_passes (λ (g : LoadedGraph). same g.dag.spec.dag_id r.graph) a.graphs t.0 found in
-    let inside : p < length c.args.lines.now.items = let w : p < length a.graphs = c.in-Some.ensures.within in let long : length c.args.lines.now.items ≡ length a.graphs = c.requires.long in omega arith in
-    each_set (λ id. IsCountedIn id (r ∷ [])) a.graphs r.graph c.args.lines.now.items p t.0 l c.count_run.new.line c.requires.graphs t.1 of
-    (read_at c.args.lines.now.items p l l inside c.index_mut.ensures.value)
-    (counted_same t.0.dag.spec.dag_id r l c.count_run.new.line (same_flips r.graph t.0.dag.spec.dag_id ∙ of) c.in_ok-count_run.ensures)
-    (λ h k e. counted_other h.dag.spec.dag_id r k e)
+    let h = subst (λ (ks : List Line). IsLineAt ks r.graph p) c.deref.ensures.value c.in-Ok.ensures in
+    let there : slice_get ls p ≡ Some l = read_at ls p l l (slice_get_within ls p h.line h.there) c.index_mut.ensures.value in
+    let one : ◌≡◌ {A = Option Line} (Some h.line) (Some l) = sym h.there ∙ there in
+    let is : h.line ≡ l = cc in
+    let named : l.id.now ≡ r.graph = ap line_id (sym is) ∙ h.named in
+    on_ok_weaker c.count_run.result
+    (λ (counted : IsRunCounted r l c.count_run.new.line).
+    each_set (λ id. IsCountedIn id (r ∷ [])) ls p l c.count_run.new.line c.requires there counted.id
+    (counted_same l.id.now r l c.count_run.new.line (ap (same r.graph) named ∙ same_itself r.graph) counted)
+    (λ k e. counted_other k.id.now r k (ap (λ (i : List ℕ). same i k.id.now) (sym named) ∙ e)))
+    c.count_run.ensures
 
-pub returns-in_default : goal.returns-in_default
-returns-in_default c =
-    let a : Schedule = c.args.draft.now.content in
+pub returns-in-Err : goal.returns-in-Err
+returns-in-Err c =
     let r : Run = c.args.run.now in
-    each_same (λ id. IsCountedIn id (r ∷ [])) a.graphs c.args.lines.now.items (λ h g k y. counted_other h.dag.spec.dag_id r k (absent a.graphs r.graph g h (sym c.in_default.ensures.position) y))
+    each_same (λ id. IsCountedIn id (r ∷ [])) c.args.lines.now.items
+    (λ n l e. counted_other l.id.now r l (same_flips r.graph l.id.now ∙ none_at (ids_of c.args.lines.now.items) n l.id.now r.graph (subst (λ (ks : List Line). has_line ks r.graph ≡ false) c.deref.ensures.value c.in-Err.ensures.none) (ids_get c.args.lines.now.items n l e)))

@@ -1,94 +1,106 @@
-use Rattle.std.proofs.Common.{◌≡◌, ◌∙◌, ◌<◌, ℕ, ap, sym, subst, set, slice_get, Some, length, arith}
+use Rattle.std.proofs.Common.{◌≡◌, ◌∙◌, ℕ, List, ap, refl, sym, subst, set, slice_get, Some, arith}
 use Rattle.std.specs.Prelude.{MatchOption}
+use Rattle.std.proofs.lemmas.List.{length-map}
 use Rattle.std.proofs.lemmas.Option.{slice_get_within}
-use Rattle.sched_state.proofs.ElementLemmas.{element_at}
 use Rattle.sched_model.specs.Schedule.{Schedule}
-use Rattle.sched_settling.specs.Marks.{IsLine, AreLines, IsStartIn, NoStartIn}
+use Rattle.sched_settling.specs.Marks.{IsLine, AreLines, IsStartIn, NoStartIn, ids_of}
 use Rattle.sched_settling.specs.declared.lines.Line.{Line}
 use Rattle.sched_settling.proofs.StateLemmas.{read_at}
+use Rattle.sched_settling.proofs.AmongLemmas.{ids_get, ids_set, inside_lines}
 use Rattle.sched_settling.proofs.LineLemmas.{start_there, start_none, start_lines, same_lines, none_next}
 use Rattle.sched_settling.proofs.starting.start_first.Goals as goal
 
+pub loop-place-init : goal.loop-place-init
+loop-place-init c = record { same = refl; base = refl; lines = c.requires.lines; ids = refl; none = λ n i low there. absurd (omega (arith, low)) }
+
 pub start_in-requires-clause-line : goal.start_in-requires-clause-line
-start_in-requires-clause-line c = λ h there.
+start_in-requires-clause-line c =
     let a : Schedule = c.args.draft.now.content in
-    let g : ℕ = c.loop-graph.graph in
+    let ls : List Line = c.loop-place.lines.items in
+    let is : List (List ℕ) = ids_of c.args.lines.now.items in
+    let p : ℕ = c.loop-place.place in
     let l : Line = c.index_mut.result.now in
-    let there_a : slice_get a.graphs g ≡ Some h = ap (λ (x : Schedule). slice_get x.graphs g) (sym c.loop-graph.invariant.same) ∙ there in
-    let inside : g < length c.loop-graph.lines.items =
-    let k : g < length a.graphs = slice_get_within a.graphs g h there_a in let long : length c.loop-graph.lines.items ≡ length a.graphs = c.loop-graph.invariant.lines.long in omega arith in
-    subst (λ (x : Schedule). IsLine x h.dag.spec.dag_id l) (sym c.loop-graph.invariant.same)
-    (c.loop-graph.invariant.lines.each g l h (read_at c.loop-graph.lines.items g l l inside c.index_mut.ensures.value) there_a)
+    let ids : ids_of ls ≡ is = c.loop-place.invariant.ids in
+    let there : slice_get ls p ≡ Some l = read_at ls p l l (inside_lines ls c.args.lines.now.items p ids (let low = c.loop-place-test.true in let end = c.len-place-end.ensures in omega arith)) c.index_mut.ensures.value in
+    subst (λ (x : Schedule). IsLine x l.id.now l) (sym c.loop-place.invariant.same) (c.loop-place.invariant.lines.each p l there)
 
 pub returns-in-Some-clause-first : goal.returns-in-Some-clause-first
 returns-in-Some-clause-first c =
     let a : Schedule = c.args.draft.now.content in
-    let p : ℕ = c.loop-graph.graph in
+    let ls : List Line = c.loop-place.lines.items in
+    let is : List (List ℕ) = ids_of c.args.lines.now.items in
+    let p : ℕ = c.loop-place.place in
+    let l : Line = c.index_mut.result.now in
+    let ids : ids_of ls ≡ is = c.loop-place.invariant.ids in
+    let there : slice_get ls p ≡ Some l = read_at ls p l l (inside_lines ls c.args.lines.now.items p ids (let low = c.loop-place-test.true in let end = c.len-place-end.ensures in omega arith)) c.index_mut.ensures.value in
+    let m : Line = c.start_in.new.line in
+    let b : Schedule = c.start_in.new.draft.content in
     let n : ℕ = c.in-Some.position in
-    let low = c.loop-graph-test.true in
-    let end = c.len-graph-end.ensures in
-    let long : length c.args.lines.now.items ≡ length a.graphs = c.requires.lines.long in
-    let t = element_at a.graphs p (omega arith) in
-    let found : IsStartIn t.0.dag.spec.dag_id c.start_in.new.line a c.start_in.new.draft.content n =
-    subst (λ (x : Schedule). IsStartIn t.0.dag.spec.dag_id c.start_in.new.line x c.start_in.new.draft.content n) c.loop-graph.invariant.same
-    (subst (λ o. MatchOption o (NoStartIn t.0.dag.spec.dag_id c.start_in.new.line c.loop-graph.draft.content c.start_in.new.draft.content) (IsStartIn t.0.dag.spec.dag_id c.start_in.new.line c.loop-graph.draft.content c.start_in.new.draft.content)) c.in-Some.is
-    (c.in_ok-position.ensures.started t.0 (ap (λ (x : Schedule). slice_get x.graphs p) c.loop-graph.invariant.same ∙ t.1))) in
-    start_there a c.start_in.new.draft.content p n t.0 c.start_in.new.line c.requires.keyed.ordered.runs c.requires.keyed.graphs t.1 c.loop-graph.invariant.none found
+    let found : IsStartIn l.id.now m a b n =
+    subst (λ (x : Schedule). IsStartIn l.id.now m x b n) c.loop-place.invariant.same
+    (subst (λ o. MatchOption o (NoStartIn l.id.now m c.loop-place.draft.content b) (IsStartIn l.id.now m c.loop-place.draft.content b)) c.in-Some.is c.in_ok-position.ensures.started) in
+    start_there a b is p n l.id.now m c.requires.keyed.ordered.runs c.requires.lines.rising c.requires.lines.startings (ap (λ (js : List (List ℕ)). slice_get js p) (sym ids) ∙ ids_get ls p l there) c.loop-place.invariant.none found
 
 pub returns-in-Some-clause-started : goal.returns-in-Some-clause-started
 returns-in-Some-clause-started c =
     let a : Schedule = c.args.draft.now.content in
-    let p : ℕ = c.loop-graph.graph in
+    let ls : List Line = c.loop-place.lines.items in
+    let is : List (List ℕ) = ids_of c.args.lines.now.items in
+    let p : ℕ = c.loop-place.place in
+    let l : Line = c.index_mut.result.now in
+    let ids : ids_of ls ≡ is = c.loop-place.invariant.ids in
+    let there : slice_get ls p ≡ Some l = read_at ls p l l (inside_lines ls c.args.lines.now.items p ids (let low = c.loop-place-test.true in let end = c.len-place-end.ensures in omega arith)) c.index_mut.ensures.value in
+    let m : Line = c.start_in.new.line in
+    let b : Schedule = c.start_in.new.draft.content in
     let n : ℕ = c.in-Some.position in
-    let low = c.loop-graph-test.true in
-    let end = c.len-graph-end.ensures in
-    let long : length c.args.lines.now.items ≡ length a.graphs = c.requires.lines.long in
-    let t = element_at a.graphs p (omega arith) in
-    let found : IsStartIn t.0.dag.spec.dag_id c.start_in.new.line a c.start_in.new.draft.content n =
-    subst (λ (x : Schedule). IsStartIn t.0.dag.spec.dag_id c.start_in.new.line x c.start_in.new.draft.content n) c.loop-graph.invariant.same
-    (subst (λ o. MatchOption o (NoStartIn t.0.dag.spec.dag_id c.start_in.new.line c.loop-graph.draft.content c.start_in.new.draft.content) (IsStartIn t.0.dag.spec.dag_id c.start_in.new.line c.loop-graph.draft.content c.start_in.new.draft.content)) c.in-Some.is
-    (c.in_ok-position.ensures.started t.0 (ap (λ (x : Schedule). slice_get x.graphs p) c.loop-graph.invariant.same ∙ t.1))) in
+    let found : IsStartIn l.id.now m a b n =
+    subst (λ (x : Schedule). IsStartIn l.id.now m x b n) c.loop-place.invariant.same
+    (subst (λ o. MatchOption o (NoStartIn l.id.now m c.loop-place.draft.content b) (IsStartIn l.id.now m c.loop-place.draft.content b)) c.in-Some.is c.in_ok-position.ensures.started) in
     record { inside = slice_get_within a.runs n found.run found.run_is; after = found.after }
 
 pub returns-in-Some-clause-lines : goal.returns-in-Some-clause-lines
 returns-in-Some-clause-lines c =
     let a : Schedule = c.args.draft.now.content in
-    let p : ℕ = c.loop-graph.graph in
+    let ls : List Line = c.loop-place.lines.items in
+    let is : List (List ℕ) = ids_of c.args.lines.now.items in
+    let p : ℕ = c.loop-place.place in
+    let l : Line = c.index_mut.result.now in
+    let ids : ids_of ls ≡ is = c.loop-place.invariant.ids in
+    let there : slice_get ls p ≡ Some l = read_at ls p l l (inside_lines ls c.args.lines.now.items p ids (let low = c.loop-place-test.true in let end = c.len-place-end.ensures in omega arith)) c.index_mut.ensures.value in
+    let m : Line = c.start_in.new.line in
+    let b : Schedule = c.start_in.new.draft.content in
     let n : ℕ = c.in-Some.position in
-    let low = c.loop-graph-test.true in
-    let end = c.len-graph-end.ensures in
-    let long : length c.args.lines.now.items ≡ length a.graphs = c.requires.lines.long in
-    let t = element_at a.graphs p (omega arith) in
-    let found : IsStartIn t.0.dag.spec.dag_id c.start_in.new.line a c.start_in.new.draft.content n =
-    subst (λ (x : Schedule). IsStartIn t.0.dag.spec.dag_id c.start_in.new.line x c.start_in.new.draft.content n) c.loop-graph.invariant.same
-    (subst (λ o. MatchOption o (NoStartIn t.0.dag.spec.dag_id c.start_in.new.line c.loop-graph.draft.content c.start_in.new.draft.content) (IsStartIn t.0.dag.spec.dag_id c.start_in.new.line c.loop-graph.draft.content c.start_in.new.draft.content)) c.in-Some.is
-    (c.in_ok-position.ensures.started t.0 (ap (λ (x : Schedule). slice_get x.graphs p) c.loop-graph.invariant.same ∙ t.1))) in
-    start_lines a c.start_in.new.draft.content p n t.0 c.loop-graph.lines.items c.start_in.new.line c.requires.keyed.graphs t.1 c.loop-graph.invariant.lines found
+    let found : IsStartIn l.id.now m a b n =
+    subst (λ (x : Schedule). IsStartIn l.id.now m x b n) c.loop-place.invariant.same
+    (subst (λ o. MatchOption o (NoStartIn l.id.now m c.loop-place.draft.content b) (IsStartIn l.id.now m c.loop-place.draft.content b)) c.in-Some.is c.in_ok-position.ensures.started) in
+    start_lines a b p n ls l m there c.start_in.ensures.id c.loop-place.invariant.lines found
 
-pub loop-graph-preserved : goal.loop-graph-preserved
-loop-graph-preserved c =
+pub loop-place-preserved : goal.loop-place-preserved
+loop-place-preserved c =
     let a : Schedule = c.args.draft.now.content in
-    let p : ℕ = c.loop-graph.graph in
-    let low = c.loop-graph-test.true in
-    let end = c.len-graph-end.ensures in
-    let long : length c.args.lines.now.items ≡ length a.graphs = c.requires.lines.long in
-    let t = element_at a.graphs p (omega arith) in
-    let none : NoStartIn t.0.dag.spec.dag_id c.start_in.new.line a c.start_in.new.draft.content =
-    subst (λ (x : Schedule). NoStartIn t.0.dag.spec.dag_id c.start_in.new.line x c.start_in.new.draft.content) c.loop-graph.invariant.same
-    (subst (λ o. MatchOption o (NoStartIn t.0.dag.spec.dag_id c.start_in.new.line c.loop-graph.draft.content c.start_in.new.draft.content) (IsStartIn t.0.dag.spec.dag_id c.start_in.new.line c.loop-graph.draft.content c.start_in.new.draft.content)) c.in_default.is
-    (c.in_ok-position.ensures.started t.0 (ap (λ (x : Schedule). slice_get x.graphs p) c.loop-graph.invariant.same ∙ t.1))) in
+    let ls : List Line = c.loop-place.lines.items in
+    let is : List (List ℕ) = ids_of c.args.lines.now.items in
+    let p : ℕ = c.loop-place.place in
+    let l : Line = c.index_mut.result.now in
+    let ids : ids_of ls ≡ is = c.loop-place.invariant.ids in
+    let there : slice_get ls p ≡ Some l = read_at ls p l l (inside_lines ls c.args.lines.now.items p ids (let low = c.loop-place-test.true in let end = c.len-place-end.ensures in omega arith)) c.index_mut.ensures.value in
+    let m : Line = c.start_in.new.line in
+    let b : Schedule = c.start_in.new.draft.content in
+    let none : NoStartIn l.id.now m a b =
+    subst (λ (x : Schedule). NoStartIn l.id.now m x b) c.loop-place.invariant.same
+    (subst (λ o. MatchOption o (NoStartIn l.id.now m c.loop-place.draft.content b) (IsStartIn l.id.now m c.loop-place.draft.content b)) c.in_default.is c.in_ok-position.ensures.started) in
     record {
-      base = c.in_ok-position.ensures.base ∙ c.loop-graph.invariant.base;
       same = none.same;
-      lines = subst (λ (x : Schedule). AreLines (set c.loop-graph.lines.items p c.start_in.new.line) x) none.same
-          (same_lines a c.start_in.new.draft.content p t.0 c.loop-graph.lines.items c.start_in.new.line t.1 c.loop-graph.invariant.lines none);
-      none = none_next a p t.0 c.loop-graph.invariant.none t.1 none.none;
+      base = c.in_ok-position.ensures.base ∙ c.loop-place.invariant.base;
+      lines = subst (λ (x : Schedule). AreLines (set ls p m) x) none.same (same_lines a b p ls l m there c.start_in.ensures.id c.loop-place.invariant.lines none);
+      ids = ids_set ls p l m there c.start_in.ensures.id ∙ ids;
+      none = none_next a is p l.id.now c.loop-place.invariant.none (ap (λ (js : List (List ℕ)). slice_get js p) (sym ids) ∙ ids_get ls p l there) none.none;
     }
 
 pub returns-clause-first : goal.returns-clause-first
 returns-clause-first c =
     let a : Schedule = c.args.draft.now.content in
-    let over = c.loop-graph-test.false in
-    let end = c.len-graph-end.ensures in
-    let long : length c.args.lines.now.items ≡ length a.graphs = c.requires.lines.long in
-    (start_none a c.loop-graph.graph c.loop-graph.invariant.none (omega arith), c.loop-graph.invariant.same)
+    let over = c.loop-place-test.false in
+    let end = c.len-place-end.ensures in
+    let line : Line → List ℕ = λ (l : Line). l.id.now in
+    (start_none a (ids_of c.args.lines.now.items) c.loop-place.place c.requires.lines.startings c.loop-place.invariant.none (omega (arith, over, end, length-map c.args.lines.now.items line)), c.loop-place.invariant.same)

@@ -6,7 +6,7 @@ use Rattle.run_lists.proofs.HoldLemmas.{places_rise}
 use Rattle.run_lists.proofs.runs.Runs.standing_of.Goals as goal
 
 pub positions_of-requires-clause-rising : goal.positions_of-requires-clause-rising
-positions_of-requires-clause-rising c = ap (rises nat_lt) c.standing.ensures ∙ places_rise (stands c.args.running) c.args.self.now.runs
+positions_of-requires-clause-rising c = ap (rises nat_lt) c.standing.ensures ∙ places_rise (stands c.args.standing) c.args.self.now.runs
 
 pub returns : goal.returns
-returns c = c.positions_of.ensures ∙ stand_in c.args.graph.now c.args.running c.args.self.now.runs c.standing.result.now c.standing.ensures
+returns c = c.positions_of.ensures ∙ stand_in c.args.graph.now c.args.standing c.args.self.now.runs c.standing.result.now c.standing.ensures

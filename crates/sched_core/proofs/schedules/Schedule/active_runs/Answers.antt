@@ -1,5 +1,6 @@
 use Rattle.std.proofs.Common.{◌∙◌, true, ℕ, List, length, ap}
 use Rattle.run_lists.specs.Positions.{stands_in}
+use Rattle.run_lists.specs.declared.positions.Standing.TheVariants.{Running}
 use Rattle.sched_model.specs.States.{active_runs}
 use Rattle.sched_settling.proofs.StandingLemmas.{count_from}
 use Rattle.sched_core.specs.Changes.{ScheduleValue}
@@ -11,4 +12,4 @@ running_of-requires c = c.self.invariant.held.kept.sound.runs_by_key
 pub returns : goal.returns
 returns c =
     ap (λ (ns : List ℕ). length ns) c.running_of.ensures
-    ∙ (count_from (stands_in c.args.id.now true) 0 c.self.inside.runs.runs ∙ ap (λ (h : ScheduleValue). active_runs h.content c.args.id.now) c.self.view_is)
+    ∙ (count_from (stands_in c.args.id.now Running) 0 c.self.inside.runs.runs ∙ ap (λ (h : ScheduleValue). active_runs h.content c.args.id.now) c.self.view_is)

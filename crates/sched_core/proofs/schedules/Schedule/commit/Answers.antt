@@ -3,7 +3,8 @@ use Rattle.run_planner.specs.Index.{Index}
 use Rattle.run_lists.specs.Edits.{AreEditsOf, edited}
 use Rattle.sched_state.specs.declared.graphs.LoadedGraph.{LoadedGraph}
 use Rattle.sched_state.specs.declared.runs.Run.{Run}
-use Rattle.sched_model.specs.Schedule.{Schedule}
+use Rattle.sched_model.specs.Schedule.{Schedule, graph_before}
+use Rattle.sched_model.specs.Lists.{rises}
 use Rattle.sched_core.specs.Books.{IsHeldWith, IsKept, content_inside}
 use Rattle.sched_creation.specs.Dates.{HaveDates}
 use Rattle.sched_core.specs.Changes.{ScheduleValue, Planned, count_of}
@@ -92,3 +93,6 @@ note-requires-clause-room c =
     (subst (λ (gs : List LoadedGraph). (n : ℕ) (g : LoadedGraph) (room : ℕ) → slice_get gs n ≡ Some g → slice_get (map (λ (x : Index). x.room) xs) n ≡ Some room → count_of g.dag.spec.dag_id c.args.change.after.runs ≤ count_of g.dag.spec.dag_id c.args.change.before.runs + room) graphs
     (subst (λ (rs : List ℕ). (n : ℕ) (g : LoadedGraph) (room : ℕ) → slice_get c.args.self.now.content.graphs n ≡ Some g → slice_get rs n ≡ Some room → count_of g.dag.spec.dag_id c.args.change.after.runs ≤ count_of g.dag.spec.dag_id c.args.change.before.runs + room) rooms c.requires.room.dates))) in
     subst (λ (gs : List LoadedGraph). HaveRoomWith gs e.rest xs) (sym c.deref.ensures.value) (dates_found e.rest e.graphs a a.graphs xs of fit)
+
+pub note-requires-clause-order : goal.note-requires-clause-order
+note-requires-clause-order c = ap (rises graph_before) c.deref.ensures.value ∙ c.self.invariant.held.kept.sound.graphs_by_id

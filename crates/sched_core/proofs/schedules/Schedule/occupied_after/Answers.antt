@@ -11,12 +11,13 @@ use Rattle.sched_state.specs.Lists.{same}
 use Rattle.sched_state.specs.declared.graphs.LoadedGraph.{LoadedGraph}
 use Rattle.sched_state.specs.declared.runs.Run.{Run}
 use Rattle.sched_model.specs.Changes.{report}
-use Rattle.sched_model.specs.Schedule.{Schedule, graph_named, tasks_of}
+use Rattle.sched_model.specs.Schedule.{Schedule, graph_named, tasks_of, graph_before}
 use Rattle.sched_model.specs.Sound.{IsSound}
 use Rattle.sched_events.specs.SettledAndSound.{IsSoundAndSaid}
 use Rattle.sched_handout.specs.Active.{count_of}
 use Rattle.sched_handout.specs.Occupied.{AreOccupied}
 use Rattle.sched_handout.specs.declared.occupied.Occupied.{Occupied}
+use Rattle.sched_model.specs.Lists.{rises}
 use Rattle.sched_core.specs.Books.{IsCounted}
 use Rattle.sched_core.specs.Changes.{ScheduleValue}
 use Rattle.sched_core.proofs.BookLemmas.{occupied_as}
@@ -120,3 +121,6 @@ returns c =
     λ id. ap (λ (g : List ℕ). count_of id c.give_back.new.self.active + cond (same g id) 1 0) (found_graph c.args.serial a c.args.found.now c.get-run.result.now c.requires.found (run_is at.After-get-run)) ∙ c.give_back.ensures.active id in
     subst (λ (s : Stage). AreOccupied (report c.args.serial s a) c.give_back.new.self) (sym c.in-Ended.is)
     (ended_occupied c.args.serial c.in-Ended.field-0 a c.args.found.now t c.in_ok-occupied.occupied c.give_back.new.self kept.sound c.requires.found turn (task_is at.In-Some (run_is at.After-get-run)).1 counted (copied at.In_ok-occupied) c.give_back.ensures.in_flight book active)
+
+pub graph_named-requires : goal.graph_named-requires
+graph_named-requires c = ap (rises graph_before) c.as_slice.ensures.value ∙ c.self.invariant.held.kept.sound.graphs_by_id

@@ -5,9 +5,10 @@ use Rattle.std.proofs.lemmas.Result.{err_from_is_err_and}
 use Rattle.graph_file.specs.declared.graph_specs.GraphSpec.{GraphSpec}
 use Rattle.sched_state.specs.Lists.{same}
 use Rattle.sched_model.specs.Changes.{load_graph}
-use Rattle.sched_model.specs.Schedule.{has_runs}
+use Rattle.sched_model.specs.Schedule.{has_runs, graph_before}
 use Rattle.sched_model.specs.Schedule.{Schedule}
 use Rattle.sched_state.specs.declared.graphs.LoadedGraph.{LoadedGraph}
+use Rattle.sched_model.specs.Lists.{rises}
 use Rattle.sched_core.proofs.GraphLemmas.{unknown_no_runs}
 use Rattle.sched_draft.specs.Books.{pools_in}
 use Rattle.sched_core.specs.Changes.{ScheduleValue}
@@ -140,3 +141,6 @@ taken_in-requires-in-Some-clause-quiet c =
     let taken = subst (λ (h : ScheduleValue). IsTaken h.content c.args.text.now dag) (sym c.self.view_is) c.in_ok-dag.ensures.taken in
     let runs = subst (λ (s : GraphSpec). has_runs a s.dag_id ≡ false) c.spec.ensures.spec (sym c.if-has_runs.ensures) in
     subst (λ (h : ScheduleValue). has_runs h.content dag.spec.dag_id ≡ false) c.self.view_is runs
+
+pub position_of-requires : goal.position_of-requires
+position_of-requires c = ap (rises graph_before) c.deref.ensures.value ∙ c.self.invariant.held.kept.sound.graphs_by_id

@@ -1,9 +1,10 @@
 use Rattle.std.proofs.Common.{◌≡◌, ◌∙◌, refl, ap, subst, sym, is_none, inr, false, true, List, ℕ}
 use Rattle.sched_model.specs.Changes.{set_paused}
-use Rattle.sched_model.specs.Schedule.{Schedule, graph_named}
+use Rattle.sched_model.specs.Schedule.{Schedule, graph_named, graph_before}
 use Rattle.sched_draft.specs.Drafts.{DraftValue}
 use Rattle.sched_events.specs.SettledAndSound.{IsSoundAndSaid, IsSettled}
 use Rattle.sched_events.specs.declared.events.Event.TheVariants.{Pause}
+use Rattle.sched_model.specs.Lists.{rises}
 use Rattle.sched_core.specs.Changes.{ScheduleValue, Planned}
 use Rattle.sched_core.specs.Plans.{no_runs}
 use Rattle.sched_core.specs.declared.changes.GraphChange.TheVariants as graphs
@@ -74,3 +75,6 @@ finish-requires-clause-open c =
 
 pub returns-clause-accepted : goal.returns-clause-accepted
 returns-clause-accepted c = draft_planned c.quiet_answer.result c.in_ok-finish.field-0 (drafted (goal.at.returns-clause-accepted c).After-quiet_answer) c.quiet_answer.ensures c.in_ok-finish.ensures
+
+pub graph_named-requires : goal.graph_named-requires
+graph_named-requires c = ap (rises graph_before) c.as_slice.ensures.value ∙ c.self.invariant.held.kept.sound.graphs_by_id

@@ -4,7 +4,8 @@ use Rattle.std.proofs.lemmas.Result.{err_from_is_err_and}
 use Rattle.graph_file.specs.declared.graph_specs.GraphSpec.{GraphSpec}
 use Rattle.sched_state.specs.Lists.{same}
 use Rattle.sched_state.specs.declared.graphs.LoadedGraph.{LoadedGraph}
-use Rattle.sched_model.specs.Schedule.{Schedule}
+use Rattle.sched_model.specs.Lists.{rises}
+use Rattle.sched_model.specs.Schedule.{Schedule, graph_before}
 use Rattle.sched_events.specs.Causes.{refused}
 use Rattle.sched_events.specs.Outcomes.{IsRefusal}
 use Rattle.sched_events.specs.declared.events.Event.TheVariants.{Replace}
@@ -36,3 +37,6 @@ plan_replace_at-requires-clause-stands c =
     let stands : StandsAt dag.spec.dag_id c.self.inside.graphs.items c.in-Some.place = subst (λ (s : GraphSpec). StandsAt s.dag_id c.self.inside.graphs.items c.in-Some.place) c.spec.ensures.spec
     (subst (λ (gs : List LoadedGraph). StandsAt c.spec.result.now.dag_id gs c.in-Some.place) c.deref.ensures.value c.in-Some.ensures) in
     subst (λ (h : ScheduleValue). StandsAt dag.spec.dag_id h.content.graphs c.in-Some.place) c.self.view_is stands
+
+pub position_of-requires : goal.position_of-requires
+position_of-requires c = ap (rises graph_before) c.deref.ensures.value ∙ c.self.invariant.held.kept.sound.graphs_by_id

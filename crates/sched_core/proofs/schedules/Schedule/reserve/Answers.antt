@@ -3,7 +3,8 @@ use Rattle.run_planner.specs.Index.{Index}
 use Rattle.std.proofs.lemmas.Result.{on_ok_weaker}
 use Rattle.run_lists.specs.Rooms.{HasPlaces, all_added}
 use Rattle.sched_state.specs.declared.graphs.LoadedGraph.{LoadedGraph}
-use Rattle.sched_model.specs.Schedule.{Schedule}
+use Rattle.sched_model.specs.Schedule.{Schedule, graph_before}
+use Rattle.sched_model.specs.Lists.{rises}
 use Rattle.sched_core.specs.Changes.{Planned, count_of}
 use Rattle.sched_core.specs.Dates.{HaveRoomWith}
 use Rattle.sched_core.specs.Effects.{with_change}
@@ -52,3 +53,6 @@ pub invariant_of-self-in-Some : goal.invariant_of-self-in-Some
 invariant_of-self-in-Some c =
     kept_room c.self.inside c.room_for_graphs.new.graphs c.room_for_graphs.new.weights c.room_for_graphs.new.dates c.reserve.new.self c.room_for_graphs.ensures.graphs c.room_for_graphs.ensures.weights
     (ap (map (λ (x : Index). x.dates)) c.room_for_graphs.ensures.dates ∙ c.room_for_dates.ensures.dates) c.reserve.ensures.runs c.self.invariant
+
+pub room_for_dates-requires-clause-order : goal.room_for_dates-requires-clause-order
+room_for_dates-requires-clause-order c = ap (rises graph_before) c.deref.ensures.value ∙ c.self.invariant.held.kept.sound.graphs_by_id

@@ -2,7 +2,7 @@ use Rattle.std.proofs.Common.{◌≡◌, ◌∙◌, ◌≤◌, ◌+◌, true, fa
 use Rattle.sched_state.specs.declared.graphs.LoadedGraph.{LoadedGraph}
 use Rattle.sched_state.specs.declared.runs.Run.{Run}
 use Rattle.sched_model.specs.Lists.{rises}
-use Rattle.sched_model.specs.Schedule.{run_before}
+use Rattle.sched_model.specs.Schedule.{graph_before, run_before}
 use Rattle.sched_model.specs.Handout.{last_serial}
 use Rattle.sched_model.specs.States.{active_tries, in_flight}
 use Rattle.record_restoring.specs.Parts.{schedule_in}
@@ -38,3 +38,6 @@ invariant_of-result c =
 
 pub dates_in-requires : goal.dates_in-requires
 dates_in-requires c = subst (λ (rs : List Run). rises run_before rs ≡ true) (sym c.in_ok-runs.ensures) c.in_ok-limits.ensures.restored.sound.runs_by_key
+
+pub invariant_of-base : goal.invariant_of-base
+invariant_of-base c = ap (rises graph_before) c.as_slice-2.ensures.value ∙ c.in_ok-limits.ensures.restored.sound.graphs_by_id

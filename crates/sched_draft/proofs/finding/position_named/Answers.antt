@@ -6,8 +6,8 @@ use Rattle.std.specs.declared.cmp.Ordering.TheVariants.{Equal}
 use Rattle.sched_state.specs.Lists.{name_cmp, same}
 use Rattle.sched_state.specs.declared.graphs.LoadedGraph.{LoadedGraph}
 use Rattle.sched_state.proofs.ElementLemmas.{element_at}
-use Rattle.record_changes.proofs.record_rules.SearchLemmas.{graph_id, graph_key, found_by_search, missed_by_search}
-use Rattle.record_writing.proofs.finding.position_named.Goals as goal
+use Rattle.sched_draft.proofs.SearchLemmas.{graph_id, graph_key, found_by_search, missed_by_search}
+use Rattle.sched_draft.proofs.finding.position_named.Goals as goal
 
 pub returns-in-Ok-clause-position : goal.returns-in-Ok-clause-position
 returns-in-Ok-clause-position c =

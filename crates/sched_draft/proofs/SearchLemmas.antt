@@ -10,12 +10,12 @@ use Rattle.std.proofs.lemmas.Map.Text.{is_eq-slice_cmp}
 use Rattle.std.proofs.Math.Nat.{eq-or-lt_of_le}
 use Rattle.std.proofs.lemmas.List.Sorted.{searchable_from_sorted}
 use Rattle.std.proofs.lemmas.Option.{slice_get_within, get_or_from_slice_get}
-use Rattle.sched_laws.specs.sched_state.Lists.{name_cmp, is_less, same}
-use Rattle.sched_laws.specs.sched_state.declared.graphs.LoadedGraph.{LoadedGraph}
-use Rattle.sched_laws.proofs.sched_state.ElementLemmas.{element_at}
-use Rattle.sched_laws.specs.sched_model.Lists.{rises}
-use Rattle.sched_laws.proofs.RankLemmas.{less_is}
-use Rattle.record_rules.proofs.MemberLemmas.{rises_pair}
+use Rattle.sched_state.specs.Lists.{name_cmp, is_less, same}
+use Rattle.sched_state.specs.declared.graphs.LoadedGraph.{LoadedGraph}
+use Rattle.sched_state.proofs.ElementLemmas.{element_at}
+use Rattle.run_lists.specs.sched_model.Lists.{rises}
+use Rattle.run_lists.proofs.OrderLemmas.{less_only}
+use Rattle.run_lists.proofs.PastLemmas.{rises_pair}
 
 -- ---- what is found, where one place alone passes
 pub find_only : {X : Type 0} (p : X → Bool) (xs : List X) (n : ℕ) (x : X) → slice_get xs n ≡ Some x → p x ≡ true → ((m : ℕ) (z : X) → m < n → slice_get xs m ≡ Some z → p z ≡ false) → find p xs ≡ Some x
@@ -57,7 +57,7 @@ module _ {X K : Type 0} {R : K → K → Ordering} (total : IsTotalOrder R) (key
   sorted xs h k d from below =
       let x = element_at xs k (omega arith) in
       let y = element_at xs (k + 1) below in
-      let less : R (key x.0) (key y.0) ≡ Less = less_is (R (key x.0) (key y.0)) (rises_pair before xs k (k + 1) x.0 y.0 h (omega arith) x.1 y.1) in
+      let less : R (key x.0) (key y.0) ≡ Less = less_only (R (key x.0) (key y.0)) (rises_pair before xs k (k + 1) x.0 y.0 h (omega arith) x.1 y.1) in
       ap (λ z. is_lt (R (key z) (key (get_or xs k d)))) (get_or_from_slice_get xs (k + 1) y.0 d y.1)
       ∙ ap (λ z. is_lt (R (key y.0) (key z))) (get_or_from_slice_get xs k x.0 d x.1)
       ∙ ap is_lt (total.antisymm (key y.0) (key x.0) ∙ ap ordering_reverse less)
@@ -66,16 +66,20 @@ module _ {X K : Type 0} {R : K → K → Ordering} (total : IsTotalOrder R) (key
   pub found_by_search : (p : X → Bool) (k : K) → ((x : X) → p x ≡ is_eq (R (key x) k)) → (xs : List X) (at : ℕ) (x : X) → rises before xs ≡ true → slice_get xs at ≡ Some x → R (key x) k ≡ Equal → find p xs ≡ Some x
   found_by_search p k tie xs at x h g e =
       find_only p xs at x g (tie x ∙ ap is_eq e)
-      (λ m z l f. tie z ∙ ap is_eq (less_than z (less_is (R (key z) (key x)) (rises_pair before xs m at z x h l f g))))
+      (λ m z l f. tie z ∙ ap is_eq (less_than z (less_only (R (key z) (key x)) (rises_pair before xs m at z x h l f g))))
     where
       less_than : (z : X) → R (key z) (key x) ≡ Less → R (key z) k ≡ Less
       less_than z l = total.antisymm (key z) k ∙ ap ordering_reverse (sym (total.congr (key x) k (key z) e)) ∙ sym (total.antisymm (key z) (key x)) ∙ l
+
+  -- where it answers that there is none, it parts the list
+  pub parted_by_search : (k : K) (xs : List X) (at : ℕ) → rises before xs ≡ true → IsBinarySearchResult (λ x. R (key x) k) xs (Err at) → IsPartitionPoint (λ y. R (key y) k ≡ Less) (λ y. R (key y) k ≡ Greater) xs at
+  parted_by_search k xs at h b = b (searchable_from_sorted total key xs k (sorted xs h))
 
   pub missed_by_search : (p : X → Bool) (k : K) → ((x : X) → p x ≡ is_eq (R (key x) k)) → (xs : List X) (at : ℕ) → rises before xs ≡ true → IsBinarySearchResult (λ x. R (key x) k) xs (Err at) → find p xs ≡ None
   missed_by_search p k tie xs at h b = find_none p xs (λ m z g. tie z ∙ other m z g (get_or_from_slice_get xs m z z g) (slice_get_within xs m z g))
     where
       parts : IsPartitionPoint (λ y. R (key y) k ≡ Less) (λ y. R (key y) k ≡ Greater) xs at
-      parts = b (searchable_from_sorted total key xs k (sorted xs h))
+      parts = parted_by_search k xs at h b
 
       other : (m : ℕ) (z : X) → slice_get xs m ≡ Some z → get_or xs m z ≡ z → m < length xs → is_eq (R (key z) k) ≡ false
       other m z g q l = elim (cases_lt m at) [

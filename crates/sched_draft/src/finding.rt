@@ -1,13 +1,13 @@
-//! Finding a graph by its id.
+//! Finding a graph by its id, among graphs in the order of their ids.
 ghost use Rattle.std.specs.Prelude.{◌≡◌, ◌<◌, true, length, IfSome, option_and_then, slice_get};
 ghost use Rattle.std.specs.Option.{option_copied};
-ghost use Rattle.sched_model.specs.Lists.{rises};
-ghost use Rattle.sched_model.specs.Schedule.{graph_before, graph_among};
+ghost use Rattle.run_lists.specs.sched_model.Lists.{rises};
+ghost use Rattle.run_lists.specs.sched_model.Schedule.{graph_before, graph_among};
 
 use graph_file::Name;
 use sched_state::LoadedGraph;
 
-// The position of the graph with this id, by a binary search.
+/// The position of the graph with this id, by a binary search.
 pub fn position_named(graphs: &[LoadedGraph], id: &Name) -> Option<usize>
     requires { rises graph_before graphs.now ≡ true }
     ensures position { option_and_then (slice_get graphs.now) result
@@ -20,7 +20,7 @@ pub fn position_named(graphs: &[LoadedGraph], id: &Name) -> Option<usize>
     }
 }
 
-// The graph with this id, by a binary search.
+/// The graph with this id, by a binary search.
 pub fn graph_named<'a>(graphs: &'a [LoadedGraph], id: &Name) -> Option<&'a LoadedGraph>
     requires { rises graph_before graphs.now ≡ true }
     ensures { option_copied result ≡ graph_among graphs.now id.now }
