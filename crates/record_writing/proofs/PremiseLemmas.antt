@@ -9,7 +9,7 @@ use Rattle.sched_state.proofs.OrderLemmas.{map_keeps}
 use Rattle.sched_model.specs.Changes.{pause_graph}
 use Rattle.sched_model.specs.Schedule.{Schedule, dag_among, graph_among}
 use Rattle.sched_draft.specs.Drafts.{SameDags}
-use Rattle.sched_draft.specs.Parts.{fitted_by, with_other, with_pause}
+use Rattle.sched_draft.specs.Parts.{replaced_with, with_other, with_pause}
 use Rattle.sched_draft.proofs.SearchLemmas.{graph_id}
 use Rattle.record_changes.proofs.sched_laws.GraphLemmas.{flip_same}
 use Rattle.record_changes.proofs.sched_laws.LoadLemmas.{dag_found}
@@ -23,7 +23,7 @@ pub pause_alike : (u : Option (List ℕ)) (p : Bool) (gs : List LoadedGraph) →
 pause_alike None p gs = refl
 pause_alike (Some id) p gs = map_keeps graph_id (pause_graph id p) (paused_id id p) gs
 
-other_id : (w g : LoadedGraph) → graph_id (fitted_by (Some w) g) ≡ graph_id g
+other_id : (w g : LoadedGraph) → graph_id (replaced_with (Some w) g) ≡ graph_id g
 other_id w g = elim (same w.dag.spec.dag_id g.dag.spec.dag_id) as (λ b. same w.dag.spec.dag_id g.dag.spec.dag_id ≡ b → graph_id (cond b w g) ≡ graph_id g) [
   | true ↦ λ e. same_is w.dag.spec.dag_id g.dag.spec.dag_id e
   | false ↦ λ e. refl
@@ -31,7 +31,7 @@ other_id w g = elim (same w.dag.spec.dag_id g.dag.spec.dag_id) as (λ b. same w.
 
 pub other_alike : (o : Option LoadedGraph) (gs : List LoadedGraph) → AreNamedAlike gs (with_other o gs)
 other_alike None gs = refl
-other_alike (Some w) gs = map_keeps graph_id (fitted_by (Some w)) (other_id w) gs
+other_alike (Some w) gs = map_keeps graph_id (replaced_with (Some w)) (other_id w) gs
 
 -- ---- tasks and edges
 -- where no run has another graph, none that is not touched has

@@ -22,7 +22,7 @@ use Rattle.record_writing.proofs.record_changes.KeyLemmas.{any_get, found_by}
 use Rattle.record_writing.proofs.CollectLemmas.{lacked_there}
 use Rattle.sched_draft.proofs.SearchLemmas.{unfound}
 use Rattle.sched_core.specs.Inside.{taken_among}
-use Rattle.sched_draft.specs.Parts.{fitted_by, with_other}
+use Rattle.sched_draft.specs.Parts.{replaced_with, with_other}
 use Rattle.sched_core.proofs.OtherLemmas.{other_apart, other_named}
 
 pub row_itself : (x : DagRow) → same_dag_row x x ≡ true
@@ -95,15 +95,15 @@ module _ {R : Type 0} (told : R → R → Bool) (row : LoadedGraph → R) (itsel
   other_one gs k g s e =
       let p : LoadedGraph → Bool = λ h. same h.dag.spec.dag_id k.dag.spec.dag_id in
       let f = found_by p gs g e in
-      changed_alone (map row gs) (fitted_by (Some k)) p (λ h a. other_apart k h a) gs (own_row gs)
-      ∙ ap (λ hs. lacked told (map row gs) (map row (map (fitted_by (Some k)) hs))) (one_named gs k.dag.spec.dag_id g s e)
+      changed_alone (map row gs) (replaced_with (Some k)) p (λ h a. other_apart k h a) gs (own_row gs)
+      ∙ ap (λ hs. lacked told (map row gs) (map row (map (replaced_with (Some k)) hs))) (one_named gs k.dag.spec.dag_id g s e)
       ∙ ap (λ h. lacked told (map row gs) (row h ∷ [])) (other_named k g f.2)
 
   pub other_none : (gs : List LoadedGraph) (k : LoadedGraph) → graph_among gs k.dag.spec.dag_id ≡ None → lacked told (map row gs) (map row (with_other (Some k) gs)) ≡ []
   other_none gs k e =
       let p : LoadedGraph → Bool = λ h. same h.dag.spec.dag_id k.dag.spec.dag_id in
-      changed_alone (map row gs) (fitted_by (Some k)) p (λ h a. other_apart k h a) gs (own_row gs)
-      ∙ ap (λ hs. lacked told (map row gs) (map row (map (fitted_by (Some k)) hs))) (none_named gs p (unfound p gs e))
+      changed_alone (map row gs) (replaced_with (Some k)) p (λ h a. other_apart k h a) gs (own_row gs)
+      ∙ ap (λ hs. lacked told (map row gs) (map row (map (replaced_with (Some k)) hs))) (none_named gs p (unfound p gs e))
 
   -- graphs that stay
   same_rows : (all : List R) (gs : List LoadedGraph) → ((n : ℕ) (g : LoadedGraph) → slice_get gs n ≡ Some g → list_any (told (row g)) all ≡ true) → lacked told all (map row gs) ≡ []

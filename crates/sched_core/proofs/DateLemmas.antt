@@ -27,7 +27,7 @@ use Rattle.sched_state.proofs.ElementLemmas.{element_at, drop_at}
 use Rattle.sched_model.specs.Lists.{at, rises}
 use Rattle.sched_model.specs.Schedule.{graph_among, graph_before, is_at}
 use Rattle.sched_creation.specs.Dates.{HasDates, HaveDates}
-use Rattle.sched_draft.specs.Parts.{fitted_by, with_other}
+use Rattle.sched_draft.specs.Parts.{replaced_with, with_other}
 use Rattle.sched_draft.proofs.SearchLemmas.{graph_id, graph_key, one_place, unfound}
 use Rattle.sched_laws.proofs.DecisionLemmas.{by_bool}
 use Rattle.sched_core.proofs.OtherLemmas.{other_id}
@@ -440,7 +440,7 @@ pub dates_other : (k : LoadedGraph) (gs : List LoadedGraph) (rs : List Run) (xs 
 dates_other k [] rs xs d = d
 dates_other k (g ∷ gs) rs [] d = absurd (omega (arith, d.long))
 dates_other k (g ∷ gs) rs (x ∷ xs) d =
-    dates_before (fitted_by (Some k) g) x (with_other (Some k) gs) rs xs (subst (λ (id : List ℕ). HasDates id rs x) (sym (other_id k g)) (dates_first g x gs rs xs d)) (dates_other k gs rs xs (dates_rest g x gs rs xs d))
+    dates_before (replaced_with (Some k) g) x (with_other (Some k) gs) rs xs (subst (λ (id : List ℕ). HasDates id rs x) (sym (other_id k g)) (dates_first g x gs rs xs d)) (dates_other k gs rs xs (dates_rest g x gs rs xs d))
 
 -- a graph without runs has no dates
 no_run_at : (id : List ℕ) (d : ℕ) (rs : List Run) → list_any (λ (r : Run). same r.graph id) rs ≡ false → list_any (is_at id d) rs ≡ false

@@ -5,7 +5,7 @@ use Rattle.sched_state.specs.Lists.{same}
 use Rattle.sched_state.specs.declared.graphs.LoadedGraph.{LoadedGraph}
 use Rattle.sched_state.proofs.NameLemmas.{same_is, same_itself}
 use Rattle.sched_state.proofs.OrderLemmas.{and_left, and_right, or_left, or_right}
-use Rattle.sched_draft.specs.Parts.{fitted_by, with_other}
+use Rattle.sched_draft.specs.Parts.{replaced_with, with_other}
 use Rattle.sched_model.specs.Lists.{rises}
 use Rattle.sched_model.specs.Schedule.{graph_before}
 use Rattle.sched_laws.proofs.GraphLemmas.{flip_same}
@@ -14,15 +14,15 @@ use Rattle.sched_laws.proofs.LoadLemmas.{before_apart}
 
 -- ---- one graph
 -- it stands for the one with its id
-pub other_named : (k g : LoadedGraph) → same g.dag.spec.dag_id k.dag.spec.dag_id ≡ true → fitted_by (Some k) g ≡ k
+pub other_named : (k g : LoadedGraph) → same g.dag.spec.dag_id k.dag.spec.dag_id ≡ true → replaced_with (Some k) g ≡ k
 other_named k g named = ap (λ b. cond b k g) (ap (same k.dag.spec.dag_id) (same_is g.dag.spec.dag_id k.dag.spec.dag_id named) ∙ same_itself k.dag.spec.dag_id)
 
 -- and for no other
-pub other_apart : (k g : LoadedGraph) → same g.dag.spec.dag_id k.dag.spec.dag_id ≡ false → fitted_by (Some k) g ≡ g
+pub other_apart : (k g : LoadedGraph) → same g.dag.spec.dag_id k.dag.spec.dag_id ≡ false → replaced_with (Some k) g ≡ g
 other_apart k g apart = ap (λ b. cond b k g) (flip_same g.dag.spec.dag_id k.dag.spec.dag_id apart)
 
 -- so ids stay
-pub other_id : (k g : LoadedGraph) → (fitted_by (Some k) g).dag.spec.dag_id ≡ g.dag.spec.dag_id
+pub other_id : (k g : LoadedGraph) → (replaced_with (Some k) g).dag.spec.dag_id ≡ g.dag.spec.dag_id
 other_id k g = elim (same k.dag.spec.dag_id g.dag.spec.dag_id) as (λ b. same k.dag.spec.dag_id g.dag.spec.dag_id ≡ b → (let h : LoadedGraph = cond b k g in h.dag.spec.dag_id ≡ g.dag.spec.dag_id)) [
   | true ↦ λ e. same_is k.dag.spec.dag_id g.dag.spec.dag_id e
   | false ↦ λ e. refl
