@@ -4,8 +4,7 @@ use crate::alike::Alike;
 use crate::files::{Failing, Writes, empty_files, is_failing};
 use crate::refusals::{ONE_TASK, run_with};
 use crate::scripts::{Played, run};
-use crate::states::{Held, states};
-use crate::stopping::held_after;
+use crate::states::{Held, held_after_stops, states};
 use crate::teams::one_worker;
 use std::alloc::Global;
 use std::io;
@@ -56,7 +55,7 @@ fn told(alloc: Global, states: &[Held], played: Played) -> io::Result<String> {
         accepted,
     } = played;
     let accepted = accepted.len();
-    let (written, crashed) = held_after(alloc, files)?;
+    let (written, crashed) = held_after_stops(alloc, files)?;
     let written = opened_as(states, accepted, &written);
     let crashed = opened_as(states, accepted, &crashed);
     Ok(format!(in alloc;

@@ -5,7 +5,7 @@ ghost use Rattle.std.specs.Prelude.{◌≡◌, false, IfOk};
 use crate::flaky::Flaky;
 use sqlite::{Connection, FileStore, Files, Options};
 use sqlite_disk::{Crash, Disk, Fuse, Memory};
-use std::alloc::Global;
+use std::alloc::{AllocError, Global};
 use std::io;
 
 /// A file in memory that may fail.
@@ -104,18 +104,21 @@ fn fails(file: &mut Faulty) -> bool {
     !file.may_be_used() || file.len().is_err()
 }
 
-/// A new database, in files that fail no call.
-pub fn new_database(alloc: Global) -> io::Result<Connection<RecordStore>>
+/// A database that has nothing, in files that fail no call.
+pub fn empty_database(alloc: Global) -> Result<Connection<RecordStore>, AllocError>
     ensures { IfOk result (λ conn. conn.in_transaction ≡ false) }
 {
     match open(alloc, empty_files(alloc, Failing::Both, u64::MAX)) {
         Ok(conn) => Ok(conn),
-        Err(_) => Err(io::Error::other("the files cannot be opened")),
+        Err(_) => Err(AllocError),
     }
 }
 
 /// The database in these files, or what is left of them.
-pub fn open(alloc: Global, files: RecordFiles) -> Result<Connection<RecordStore>, RecordFiles>
+pub fn open<D: Disk + Drop>(
+    alloc: Global,
+    files: Files<D>,
+) -> Result<Connection<FileStore<D>>, Files<D>>
     ensures { IfOk result (λ conn. conn.in_transaction ≡ false) }
 {
     if !files.may_be_used() {
@@ -125,4 +128,9 @@ pub fn open(alloc: Global, files: RecordFiles) -> Result<Connection<RecordStore>
         Ok(conn) => Ok(conn),
         Err((_, left)) => Err(left.into_files()),
     }
+}
+
+/// The files of a database that is not closed.
+pub fn files_of<D: Disk + Drop>(conn: Connection<FileStore<D>>) -> Files<D> {
+    conn.into_store().close()
 }

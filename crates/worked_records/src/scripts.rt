@@ -4,14 +4,15 @@ ghost use Rattle.graph_file.specs.declared.operators.Operator.TheVariants as kin
 ghost use Rattle.script_runner.specs.TaskOperators.{kind_of};
 ghost use Rattle.script_runner.specs.Teams.{IsWhole};
 
-use crate::files::{RecordFiles, open};
+use crate::files::{RecordFiles, files_of, open};
 use crate::teams::Worker;
 use answer_lines::{Shown, put};
 use meta_store::Store;
 use sched_core::Event;
 use script_reader::{NoConsole, Script, failure_status};
 use script_runner::{FileSources, SystemClock, Unopened, run_team};
-use sqlite::{Alter, Connection};
+use sqlite::{Alter, Connection, Files};
+use sqlite_disk::Disk;
 use std::alloc::Global;
 use std::io::{self, ErrorKind, Write};
 use std::sync::Wait;
@@ -60,21 +61,21 @@ pub fn run<T: Threads + Wait + Sync>(
 }
 
 // The same, with the files that it leaves.
-fn run_on_files<T: Threads + Wait + Sync>(
+fn run_on_files<D: Disk + Drop, T: Threads + Wait + Sync>(
     rt: &T,
     host: &HostRuntime,
-    files: RecordFiles,
+    files: Files<D>,
     team: Vec<Worker>,
     script: &str,
     printed: &mut Vec<u8>,
-) -> (io::Result<End>, RecordFiles)
+) -> (io::Result<End>, Files<D>)
     requires workers { length team.items ≤ 16 }
     requires whole { All (λ w. IsWhole (kind_of (λ _. kinds.Command)) w.0.items) team.items }
 {
     match open(host.alloc(), files) {
         Ok(conn) => {
             let (conn, end) = run_on_connection(rt, host, conn, team, script, printed);
-            (end, conn.into_store().close())
+            (end, files_of(conn))
         }
         Err(files) => (not_run(host.alloc(), printed, "not opened"), files),
     }

@@ -1,13 +1,15 @@
 //! What a record holds, and what is opened of it, as text.
-ghost use Rattle.std.specs.Prelude.{◌≡◌, false, IfOk};
+ghost use Rattle.std.specs.Prelude.{◌≡◌, false};
 
-use crate::files::{Failing, RecordFiles, RecordStore, empty_files, open};
+use crate::files::{RecordFiles, as_written, crash, empty_database, open};
 use crate::rounds::{LANES, create, run, step_all};
 use director::{Director, Fault};
 use meta_store::{Store, StoreFault};
 use sched_core::{Event, Limits};
-use sqlite::{Alter, Connection};
+use sqlite::{Alter, Connection, Files};
+use sqlite_disk::Disk;
 use std::alloc::{AllocError, Global};
+use std::io;
 
 const NO_RECORD: &str = "no record";
 
@@ -19,38 +21,45 @@ pub struct Held {
     pub opened: String,
 }
 
+// Up to where the steps of a round are done.
+#[derive(Clone, Copy)]
+enum Done<'a> {
+    Nothing,
+    Created,
+    Stepped(&'a [Event]),
+    Reopened(&'a [Event]),
+}
+
 /// What the record holds before each step of a round that is not stopped, and at its end.
 pub fn states(alloc: Global, events: &[Event]) -> Result<Vec<Held>, AllocError> {
     let mut states = Vec::new(alloc);
-    states.push(held_by(alloc, empty(alloc)?)?)?;
-    states.push(created(alloc)?)?;
+    states.push(state(alloc, Done::Nothing)?)?;
+    states.push(state(alloc, Done::Created)?)?;
     for place in 0..=events.len() {
-        states.push(stepped(alloc, &events[..place])?)?;
+        states.push(state(alloc, Done::Stepped(&events[..place]))?)?;
     }
-    states.push(opened_anew(alloc, events)?)?;
-    states.push(opened_anew(alloc, events)?)?;
+    states.push(state(alloc, Done::Reopened(events))?)?;
+    states.push(state(alloc, Done::Reopened(events))?)?;
     Ok(states)
 }
 
-fn created(alloc: Global) -> Result<Held, AllocError> {
-    held_new(alloc, empty(alloc)?)
+fn state(alloc: Global, done: Done<'_>) -> Result<Held, AllocError> {
+    held_at(alloc, empty_database(alloc)?, done)
 }
 
-fn stepped(alloc: Global, events: &[Event]) -> Result<Held, AllocError> {
-    held_after(alloc, empty(alloc)?, events)
-}
-
-fn opened_anew(alloc: Global, events: &[Event]) -> Result<Held, AllocError> {
-    held_anew(alloc, empty(alloc)?, events)
-}
-
-// A database that has nothing, in files that do not fail.
-fn empty(alloc: Global) -> Result<Connection<RecordStore>, AllocError>
-    ensures { IfOk result (λ conn. conn.in_transaction ≡ false) }
+// What the record in a new database holds then.
+fn held_at<S: Alter + Drop>(
+    alloc: Global,
+    conn: Connection<S>,
+    done: Done<'_>,
+) -> Result<Held, AllocError>
+    requires { conn.in_transaction ≡ false }
 {
-    match open(alloc, empty_files(alloc, Failing::Both, u64::MAX)) {
-        Ok(conn) => Ok(conn),
-        Err(_) => Err(AllocError),
+    match done {
+        Done::Nothing => held_by(alloc, conn),
+        Done::Created => held_new(alloc, conn),
+        Done::Stepped(events) => held_after(alloc, conn, events),
+        Done::Reopened(events) => held_anew(alloc, conn, events),
     }
 }
 
@@ -93,7 +102,7 @@ fn held_anew<S: Alter + Drop>(
 }
 
 /// What the record in these files holds.
-pub fn held_in(alloc: Global, files: RecordFiles) -> Result<Held, AllocError> {
+pub fn held_in<D: Disk + Drop>(alloc: Global, files: Files<D>) -> Result<Held, AllocError> {
     match open(alloc, files) {
         Ok(conn) => held_by(alloc, conn),
         Err(_) => Ok(Held {
@@ -101,6 +110,14 @@ pub fn held_in(alloc: Global, files: RecordFiles) -> Result<Held, AllocError> {
             opened: String::from_str(alloc, "not opened")?,
         }),
     }
+}
+
+/// What these files hold as they were written, and after a crash of the machine, which loses what was not synced.
+pub fn held_after_stops(alloc: Global, files: RecordFiles) -> io::Result<(Held, Held)> {
+    let mut files = files;
+    let written = held_in(alloc, as_written(alloc, &files)?)?;
+    crash(&mut files);
+    Ok((written, held_in(alloc, files)?))
 }
 
 fn held_by<S: Alter + Drop>(alloc: Global, conn: Connection<S>) -> Result<Held, AllocError>

@@ -4,9 +4,9 @@
 //! round one file, or both, fail each call after the first so many. Where a step fails, the files are opened again twice: as they were
 //! written, as after the end of the process, and without what was not synced, as after a crash of the machine. Their rows are looked at, and
 //! those that they have once a director has restarted the schedule.
-use crate::files::{Failing, RecordFiles, as_written, crash};
+use crate::files::Failing;
 use crate::rounds::step_names;
-use crate::states::{Held, held_in, states};
+use crate::states::{Held, held_after_stops, states};
 use crate::stops::{Stop, stopped_run};
 use crate::tallies::{Left, Tally};
 use sched_core::Event;
@@ -64,7 +64,7 @@ fn stop_all(
 // Counts what a stop left.
 fn judge(alloc: Global, states: &[Held], steps: &mut [Left], stop: Stop) -> io::Result<()> {
     let Stop { step, files } = stop;
-    let (written, crashed) = held_after(alloc, files)?;
+    let (written, crashed) = held_after_stops(alloc, files)?;
     let before = states.get(step);
     let after = states.get(step.saturating_add(1));
     if let (Some(before), Some(after), Some(left)) = (before, after, steps.get_mut(step)) {
@@ -72,14 +72,6 @@ fn judge(alloc: Global, states: &[Held], steps: &mut [Left], stop: Stop) -> io::
         left.crashed.count(&crashed, before, after);
     }
     Ok(())
-}
-
-/// What these files hold as they were written, and after a crash.
-pub fn held_after(alloc: Global, files: RecordFiles) -> io::Result<(Held, Held)> {
-    let mut files = files;
-    let written = held_in(alloc, as_written(alloc, &files)?)?;
-    crash(&mut files);
-    Ok((written, held_in(alloc, files)?))
 }
 
 fn put_tally<R: Print>(rt: &R, tally: Tally) -> io::Result<()> {
