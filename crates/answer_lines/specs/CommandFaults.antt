@@ -1,4 +1,5 @@
 -- The lines of lines that are no command, and of texts that could not be had.
+-- restates: this project's own profile
 use Rattle.std.specs.Prelude.{ℕ, List, ◌++◌, codes}
 use Rattle.moment_core.specs.declared.reading.MomentFault.{MomentFault}
 use Rattle.moment_core.specs.declared.reading.MomentFault.TheVariants.{Shape, NoSuchDate, OutOfRange}

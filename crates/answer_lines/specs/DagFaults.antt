@@ -1,4 +1,5 @@
 -- The faults of files that are no graphs.
+-- restates: this project's own profile
 use Rattle.std.specs.Prelude.{ℕ, List, ◌++◌, codes}
 use Rattle.std.specs.Fmt.{decimal}
 use Rattle.std.specs.List.{flat_map}

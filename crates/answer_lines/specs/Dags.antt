@@ -1,4 +1,5 @@
 -- The rows of graphs.
+-- restates: this project's own profile
 use Rattle.std.specs.Prelude.{ℕ, Bool, true, false, List, ◌++◌, codes}
 use Rattle.std.specs.Fmt.{decimal}
 use Rattle.std.specs.List.{flat_map}

@@ -1,4 +1,5 @@
 -- The faults of files that are no graph files.
+-- restates: this project's own profile
 use Rattle.std.specs.Prelude.{ℕ, List, ◌++◌, codes}
 use Rattle.std.specs.Fmt.{decimal}
 use Rattle.cron_timetable.specs.declared.faults.CronFault.{CronFault}
@@ -8,6 +9,7 @@ use Rattle.graph_file.specs.declared.faults.Place.TheVariants.{Top, Task}
 use Rattle.graph_file.specs.declared.faults.GraphFault.{GraphFault}
 use Rattle.graph_file.specs.declared.faults.GraphFault.TheVariants as graph
 
+-- the number and the name of a fault of a cron text
 abbrev pub cron_fault_text : CronFault → List ℕ
 cron_fault_text cron.FieldCount = codes "1 FieldCount"
 cron_fault_text cron.BadNumber = codes "2 BadNumber"

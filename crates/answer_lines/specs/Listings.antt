@@ -1,4 +1,5 @@
 -- The rows of a schedule.
+-- restates: this project's own profile
 use Rattle.std.specs.Prelude.{ℕ, List}
 use Rattle.sched_model.specs.Schedule.{Schedule}
 use Rattle.explain.specs.sched_core.Views.{all_rows, pool_rows}

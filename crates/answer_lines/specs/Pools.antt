@@ -1,4 +1,5 @@
 -- The rows of pools.
+-- restates: this project's own profile
 use Rattle.std.specs.Prelude.{ℕ, List, ◌++◌, codes}
 use Rattle.std.specs.Fmt.{decimal, signed_decimal}
 use Rattle.std.specs.List.{flat_map}

@@ -1,4 +1,5 @@
 -- The lines of reasons why a task instance is where it is, and of questions that have no answer.
+-- restates: this project's own profile
 use Rattle.std.specs.Prelude.{ℕ, ℤ, List, ◌++◌, codes, nat_lt, if◌then◌else◌}
 use Rattle.std.specs.Fmt.{decimal, signed_decimal}
 use Rattle.std.specs.List.{flat_map}

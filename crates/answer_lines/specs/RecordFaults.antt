@@ -1,4 +1,5 @@
 -- The lines of events that are not stepped, and of records that are not opened.
+-- restates: this project's own profile
 use Rattle.std.specs.Prelude.{ℕ, List, ◌++◌, codes}
 use Rattle.std.specs.Fmt.{decimal}
 use Rattle.sessions.specs.Faults.{Fault, StoreFault}

@@ -1,4 +1,5 @@
 -- The lines of refusals.
+-- restates: this project's own profile
 use Rattle.std.specs.Prelude.{ℕ, List, ◌++◌, codes}
 use Rattle.std.specs.Fmt.{decimal}
 use Rattle.moment_core.specs.Printing.{text_of}

@@ -1,4 +1,5 @@
 -- The lines of a clock that gives no moment, and of a run that ended with a fault.
+-- restates: this project's own profile
 use Rattle.std.specs.Prelude.{ℕ, List, codes}
 use Rattle.sessions.specs.declared.clocks.ClockFault.{ClockFault}
 use Rattle.sessions.specs.declared.clocks.ClockFault.TheVariants as clock

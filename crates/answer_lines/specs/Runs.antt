@@ -1,4 +1,5 @@
 -- The rows of runs.
+-- restates: this project's own profile
 use Rattle.std.specs.Prelude.{ℕ, List, ◌∷◌, ◌++◌, codes}
 use Rattle.std.specs.List.{flat_map}
 use Rattle.moment_core.specs.Printing.{text_of}

@@ -1,4 +1,5 @@
 -- The lines of what is printed at once.
+-- restates: this project's own profile
 use Rattle.std.specs.Prelude.{ℕ, List, codes}
 use Rattle.answer_lines.specs.Answers.{answer_text}
 use Rattle.answer_lines.specs.CommandFaults.{command_fault_text}
@@ -11,6 +12,7 @@ use Rattle.answer_lines.specs.Tasks.{task_line}
 use Rattle.answer_lines.specs.declared.shown.Shown.{Shown}
 use Rattle.answer_lines.specs.declared.shown.Shown.TheVariants as shows
 
+-- the lines of what is printed at once
 abbrev pub shown_text : Shown → List ℕ
 shown_text (shows.Answer event answer) = answer_text event.now answer.now
 shown_text (shows.Failure fault) = failure_text fault.now

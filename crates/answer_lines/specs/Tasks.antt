@@ -1,4 +1,5 @@
 -- The rows of task instances.
+-- restates: Airflow 2, 'Tasks': names of states
 use Rattle.std.specs.Prelude.{ℕ, List, ◌++◌, codes}
 use Rattle.std.specs.Fmt.{decimal}
 use Rattle.std.specs.List.{flat_map}

@@ -1,4 +1,5 @@
 -- What a command outside of scripts does.
+-- restates: this project's own profile
 use Rattle.std.specs.Prelude.{◌≡◌, ℕ, List, Option}
 use Rattle.sqlite.specs.Held.{Held}
 use Rattle.sqlite.specs.State.{State}

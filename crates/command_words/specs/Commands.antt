@@ -1,4 +1,5 @@
 -- What the matches of each command say. Of several faults the first in the order of the words is answered.
+-- restates: this project's own profile
 use Rattle.std.specs.Prelude.{ℕ, Bool, true, false, if◌then◌else◌, List, codes, Option, Some, None, Result, Ok, bytes_eq}
 use Rattle.clap.specs.Words.{Row, Text, first_of}
 use Rattle.sched_events.specs.declared.events.Event.{Event}

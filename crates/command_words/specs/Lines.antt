@@ -17,24 +17,29 @@ use Rattle.command_words.specs.Commands.{command_in, kind_named}
 abbrev pub IsListed : Texts → Type 0
 IsListed names = map (λ name. name.now) names.now ≡ codes "dags" ∷ codes "runs" ∷ codes "tasks" ∷ codes "pools" ∷ []
 
+-- restates: clap 4: `Command::try_get_matches_from`
 abbrev pub command_of_kind : Option CommandKind → List Row → Result Command UsageFault
 command_of_kind None rows = Err Words
 command_of_kind (Some kind) rows = command_in kind rows
 
 -- what the command says, by its name and its matches
+-- restates: clap 4: `Command::try_get_matches_from`
 abbrev pub command_at : Option (Text × List Row) → Result Command UsageFault
 command_at None = Err Words
 command_at (Some entered) = command_of_kind (kind_named entered.0) entered.1
 
 -- what the matches say: those of the options before the command, and those of the command
+-- restates: clap 4: `Command::try_get_matches_from`
 abbrev pub line_at : List Row → Option (Text × List Row) → Result CommandLine UsageFault
 line_at rows entered = after (command_at entered) (λ command. Ok (record { record_path = first_of (codes "record") rows; command = command }))
 
+-- restates: clap 4: `Command::try_get_matches_from`
 abbrev pub line_unless : Kinds → List Row → Option (Text × List Row) → Result CommandLine UsageFault
 line_unless [] rows entered = line_at rows entered
 line_unless (kind ∷ kinds) rows entered = Err Words
 
 -- the command line that words say, or their fault: Words where clap refuses them, and else the first name or moment that is none
+-- restates: clap 4: `Command::try_get_matches_from`
 abbrev pub line_of : Texts → List Text → Result CommandLine UsageFault
 line_of names words = line_unless (fault_of (dagsched names) words) (matches_of (dagsched names) words) (subcommand_of (dagsched names) words)
 
@@ -48,24 +53,30 @@ abbrev pub IsRead : Texts → List Text → Result CommandLine UsageFault → Ty
 IsRead names words read = MatchResult read (λ line. line_of names words ≡ Ok line) (λ fault. fault ≢ Memory → line_of names words ≡ Err fault)
 
 -- clap refuses the words
+-- restates: clap 4
 abbrev pub is_faulty : Kinds → Bool
 is_faulty [] = false
 is_faulty (kind ∷ kinds) = true
 
+-- clap finds a fault in the words
+-- restates: clap 4
 abbrev pub is_refused : Texts → List Text → Bool
 is_refused names words = is_faulty (fault_of (dagsched names) words)
 
 -- an error of this kind has the help, or the version, as its text
+-- restates: clap 4: `ErrorKind::DisplayHelp`, `DisplayVersion`
 abbrev pub shows_help : ErrorKind → Bool
 shows_help DisplayHelp = true
 shows_help DisplayVersion = true
 shows_help _ = false
 
 -- clap answers by help or by the version, and by nothing else
+-- restates: clap 4: `ErrorKind::DisplayHelp`, `DisplayVersion`
 abbrev pub is_help : Kinds → Bool
 is_help (kind ∷ []) = shows_help kind
 is_help _ = false
 
 -- clap answers the words by help or by the version: they ask for it, and clap finds no fault before it comes to the word that does
+-- restates: clap 4: `ErrorKind::DisplayHelp`, `DisplayVersion`
 abbrev pub asks_for_help : Texts → List Text → Bool
 asks_for_help names words = is_help (fault_of (dagsched names) words)

@@ -24,11 +24,13 @@ serials_of log = serials_in (logged log)
 
 module _ {G O : Type 0} where
   -- each job stands in the logs as often as among these, and no other does
+  -- restates: this project's own profile
   abbrev pub EachStandsInALog : List Job → List (WorkerEnd G O) → Type 0
   EachStandsInALog jobs ends =
       (weight : Job → ℕ) → sum_by weight jobs ≡ sum_by (λ e. sum_by weight (logged e.log.items)) ends
 
   -- of what the minutes report, what is of a worker's jobs is what that worker told of them
+  -- restates: this project's own profile
   abbrev pub EachToldItsOwn : List Event → List (WorkerEnd G O) → Type 0
   EachToldItsOwn minutes ends =
       (k : ℕ) (e : WorkerEnd G O) → k < length ends
@@ -37,6 +39,7 @@ module _ {G O : Type 0} where
 -- Workers with these kits came to these ends while these minutes were made, from this schedule on. There is an end for each kit, or, where no minute was made,
 -- perhaps none. The log of each is an account of its kit; no job stands in the logs more often than the minutes hand it out; and the minutes report nothing
 -- more often than the logs tell it.
+-- restates: this project's own profile
 pub record HaveWorkedFor {G O : Type 0} (runs : O → List (Job × Outcome)) (refused : O → List Job) (taken : O → Option Job) (kits : List (Kit O)) (ends : List (WorkerEnd G O)) (minutes : List Event) (a : Schedule) : Type 0 where
   pub back : (length ends ≡ length kits) ⊎ ((ends ≡ []) × (minutes ≡ []))
   pub accounts : AreAccounts runs refused taken kits ends

@@ -6,11 +6,13 @@ use Rattle.sessions.specs.declared.faults.ConductFault.TheVariants as fault
 use Rattle.sessions.specs.declared.line_reading.LineFault.{LineFault}
 
 -- it ends what the threads do: a thread was refused before an event was stepped, or it ends a session
+-- restates: this project's own profile
 abbrev pub EndsInside : ConductFault → Option LineFault → Type 0
 EndsInside fault.SpawnRefused failed = failed ≡ None
 EndsInside f failed = EndsBy f failed
 
 -- it ends a run: there was no worker, the logs are not what was handed out, or it ends what the threads do
+-- restates: this project's own profile
 abbrev pub EndsRun : ConductFault → Option LineFault → Type 0
 EndsRun fault.NoWorker failed = failed ≡ None
 EndsRun fault.Unequal failed = failed ≡ None

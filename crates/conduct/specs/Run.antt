@@ -1,4 +1,5 @@
 -- What a run promises.
+-- restates: this project's own profile
 use Rattle.std.specs.Prelude.{◌≡◌, ◌==◌, ℕ, ◌<◌, Bool, true, List, [], length, Option, None, MatchResult, IfOk, IfErr, OnOk}
 use Rattle.sqlite.specs.Held.{Held}
 use Rattle.sqlite.specs.State.{State}

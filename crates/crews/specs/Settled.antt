@@ -33,24 +33,28 @@ module _ {G O : Type 0} where
       → IsBack lanes i (slice_index_or results i r).0 (slice_index_or results i r).1
 
   -- each item stands among these as often as in the logs, but for one stop for each worker
+  -- restates: this project's own profile
   abbrev pub StandInLogs : List JobOrStop → List (WorkerEnd G O) → Type 0
   StandInLogs sent ends =
       (weight : JobOrStop → ℕ)
       → sum_by weight sent ≡ sum_by (λ e. sum_by weight (jobs_of e.log.items)) ends + sum_by weight (replicate (length ends) items.Stop)
 
   -- what was heard of each worker is what its log says that it told, and of nobody else anything was heard
+  -- restates: this project's own profile
   abbrev pub AreHeard : List WorkerReport → List (WorkerEnd G O) → Type 0
   AreHeard heard ends =
       ((k : ℕ) (e : WorkerEnd G O) → k < length ends → told_by k heard ≡ reports_of (slice_index_or ends k e).log.items)
       × ((k : ℕ) → length ends ≤ k → told_by k heard ≡ [])
 
   -- no item stands in the logs more often than it was sent, beside one stop for each worker
+  -- restates: this project's own profile
   abbrev pub AreAmongSent : List JobOrStop → List (WorkerEnd G O) → Type 0
   AreAmongSent sent ends =
       (weight : JobOrStop → ℕ)
       → sum_by (λ e. sum_by weight (jobs_of e.log.items)) ends + sum_by weight (replicate (length ends) items.Stop) ≤ sum_by weight sent
 
   -- nothing was heard more often than the logs tell it
+  -- restates: this project's own profile
   abbrev pub AreAmongTold : List WorkerReport → List (WorkerEnd G O) → Type 0
   AreAmongTold heard ends =
       (weight : Report → ℕ) → sum_by weight (map (λ r. r.report) heard) ≤ sum_by (λ e. sum_by weight (reports_of e.log.items)) ends

@@ -45,6 +45,7 @@ IntervalFrom Once t r = r ≡ Some (empty_at t)
 IntervalFrom Never t r = r ≡ None
 
 -- the interval of a run by hand at t, or none where there is none
+-- of a cron expression the one whose end is the greatest tick at or before t, and else the empty one at t
 abbrev pub ManualInterval : Timetable → ℕ → Option Interval → Type 0
 ManualInterval (Cron c) t r = MatchOption r ((a b : ℕ) → IsInterval c a b → b ≤ t → ⊥) (IsLastIntervalTo c t)
 ManualInterval (Trigger c) t r = r ≡ Some (empty_at t)

@@ -4,6 +4,7 @@ use Rattle.moment_core.specs.Moments.{seconds_end}
 use Rattle.cron_timetable.specs.Fields.{Fields, fires}
 
 -- the ticks are the moments that fire
+-- restates: Airflow 2, 'Timetables'
 abbrev pub IsTick : Fields → ℕ → Type 0
 IsTick c m = (m < seconds_end) × (fires c m ≡ true)
 

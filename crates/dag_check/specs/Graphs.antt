@@ -55,6 +55,7 @@ passing p (suc n) = passing p n ++ (if p n then n ∷ [] else [])
 abbrev pub downs_in : (ℕ → List ℕ) → ℕ → ℕ → List ℕ
 downs_in up n k = passing (λ i. is_in (up i) k) n
 
+-- the places whose upstream a place is
 abbrev pub downs : Dag → ℕ → List ℕ
 downs g k = downs_in (ups g) (length g.tasks) k
 

@@ -1,4 +1,5 @@
 -- The names of a file's tasks and of their upstreams, the faults that show in them, and the edges that they make.
+-- restates: Airflow 2, 'Tasks': relationships
 use Rattle.std.specs.Prelude.{◌≡◌, ℕ, ◌<◌, Bool, false, not, ◌||◌, List, [], ◌∷◌, length, map, take, slice_index_or, bytes_eq}
 use Rattle.std.specs.List.{list_any, position_or_len}
 use Rattle.dag_check.specs.Orders.{IsFirst}

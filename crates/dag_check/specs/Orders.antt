@@ -39,6 +39,7 @@ pub record IsPlacement (up : ℕ → List ℕ) (n : ℕ) (order : List ℕ) : Ty
 
 -- a closed walk of distinct positions: each is an upstream of the next, and the last of the first.
 -- It starts with the least
+-- restates: Airflow 2, 'DAGs'
 pub record IsCycle (up : ℕ → List ℕ) (n : ℕ) (walk : List ℕ) : Type 0 where
   pub some : 0 < length walk
   pub within : (k : ℕ) → k < length walk → slice_index walk k < n
@@ -48,6 +49,7 @@ pub record IsCycle (up : ℕ → List ℕ) (n : ℕ) (walk : List ℕ) : Type 0 
   pub first : (k : ℕ) → k < length walk → slice_index walk 0 ≤ slice_index walk k
 
 -- the positions can be numbered so that each edge rises
+-- restates: Airflow 2, 'DAGs'
 abbrev pub IsAcyclic : (ℕ → List ℕ) → ℕ → Type 0
 IsAcyclic up n = (number : ℕ → ℕ) × ((i u : ℕ) → i < n → is_in (up i) u ≡ true → number u < number i)
 

@@ -35,6 +35,7 @@ director_code {S} store =
     (λ p. record { store = p.0; schedule = p.1.0; opened = p.1.1 }) (λ _. refl)
 
 -- a database stores a schedule
+-- its rows are the tables of the schedule
 abbrev pub Keeps : Schedule → Database → Type 0
 Keeps a db = Stores db (tables a)
 

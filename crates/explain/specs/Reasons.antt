@@ -1,4 +1,5 @@
 -- Why a task instance is where it is: every reason that holds, in order.
+-- docs/EXPLAIN.md has a table of the reasons
 use Rattle.std.specs.Prelude.{◌≡◌, ◌⊎◌, ℕ, pos, int_lt, Bool, true, false, not, ◌&&◌, ◌||◌, List, [], ◌∷◌, ◌++◌, map, filter, find, Option, Some, None, option_map, option_and_then, Result, Ok, Err, IsOk, nat_lt, nat_le}
 use Rattle.graph_file.specs.Lists.{when}
 use Rattle.dag_check.specs.Graphs.{task_of, ups}
@@ -27,6 +28,7 @@ use Rattle.explain.specs.declared.reasons.ExplainFault.TheVariants.{Memory}
 
 -- ---- states
 -- none, scheduled or up_for_retry: not handed out, and not finished
+-- restates: Airflow 2, 'Tasks'
 abbrev pub is_waiting : State → Bool
 is_waiting state.None = true
 is_waiting state.Scheduled = true
@@ -52,19 +54,24 @@ if_so true o = o
 if_so false o = None
 
 -- ---- each reason
+-- restates: this project's own profile
 abbrev pub finished : SubjectValue → Option Reason
 finished s = when (is_finished (state_of_subject s)) (Finished (state_of_subject s))
 
+-- restates: this project's own profile
 abbrev pub handed_out : SubjectValue → Option Reason
 handed_out s = if_so (is_handed_out (state_of_subject s)) (option_map (λ (t : Try). HandedOut t.serial) (last_of s.instance.tries))
 
+-- restates: this project's own profile
 abbrev pub run_queued : Schedule → SubjectValue → Option Reason
 run_queued a s =
     when (is_waiting (state_of_subject s) && is_queued s.run.phase) (RunQueued (active_runs a s.run.graph) s.graph.dag.spec.max_active_runs)
 
+-- restates: this project's own profile
 abbrev pub paused : SubjectValue → Option Reason
 paused s = when (is_waiting (state_of_subject s) && s.graph.paused) Paused
 
+-- restates: this project's own profile
 abbrev pub run_finished : SubjectValue → Option Reason
 run_finished s = when (is_ended s.run.phase) (RunFinished s.run.phase)
 
@@ -81,6 +88,7 @@ abbrev pub upstreams_if : Bool → Schedule → SubjectValue → List Reason
 upstreams_if true a s = map (upstream a s) (filter (λ p. not (is_finished (state_at a s.run p))) (ups s.graph.dag s.place))
 upstreams_if false a s = []
 
+-- restates: this project's own profile
 abbrev pub upstreams : Schedule → SubjectValue → List Reason
 upstreams a s = upstreams_if (rule_waits a s) a s
 
@@ -88,9 +96,11 @@ upstreams a s = upstreams_if (rule_waits a s) a s
 abbrev pub past_in : Schedule → SubjectValue → Run → Option Reason
 past_in a s r = when (not (opens_gate (Some (state_at a r s.place)))) (Past r.logical (state_at a r s.place))
 
+-- restates: this project's own profile
 abbrev pub past : Schedule → SubjectValue → Option Reason
 past a s = if_so (is_undecided (state_of_subject s) && s.task.depends_on_past) (option_and_then (past_in a s) (previous a s.run))
 
+-- restates: this project's own profile
 abbrev pub retry_later : Schedule → SubjectValue → Option Reason
 retry_later a s = option_and_then (λ (m : ℕ). when (nat_lt a.now m) (RetryAt m)) (retry_at s.task s.instance)
 
@@ -102,22 +112,29 @@ is_ready_subject a s = is_ready a.now s.task s.instance
 abbrev pub pool_in : SubjectValue → PoolLine → Option Reason
 pool_in s p = when (int_lt p.open_slots (pos s.task.pool_slots)) (Pool p.name s.task.pool_slots p.open_slots)
 
+-- restates: this project's own profile
 abbrev pub pool_full : Schedule → SubjectValue → Option Reason
 pool_full a s = if_so (is_ready_subject a s) (option_and_then (pool_in s) (find (λ (p : PoolLine). same p.name s.task.pool) (pool_rows a)))
 
 -- so many tries of the graph are without an end, over all its runs, that it may have no more
+-- restates: this project's own profile
 abbrev pub graph_full : Schedule → SubjectValue → Option Reason
 graph_full a s =
     when (is_ready_subject a s && nat_le s.graph.max_active_tasks (active_tries a s.run.graph)) (GraphFull (active_tries a s.run.graph) s.graph.max_active_tasks)
 
+-- restates: this project's own profile
 abbrev pub lanes_full : Schedule → SubjectValue → Option Reason
 lanes_full a s = when (is_ready_subject a s && (nat_le a.lanes (in_flight a) || nat_lt last_serial a.next)) (Lanes (in_flight a))
 
 -- ---- all of them, in order
+-- a reason in a list, if there is one
+-- restates: this project's own profile
 abbrev pub given : Option Reason → List Reason
 given None = []
 given (Some reason) = reason ∷ []
 
+-- all reasons of a subject, in order
+-- restates: this project's own profile
 unfoldable pub reasons : Schedule → SubjectValue → List Reason
 reasons a s =
     given (finished s)
@@ -133,10 +150,12 @@ reasons a s =
     ++ given (lanes_full a s)
 
 -- the reasons of the instance of a task in the run of a graph with a logical date, or what is not there
+-- restates: this project's own profile
 abbrev pub reasons_if : Schedule → Result SubjectValue ExplainFault → Result (List Reason) ExplainFault
 reasons_if a (Ok s) = Ok (reasons a s)
 reasons_if a (Err fault) = Err fault
 
+-- restates: this project's own profile
 abbrev pub explained : Schedule → List ℕ → ℕ → List ℕ → Result (List Reason) ExplainFault
 explained a graph date task = reasons_if a (subject_of a graph date task)
 

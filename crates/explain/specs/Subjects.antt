@@ -12,6 +12,7 @@ use Rattle.sched_model.specs.Schedule.{Schedule, graph_named, is_at}
 use Rattle.explain.specs.declared.reasons.ExplainFault.{ExplainFault}
 use Rattle.explain.specs.declared.reasons.ExplainFault.TheVariants.{UnknownGraph, UnknownRun, UnknownTask}
 
+-- a task instance with its run, its graph, its task and its place
 pub record SubjectValue : Type 0 where
   pub graph : LoadedGraph
   pub run : Run
@@ -40,6 +41,7 @@ abbrev pub with_graph : Schedule → List ℕ → ℕ → List ℕ → Option Lo
 with_graph a graph date task None = Err UnknownGraph
 with_graph a graph date task (Some g) = with_run g task (find (is_at graph date) a.runs)
 
+-- the instance of a task in the run of a graph with a date
 abbrev pub subject_of : Schedule → List ℕ → ℕ → List ℕ → Result SubjectValue ExplainFault
 subject_of a graph date task = with_graph a graph date task (graph_named a graph)
 

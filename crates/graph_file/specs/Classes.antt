@@ -91,6 +91,7 @@ is_unfit role.Arguments t = holds_at (λ o. not (takes o (texts_of key.Argv t)))
 is_unfit role.Timetable t = lacks_ticks (cron_timetable_of (text_in (value_of key.Timetable t))) (text_in (value_of key.Schedule t))
 is_unfit _ t = false
 
+-- the value at the key is none that the key takes, or does not fit what stands beside it
 abbrev pub is_bad : Key → Members → Bool
 is_bad k t = holds_at (is_outside (row_of k).role) (member_at k t) || is_unfit (row_of k).role t
 

@@ -42,6 +42,7 @@ fault_at class.BadValue p = BadValue p
 abbrev pub fault_in : Members → Class → Option GraphFault
 fault_in t c = option_map (fault_at c) (first_place c t)
 
+-- the first fault of a table
 abbrev pub fault_of : Members → Option GraphFault
 fault_of t = first_some (
     when (nat_lt place_limit (length (tasks_of t))) TooMany

@@ -8,6 +8,7 @@ use Rattle.graph_file.specs.declared.operators.Operator.{Operator}
 use Rattle.graph_file.specs.declared.operators.Operator.TheVariants.{Noop, Command, Exit}
 
 -- the operator of a word
+-- restates: Airflow 2, operators; this project's own profile
 abbrev pub operator_of : List ℕ → Option Operator
 operator_of s = first_some (
     when (bytes_eq s (codes "noop")) Noop
@@ -16,6 +17,7 @@ operator_of s = first_some (
     ∷ [])
 
 -- the status that one to three digits write, from 0 to 255
+-- restates: POSIX exit statuses
 abbrev pub status_of : List ℕ → Option ℕ
 status_of s =
     when ((nat_le 1 (length s) && nat_le (length s) 3) && (all_ascii_digits s && nat_le (digits_value 10 s) 255)) (digits_value 10 s)
@@ -34,16 +36,20 @@ is_command argv =
     (names_program argv && nat_le (length argv) 64) && (nat_le (sum_by length argv) 65536 && list_all has_no_nul argv)
 
 -- 1 to 16 statuses
+-- what `exit` takes
+-- restates: this project's own profile
 abbrev pub are_statuses : List (List ℕ) → Bool
 are_statuses argv = (nat_le 1 (length argv) && nat_le (length argv) 16) && list_all (λ s. is_some (status_of s)) argv
 
 -- the operator takes these arguments
+-- restates: Airflow 2, operators; this project's own profile
 abbrev pub takes : Operator → List (List ℕ) → Bool
 takes Noop argv = length argv == 0
 takes Command argv = is_command argv
 takes Exit argv = are_statuses argv
 
 -- an operator and its arguments
+-- what contracts see of an `Action`
 pub record Call : Type 0 where
   pub operator : Operator
   pub argv : List (List ℕ)

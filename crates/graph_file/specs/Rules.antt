@@ -1,4 +1,5 @@
 -- The trigger rules and the weight rules, and how each is spelled.
+-- restates: Airflow 2, 'DAGs' and 'Priority Weights'
 use Rattle.std.specs.Prelude.{ℕ, List, [], ◌∷◌, Option, bytes_eq, codes}
 use Rattle.graph_file.specs.Lists.{when, first_some}
 use Rattle.graph_file.specs.declared.rules.Rule.{Rule}

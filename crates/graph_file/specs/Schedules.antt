@@ -19,6 +19,8 @@ use Rattle.graph_file.specs.declared.schedules.CronTimetable.{CronTimetable}
 use Rattle.graph_file.specs.declared.schedules.CronTimetable.TheVariants as cron
 
 -- some second before the n-th fires. It is never computed
+-- a graph's cron text fires at some second before the end of moments
+-- restates: Airflow 2, `schedule`
 unfoldable pub fires_before : ℕ → Fields → Bool
 fires_before zero c = false
 fires_before (suc n) c = fires c n || fires_before n c
@@ -29,6 +31,7 @@ firing (Ok c) = if fires_before seconds_end c then Ok (Cron c) else Err NeverFir
 firing (Err e) = Err e
 
 -- the timetable of a text, or why a cron text is refused. Only a cron text has blanks ignored at its ends
+-- restates: Airflow 2, `schedule`
 abbrev pub timetable_of : List ℕ → Result Timetable CronFault
 timetable_of s =
     if bytes_eq s (codes "None") then Ok Never
@@ -36,6 +39,7 @@ timetable_of s =
     else firing (fields_of s)
 
 -- the timetable of a cron text that a word names
+-- restates: Airflow 2, 'Timetables': `CronDataIntervalTimetable`, `CronTriggerTimetable`
 abbrev pub cron_timetable_of : List ℕ → Option CronTimetable
 cron_timetable_of s = first_some (
     when (bytes_eq s (codes "interval")) cron.Interval
@@ -43,6 +47,7 @@ cron_timetable_of s = first_some (
     ∷ [])
 
 -- a schedule with this timetable of a cron text: a trigger timetable has a run at each tick
+-- restates: Airflow 2, 'Timetables': `CronDataIntervalTimetable`, `CronTriggerTimetable`
 abbrev pub with_timetable : CronTimetable → Timetable → Timetable
 with_timetable cron.Trigger (Cron c) = Trigger c
 with_timetable _ x = x

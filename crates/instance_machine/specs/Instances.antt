@@ -3,12 +3,16 @@ use Rattle.std.specs.Prelude.{ℕ, ◌-◌, List, [], length, map, drop, slice_g
 use Rattle.trigger_rules.specs.declared.verdicts.Verdict.{Verdict}
 use Rattle.instance_machine.specs.declared.tries.Try.{Try}
 
+-- what its rule decided, its tries, and how many were before a clear
+-- restates: Airflow 2, 'Tasks': task instances
 pub record InstanceValue : Type 0 where
   pub verdict : Option Verdict
   -- how many tries were before the last clearing
   pub since : ℕ
   pub tries : List Try
 
+-- one without a verdict and without tries
+-- restates: Airflow 2, 'Tasks': task instances
 abbrev pub new_instance : InstanceValue
 new_instance = record { verdict = None; since = 0; tries = [] }
 

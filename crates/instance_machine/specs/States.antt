@@ -38,13 +38,17 @@ state_by v left None = state_of_verdict v
 state_by v left (Some t) = state_of_end left t.started t.ended
 
 -- at most `retries` tries since the last clearing, so that there is a further one
+-- restates: Airflow 2, `retries`, `retry_delay`
 abbrev pub has_retry : TaskSpec → InstanceValue → Bool
 has_retry t i = nat_le (length (recent i)) t.retries
 
+-- the state by the last recent try, or by the verdict
+-- restates: Airflow 2, 'Tasks': task instances
 abbrev pub state_of : TaskSpec → InstanceValue → State
 state_of t i = state_by i.verdict (has_retry t i) (last_of (recent i))
 
 -- what came before lets a task run that depends on the past: there is nothing before, or it was a success or skipped
+-- restates: Airflow 2, 'DAGs': depends on past
 abbrev pub opens_gate : Option State → Bool
 opens_gate None = true
 opens_gate (Some s) = is_success s || is_skipped s
@@ -57,5 +61,6 @@ is_up_for_retry _ = false
 abbrev pub retry_of : Option Try → ℕ → Option ℕ
 retry_of last delay = option_map (λ e. e.moment + delay) (option_and_then (λ t. t.ended) last)
 
+-- restates: Airflow 2, `retries`, `retry_delay`
 abbrev pub retry_at : TaskSpec → InstanceValue → Option ℕ
 retry_at t i = if is_up_for_retry (state_of t i) then retry_of (last_of (recent i)) t.retry_delay else None

@@ -20,6 +20,7 @@ abbrev pub are_of : List ℕ → List Report → Bool
 are_of serials rs = list_all (λ r. is_among serials r.serial) rs
 
 -- The minutes from a schedule on, the jobs in the log of each worker, in the order of the workers' numbers, and what was heard of them.
+-- restates: this project's own profile
 pub record AreLogs (es : List Event) (a : Schedule) (logs : List (List Job)) (heard : List WorkerReport) : Type 0 where
   -- each job that is handed out stands in one log, once, and no other does
   pub once : (weight : Job → ℕ) → sum_by weight (handed_along es a) ≡ sum_by (λ log. sum_by weight log) logs

@@ -1,4 +1,5 @@
 -- What the minutes of a run say. They are the events that were accepted in it, in their order, from a schedule on.
+-- restates: this project's own profile
 use Rattle.std.specs.Prelude.{◌≡◌, ◌==◌, ℕ, Bool, true, false, List, [], ◌∷◌, ◌++◌, filter, flat_map, All}
 use Rattle.std.specs.List.{list_any}
 use Rattle.ruled_dispatch.specs.declared.items.Report.{Report as WorkReport}
@@ -13,6 +14,7 @@ abbrev pub along : {B : Type 0} → (Event → Schedule → List B) → List Eve
 along f [] a = []
 along f (e ∷ es) a = f e a ++ along f es (step e a)
 
+-- the event is a restart
 abbrev pub is_restart : Event → Bool
 is_restart (Restart lanes) = true
 is_restart _ = false

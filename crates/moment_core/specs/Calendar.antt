@@ -5,6 +5,7 @@ use Rattle.moment_core.specs.declared.calendar.Civil.{Civil}
 use Rattle.moment_core.specs.declared.calendar.Date.{Date}
 
 -- the date after a date, by the lengths of the months of the Gregorian calendar
+-- restates: ISO 8601
 abbrev pub next_date : Date → Date
 next_date d =
     if nat_lt d.day (days_in_month (pos d.year) d.month) then record { year = d.year; month = d.month; day = d.day + 1 }
@@ -12,21 +13,28 @@ next_date d =
     else record { year = d.year + 1; month = 1; day = 1 })
 
 -- the date of a day: day 0 is 1970-01-01, and each day has the date after that of the day before
+-- restates: ISO 8601
 unfoldable pub date_of : ℕ → Date
 date_of zero = record { year = 1970; month = 1; day = 1 }
 date_of (suc n) = next_date (date_of n)
 
 -- the day of a moment
+-- restates: POSIX seconds since the epoch
 abbrev pub day_of : ℕ → ℕ
 day_of m = m / 86400
 
+-- the hour of a moment
+-- restates: POSIX seconds since the epoch
 abbrev pub hour_of : ℕ → ℕ
 hour_of m = m % 86400 / 3600
 
+-- the minute of a moment
+-- restates: POSIX seconds since the epoch
 abbrev pub minute_of : ℕ → ℕ
 minute_of m = m % 3600 / 60
 
 -- the day of the week of a day, Sunday 0: day 0 was a Thursday
+-- restates: crontab(5)
 abbrev pub weekday_of : ℕ → ℕ
 weekday_of n = (n + 4) % 7
 

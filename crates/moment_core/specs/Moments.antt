@@ -1,4 +1,5 @@
 -- Moments: whole seconds since 1970-01-01T00:00:00Z.
+-- restates: this project's own profile
 use Rattle.std.specs.Prelude.{ℕ}
 
 -- the moments end before this second, 2200-01-01T00:00:00Z

@@ -1,4 +1,5 @@
 -- The text of a moment, as 2024-01-01T00:00:00+00:00.
+-- restates: Airflow 2, 'DAG Runs': logical dates in run ids
 use Rattle.std.specs.Prelude.{ℕ, ◌+◌, ◌/◌, ◌%◌, List, [], ◌∷◌, ◌++◌, codes}
 use Rattle.moment_core.specs.Calendar.{date_of, day_of}
 use Rattle.moment_core.specs.declared.calendar.Date.{Date}

@@ -45,6 +45,7 @@ abbrev pub ranged : ℤ → Result ℕ MomentFault
 ranged z = if int_lt z (pos 0) then Err OutOfRange else (if nat_lt (unsigned_abs z) seconds_end then Ok (unsigned_abs z) else Err OutOfRange)
 
 -- the moment of a day and a time
+-- restates: ISO 8601
 abbrev pub moment_at : ℕ → ℕ → ℕ → ℕ → ℕ → ℕ → Result ℕ MomentFault
 moment_at year month day hour minute second =
     if is_date year month day && is_time hour minute second
@@ -55,6 +56,7 @@ abbrev pub year_at : List ℕ → ℕ
 year_at t = two_at t 0 * 100 + two_at t 2
 
 -- the moment of a text, or the first fault: its shape, its date or time, its range
+-- restates: ISO 8601
 abbrev pub read_of : List ℕ → Result ℕ MomentFault
 read_of t =
     if is_timed t then moment_at (year_at t) (two_at t 5) (two_at t 8) (two_at t 11) (two_at t 14) (two_at t 17)

@@ -7,6 +7,7 @@ use Rattle.sched_state.specs.RunIds.{run_id_text}
 use Rattle.sched_state.specs.declared.jobs.Job.{Job}
 
 -- its path under a base folder, as Airflow 2 lays its logs out ('Logging for Tasks': log_filename_template)
+-- the base folder's path, then the graph, the run's id, the task and the number of the try
 abbrev pub log_path : List ℕ → Job → List ℕ
 log_path base job =
     base

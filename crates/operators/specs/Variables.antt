@@ -8,6 +8,7 @@ use Rattle.sched_state.specs.RunIds.{kind_text, run_id_text}
 use Rattle.sched_state.specs.declared.jobs.Job.{Job}
 
 -- a variable and its value
+-- restates: Airflow 2, `BashOperator`: `AIRFLOW_CTX_..`; the others are this project's own
 pub record VariableText : Type 0 where
   pub name : List ℕ
   pub value : List ℕ
@@ -16,6 +17,7 @@ abbrev variable : List ℕ → List ℕ → VariableText
 variable name value = record { name = name; value = value }
 
 -- those of a try with its folder. Each name stands there once
+-- restates: Airflow 2, `BashOperator`: `AIRFLOW_CTX_..`; the others are this project's own
 abbrev pub variables_of : Job → List ℕ → List VariableText
 variables_of job folder =
     variable (codes "AIRFLOW_CTX_DAG_ID") job.graph

@@ -1,4 +1,5 @@
 -- The most that there is of a thing.
+-- restates: this project's own profile
 use Rattle.std.specs.Prelude.{ℕ, ◌-◌, ◌^◌}
 
 -- slots that are counted at once
@@ -10,5 +11,6 @@ abbrev pub pool_limit : ℕ
 pool_limit = 64
 
 -- taken slots of a pool, where they are counted without knowing how many they are
+-- past it the taken slots of a pool are not counted
 abbrev pub most_taken : ℕ
 most_taken = 2 ^ 62 - 1

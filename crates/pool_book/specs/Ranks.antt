@@ -5,6 +5,7 @@ use Rattle.std.specs.declared.cmp.Ordering.{Ordering}
 use Rattle.pool_book.specs.Pools.{name_cmp}
 
 -- what a task instance ranks by
+-- restates: Airflow 2, 'Priority Weights'; what comes after the weight is this project's own profile
 pub record RankParts : Type 0 where
   pub weight : ℕ
   pub logical : ℕ

@@ -35,6 +35,7 @@ weight_by rule.Absolute g k = own_weight g k
 weight_by rule.Downstream g k = own_weight g k + sum_by (own_weight g) (reach_of g to.Downstream k)
 weight_by rule.Upstream g k = own_weight g k + sum_by (own_weight g) (reach_of g to.Upstream k)
 
+-- the effective weight of a place
 abbrev pub effective_weight : Dag → ℕ → ℕ
 effective_weight g k = weight_by (task_of g k).weight_rule g k
 

@@ -19,6 +19,7 @@ module _ {D : Type 0} {g : Ghosts D} where
   MayBeLeft h left = (state h.store).may_leave left
 
   -- it was opened on files that were left so
+  -- it has the database that they recover to
   abbrev pub IsOpenedOn : Image → Held (FileStore D g) → Type 0
   IsOpenedOn left h = IsOpened h × FindsIn left (file_state h)
 

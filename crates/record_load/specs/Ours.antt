@@ -1,4 +1,5 @@
 -- When a schema has the tables of the record, with each of their columns. SQL goes by names without case.
+-- of a table of the record, the table of this name has all its columns (`is_meta`), and a schema has such a table (`has_meta`)
 use Rattle.std.specs.Prelude.{Bool, ◌&&◌, ◌||◌, not, List, ℕ, codes}
 use Rattle.std.specs.List.{list_any}
 use Rattle.sqlite.specs.Schema.{Schema}

@@ -1,4 +1,5 @@
 -- The rows that the queries of a load show.
+-- a row that a query shows is the values of a row of the table, whose texts are UTF-8 (`IsMetaRow`)
 use Rattle.std.specs.Prelude.{◌≡◌, [], ◌∷◌}
 use Rattle.sqlite.specs.Order.{Row}
 use Rattle.sqlite_value.specs.Order.{column}

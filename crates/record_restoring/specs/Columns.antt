@@ -11,6 +11,7 @@ are_columns_right r =
     (is_moment_column r.logical && (is_moment_column r.data_start && (is_moment_column r.data_end && int_le r.data_start r.data_end)))
     && (is_between 0 2 r.kind && is_between 0 3 r.phase)
 
+-- what the columns say then
 abbrev pub columns_in : RunRow → RunColumns
 columns_in r = record {
   logical = natural r.logical;

@@ -7,6 +7,7 @@ use Rattle.record_rules.specs.Numbers.{natural}
 use Rattle.record_rules.specs.Reading.{verdict_of, try_of}
 use Rattle.record_rules.specs.Faults.{is_end_row_right}
 
+-- an instance by its row and the rows of its tries
 abbrev pub instance_of : InstanceRow → List AttemptRow → InstanceValue
 instance_of x ws = record { verdict = verdict_of (natural x.verdict); since = natural x.since; tries = map try_of ws }
 

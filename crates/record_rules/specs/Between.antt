@@ -7,6 +7,7 @@ abbrev pub put : {X : Type 0} → (X → X → Bool) → X → List X → List X
 put before r [] = r ∷ []
 put before r (y ∷ ys) = if before y r then y ∷ put before r ys else (if before r y then r ∷ y ∷ ys else r ∷ ys)
 
+-- rows put one after another
 abbrev pub puts : {X : Type 0} → (X → X → Bool) → List X → List X → List X
 puts before [] xs = xs
 puts before (r ∷ rs) xs = puts before rs (put before r xs)

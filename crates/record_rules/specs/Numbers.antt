@@ -1,4 +1,5 @@
 -- The numbers of the record's columns, which may be negative.
+-- restates: this project's own profile
 use Rattle.std.specs.Prelude.{ℕ, ℤ, pos, negsuc, ◌-◌, Bool, true, ◌&&◌, int_le, Option, Some, None}
 use Rattle.moment_core.specs.Moments.{seconds_end}
 

@@ -16,6 +16,7 @@ use Rattle.record_changes.specs.record_rules.Keys.{meta_row_before, pool_row_bef
 use Rattle.record_tables.specs.Schema.{meta_table, pool_table, dag_table, dag_limit_table, run_table, instance_table, attempt_table, first_schema, record_schema}
 
 -- ---- the values of a row, column by column
+-- NULL where a column is not there
 abbrev pub or_null : Option ℤ → Value
 or_null None = Null
 or_null (Some n) = Int n

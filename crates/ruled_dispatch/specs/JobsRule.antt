@@ -5,6 +5,7 @@ use lib.ListN.{get_elem?}
 use Rattle.ruled_dispatch.specs.declared.items.JobOrStop.{JobOrStop}
 use Rattle.ruled_dispatch.specs.declared.jobs_rule.JobActivity.{JobActivity}
 
+-- what a pass has done: its parts, whether it may send, what it sent and took
 abbrev pub activity : ℕ → ℕ → List JobOrStop → List JobOrStop → JobActivity
 activity parts senders sent taken = record { parts = parts; senders = senders; sent = sent; taken = taken }
 

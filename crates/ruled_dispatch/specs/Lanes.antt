@@ -11,26 +11,32 @@ use Rattle.ruled_dispatch.specs.JobsRule.{all_parts, AreAmong}
 use Rattle.ruled_dispatch.specs.ReportsRule.{told_by}
 
 -- what the director sent, in its order
+-- restates: this project's own profile
 abbrev pub sent_of : DirectorPass → List JobOrStop
 sent_of director = (view director.jobs).sent
 
 -- what the director heard, in its order
+-- restates: this project's own profile
 abbrev pub heard_of : DirectorPass → List WorkerReport
 heard_of director = (view director.reports).heard
 
 -- what the worker took, in its order
+-- restates: this project's own profile
 abbrev pub taken_of : WorkerPass → List JobOrStop
 taken_of worker = (view worker.jobs).taken
 
 -- what the worker told, in its order
+-- restates: this project's own profile
 abbrev pub told_of : WorkerPass → List Report
 told_of worker = (view worker.reports).told
 
 -- how many jobs and stops there is room for
+-- restates: this project's own profile
 abbrev pub job_capacity_of : Lanes → ℕ
 job_capacity_of lanes = ruled_capacity lanes.jobs
 
 -- how many reports there is room for
+-- restates: this project's own profile
 abbrev pub report_capacity_of : Lanes → ℕ
 report_capacity_of lanes = ruled_capacity lanes.reports
 

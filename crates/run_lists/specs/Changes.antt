@@ -4,6 +4,7 @@ use Rattle.instance_machine.specs.Instances.{InstanceValue}
 use Rattle.sched_state.specs.declared.runs.Run.{Run}
 pub use Rattle.sched_model.specs.Schedule.{in_phase}
 
+-- a run with other instances
 abbrev pub with_instances : List InstanceValue → Run → Run
 with_instances is r = record r { instances = is }
 

@@ -3,6 +3,7 @@ use Rattle.std.specs.Prelude.{◌≡◌, ℕ, zero, suc, ◌+◌, if◌then◌el
 use Rattle.std.specs.List.{AllByRecursion}
 use Rattle.sched_state.specs.declared.runs.Run.{Run}
 
+-- what became of a run
 pub data Mark : Type 0 where
   -- the run is as it was
   Kept : Run → Mark
@@ -21,12 +22,14 @@ now_of (Added s) = s
 abbrev pub runs_of : List Mark → List Run
 runs_of ms = map now_of ms
 
+-- the runs as they were
 abbrev pub base_of : List Mark → List Run
 base_of [] = []
 base_of (Kept r ∷ ms) = r ∷ base_of ms
 base_of (Changed r s ∷ ms) = r ∷ base_of ms
 base_of (Added s ∷ ms) = base_of ms
 
+-- a run is changed or new
 abbrev pub is_touched : Mark → Bool
 is_touched (Kept r) = false
 is_touched (Changed r s) = true
@@ -39,6 +42,7 @@ touched_runs (Kept r ∷ ms) = touched_runs ms
 touched_runs (Changed r s ∷ ms) = s ∷ touched_runs ms
 touched_runs (Added s ∷ ms) = s ∷ touched_runs ms
 
+-- the touched runs that were there, as they were
 abbrev pub replaced_runs : List Mark → List Run
 replaced_runs [] = []
 replaced_runs (Kept r ∷ ms) = replaced_runs ms
@@ -56,6 +60,7 @@ abbrev pub touched_from : ℕ → List Mark → List ℕ
 touched_from n [] = []
 touched_from n (m ∷ ms) = if is_touched m then n ∷ touched_from (n + 1) ms else touched_from (n + 1) ms
 
+-- the positions of the touched runs
 abbrev pub touched_in : List Mark → List ℕ
 touched_in ms = touched_from 0 ms
 

@@ -18,6 +18,7 @@ manual_intervals (Trigger c) t = empty_at t ∷ []
 manual_intervals Once t = empty_at t ∷ []
 manual_intervals Never t = empty_at t ∷ []
 
+-- the first of some intervals, or that there is none
 abbrev pub the_interval : List Interval → Result Interval PlanFault
 the_interval [] = Err NoInterval
 the_interval (i ∷ is) = Ok i

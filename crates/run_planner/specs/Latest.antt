@@ -8,6 +8,7 @@ use Rattle.cron_timetable.specs.declared.timetables.Timetable.TheVariants.{Cron,
 use Rattle.run_planner.specs.Due.{is_up_to}
 
 -- an interval of the timetable: two neighbouring ticks, the empty one at a tick, or of `@once` the empty one at the first date
+-- restates: Airflow 2, 'Timetables'
 abbrev pub IsIntervalOf : Timetable → ℕ → Interval → Type 0
 IsIntervalOf (Cron c) first i = IsInterval c i.start i.end
 IsIntervalOf (Trigger c) first i = IsTick c i.start × (i.end ≡ i.start)
@@ -15,6 +16,7 @@ IsIntervalOf Once first i = i ≡ empty_at first
 IsIntervalOf Never first i = ⊥
 
 -- an interval of the timetable that starts from `first` on and not past `last`, and has ended at t
+-- restates: Airflow 2, 'Timetables'
 pub record IsDue (x : Timetable) (first : ℕ) (last : Option ℕ) (t : ℕ) (i : Interval) : Type 0 where
   pub interval : IsIntervalOf x first i
   pub from : first ≤ i.start

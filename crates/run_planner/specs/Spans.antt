@@ -23,6 +23,7 @@ span_intervals g low high t = timetable_span g.schedule g.start_date low high t
 abbrev pub with_runs : List ℕ → List Interval → List Interval
 with_runs dates is = filter (λ i. has_date dates i.start) is
 
+-- the starts of intervals
 abbrev pub starts : List Interval → List ℕ
 starts is = map (λ (i : Interval). i.start) is
 

@@ -16,6 +16,7 @@ use Rattle.sched_events.specs.Rows.{Row, PoolLine}
 abbrev pub row_of : Run → TaskSpec × InstanceValue → Row
 row_of r e = record { graph = r.graph; logical = r.logical; kind = r.kind; task = e.0.task_id; state = state_of e.0 e.1; tries = length e.1.tries }
 
+-- a row stands before another, by graph, date and task
 abbrev pub row_before : Row → Row → Bool
 row_before v w = is_less (name_cmp v.task w.task)
 
@@ -43,5 +44,6 @@ abbrev pub pool_row : Schedule → Pool → PoolLine
 pool_row a q = record { name = q.name; size = q.size; occupied = occupied a q.name; open_slots = pos q.size -ℤ pos (occupied a q.name) }
 
 -- the rows of all pools, by name
+-- restates: Airflow 2, 'Pools'
 abbrev pub pool_rows : Schedule → List PoolLine
 pool_rows a = map (pool_row a) a.pools

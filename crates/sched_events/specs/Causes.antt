@@ -1,4 +1,5 @@
 -- The causes for which an event is refused.
+-- restates: this project's own profile
 use Rattle.std.specs.Prelude.{ℕ, not, ◌&&◌, ◌||◌, Bool, List, [], cond, None, ◌∷◌, length, sum_by, find, nat_lt, Option, Some, option_map, option_and_then, Result, Ok, Err}
 use Rattle.graph_file.specs.Graphs.{graph_of}
 use Rattle.graph_file.specs.Lists.{when, first_some, holds_at}

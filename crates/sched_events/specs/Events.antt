@@ -35,16 +35,19 @@ leaves_more_by _ a = false
 
 -- the instances that it sets back, where it is an event that does: those that a clear names, or all instances of the runs that a
 -- backfill finds in its span, if they are to be reset
+-- restates: Airflow 2, 'DAG Runs'
 abbrev pub set_back_by : Event → Schedule → Option Selection
 set_back_by (Backfill id from to true) a = Some (reset_by id (present_in a id from to))
 set_back_by (Clear c) a = Some (cleared_by a c)
 set_back_by _ a = None
 
+-- restates: Airflow 2, 'DAG Runs'
 abbrev pub set_back : Option Selection → Schedule → Schedule
 set_back None a = a
 set_back (Some named) a = clear named a
 
 -- how many of them were not none
+-- restates: Airflow 2, 'DAG Runs'
 abbrev pub count_in : Option Selection → Schedule → ℕ
 count_in None a = 0
 count_in (Some named) a = count_cleared a named

@@ -14,6 +14,7 @@ pub record Row : Type 0 where
 
 -- a pool, as it is shown: its name, its size, how many slots are taken of it, and how many are open, which are fewer than none where
 -- more are taken than it has
+-- restates: Airflow 2, 'Pools'
 pub record PoolLine : Type 0 where
   pub name : List ℕ
   pub size : ℕ

@@ -19,6 +19,7 @@ use Rattle.sched_model.specs.Clearing.{Selection, named_pairs, pairs_of, place_o
 use Rattle.sched_model.specs.NamedRuns.{NamedRun}
 
 -- ---- a report
+-- all tries of a schedule
 abbrev pub tries_of : Schedule → List Try
 tries_of a = flat_map (λ (r : Run). flat_map (λ (i : InstanceValue). i.tries) r.instances) a.runs
 

@@ -50,6 +50,7 @@ cleared_by a c r p e =
     in_span c r && (names_place c (dag_named a r.graph) c.task p && (not c.only_failed || is_bad (state_of e.0 e.1)))
 
 -- the instances that the reset of a backfill names: all of the graph's runs with these dates
+-- restates: Airflow 2, 'DAG Runs': backfill
 abbrev pub reset_by : List ℕ → List ℕ → Selection
 reset_by id dates r p e = same r.graph id && has_date dates r.logical
 
@@ -86,17 +87,22 @@ clear_if a named r (e ∷ es) = with_cleared a named r
 abbrev pub clear_run : Schedule → Selection → Run → Run
 clear_run a named r = clear_if a named r (named_in a named r)
 
+-- named instances are set back
 abbrev pub clear : Selection → Schedule → Schedule
 clear named a = record a { runs = map (clear_run a named) a.runs }
 
 -- ---- what a clear answers
+-- the named instances, each beside its task
+-- restates: this project's own profile
 abbrev pub named_pairs : Schedule → Selection → List (TaskSpec × InstanceValue)
 named_pairs a named = flat_map (named_in a named) a.runs
 
+-- restates: this project's own profile
 abbrev pub is_none_state : State → Bool
 is_none_state state.None = true
 is_none_state _ = false
 
 -- how many named instances were not none
+-- restates: this project's own profile
 abbrev pub count_cleared : Schedule → Selection → ℕ
 count_cleared a named = count_by (λ (e : TaskSpec × InstanceValue). not (is_none_state (state_of e.0 e.1))) (named_pairs a named)

@@ -1,4 +1,5 @@
 -- What is told of a try that is handed out.
+-- restates: this project's own profile
 use Rattle.std.specs.Prelude.{ℕ, ◌-◌, ◌==◌, List, map, filter, flat_map}
 use Rattle.std.specs.List.{enumerate_from, range_with_len}
 use Rattle.sched_state.specs.graph_file.declared.task_specs.TaskSpec.{TaskSpec}
@@ -9,6 +10,7 @@ use Rattle.sched_model.specs.Schedule.{Schedule}
 use Rattle.sched_state.specs.declared.runs.Run.{Run}
 use Rattle.sched_model.specs.Clearing.{pairs_of}
 
+-- the job of a try
 abbrev pub job_of : Run → TaskSpec → ℕ × Try → Job
 job_of r t e = record {
   serial = e.1.serial;

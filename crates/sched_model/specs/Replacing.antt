@@ -42,6 +42,7 @@ new_verdict phase.Running = None
 new_verdict phase.Success = Some verdict.Skip
 new_verdict phase.Failed = Some verdict.UpstreamFailed
 
+-- the instance of a task that is new
 abbrev pub newcomer : RunPhase → InstanceValue
 newcomer ph = record new_instance { verdict = new_verdict ph }
 

@@ -76,6 +76,7 @@ start_run a r = when (can_start a r) (record r { phase = phase.Running })
 
 -- ---- moves
 -- a decision, else an end, else a start, each at the first run in order at which it is possible
+-- restates: this project's own profile
 abbrev pub move_runs : Schedule → Option (List Run)
 move_runs a = first_some (
     first_change (decide_run a) a.runs
@@ -83,9 +84,12 @@ move_runs a = first_some (
     ∷ first_change (start_run a) a.runs
     ∷ [])
 
+-- restates: this project's own profile
 abbrev pub with_runs : Schedule → List Run → Schedule
 with_runs a rs = record a { runs = rs }
 
+-- the first decision, else the first end, else the first start
+-- restates: this project's own profile
 abbrev pub move : Schedule → Option Schedule
 move a = option_map (with_runs a) (move_runs a)
 

@@ -21,18 +21,22 @@ abbrev pub Request : Type 0
 Request = Result ScriptCommand CommandFault
 
 -- a bad line: longer than the limit, or no UTF-8
+-- restates: this project's own profile
 abbrev pub is_bad : List ℕ → Bool
 is_bad line = nat_lt line_limit (length line) || not (is_utf8 line)
 
 -- a comment begins with `#`
+-- restates: this project's own profile
 abbrev pub is_comment : List ℕ → Bool
 is_comment line = nat_lt 0 (length line) && (slice_index line 0 == 35)
 
 -- a line that is passed over: a comment, or one without a word
+-- restates: this project's own profile
 abbrev pub is_skipped : List ℕ → Bool
 is_skipped line = is_comment line || (length (words line) == 0)
 
 -- what a line outside of a graph's text asks for; one that is passed over asks for nothing, be it bad or not
+-- restates: this project's own profile
 abbrev pub meaning_of : Texts → List ℕ → LineMeaning
 meaning_of names line =
     if is_skipped line then means.Nothing
@@ -44,14 +48,17 @@ pub data Place : Type 0 where
   Inside : Taking → Option (List ℕ) → Place
 
 -- one more line of a graph's text, with its newline
+-- restates: this project's own profile
 abbrev pub with_newline : Option (List ℕ) → List ℕ → Option (List ℕ)
 with_newline text line = option_map (λ t. t ++ (line ++ newline ∷ [])) text
 
 -- a bad line leaves no text
+-- restates: this project's own profile
 abbrev pub with_line : Option (List ℕ) → List ℕ → Option (List ℕ)
 with_line text line = if is_bad line then None else with_newline text line
 
 -- what a graph's text asks for that is taken in so
+-- restates: this project's own profile
 abbrev pub take_of : Taking → Option (List ℕ) → Request
 take_of taking (Some text) = Ok (Step (taken taking text))
 take_of taking None = Err (Usage BadLine)
@@ -64,6 +71,7 @@ given_by (means.This command) after = Ok command ∷ after Outside
 given_by (means.Fault fault) after = Err (Usage fault) ∷ after Outside
 
 -- the line that ends a graph's text
+-- restates: this project's own profile
 abbrev pub ends_text : List ℕ → Bool
 ends_text line = bytes_eq line (codes ".")
 
@@ -97,6 +105,7 @@ pub record IsFirst (names : Texts) (commands : List Request) (given : Request) (
   pub same : IsGiven wanted given
 
 -- what a script has is no report of a worker and no restart
+-- restates: this project's own profile
 abbrev pub is_asked : Request → Bool
 is_asked (Ok command) = is_of_script command
 is_asked (Err fault) = true

@@ -1,4 +1,5 @@
 -- What a line of a script asks for.
+-- restates: this project's own profile
 use Rattle.std.specs.Prelude.{◌≡◌, ⊤, Bool, true, false, List, Option, Some, None, Result, Ok, Err}
 use Rattle.clap.specs.Words.{Text}
 use Rattle.word_app.specs.App.{Texts}

@@ -6,10 +6,12 @@ use Rattle.script_lines.specs.declared.lines.Found.{Found}
 use Rattle.script_lines.specs.declared.lines.Found.TheVariants.{Line, LongLine, End}
 
 -- the byte that ends a line
+-- restates: this project's own profile
 abbrev pub newline : ℕ
 newline = 10
 
 -- the most bytes of a line that is told, without its newline
+-- restates: this project's own profile
 abbrev pub line_limit : ℕ
 line_limit = 65536
 
@@ -28,6 +30,7 @@ push_first x [] = (x ∷ []) ∷ []
 push_first x (line ∷ lines) = (x ∷ line) ∷ lines
 
 -- the lines of a text: each ends at a newline, which is no part of it, or at the end of the text
+-- restates: POSIX, 'Line', with an incomplete last line
 abbrev pub lines_of : List ℕ → List (List ℕ)
 lines_of [] = []
 lines_of (x ∷ xs) = if x == newline then [] ∷ lines_of xs else push_first x (lines_of xs)

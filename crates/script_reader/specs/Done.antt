@@ -1,4 +1,5 @@
 -- What was done of the commands of a script, and what is left of it.
+-- restates: this project's own profile
 use Rattle.std.proofs.Common.{inl, true≢false, refl, sym, arith}
 use Rattle.std.specs.Prelude.{◌≡◌, ◌⊎◌, ◌==◌, ◌&&◌, not, ℕ, max, Bool, true, false, List, [], ◌∷◌, ◌++◌, length, map, All, Option, Some, None, Result, Ok, Err}
 use Rattle.std.specs.List.{flat_map}

@@ -1,4 +1,5 @@
 -- The end of a script that was run.
+-- restates: this project's own profile
 use Rattle.std.specs.Prelude.{◌≡◌, ◌⊎◌, ℕ, max, Result, Ok, Err}
 use Rattle.answer_lines.specs.sessions.declared.faults.ConductFault.{ConductFault}
 use Rattle.answer_lines.specs.sessions.declared.faults.ConductFault.TheVariants.{StoreThrice}

@@ -1,4 +1,5 @@
 -- The statuses of what is not done.
+-- restates: this project's own profile
 use Rattle.std.specs.Prelude.{ℕ, List, Result, Ok, Err}
 use Rattle.sched_events.specs.declared.answers.Answer.{Answer}
 use Rattle.sched_events.specs.declared.refusals.Refusal.{Refusal}

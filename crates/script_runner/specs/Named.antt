@@ -31,6 +31,7 @@ may_break_off _ = false
 -- could not be shown. Where it ended well, the output has grown by what shows each command, in their order; where it did not, and the status is not 4, then
 -- by the line of its fault too. The status is the greatest of what was done, where the run ended well, and that of its fault otherwise; where it is 0, the
 -- event of each command is there.
+-- restates: this project's own profile
 pub record AreNamed {T : Type 0} (bytes : Option (List ℕ)) (sources : List FileAnswer → Type 0) (clock : List Reading → Type 0) (output : List ℕ → Type 0) (first : Schedule) (minutes : List Event) (outcome : Result T ConductFault) (status : ℕ) : Type 0 where
   pub words : Texts
   pub listed : IsListed words

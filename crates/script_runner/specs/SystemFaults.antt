@@ -1,4 +1,5 @@
 -- Why the system gives no text of a file and no moment, by the kind of its error.
+-- restates: `std::io::ErrorKind`
 use Rattle.std.specs.declared.io.ErrorKind.{ErrorKind}
 use Rattle.std.specs.declared.io.ErrorKind.TheVariants as kind
 use Rattle.conduct.specs.sessions.declared.clocks.ClockFault.{ClockFault}

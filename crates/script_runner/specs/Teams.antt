@@ -32,6 +32,7 @@ module _ {O : Type 0} (kind_of : O → Kind) where
   AreKitsOf (operators ∷ rest) [] = ⊥
 
 -- what `run_on` promises of a script that workers with these operators ran
+-- restates: this project's own profile
 pub record IsTeamRun {S G O : Type 0} (look : Held S → State) (kind_of : O → Kind) (runs : O → List (Job × Outcome)) (refused : O → List Job) (taken : O → Option Job) (bytes : Option (List ℕ)) (sources : List FileAnswer → Type 0) (clock : List Reading → Type 0) (output : List ℕ → Type 0) (untouched : Type 0) (lanes : ℕ) (operators : List (List O)) (before : State) (store : Held S) (minutes : List Event) (ends : List (WorkerEnd G O)) (outcome : Result Total ConductFault) (status : ℕ) : Type 0 where
   pub kits : List (Kit O)
   pub made : AreKitsOf kind_of operators kits

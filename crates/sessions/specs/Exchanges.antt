@@ -9,6 +9,7 @@ use Rattle.director.specs.declared.faults.Fault.{Fault}
 use Rattle.minutes.specs.Minutes.{is_of_line, of_lines}
 use Rattle.sessions.specs.Readings.{Reading}
 
+-- what passes between a session, its lines and its clock
 pub data Exchange : Type 0 where
   -- the lines look at a schedule
   Looked : Schedule → Exchange
@@ -62,6 +63,7 @@ readings_in exchanges = flat_map readings_by exchanges
 -- An exchange takes place at this schedule, while just these minutes are made. The schedule that is looked at is this one. An event that is accepted is of a
 -- line; it alone is made, with its answer. One that is not has a cause against it in this schedule, the first that stands; or an error of SQLite stood against
 -- it, or want of memory. What is heard is of no line. While the clock is asked nothing is made.
+-- restates: this project's own profile
 abbrev pub TakesPlace : Exchange → List Event → Schedule → Type 0
 TakesPlace (Looked b) es a = (es ≡ []) × (b ≡ a)
 TakesPlace (Told e (Ok answer)) es a = (es ≡ e ∷ []) × (is_of_line e ≡ true) × (answer ≡ answer_to e a)
@@ -71,16 +73,19 @@ TakesPlace (Asked reading) es a = es ≡ []
 
 -- These exchanges took place, in this order, while just these minutes were made from this schedule on: the minutes are parts one after another, one for each
 -- exchange, which takes place at the schedule of the minutes before its part. So reports come in only where they are heard.
+-- restates: this project's own profile
 abbrev pub TookPlace : List Exchange → List Event → Schedule → Type 0
 TookPlace [] es a = es ≡ []
 TookPlace (x ∷ xs) es a = (part rest : List Event) × (es ≡ part ++ rest) × TakesPlace x part a × TookPlace xs rest (steps part a)
 
 -- Of all minutes of a run, from this schedule on. The first stands before all that took place, and without it nothing did: in the minutes of a run it is the
 -- restart (`BeginWithRestart`). Behind it these exchanges took place, and then these last ones.
+-- restates: this project's own profile
 abbrev pub TookPlaceBehind : List Exchange → List Exchange → List Event → Schedule → Type 0
 TookPlaceBehind exchanges last [] a = exchanges ≡ []
 TookPlaceBehind exchanges last (e ∷ es) a = TookPlace (exchanges ++ last) es (step e a)
 
 -- what took place before reports were heard while the one minutes were made, did so while the others were
+-- restates: this project's own profile
 abbrev pub StillTookPlace : List Event → List Event → Type 0
 StillTookPlace old new = (a : Schedule) (exchanges : List Exchange) → TookPlaceBehind exchanges (Heard ∷ []) old a → TookPlaceBehind exchanges (Heard ∷ []) new a

@@ -12,6 +12,7 @@ use Rattle.sessions.specs.declared.line_reading.LineFault.TheVariants as lines
 
 -- it ends a run in which events were stepped, and the lines failed in this, or in nothing: they failed to be read or answered exactly where the
 -- fault says so, and a want of memory of theirs is one of the run
+-- restates: this project's own profile
 abbrev pub EndsBy : ConductFault → Option LineFault → Type 0
 EndsBy fault.NoWorker failed = ⊥
 EndsBy fault.SpawnRefused failed = ⊥

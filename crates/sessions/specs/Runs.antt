@@ -20,6 +20,7 @@ use Rattle.sessions.specs.declared.state.Session.{Session}
 -- From the schedule a, with so many lanes, and of reports that were heard: the schedule is that of the minutes, each of which was accepted;
 -- what was sent are the tries that they hand out; the reports, if none was missed, are theirs, and else more than theirs; missed or not, the
 -- minutes have no report more often than it was heard; and the restart is their first event.
+-- restates: this project's own profile
 pub record IsRunWith {S : Type 0} (reports : List WorkerReport) (a : Schedule) (lane_count : ℕ) (s : Session S) : Type 0 where
   pub stepped : s.director.schedule.content ≡ steps s.minutes.items a
   pub accepted : AreAccepted s.minutes.items a
@@ -30,11 +31,13 @@ pub record IsRunWith {S : Type 0} (reports : List WorkerReport) (a : Schedule) (
   pub begun : BeginWithRestart lane_count s.minutes.items
 
 -- the same of what the session heard
+-- restates: this project's own profile
 abbrev pub IsRun : {S : Type 0} → Schedule → ℕ → Session S → Type 0
 IsRun a lane_count s = IsRunWith (heard_of s.pass) a lane_count s
 
 -- what steps of a session keep: its pass is the director's and lacks none of the workers', the record follows the schedule, and what is true of it at
 -- each moment is still true
+-- restates: this project's own profile
 pub record GoesOn {S : Type 0} (look : Held S → State) (lanes : Lanes) (lane_count : ℕ) (old new : Session S) : Type 0 where
   pub pass : IsDirectorOf lanes new.pass
   pub workers : (count : ℕ) → HasWorkers old.pass count → HasWorkers new.pass count

@@ -1,4 +1,5 @@
 -- What passed between a run, its lines and its clock.
+-- restates: this project's own profile
 use Rattle.std.specs.Prelude.{◌≡◌, List, [], ◌∷◌, Option, None, Result, OnOk}
 use Rattle.sched_events.specs.declared.events.Event.{Event}
 use Rattle.sched_model.specs.Schedule.{Schedule}

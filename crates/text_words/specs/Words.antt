@@ -1,4 +1,5 @@
 -- The words of a text.
+-- restates: crontab(5), blanks
 use Rattle.std.specs.Prelude.{ℕ, Bool, ◌==◌, ◌||◌, nat_lt, List, length, filter}
 use Rattle.std.specs.List.{slice_split}
 

@@ -4,6 +4,7 @@ use Rattle.trigger_rules.specs.States.{is_success, is_failed, is_upstream_failed
 use Rattle.trigger_rules.specs.declared.states.State.{State}
 use Rattle.trigger_rules.specs.declared.states.State.TheVariants as state
 
+-- how many of some states are which
 pub record Tally : Type 0 where
   pub success : ℕ
   pub failed : ℕ
@@ -11,6 +12,7 @@ pub record Tally : Type 0 where
   pub skipped : ℕ
   pub unfinished : ℕ
 
+-- how many of these states are which
 abbrev pub counts_of : List State → Tally
 counts_of s = record {
   success = count_by is_success s;

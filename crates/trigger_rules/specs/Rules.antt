@@ -1,4 +1,5 @@
 -- What each trigger rule makes of the states of a task's upstreams.
+-- restates: Airflow 2, 'DAGs': trigger rules, for when a task runs; the other columns are this project's own
 use Rattle.std.specs.Prelude.{Bool, true, false, not, ◌&&◌, ◌||◌, List, [], ◌∷◌}
 use Rattle.std.specs.List.{list_any, list_all}
 use Rattle.graph_file.specs.declared.rules.Rule.{Rule}

@@ -3,6 +3,8 @@ use Rattle.std.specs.Prelude.{ℕ, Bool, true, false, ◌||◌, List, codes}
 use Rattle.trigger_rules.specs.declared.states.State.{State}
 use Rattle.trigger_rules.specs.declared.states.State.TheVariants as state
 
+-- the name of a state
+-- restates: Airflow 2, 'Tasks': task instances
 abbrev pub name_of : State → List ℕ
 name_of state.None = codes "none"
 name_of state.Scheduled = codes "scheduled"

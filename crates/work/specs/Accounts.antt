@@ -13,6 +13,7 @@ use Rattle.work.specs.Logs.{runs_of, refused_in, hold_of}
 
 -- A job may end so, begun or not: it is begun only by an operator that has taken nothing up, and then ends as an operator of its kind ends
 -- it; what is not begun failed, and is of `command` where its operator has taken nothing up.
+-- restates: this project's own profile
 pub record MayEnd {O : Type 0} (taken : O → Option Job) (kit : Kit O) (job : Job) (begun : Bool) (outcome : Outcome) : Type 0 where
   pub ended : begun ≡ true → (taken (of_kind kit job.action.operator) ≡ None) × CanEnd job.action.operator job outcome
   pub failed : begun ≡ false → (outcome ≡ ends.Failed) × (taken (of_kind kit job.action.operator) ≡ None → job.action.operator ≡ kinds.Command)

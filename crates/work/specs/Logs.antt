@@ -16,10 +16,12 @@ abbrev pub jobs_of : List Logged → List JobOrStop
 jobs_of log = map (λ e. items.Job e.job) log
 
 -- what is told of a job: that it began, and how it ended
+-- restates: this project's own profile
 abbrev pub both_reports : Logged → List Report
 both_reports e = record { serial = e.job.serial; stage = stages.Started } ∷ record { serial = e.job.serial; stage = stages.Ended e.outcome } ∷ []
 
 -- what is told of all of them, in order
+-- restates: this project's own profile
 abbrev pub reports_of : List Logged → List Report
 reports_of log = flat_map both_reports log
 
@@ -40,5 +42,6 @@ abbrev pub refused_in : Kind → List Logged → List Job
 refused_in kind log = flat_map (λ e. refused_part kind e.job e.begun) log
 
 -- the slots that a job takes while it runs
+-- restates: Airflow 2, 'Pools'
 abbrev pub hold_of : Job → Hold
 hold_of job = record { serial = job.serial; pool = job.pool; slots = job.slots }
