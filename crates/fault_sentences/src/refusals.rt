@@ -35,6 +35,10 @@ fn rest_of(alloc: Global, event: Option<&Event>, refusal: &Refusal) -> Result<Re
             Some(graph) => near(alloc, graph.as_str()),
             None => Ok(Rest::Nothing),
         },
+        (Refusal::UnknownTask, Some(Event::Clear(clearing))) => match &clearing.task {
+            Some(task) => tasks(alloc, clearing.graph.as_str(), task.as_str()),
+            None => Ok(Rest::Nothing),
+        },
         _ => Ok(Rest::Nothing),
     }
 }
@@ -42,6 +46,12 @@ fn rest_of(alloc: Global, event: Option<&Event>, refusal: &Refusal) -> Result<Re
 // Which graph was probably meant by a word.
 fn near(alloc: Global, word: &str) -> Result<Rest, AllocError> {
     Ok(Rest::Near(String::from_str(alloc, word)?))
+}
+
+// Which task of a graph was probably meant by a word.
+fn tasks(alloc: Global, graph: &str, word: &str) -> Result<Rest, AllocError> {
+    let graph = String::from_str(alloc, graph)?;
+    Ok(Rest::Tasks(graph, String::from_str(alloc, word)?))
 }
 
 fn sentence_of(
@@ -152,9 +162,7 @@ pub fn unexplained_note(
         ExplainFault::UnknownRun => alone(format!(in alloc;
             "the graph \"{graph}\" has no run of the date {logical}: {DATES_HINT}"
         )?),
-        ExplainFault::UnknownTask => {
-            alone(format!(in alloc; "the graph \"{graph}\" has no task \"{task}\"")?)
-        }
+        ExplainFault::UnknownTask => Ok(Some(unknown_task(alloc, graph, task)?)),
         ExplainFault::Memory => Ok(None),
     }
 }
@@ -163,6 +171,13 @@ pub fn unexplained_note(
 fn unknown_graph(alloc: Global, graph: &str) -> Result<Note, AllocError> {
     let text = format!(in alloc; "there is no graph \"{graph}\"")?;
     let rest = near(alloc, graph)?;
+    Ok(Note { text, rest })
+}
+
+// That a graph has no task of this name, and which was probably meant.
+fn unknown_task(alloc: Global, graph: &str, task: &str) -> Result<Note, AllocError> {
+    let text = format!(in alloc; "the graph \"{graph}\" has no task \"{task}\"")?;
+    let rest = tasks(alloc, graph, task)?;
     Ok(Note { text, rest })
 }
 
