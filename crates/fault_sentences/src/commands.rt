@@ -310,17 +310,18 @@ fn source_sentence(
     asked: Asked<'_>,
     fault: SourceFault,
 ) -> Result<Option<String>, AllocError> {
+    let said = match fault {
+        SourceFault::Unreadable => "cannot be read",
+        SourceFault::NotText => "is not UTF-8",
+        SourceFault::TooLong => "has more than 1,048,576 bytes",
+        SourceFault::NoEnd => {
+            return told(
+                alloc,
+                "the script ends within the graph's text that load inline or replace inline began: a line that is . alone ends it",
+            );
+        }
+        SourceFault::Memory => return Ok(None),
+    };
     let path = asked.path(alloc)?.unwrap_or("");
-    match fault {
-        SourceFault::Unreadable => Ok(Some(format!(in alloc; "{path} cannot be read")?)),
-        SourceFault::NotText => Ok(Some(format!(in alloc; "{path} is not UTF-8")?)),
-        SourceFault::TooLong => Ok(Some(format!(in alloc;
-            "{path} has more than 1,048,576 bytes"
-        )?)),
-        SourceFault::NoEnd => told(
-            alloc,
-            "the script ends within the graph's text that load inline or replace inline began: a line that is . alone ends it",
-        ),
-        SourceFault::Memory => Ok(None),
-    }
+    Ok(Some(format!(in alloc; "{path} {said}")?))
 }

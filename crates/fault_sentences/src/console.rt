@@ -22,7 +22,8 @@ const PAUSE: u64 = 100;
 // A tick this many seconds ahead of the system's clock is told of: a day.
 const FAR: u64 = 86_400;
 
-const AHEAD: &str = "this is more than a day ahead of the system's clock, and the record's clock never goes back: until then tick now is refused";
+const AHEAD: &str =
+    "this is more than a day ahead of the system's clock, and the record's clock never goes back: until then tick now is refused";
 
 /// Sentences on what was not done and on tries that failed, each a line; and to a terminal a line that says how many tries are in flight, and how many
 /// task instances are done, failed and wait. That line is written over at most ten times a second.

@@ -42,11 +42,8 @@ pub fn push_due(sentence: &mut String, schedule: &Schedule, id: &Name) -> Result
     };
     let spec = graph.dag.spec();
     match spec.schedule.interval_from(spec.start_date) {
-        Some(first)
-            if is_far(spec, schedule.now()) && schedule.run_of(id, first.start).is_none() =>
-        {
-            push_many(sentence, spec)
-        }
+        Some(first) if is_far(spec, schedule.now()) && schedule.run_of(id, first.start).is_none() =>
+            { push_many(sentence, spec) }
         _ => Ok(()),
     }
 }

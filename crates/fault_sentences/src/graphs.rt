@@ -21,20 +21,20 @@ pub fn graph_sentence(
 ) -> Result<Option<String>, AllocError> {
     match fault {
         GraphFault::Memory => Ok(None),
-        GraphFault::TooMany => of_file(
-            alloc,
-            asked,
-            "there are more than 1,048,576 bytes, 256 tasks or 4,096 upstream names",
-        ),
-        GraphFault::NoTask => of_file(
-            alloc,
-            asked,
-            "the graph has no task: write [[task]], and the keys of the task below it",
-        ),
+        GraphFault::TooMany | GraphFault::NoTask => of_file(alloc, asked, whole_text(fault)),
         _ => match toml::table_from_str(alloc, text) {
             Ok(file) => placed_sentence(alloc, asked, text, fault, &file),
             Err(error) => toml_sentence(alloc, asked, text, &error),
         },
+    }
+}
+
+// What is said of a file with a fault that has no place.
+fn whole_text(fault: GraphFault) -> &'static str {
+    if fault == GraphFault::NoTask {
+        "the graph has no task: write [[task]], and the keys of the task below it"
+    } else {
+        "there are more than 1,048,576 bytes, 256 tasks or 4,096 upstream names"
     }
 }
 

@@ -57,7 +57,10 @@ impl Done {
     // The first run that it has set back and that is queued, where each run of the graph that is running is a later one.
     fn first_held<'a>(&self, schedule: &'a Schedule) -> Option<&'a Run> {
         let run = schedule.runs().find(|run| self.holds(run))?;
-        if schedule.runs().any(|other| self.is_running_before(other, run.logical)) {
+        if schedule
+            .runs()
+            .any(|other| self.is_running_before(other, run.logical))
+        {
             None
         } else {
             Some(run)

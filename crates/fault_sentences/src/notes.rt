@@ -277,7 +277,11 @@ fn push_waiting(sentence: &mut String, schedule: &Schedule, id: &Name) -> Result
 }
 
 // Adds that the runs of a graph wait since it is paused, where it is.
-pub fn push_paused(sentence: &mut String, schedule: &Schedule, id: &Name) -> Result<(), AllocError> {
+pub fn push_paused(
+    sentence: &mut String,
+    schedule: &Schedule,
+    id: &Name,
+) -> Result<(), AllocError> {
     match schedule.graph_of(id) {
         Some(graph) if graph.paused => {
             if !sentence.is_empty() {
@@ -318,7 +322,11 @@ fn place_of(schedule: &Schedule, serial: u64) -> Option<(&Name, Moment, &Name)> 
 }
 
 // Adds the first task that needs more slots than its pool has.
-pub fn push_slots(sentence: &mut String, schedule: &Schedule, graph: &Name) -> Result<(), AllocError> {
+pub fn push_slots(
+    sentence: &mut String,
+    schedule: &Schedule,
+    graph: &Name,
+) -> Result<(), AllocError> {
     let Some(graph) = schedule.graph_of(graph) else {
         return Ok(());
     };

@@ -72,10 +72,13 @@ fn waits(task: &TaskSpec, instance: &Instance, pool: &Name) -> bool {
 
 // Whether a task of a graph names a pool.
 fn is_used(schedule: &Schedule, pool: &Name) -> bool {
-    schedule
-        .graphs()
+    schedule.graphs().iter().any(|graph| graph
+        .dag
+        .spec()
+        .tasks
+        .as_slice()
         .iter()
-        .any(|graph| graph.dag.spec().tasks.as_slice().iter().any(|task| task.pool == *pool))
+        .any(|task| task.pool == *pool))
 }
 
 // Adds which pool was probably meant by a name that no task has.

@@ -4,6 +4,7 @@ use crate::changes::{change_rest, change_sentence};
 use crate::graphs::{dag_sentence, graph_sentence, pool_sentence};
 use crate::moments::DATES_HINT;
 use crate::notes::{Note, Rest};
+use crate::records::said;
 use graph_file::Name;
 use sched_events::{Event, Refusal};
 use script_reader::ExplainFault;
@@ -95,10 +96,7 @@ fn text_sentence(
 }
 
 fn plain_sentence(alloc: Global, refusal: &Refusal) -> Result<Option<String>, AllocError> {
-    match plain(refusal) {
-        Some(text) => Ok(Some(String::from_str(alloc, text)?)),
-        None => Ok(None),
-    }
+    said(alloc, plain(refusal))
 }
 
 // The sentence of a refusal whose cause needs no names.
