@@ -42,10 +42,14 @@ pub fn push_due(sentence: &mut String, schedule: &Schedule, id: &Name) -> Result
     };
     let spec = graph.dag.spec();
     match spec.schedule.interval_from(spec.start_date) {
-        Some(first) if is_far(spec, schedule.now()) && schedule.run_of(id, first.start).is_none() =>
-            { push_many(sentence, spec) }
+        Some(first) if is_to_come(schedule, spec, first.start) => push_many(sentence, spec),
         _ => Ok(()),
     }
+}
+
+// Whether a graph has many runs up to now, and not the first of them yet.
+fn is_to_come(schedule: &Schedule, spec: &GraphSpec, first: Moment) -> bool {
+    schedule.run_of(&spec.dag_id, first).is_none() && is_far(spec, schedule.now())
 }
 
 // Whether the first interval of a graph begins at this moment.
