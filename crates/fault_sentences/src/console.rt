@@ -148,13 +148,9 @@ impl<R: Clock + Files + Drop, W: Write + Drop> SentenceConsole<R, W> {
 
     // What is to be told of a tick: that it is far ahead, or that it has begun very many runs.
     fn tick_note(&self, moment: Moment, answer: &Answer) -> Result<Option<Note>, AllocError> {
+        let rest = begun_rest(self.alloc, answer)?;
         let text = if self.is_far(moment) { AHEAD } else { "" };
         let text = String::from_str(self.alloc, text)?;
-        let rest = if answer.more {
-            Rest::Begun(runs_of(self.alloc, answer)?)
-        } else {
-            Rest::Nothing
-        };
         Ok(Some(Note { text, rest }))
     }
 
@@ -236,6 +232,15 @@ fn line_of(alloc: Global, number: Option<u64>, text: &str) -> Result<String, All
         None => format!(in alloc; "dagsched: {text}")?,
     };
     one_line(alloc, text.as_str())
+}
+
+// What the schedule says beside a tick: which of the runs that it has made begin very many.
+fn begun_rest(alloc: Global, answer: &Answer) -> Result<Rest, AllocError> {
+    if answer.more {
+        Ok(Rest::Begun(runs_of(alloc, answer)?))
+    } else {
+        Ok(Rest::Nothing)
+    }
 }
 
 // The seconds of a reading of the clock since 1970.

@@ -1,4 +1,5 @@
 //! Which field of a cron expression is faulty.
+use crate::asked::words_of_line;
 use cron_timetable::{Cron, CronFault};
 use std::alloc::{AllocError, Global};
 
@@ -49,8 +50,14 @@ static FIELDS: [Field; 5] = [
     },
 ];
 
-// What is said of the first of these fields that has this fault; where none has it alone, what is said of the whole.
-pub fn fault_text(alloc: Global, words: &[&str], fault: CronFault) -> Result<String, AllocError> {
+// What is said of the first field of an expression that has this fault; where none has it alone, what is said of the whole.
+pub fn fault_text(alloc: Global, cron: &str, fault: CronFault) -> Result<String, AllocError> {
+    let words = words_of_line(alloc, cron)?;
+    fault_text_of(alloc, words.as_slice(), fault)
+}
+
+// The same of these fields.
+fn fault_text_of(alloc: Global, words: &[&str], fault: CronFault) -> Result<String, AllocError> {
     for (field, word) in FIELDS.iter().zip(words.iter()) {
         if field.fault_of(alloc, word)? == Some(fault) {
             return field.sentence(alloc, word, fault);

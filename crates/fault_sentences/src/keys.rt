@@ -1,6 +1,5 @@
 //! Sentences on the keys of a graph's text and their values.
 use crate::airflow::airflow_text;
-use crate::asked::words_of_line;
 use crate::fields::fault_text;
 use crate::moments::moment_text;
 use cron_timetable::CronFault;
@@ -181,10 +180,23 @@ pub fn schedule_sentence(
         return word_sentence(alloc, name, schedule, SCHEDULES.as_slice());
     }
     let hint = hint_of(alloc, schedule, SCHEDULES.as_slice())?;
-    let words = words_of_line(alloc, schedule)?;
-    let said = fault_text(alloc, words.as_slice(), fault)?;
-    let (said, hint) = (said.as_str(), hint.as_str());
-    format!(in alloc; "{name} \"{schedule}\": {said}{hint}")
+    if hint.is_empty() {
+        return faulty_sentence(alloc, name, schedule, fault);
+    }
+    let hint = hint.as_str();
+    format!(in alloc; "{name} \"{schedule}\": {fault}{hint}")
+}
+
+// The same of a schedule that is near no word.
+fn faulty_sentence(
+    alloc: Global,
+    name: &str,
+    schedule: &str,
+    fault: CronFault,
+) -> Result<String, AllocError> {
+    let said = fault_text(alloc, schedule, fault)?;
+    let said = said.as_str();
+    format!(in alloc; "{name} \"{schedule}\": {said}")
 }
 
 // That a value is of another type than its key's.

@@ -235,11 +235,25 @@ fn push_tasks(
     word: &str,
 ) -> Result<(), AllocError> {
     let tasks = tasks_of(alloc, schedule, graph)?;
-    let hint = hint_of(alloc, word, tasks.as_slice())?;
-    let list = list_of(alloc, tasks.as_slice())?;
+    push_nearest_task(alloc, sentence, word, tasks.as_slice())?;
+    push_list(alloc, sentence, tasks.as_slice())
+}
+
+fn push_nearest_task(
+    alloc: Global,
+    sentence: &mut String,
+    word: &str,
+    tasks: &[&str],
+) -> Result<(), AllocError> {
+    let hint = hint_of(alloc, word, tasks)?;
     let before = if hint.is_empty() { "; the" } else { " The" };
-    let (hint, list) = (hint.as_str(), list.as_str());
-    write!(sentence, "{hint}{before} tasks of the graph are {list}")
+    let hint = hint.as_str();
+    write!(sentence, "{hint}{before} tasks of the graph are ")
+}
+
+fn push_list(alloc: Global, sentence: &mut String, words: &[&str]) -> Result<(), AllocError> {
+    let list = list_of(alloc, words)?;
+    sentence.push_str(list.as_str())
 }
 
 // The names of the tasks of a graph.
