@@ -3,6 +3,7 @@ use crate::telling::{tell, tell_fault};
 use answer_lines::{Shown, put};
 use command_words::{UsageFault, help_text, refusal_text};
 use script_commands::CommandFault;
+use std::alloc::AllocError;
 use std::{fs, io};
 
 /// Prints the help where the words ask for it, and else says why clap refuses them; the status.
@@ -44,18 +45,26 @@ fn put_text(rt: &HostRuntime, words: &[String]) -> io::Result<()> {
     }
 }
 
-// Tells how a script is read, where the words name a file for one.
+// Tells how a script is read, or what loads a graph, where the words name a file of one.
 fn tell_script(rt: &HostRuntime, words: &[String]) {
     let Some(word) = script_word(words) else {
         return;
     };
     if fs::metadata(rt, word).is_ok_and(|found| found.is_file()) {
-        if let Ok(text) = format!(in rt.alloc();
-            "dagsched: a script is read from standard input: dagsched run < {word}"
-        ) {
+        if let Ok(text) = file_text(rt, word) {
             tell(rt, text.as_str());
         }
     }
+}
+
+// What is said of a file in the place of a command: one of a graph, or else of a script.
+fn file_text(rt: &HostRuntime, word: &str) -> Result<String, AllocError> {
+    if word.ends_with(".toml") {
+        return format!(in rt.alloc();
+            "dagsched: {word} is a graph, which a script takes in: echo \"load {word}\" | dagsched --record PATH run"
+        );
+    }
+    format!(in rt.alloc(); "dagsched: a script is read from standard input: dagsched run < {word}")
 }
 
 // The first word that is no option, no value of one, and not `run`.

@@ -1,9 +1,10 @@
 //! Sentences on words that are no command, and on files without a graph's text.
 use crate::asked::Asked;
+use crate::keys::is_key_of;
 use crate::moments::moment_text;
 use crate::records::told;
 use command_words::{UsageFault, help_text, refusal_text};
-use graph_file::is_name;
+use graph_file::{Place, is_name};
 use moment_core::{Moment, MomentFault};
 use script_commands::{CommandFault, SourceFault};
 use std::alloc::{AllocError, Global};
@@ -14,16 +15,40 @@ pub fn command_sentence(
     asked: Asked<'_>,
     fault: CommandFault,
 ) -> Result<Option<String>, AllocError> {
-    if asked.line().ends_with('\r') {
-        return told(
-            alloc,
-            "the line ends with a carriage return: save the script with plain newlines",
-        );
+    if let Some(said) = line_text(asked.line()) {
+        return told(alloc, said);
     }
     match fault {
         CommandFault::Usage(fault) => usage_sentence(alloc, asked, fault),
         CommandFault::Source(fault) => source_sentence(alloc, asked, fault),
     }
+}
+
+// What is said of a line that is none of a script, whatever its words.
+fn line_text(line: &str) -> Option<&'static str> {
+    if line.ends_with('\r') {
+        Some("the line ends with a carriage return: save the script with plain newlines")
+    } else if line.starts_with('\u{feff}') {
+        Some("the line begins with a byte order mark: save the script without one")
+    } else if is_of_graph(line) {
+        Some(
+            "this is a line of a graph, and this is a script: its line load FILE takes in the graph of a file",
+        )
+    } else {
+        None
+    }
+}
+
+// Whether a line gives a key of a graph file a value, or begins a task.
+fn is_of_graph(line: &str) -> bool {
+    match line.split_once('=') {
+        Some((key, _)) => is_key(key.trim()),
+        None => line.starts_with("[[task]]"),
+    }
+}
+
+fn is_key(word: &str) -> bool {
+    is_key_of(Place::Top, word) || is_key_of(Place::Task(0), word)
 }
 
 fn usage_sentence(
@@ -285,17 +310,18 @@ fn source_sentence(
     asked: Asked<'_>,
     fault: SourceFault,
 ) -> Result<Option<String>, AllocError> {
+    let said = match fault {
+        SourceFault::Unreadable => "cannot be read",
+        SourceFault::NotText => "is not UTF-8",
+        SourceFault::TooLong => "has more than 1,048,576 bytes",
+        SourceFault::NoEnd => {
+            return told(
+                alloc,
+                "the script ends within the graph's text that load inline or replace inline began: a line that is . alone ends it",
+            );
+        }
+        SourceFault::Memory => return Ok(None),
+    };
     let path = asked.path(alloc)?.unwrap_or("");
-    match fault {
-        SourceFault::Unreadable => Ok(Some(format!(in alloc; "{path} cannot be read")?)),
-        SourceFault::NotText => Ok(Some(format!(in alloc; "{path} is not UTF-8")?)),
-        SourceFault::TooLong => Ok(Some(format!(in alloc;
-            "{path} has more than 1,048,576 bytes"
-        )?)),
-        SourceFault::NoEnd => told(
-            alloc,
-            "the script ends within the graph's text that load inline or replace inline began: a line that is . alone ends it",
-        ),
-        SourceFault::Memory => Ok(None),
-    }
+    Ok(Some(format!(in alloc; "{path} {said}")?))
 }

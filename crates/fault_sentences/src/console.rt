@@ -1,20 +1,29 @@
 //! What a person is told beside the answers: sentences, and a line on a terminal that says how a drain goes on.
 use crate::asked::Asked;
+use crate::due::runs_of;
 use crate::lines::one_line;
-use crate::notes::{Note, note_of, unreadable_note};
+use crate::loads::Loads;
+use crate::notes::{Note, Rest, note_of, unreadable_note};
 use crate::totals::Totals;
 use crate::tries::{Told, Untold, ended_since, lost_at_restart};
-use sched_events::Event;
+use moment_core::Moment;
+use sched_events::{Answer, Event};
 use script_commands::{CommandFault, SourceFault};
 use script_reader::{Console, Schedule, Shown, Spot};
 use std::alloc::{AllocError, Global};
 use std::io::{self, IsTerminal, Read, Write};
 use std::rt::{Clock, Files};
-use std::time::{Duration, Instant};
+use std::time::{Duration, Instant, SystemTime};
 use std::{fs, str};
 
 // How many milliseconds a line stands before it is written anew.
 const PAUSE: u64 = 100;
+
+// A tick this many seconds ahead of the system's clock is told of: a day.
+const FAR: u64 = 86_400;
+
+const AHEAD: &str =
+    "this is more than a day ahead of the system's clock, and the record's clock never goes back: until then tick now is refused";
 
 /// Sentences on what was not done and on tries that failed, each a line; and to a terminal a line that says how many tries are in flight, and how many
 /// task instances are done, failed and wait. That line is written over at most ten times a second.
@@ -32,6 +41,8 @@ pub struct SentenceConsole<R: Clock + Files + Drop, W: Write + Drop> {
     written: Option<Instant>,
     // What is to be told of the command that was read last, with the number of its line.
     note: Option<(Option<u64>, Note)>,
+    // The graphs that the script has taken in.
+    loads: Loads,
     // The tries whose ends are still to be told; none before the first command.
     untold: Option<Untold>,
 }
@@ -67,6 +78,7 @@ impl<R: Clock + Files + Drop, W: Write + Drop> SentenceConsole<R, W> {
             is_terminal,
             written: None,
             note: None,
+            loads: Loads::new(alloc),
             untold: None,
         }
     }
@@ -128,7 +140,26 @@ impl<R: Clock + Files + Drop, W: Write + Drop> SentenceConsole<R, W> {
                 return Ok(Some(unreadable_note(self.alloc, path, &cause)?));
             }
         }
-        note_of(self.alloc, asked, event, shown)
+        match shown {
+            Shown::Answer(Event::Tick(moment), answer) => self.tick_note(*moment, answer),
+            _ => note_of(self.alloc, asked, event, shown),
+        }
+    }
+
+    // What is to be told of a tick: that it is far ahead, or that it has begun very many runs.
+    fn tick_note(&self, moment: Moment, answer: &Answer) -> Result<Option<Note>, AllocError> {
+        let rest = begun_rest(self.alloc, answer)?;
+        let text = if self.is_far(moment) { AHEAD } else { "" };
+        let text = String::from_str(self.alloc, text)?;
+        Ok(Some(Note { text, rest }))
+    }
+
+    // Whether a moment is far ahead of the system's clock.
+    fn is_far(&self, moment: Moment) -> bool {
+        match SystemTime::now(&self.rt) {
+            Ok(now) => seconds_of(now).is_some_and(|now| now.saturating_add(FAR) < moment.secs()),
+            Err(_) => false,
+        }
     }
 
     // Why the system does not give this file.
@@ -203,6 +234,21 @@ fn line_of(alloc: Global, number: Option<u64>, text: &str) -> Result<String, All
     one_line(alloc, text.as_str())
 }
 
+// What the schedule says beside a tick: which of the runs that it has made begin very many.
+fn begun_rest(alloc: Global, answer: &Answer) -> Result<Rest, AllocError> {
+    if answer.more {
+        Ok(Rest::Begun(runs_of(alloc, answer)?))
+    } else {
+        Ok(Rest::Nothing)
+    }
+}
+
+// The seconds of a reading of the clock since 1970.
+fn seconds_of(now: SystemTime) -> Option<u64> {
+    let since = now.duration_since(SystemTime::UNIX_EPOCH).ok()?;
+    Some(since.as_secs())
+}
+
 // Whether this says that a file cannot be read.
 fn is_unreadable(shown: Shown<'_>) -> bool {
     matches!(
@@ -242,6 +288,9 @@ impl<R: Clock + Files + Drop, W: Write + Drop> Console for SentenceConsole<R, W>
             Ok(Some(note)) => Some((spot.map(|spot| spot.number), note)),
             _ => None,
         };
+        if let (Some(spot), Some((_, note))) = (spot, &mut self.note) {
+            let _ = self.loads.take(self.alloc, spot.number, shown, note);
+        }
     }
 
     fn tell(&mut self, schedule: Option<&Schedule>) {

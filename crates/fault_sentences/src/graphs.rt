@@ -1,5 +1,6 @@
 //! Sentences on the texts of graphs.
 use crate::asked::Asked;
+use crate::doubts::doubt_sentence;
 use crate::keys::{key_sentence, schedule_sentence, unknown_sentence};
 use crate::notes::{Note, Rest};
 use crate::places::{file_text, line_of_task, place_text};
@@ -20,20 +21,20 @@ pub fn graph_sentence(
 ) -> Result<Option<String>, AllocError> {
     match fault {
         GraphFault::Memory => Ok(None),
-        GraphFault::TooMany => of_file(
-            alloc,
-            asked,
-            "there are more than 1,048,576 bytes, 256 tasks or 4,096 upstream names",
-        ),
-        GraphFault::NoTask => of_file(
-            alloc,
-            asked,
-            "the graph has no task: write [[task]], and the keys of the task below it",
-        ),
+        GraphFault::TooMany | GraphFault::NoTask => of_file(alloc, asked, whole_text(fault)),
         _ => match toml::table_from_str(alloc, text) {
             Ok(file) => placed_sentence(alloc, asked, text, fault, &file),
             Err(error) => toml_sentence(alloc, asked, text, &error),
         },
+    }
+}
+
+// What is said of a file with a fault that has no place.
+fn whole_text(fault: GraphFault) -> &'static str {
+    if fault == GraphFault::NoTask {
+        "the graph has no task: write [[task]], and the keys of the task below it"
+    } else {
+        "there are more than 1,048,576 bytes, 256 tasks or 4,096 upstream names"
     }
 }
 
@@ -298,8 +299,8 @@ fn push_circle(text: &mut String, names: &[Name]) -> Result<(), AllocError> {
     Ok(())
 }
 
-// What is to be told of a text that was taken in: an argument that is probably not meant so, and a pool that is too small; and of one that was put in the
-// place of another, up to which moment there are runs.
+// What is to be told of a text that was taken in: what it cannot mean, a pool that is too small, and that many runs are due; and of one that was put in
+// the place of another, up to which moment there are runs.
 pub fn taken_note(alloc: Global, text: &str, is_change: bool) -> Result<Option<Note>, AllocError> {
     match read_graph(alloc, text) {
         Ok(spec) => Ok(Some(read_note(alloc, &spec, is_change)?)),
@@ -308,7 +309,7 @@ pub fn taken_note(alloc: Global, text: &str, is_change: bool) -> Result<Option<N
 }
 
 fn read_note(alloc: Global, spec: &GraphSpec, is_change: bool) -> Result<Note, AllocError> {
-    let text = braces_sentence(alloc, spec.tasks.as_slice())?;
+    let text = doubt_sentence(alloc, spec)?;
     let id = spec.dag_id.copy(alloc)?;
     let rest = if is_change {
         Rest::Change(id)
@@ -316,25 +317,4 @@ fn read_note(alloc: Global, spec: &GraphSpec, is_change: bool) -> Result<Note, A
         Rest::Slots(id)
     };
     Ok(Note { text, rest })
-}
-
-// That an argument of a task looks like a template of Airflow, or nothing.
-fn braces_sentence(alloc: Global, tasks: &[TaskSpec]) -> Result<String, AllocError> {
-    match tasks.iter().find(|task| has_braces(task)) {
-        Some(task) => {
-            let id = task.task_id.as_str();
-            format!(in alloc;
-                "task \"{id}\": {{{{ in its argv is given to the program as it stands; the dates of a run are in its environment, as DAGSCHED_DATA_INTERVAL_START"
-            )
-        }
-        None => Ok(String::new(alloc)),
-    }
-}
-
-// Whether an argument looks like a template of Airflow.
-fn has_braces(task: &TaskSpec) -> bool {
-    task.action
-        .argv()
-        .iter()
-        .any(|argument| argument.as_str().contains("{{"))
 }

@@ -1,4 +1,5 @@
 //! Sentences on commands that were accepted and changed nothing.
+use crate::held::Done;
 use crate::moments::DATES_HINT;
 use crate::notes::{Note, Rest, push_clock};
 use cron_timetable::{Interval, Timetable};
@@ -30,7 +31,7 @@ enum Work {
     ClearFailed,
 }
 
-// What is to be told of a backfill or a clear that was done: why it has changed nothing, or that its runs wait where their graph is paused.
+// What is to be told of a backfill or a clear that was done: why it has changed nothing, or what holds its runs back.
 pub fn done_note(
     alloc: Global,
     event: &Event,
@@ -40,7 +41,8 @@ pub fn done_note(
         return Ok(None);
     };
     let graph = graph.copy(alloc)?;
-    let rest = if answer.made.as_slice().is_empty() && answer.cleared == 0 {
+    let made = answer.made.as_slice().len();
+    let rest = if made == 0 && answer.cleared == 0 {
         Rest::Idle(Idle {
             graph,
             from,
@@ -48,7 +50,13 @@ pub fn done_note(
             work,
         })
     } else {
-        Rest::Paused(graph)
+        Rest::Done(Done {
+            graph,
+            from,
+            to,
+            made,
+            is_clear: matches!(work, Work::Clear | Work::ClearFailed),
+        })
     };
     Ok(Some(Note {
         text: String::new(alloc),

@@ -1,5 +1,6 @@
 //! Sentences on the keys of a graph's text and their values.
 use crate::airflow::airflow_text;
+use crate::fields::fault_text;
 use crate::moments::moment_text;
 use cron_timetable::CronFault;
 use graph_file::{GraphFault, Key, Kind, Operator, Place, Role, is_name};
@@ -99,7 +100,7 @@ fn other_place(place: Place, name: &str) -> Option<&'static str> {
     }
 }
 
-fn is_key_of(place: Place, name: &str) -> bool {
+pub fn is_key_of(place: Place, name: &str) -> bool {
     place.keys().iter().any(|key| key.name() == name)
 }
 
@@ -112,7 +113,7 @@ pub(crate) fn hint_of(alloc: Global, word: &str, words: &[&str]) -> Result<Strin
 }
 
 // The nearest of these words, where few of its letters are others: the first of several.
-fn nearest<'a>(
+pub fn nearest<'a>(
     alloc: Global,
     word: &str,
     words: &[&'a str],
@@ -179,8 +180,23 @@ pub fn schedule_sentence(
         return word_sentence(alloc, name, schedule, SCHEDULES.as_slice());
     }
     let hint = hint_of(alloc, schedule, SCHEDULES.as_slice())?;
+    if hint.is_empty() {
+        return faulty_sentence(alloc, name, schedule, fault);
+    }
     let hint = hint.as_str();
     format!(in alloc; "{name} \"{schedule}\": {fault}{hint}")
+}
+
+// The same of a schedule that is near no word.
+fn faulty_sentence(
+    alloc: Global,
+    name: &str,
+    schedule: &str,
+    fault: CronFault,
+) -> Result<String, AllocError> {
+    let said = fault_text(alloc, schedule, fault)?;
+    let said = said.as_str();
+    format!(in alloc; "{name} \"{schedule}\": {said}")
 }
 
 // That a value is of another type than its key's.
@@ -325,7 +341,7 @@ fn listed_sentence(
 }
 
 // Words, with commas between them.
-fn list_of(alloc: Global, words: &[&str]) -> Result<String, AllocError> {
+pub fn list_of(alloc: Global, words: &[&str]) -> Result<String, AllocError> {
     let mut list = String::new(alloc);
     push_words(&mut list, words)?;
     Ok(list)

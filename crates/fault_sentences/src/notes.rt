@@ -2,14 +2,17 @@
 use crate::asked::Asked;
 use crate::changes::{push_old_slots, push_reach};
 use crate::commands::command_sentence;
+use crate::due::{push_begun, push_due};
 use crate::graphs::taken_note;
+use crate::held::Done;
 use crate::idle::{Idle, done_note};
-use crate::keys::hint_of;
+use crate::keys::{hint_of, list_of};
+use crate::pools::push_resized;
 use crate::records::{clock_sentence, end_sentence, store_sentence};
 use crate::refusals::{refusal_note, unexplained_note};
 use graph_file::{Name, TaskSpec};
 use moment_core::Moment;
-use sched_events::{Answer, Event};
+use sched_events::{Answer, Event, RunId};
 use script_reader::{Fault, Schedule, Shown};
 use std::alloc::{AllocError, Global};
 use std::io;
@@ -31,7 +34,7 @@ pub enum Rest {
     Clock,
     /// The task instance whose try has this serial.
     Try(u64),
-    /// The first task of this graph that needs more slots than its pool has.
+    /// The first task of this graph that needs more slots than its pool has, and that many of its runs are due.
     Slots(Name),
     /// The same of this graph, which has another text now, and how far its runs reach.
     Change(Name),
@@ -39,10 +42,18 @@ pub enum Rest {
     OldSlots(Name, Name),
     /// Which graph was probably meant by this word.
     Near(String),
+    /// Which task of the first, a graph, was probably meant by the second.
+    Tasks(String, String),
     /// Why a command changed nothing.
     Idle(Idle),
-    /// That this graph is paused, where it is.
-    Paused(Name),
+    /// What holds back the runs of a command that changed something, or what these hold back.
+    Done(Done),
+    /// That this graph is paused, where it is, or that a pool of it is too small.
+    Waiting(Name),
+    /// What comes of the size that this pool has got.
+    Pool(Name),
+    /// Which of these runs begin very many.
+    Begun(Vec<RunId>),
 }
 
 /// What is to be told of what was put for a command, of an event where it is one. `None` where there is nothing to tell.
@@ -56,6 +67,7 @@ pub fn note_of(
         Shown::Answer(Event::Load(text), _) => taken_note(alloc, text.as_str(), false),
         Shown::Answer(Event::Replace(text), _) => taken_note(alloc, text.as_str(), true),
         Shown::Answer(Event::Trigger(graph), answer) => trigger_note(alloc, graph, answer),
+        Shown::Answer(Event::Resize(pool, _), _) => pool_note(alloc, pool),
         Shown::Answer(done, answer) => done_note(alloc, done, answer),
         Shown::Failure(fault) => failure_note(alloc, asked, event, fault),
         Shown::NoCommand(fault) => alone(command_sentence(alloc, asked, fault)?),
@@ -76,7 +88,15 @@ fn trigger_note(alloc: Global, graph: &Name, answer: &Answer) -> Result<Option<N
     };
     Ok(Some(Note {
         text: String::from_str(alloc, text)?,
-        rest: Rest::Paused(graph.copy(alloc)?),
+        rest: Rest::Waiting(graph.copy(alloc)?),
+    }))
+}
+
+// What comes of the size that a pool has got.
+fn pool_note(alloc: Global, pool: &Name) -> Result<Option<Note>, AllocError> {
+    Ok(Some(Note {
+        text: String::new(alloc),
+        rest: Rest::Pool(pool.copy(alloc)?),
     }))
 }
 
@@ -148,15 +168,24 @@ impl Note {
             Rest::Nothing => Ok(()),
             Rest::Clock => push_clock(sentence, schedule),
             Rest::Try(serial) => push_try(sentence, schedule, *serial),
-            Rest::Slots(graph) => push_slots(sentence, schedule, graph),
+            Rest::Slots(graph) => {
+                push_slots(sentence, schedule, graph)?;
+                push_due(sentence, schedule, graph)
+            }
             Rest::Change(graph) => {
                 push_slots(sentence, schedule, graph)?;
                 push_reach(sentence, schedule, graph)
             }
             Rest::OldSlots(graph, task) => push_old_slots(sentence, schedule, graph, task),
             Rest::Near(word) => push_near(alloc, sentence, schedule, word.as_str()),
+            Rest::Tasks(graph, word) => {
+                push_tasks(alloc, sentence, schedule, graph.as_str(), word.as_str())
+            }
             Rest::Idle(idle) => idle.push_why(sentence, schedule),
-            Rest::Paused(graph) => push_paused(sentence, schedule, graph),
+            Rest::Done(done) => done.push_rest(sentence, schedule),
+            Rest::Waiting(graph) => push_waiting(sentence, schedule, graph),
+            Rest::Pool(pool) => push_resized(alloc, sentence, schedule, pool),
+            Rest::Begun(runs) => push_begun(sentence, schedule, runs.as_slice()),
         }
     }
 }
@@ -197,6 +226,53 @@ fn push_nearest(
     }
 }
 
+// Adds which task of a graph was probably meant by a word, and those that it has.
+fn push_tasks(
+    alloc: Global,
+    sentence: &mut String,
+    schedule: &Schedule,
+    graph: &str,
+    word: &str,
+) -> Result<(), AllocError> {
+    let tasks = tasks_of(alloc, schedule, graph)?;
+    push_nearest_task(alloc, sentence, word, tasks.as_slice())?;
+    push_list(alloc, sentence, tasks.as_slice())
+}
+
+fn push_nearest_task(
+    alloc: Global,
+    sentence: &mut String,
+    word: &str,
+    tasks: &[&str],
+) -> Result<(), AllocError> {
+    let hint = hint_of(alloc, word, tasks)?;
+    let before = if hint.is_empty() { "; the" } else { " The" };
+    let hint = hint.as_str();
+    write!(sentence, "{hint}{before} tasks of the graph are ")
+}
+
+fn push_list(alloc: Global, sentence: &mut String, words: &[&str]) -> Result<(), AllocError> {
+    let list = list_of(alloc, words)?;
+    sentence.push_str(list.as_str())
+}
+
+// The names of the tasks of a graph.
+fn tasks_of<'a>(
+    alloc: Global,
+    schedule: &'a Schedule,
+    graph: &str,
+) -> Result<Vec<&'a str>, AllocError> {
+    let mut names = Vec::new(alloc);
+    for loaded in schedule.graphs() {
+        if loaded.dag.spec().dag_id.as_str() == graph {
+            for task in loaded.dag.spec().tasks.as_slice() {
+                names.push(task.task_id.as_str())?;
+            }
+        }
+    }
+    Ok(names)
+}
+
 // Adds the moment that the clock has reached.
 pub fn push_clock(sentence: &mut String, schedule: &Schedule) -> Result<(), AllocError> {
     let now = schedule.now();
@@ -206,8 +282,20 @@ pub fn push_clock(sentence: &mut String, schedule: &Schedule) -> Result<(), Allo
     write!(sentence, "; the record's clock stands at {now}")
 }
 
+// Adds that the runs of a graph wait since it is paused, where it is, or the first task that needs more slots than its pool has.
+fn push_waiting(sentence: &mut String, schedule: &Schedule, id: &Name) -> Result<(), AllocError> {
+    match schedule.graph_of(id) {
+        Some(graph) if graph.paused => push_paused(sentence, schedule, id),
+        _ => push_slots(sentence, schedule, id),
+    }
+}
+
 // Adds that the runs of a graph wait since it is paused, where it is.
-fn push_paused(sentence: &mut String, schedule: &Schedule, id: &Name) -> Result<(), AllocError> {
+pub fn push_paused(
+    sentence: &mut String,
+    schedule: &Schedule,
+    id: &Name,
+) -> Result<(), AllocError> {
     match schedule.graph_of(id) {
         Some(graph) if graph.paused => {
             if !sentence.is_empty() {
@@ -248,7 +336,11 @@ fn place_of(schedule: &Schedule, serial: u64) -> Option<(&Name, Moment, &Name)> 
 }
 
 // Adds the first task that needs more slots than its pool has.
-fn push_slots(sentence: &mut String, schedule: &Schedule, graph: &Name) -> Result<(), AllocError> {
+pub fn push_slots(
+    sentence: &mut String,
+    schedule: &Schedule,
+    graph: &Name,
+) -> Result<(), AllocError> {
     let Some(graph) = schedule.graph_of(graph) else {
         return Ok(());
     };
@@ -281,7 +373,7 @@ fn push_need(
 }
 
 // How many slots a pool has.
-fn size_of(schedule: &Schedule, pool: &Name) -> u32 {
+pub fn size_of(schedule: &Schedule, pool: &Name) -> u32 {
     schedule
         .pools()
         .find(|row| row.name.as_str() == pool.as_str())

@@ -4,6 +4,7 @@ use crate::changes::{change_rest, change_sentence};
 use crate::graphs::{dag_sentence, graph_sentence, pool_sentence};
 use crate::moments::DATES_HINT;
 use crate::notes::{Note, Rest};
+use crate::records::said;
 use graph_file::Name;
 use sched_events::{Event, Refusal};
 use script_reader::ExplainFault;
@@ -35,6 +36,10 @@ fn rest_of(alloc: Global, event: Option<&Event>, refusal: &Refusal) -> Result<Re
             Some(graph) => near(alloc, graph.as_str()),
             None => Ok(Rest::Nothing),
         },
+        (Refusal::UnknownTask, Some(Event::Clear(clearing))) => match &clearing.task {
+            Some(task) => tasks(alloc, clearing.graph.as_str(), task.as_str()),
+            None => Ok(Rest::Nothing),
+        },
         _ => Ok(Rest::Nothing),
     }
 }
@@ -42,6 +47,12 @@ fn rest_of(alloc: Global, event: Option<&Event>, refusal: &Refusal) -> Result<Re
 // Which graph was probably meant by a word.
 fn near(alloc: Global, word: &str) -> Result<Rest, AllocError> {
     Ok(Rest::Near(String::from_str(alloc, word)?))
+}
+
+// Which task of a graph was probably meant by a word.
+fn tasks(alloc: Global, graph: &str, word: &str) -> Result<Rest, AllocError> {
+    let graph = String::from_str(alloc, graph)?;
+    Ok(Rest::Tasks(graph, String::from_str(alloc, word)?))
 }
 
 fn sentence_of(
@@ -85,10 +96,7 @@ fn text_sentence(
 }
 
 fn plain_sentence(alloc: Global, refusal: &Refusal) -> Result<Option<String>, AllocError> {
-    match plain(refusal) {
-        Some(text) => Ok(Some(String::from_str(alloc, text)?)),
-        None => Ok(None),
-    }
+    said(alloc, plain(refusal))
 }
 
 // The sentence of a refusal whose cause needs no names.
@@ -152,9 +160,7 @@ pub fn unexplained_note(
         ExplainFault::UnknownRun => alone(format!(in alloc;
             "the graph \"{graph}\" has no run of the date {logical}: {DATES_HINT}"
         )?),
-        ExplainFault::UnknownTask => {
-            alone(format!(in alloc; "the graph \"{graph}\" has no task \"{task}\"")?)
-        }
+        ExplainFault::UnknownTask => Ok(Some(unknown_task(alloc, graph, task)?)),
         ExplainFault::Memory => Ok(None),
     }
 }
@@ -163,6 +169,13 @@ pub fn unexplained_note(
 fn unknown_graph(alloc: Global, graph: &str) -> Result<Note, AllocError> {
     let text = format!(in alloc; "there is no graph \"{graph}\"")?;
     let rest = near(alloc, graph)?;
+    Ok(Note { text, rest })
+}
+
+// That a graph has no task of this name, and which was probably meant.
+fn unknown_task(alloc: Global, graph: &str, task: &str) -> Result<Note, AllocError> {
+    let text = format!(in alloc; "the graph \"{graph}\" has no task \"{task}\"")?;
+    let rest = tasks(alloc, graph, task)?;
     Ok(Note { text, rest })
 }
 
