@@ -1,5 +1,5 @@
 //! The record on which a command is done.
-ghost use Rattle.std.specs.Prelude.{◌≡◌, false, IfOk};
+ghost use Rattle.std.specs.Prelude.{◌≡◌, false, IfOk, IsTrue};
 
 use crate::scripts::run_script;
 use crate::telling::{
@@ -15,6 +15,7 @@ use meta_store::Store;
 use record_files::open_database;
 use script_reader::failure_status;
 use sqlite::{Alter, Connection, Error, ErrorCode, FileStore, Files, Options, Start, Unknown};
+use sqlite_disk::Disk;
 use std::alloc::Global;
 use std::fs;
 use std::io::{self, BufWriter, ErrorKind, Write};
@@ -47,16 +48,37 @@ fn on_path<F: Start, T: Threads + Wait + Sync>(
             if !was_there {
                 tell_made(rt, path);
             }
-            let (conn, status) = on_connection(threads, rt, conn, Some(path), command, words)?;
-            match conn.close() {
-                Ok(()) => Ok(status),
-                Err(_) => Ok(status.max(3)),
-            }
+            on_file(threads, rt, conn, path, command, words)
         }
-        Err(Error::SqliteFailure(ErrorCode::OutOfMemory)) => {
+        Err(error) => put_unopened(rt, path, error),
+    }
+}
+
+// Does the command on the database of a file, and closes the file.
+fn on_file<D: Disk + Drop, T: Threads + Wait + Sync>(
+    threads: &T,
+    rt: &HostRuntime,
+    conn: Connection<FileStore<D>>,
+    path: &str,
+    command: &Command,
+    words: Vec<String>,
+) -> io::Result<u8>
+    requires { conn.in_transaction ≡ false }
+{
+    let (conn, status) = on_connection(threads, rt, conn, Some(path), command, words)?;
+    match conn.close() {
+        Ok(()) => Ok(status),
+        Err(_) => Ok(status.max(3)),
+    }
+}
+
+// Prints that SQLite does not open the file, and tells why; the status.
+fn put_unopened(rt: &HostRuntime, path: &str, error: Error) -> io::Result<u8> {
+    match error {
+        Error::SqliteFailure(ErrorCode::OutOfMemory) => {
             Err(io::Error::from(ErrorKind::OutOfMemory))
         }
-        Err(error) => {
+        error => {
             put(&mut rt.stdout(), Shown::Unopened)?;
             tell_unopened(rt, path, error);
             Ok(3)
@@ -71,20 +93,41 @@ pub fn in_memory<T: Threads + Wait + Sync>(
     command: &Command,
     words: Vec<String>,
 ) -> io::Result<u8> {
-    let conn = new_database(rt.alloc())?;
-    let (_conn, status) = on_connection(threads, rt, conn, None, command, words)?;
-    tell_unkept(rt, command);
-    Ok(status)
-}
-
-// A database in files that are gone with the program.
-fn new_database(alloc: Global) -> io::Result<Connection<FileStore<Volatile>>>
-    ensures { IfOk result (λ conn. conn.in_transaction ≡ false) }
-{
+    let alloc = rt.alloc();
+    // gone with the program
     let files = Files {
         log: Volatile::new(alloc),
         db: Volatile::new(alloc),
     };
+    let status = in_files(threads, rt, files, command, words)?;
+    tell_unkept(rt, command);
+    Ok(status)
+}
+
+// Does a command on a record in these files; the status.
+fn in_files<D: Disk + Drop, T: Threads + Wait + Sync>(
+    threads: &T,
+    rt: &HostRuntime,
+    files: Files<D>,
+    command: &Command,
+    words: Vec<String>,
+) -> io::Result<u8>
+    requires log { IsTrue (D.Disk.is_usable files.log) }
+    requires db { IsTrue (D.Disk.is_usable files.db) }
+{
+    let conn = new_database(rt.alloc(), files)?;
+    let (_conn, status) = on_connection(threads, rt, conn, None, command, words)?;
+    Ok(status)
+}
+
+fn new_database<D: Disk + Drop>(
+    alloc: Global,
+    files: Files<D>,
+) -> io::Result<Connection<FileStore<D>>>
+    requires log { IsTrue (D.Disk.is_usable files.log) }
+    requires db { IsTrue (D.Disk.is_usable files.db) }
+    ensures { IfOk result (λ conn. conn.in_transaction ≡ false) }
+{
     match Connection::open_files(alloc, files, Options::new(1)) {
         Ok(conn) => Ok(conn),
         Err((Error::SqliteFailure(ErrorCode::OutOfMemory), _)) => {
@@ -128,16 +171,26 @@ fn on_store<S: Alter + Drop, T: Threads + Wait + Sync>(
     words: Vec<String>,
 ) -> io::Result<(Connection<S>, u8)> {
     let had_limits = store.has_limits();
-    let (store, status) = match command {
-        Command::Run(options) => run_script(threads, rt, store, options, words)?,
-        _ => run_single(rt, store, command, words)?,
-    };
+    let (store, status) = run(threads, rt, store, command, words)?;
     if let Some(path) = path {
         if !had_limits && store.has_limits() {
             tell_migrated(rt, path);
         }
     }
     Ok((store.release(), status))
+}
+
+fn run<S: Alter + Drop, T: Threads + Wait + Sync>(
+    threads: &T,
+    rt: &HostRuntime,
+    store: Store<S>,
+    command: &Command,
+    words: Vec<String>,
+) -> io::Result<(Store<S>, u8)> {
+    match command {
+        Command::Run(options) => run_script(threads, rt, store, options, words),
+        _ => run_single(rt, store, command, words),
+    }
 }
 
 // Does one command outside of a script, and writes out its answer.
@@ -154,11 +207,16 @@ fn run_single<S: Alter + Drop>(
     let flushed = output.flush();
     // a sentence follows the answer
     let _ = rt.stderr().write_all(console.into_output().as_slice());
+    Ok((store, status_of(rt, status, flushed)))
+}
+
+// The status of a command whose answer was written out so.
+fn status_of(rt: &HostRuntime, status: u8, flushed: io::Result<()>) -> u8 {
     match flushed {
-        Ok(()) => Ok((store, status)),
+        Ok(()) => status,
         Err(error) => {
             tell_unanswered(rt, &error);
-            Ok((store, 4))
+            4
         }
     }
 }

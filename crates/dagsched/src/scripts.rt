@@ -4,18 +4,27 @@ use crate::telling::tell;
 use command_words::{Command, FilePath, ScriptOptions};
 use fault_sentences::SentenceConsole;
 use meta_store::Store;
-use script_reader::Script;
+use script_reader::{Console, Script, Sources};
 use script_runner::{FileSources, SystemClock, operators_for, run_team};
 use sqlite::Alter;
 use sqlite_disk::{Files, Unknown};
 use sqlite_std_file::{File, OpenError};
 use std::fs;
-use std::io::{self, BufReader, BufWriter, ErrorKind, IsTerminal};
+use std::io::{self, BufRead, BufReader, BufWriter, ErrorKind, IsTerminal, Write};
+use std::rt::{Stderr, Stdin, Stdout};
 use std::sync::Wait;
 use std::thread::Threads;
 
 // How many workers there are where nobody asks for a number.
 const DEFAULT_WORKERS: u32 = 2;
+
+// The script of standard input.
+type OwnScript = Script<
+    BufReader<Stdin>,
+    BufWriter<Stdout>,
+    FileSources<HostRuntime>,
+    SentenceConsole<HostRuntime, Stderr>,
+>;
 
 /// Runs the script of standard input, and gives the record back, with the status.
 pub fn run_script<S: Alter + Drop, T: Threads + Wait + Sync>(
@@ -25,20 +34,54 @@ pub fn run_script<S: Alter + Drop, T: Threads + Wait + Sync>(
     options: &ScriptOptions,
     words: Vec<String>,
 ) -> io::Result<(Store<S>, u8)> {
-    let alloc = rt.alloc();
     let scratch = options.scratch.as_str();
-    let logs = options.logs.as_ref().map(FilePath::as_str);
     tell_terminal(rt);
     tell_lanes(rt, options);
     make_scratch(rt, scratch);
     let _held = hold(rt, scratch);
-    let team = operators_for(*rt, alloc, options.workers.get(), scratch, logs)?;
-    let script = Script {
+    run_own(threads, rt, store, options, words)
+}
+
+fn run_own<S: Alter + Drop, T: Threads + Wait + Sync>(
+    threads: &T,
+    rt: &HostRuntime,
+    store: Store<S>,
+    options: &ScriptOptions,
+    words: Vec<String>,
+) -> io::Result<(Store<S>, u8)> {
+    let script = own_script(rt, words)?;
+    run_by_team(threads, rt, store, options, script)
+}
+
+fn own_script(rt: &HostRuntime, words: Vec<String>) -> io::Result<OwnScript> {
+    let alloc = rt.alloc();
+    Ok(Script {
         input: BufReader::new(alloc, rt.stdin())?,
         output: BufWriter::new(alloc, rt.stdout())?,
         sources: FileSources::new(*rt, alloc),
         console: SentenceConsole::new(*rt, alloc, words, rt.stderr()),
-    };
+    })
+}
+
+// Runs a script, whatever its streams are, with so many workers as are asked for.
+fn run_by_team<
+    S: Alter + Drop,
+    R: BufRead + Drop,
+    W: Write + Drop,
+    F: Sources,
+    P: Console,
+    T: Threads + Wait + Sync,
+>(
+    threads: &T,
+    rt: &HostRuntime,
+    store: Store<S>,
+    options: &ScriptOptions,
+    script: Script<R, W, F, P>,
+) -> io::Result<(Store<S>, u8)> {
+    let alloc = rt.alloc();
+    let scratch = options.scratch.as_str();
+    let logs = options.logs.as_ref().map(FilePath::as_str);
+    let team = operators_for(*rt, alloc, options.workers.get(), scratch, logs)?;
     let mut clock = SystemClock::new(*rt);
     match run_team(
         threads,

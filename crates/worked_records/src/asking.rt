@@ -1,6 +1,6 @@
 //! The questions, by their first words.
 use crate::events::{changing_events, retried_events};
-use crate::files::empty_database;
+use crate::files::sound_files;
 use crate::playing::play;
 use crate::{drains, meetings, refusals, stopping};
 use std::io;
@@ -41,7 +41,7 @@ fn write_stops(host: &HostRuntime, rest: &str) -> io::Result<()> {
 // Steps the worked events with a new record.
 fn play_new(host: &HostRuntime) -> io::Result<()> {
     let alloc = host.alloc();
-    play(host, alloc, empty_database(alloc)?)
+    play(host, alloc, sound_files(alloc))
 }
 
 fn write_refusals<T: Threads + Wait + Sync>(

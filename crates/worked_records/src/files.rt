@@ -5,7 +5,7 @@ ghost use Rattle.std.specs.Prelude.{◌≡◌, false, IfOk};
 use crate::flaky::Flaky;
 use sqlite::{Connection, FileStore, Files, Options};
 use sqlite_disk::{Crash, Disk, Fuse, Memory};
-use std::alloc::{AllocError, Global};
+use std::alloc::Global;
 use std::io;
 
 /// A file in memory that may fail.
@@ -60,6 +60,11 @@ pub fn empty_files(alloc: Global, failing: Failing, calls: u64) -> RecordFiles {
     }
 }
 
+/// Empty files that fail no call.
+pub fn sound_files(alloc: Global) -> RecordFiles {
+    empty_files(alloc, Failing::Both, u64::MAX)
+}
+
 /// Empty files, of which the log refuses some writes.
 pub fn flaky_files(alloc: Global, writes: Writes) -> RecordFiles {
     Files {
@@ -102,16 +107,6 @@ pub fn is_failing(files: &mut RecordFiles) -> bool {
 // Whether the file may not be used any more, or fails a call.
 fn fails(file: &mut Faulty) -> bool {
     !file.may_be_used() || file.len().is_err()
-}
-
-/// A database that has nothing, in files that fail no call.
-pub fn empty_database(alloc: Global) -> Result<Connection<RecordStore>, AllocError>
-    ensures { IfOk result (λ conn. conn.in_transaction ≡ false) }
-{
-    match open(alloc, empty_files(alloc, Failing::Both, u64::MAX)) {
-        Ok(conn) => Ok(conn),
-        Err(_) => Err(AllocError),
-    }
 }
 
 /// The database in these files, or what is left of them.

@@ -4,7 +4,7 @@ ghost use Rattle.graph_file.specs.declared.operators.Operator.TheVariants as kin
 ghost use Rattle.script_runner.specs.TaskOperators.{kind_of};
 ghost use Rattle.script_runner.specs.Teams.{IsWhole};
 
-use crate::files::{Writes, flaky_files};
+use crate::files::sound_files;
 use crate::parties::Party;
 use crate::scripts::run;
 use crate::teams::{Waiting, Worker, worker};
@@ -29,8 +29,7 @@ list tasks
 pub fn write_answer<T: Threads + Wait + Sync>(rt: &T, host: &HostRuntime) -> io::Result<()> {
     let (one, two, seen) = Party::pair(host.alloc())?;
     let team = two_workers(host, one, two)?;
-    let files = flaky_files(host.alloc(), Writes::all_pass());
-    let played = run(rt, host, files, team, TWO_TASKS)?;
+    let played = run(rt, host, sound_files(host.alloc()), team, TWO_TASKS)?;
     let seen = seen.load(Ordering::SeqCst);
     println!(host; "  {}; saw the other: {seen}", played.printed)
 }

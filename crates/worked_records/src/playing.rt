@@ -2,16 +2,25 @@
 ghost use Rattle.std.specs.Prelude.{◌≡◌, false};
 
 use crate::events::{name_of, worked_events};
+use crate::files::open;
 use crate::printed::print_rows;
 use director::{Director, Fault};
 use meta_store::{Store, StoreFault};
 use sched_core::{Answer, Change, Event, Limits, Refusal};
-use sqlite::{Alter, Connection};
-use std::alloc::Global;
+use sqlite::{Alter, Connection, Files};
+use sqlite_disk::Disk;
+use std::alloc::{AllocError, Global};
 use std::io;
 
-/// Makes a record, opens a director on it, steps the events, and prints what the record holds then.
-pub fn play<S: Alter + Drop, R: Print>(rt: &R, alloc: Global, conn: Connection<S>) -> io::Result<()>
+/// Makes a record in these files, opens a director on it, steps the events, and prints what the record holds then.
+pub fn play<D: Disk + Drop, R: Print>(rt: &R, alloc: Global, files: Files<D>) -> io::Result<()> {
+    match open(alloc, files) {
+        Ok(conn) => play_in(rt, alloc, conn),
+        Err(_) => Err(io::Error::from(AllocError)),
+    }
+}
+
+fn play_in<S: Alter + Drop, R: Print>(rt: &R, alloc: Global, conn: Connection<S>) -> io::Result<()>
     requires { conn.in_transaction ≡ false }
 {
     match Store::create(alloc, conn) {

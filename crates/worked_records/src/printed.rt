@@ -1,6 +1,6 @@
 //! Rows, printed.
-use record_rows::Rows;
-use std::io;
+use record_rows::{AttemptRow, Rows};
+use std::{fmt, io};
 
 /// Prints the rows of all tables, a row a line, with their columns as sqlite3 prints them.
 pub fn print_rows<R: Print>(rt: &R, rows: &Rows) -> io::Result<()> {
@@ -52,24 +52,29 @@ fn print_instances<R: Print>(rt: &R, rows: &Rows) -> io::Result<()> {
 
 fn print_attempts<R: Print>(rt: &R, rows: &Rows) -> io::Result<()> {
     for a in &rows.attempts {
-        print!(rt;
-            "attempt {}|{}|{}|{}|",
-            a.serial, a.dag_id, a.logical, a.task_id
-        )?;
-        print!(rt; "{}|{}|", a.try_number, a.slots)?;
-        print_if(rt, a.started)?;
-        rt.print("|")?;
-        print_if(rt, a.ended)?;
-        rt.print("|")?;
-        print_if(rt, a.outcome)?;
-        rt.println("")?;
+        print_attempt(rt, a)?;
     }
     Ok(())
 }
 
-fn print_if<R: Print>(rt: &R, value: Option<i64>) -> io::Result<()> {
-    match value {
-        Some(n) => print!(rt; "{n}"),
-        None => Ok(()),
+fn print_attempt<R: Print>(rt: &R, a: &AttemptRow) -> io::Result<()> {
+    print!(rt;
+        "attempt {}|{}|{}|{}|",
+        a.serial, a.dag_id, a.logical, a.task_id
+    )?;
+    let (started, ended, outcome) = (Column(a.started), Column(a.ended), Column(a.outcome));
+    println!(rt; "{}|{}|{started}|{ended}|{outcome}", a.try_number, a.slots)
+}
+
+// A column, which is empty where it has no value.
+#[derive(Clone, Copy)]
+struct Column(Option<i64>);
+
+impl fmt::Display for Column {
+    fn fmt<W: fmt::Write>(&self, f: &mut fmt::Formatter<W>) -> fmt::Result {
+        match self.0 {
+            Some(value) => write!(f, "{value}"),
+            None => Ok(()),
+        }
     }
 }

@@ -7,16 +7,19 @@ ghost use Rattle.script_runner.specs.Teams.{IsWhole};
 use crate::files::{RecordFiles, files_of, open};
 use crate::teams::Worker;
 use answer_lines::{Shown, put};
+use director::Fault;
 use meta_store::Store;
+use operators::Operator;
 use sched_core::Event;
-use script_reader::{NoConsole, Script, failure_status};
-use script_runner::{FileSources, SystemClock, Unopened, run_team};
+use script_reader::{Console, NoConsole, Script, Sources, failure_status};
+use script_runner::{FileSources, SystemClock, run_team};
 use sqlite::{Alter, Connection, Files};
 use sqlite_disk::Disk;
 use std::alloc::Global;
-use std::io::{self, ErrorKind, Write};
+use std::io::{self, BufRead, ErrorKind, Write};
 use std::sync::Wait;
 use std::thread::Threads;
+use work::Gate;
 
 const LANES: u32 = 4;
 
@@ -116,14 +119,38 @@ fn run_on_record<S: Alter + Drop, T: Threads + Wait + Sync>(
     requires whole { All (λ w. IsWhole (kind_of (λ _. kinds.Command)) w.0.items) team.items }
 {
     let alloc = host.alloc();
-    let mut clock = SystemClock::new(*host);
     let script = Script {
         input: script.as_bytes(),
         output: &mut *printed,
         sources: FileSources::new(*host, alloc),
         console: NoConsole,
     };
-    match run_team(rt, alloc, record, LANES, team, script, &mut clock) {
+    let (record, end) = run_by(rt, host, record, team, script);
+    (record, told(alloc, printed, end))
+}
+
+// Runs a script, whatever its streams and its team are: how it ended, or why the record is not opened.
+fn run_by<
+    S: Alter + Drop,
+    G: Gate + Send,
+    O: Operator + Send,
+    R: BufRead + Drop,
+    W: Write + Drop,
+    F: Sources,
+    P: Console,
+    T: Threads + Wait + Sync,
+>(
+    rt: &T,
+    host: &HostRuntime,
+    record: Store<S>,
+    team: Vec<(Vec<O>, G)>,
+    script: Script<R, W, F, P>,
+) -> (Store<S>, Result<End, Fault>)
+    requires workers { length team.items ≤ 16 }
+    requires whole { All (λ w. IsWhole O.kind_of w.0.items) team.items }
+{
+    let mut clock = SystemClock::new(*host);
+    match run_team(rt, host.alloc(), record, LANES, team, script, &mut clock) {
         Ok(ran) => {
             let end = End {
                 status: Some(ran.status),
@@ -131,20 +158,20 @@ fn run_on_record<S: Alter + Drop, T: Threads + Wait + Sync>(
             };
             (ran.store, Ok(end))
         }
-        Err(
-            Unopened {
-                store,
-                fault,
-                script,
-            },
-        ) => {
-            drop(script);
-            let end = End {
+        Err(unopened) => (unopened.store, Err(unopened.fault)),
+    }
+}
+
+// Prints why the record is not opened, where that is so.
+fn told(alloc: Global, printed: &mut Vec<u8>, end: Result<End, Fault>) -> io::Result<End> {
+    match end {
+        Ok(end) => Ok(end),
+        Err(fault) => {
+            put(printed, Shown::Failure(&fault))?;
+            Ok(End {
                 status: Some(failure_status(&fault)),
                 accepted: Vec::new(alloc),
-            };
-            let put = put(printed, Shown::Failure(&fault));
-            (store, put.map(|()| end))
+            })
         }
     }
 }
@@ -166,9 +193,13 @@ fn in_one_line(alloc: Global, printed: Vec<u8>, status: Option<u8>) -> io::Resul
         return Ok(text);
     };
     let mut line = Vec::new(alloc);
-    for it in text.as_str().lines() {
-        write!(&mut line, "{it} / ")?;
-    }
-    write!(&mut line, "status {status}")?;
+    put_line(text.as_str(), status, &mut line)?;
     String::from_utf8(line).map_err(|_| io::Error::from(ErrorKind::InvalidData))
+}
+
+fn put_line<W: Write>(text: &str, status: u8, output: &mut W) -> io::Result<()> {
+    for it in text.lines() {
+        write!(output, "{it} / ")?;
+    }
+    write!(output, "status {status}")
 }

@@ -1,7 +1,7 @@
 //! What a record holds, and what is opened of it, as text.
 ghost use Rattle.std.specs.Prelude.{◌≡◌, false};
 
-use crate::files::{RecordFiles, as_written, crash, empty_database, open};
+use crate::files::{RecordFiles, as_written, crash, open, sound_files};
 use crate::rounds::{LANES, create, run, step_all};
 use director::{Director, Fault};
 use meta_store::{Store, StoreFault};
@@ -12,6 +12,8 @@ use std::alloc::{AllocError, Global};
 use std::io;
 
 const NO_RECORD: &str = "no record";
+
+const NOT_OPENED: &str = "not opened";
 
 /// What a record holds.
 #[derive(PartialEq, Drop)]
@@ -44,7 +46,19 @@ pub fn states(alloc: Global, events: &[Event]) -> Result<Vec<Held>, AllocError> 
 }
 
 fn state(alloc: Global, done: Done<'_>) -> Result<Held, AllocError> {
-    held_at(alloc, empty_database(alloc)?, done)
+    held_in(alloc, sound_files(alloc), done)?.ok_or(AllocError)
+}
+
+// What the record in these files holds, once a round is done up to there; none where they are not opened.
+fn held_in<D: Disk + Drop>(
+    alloc: Global,
+    files: Files<D>,
+    done: Done<'_>,
+) -> Result<Option<Held>, AllocError> {
+    match open(alloc, files) {
+        Ok(conn) => held_at(alloc, conn, done).map(Some),
+        Err(_) => Ok(None),
+    }
 }
 
 // What the record in a new database holds then.
@@ -101,23 +115,27 @@ fn held_anew<S: Alter + Drop>(
     }
 }
 
-/// What the record in these files holds.
-pub fn held_in<D: Disk + Drop>(alloc: Global, files: Files<D>) -> Result<Held, AllocError> {
-    match open(alloc, files) {
-        Ok(conn) => held_by(alloc, conn),
-        Err(_) => Ok(Held {
-            rows: String::from_str(alloc, "not opened")?,
-            opened: String::from_str(alloc, "not opened")?,
-        }),
-    }
-}
-
 /// What these files hold as they were written, and after a crash of the machine, which loses what was not synced.
 pub fn held_after_stops(alloc: Global, files: RecordFiles) -> io::Result<(Held, Held)> {
     let mut files = files;
-    let written = held_in(alloc, as_written(alloc, &files)?)?;
+    let written = found_in(alloc, as_written(alloc, &files)?)?;
     crash(&mut files);
-    Ok((written, held_in(alloc, files)?))
+    Ok((written, found_in(alloc, files)?))
+}
+
+// What the record in these files holds.
+fn found_in<D: Disk + Drop>(alloc: Global, files: Files<D>) -> Result<Held, AllocError> {
+    match held_in(alloc, files, Done::Nothing)? {
+        Some(held) => Ok(held),
+        None => not_opened(alloc),
+    }
+}
+
+fn not_opened(alloc: Global) -> Result<Held, AllocError> {
+    Ok(Held {
+        rows: String::from_str(alloc, NOT_OPENED)?,
+        opened: String::from_str(alloc, NOT_OPENED)?,
+    })
 }
 
 fn held_by<S: Alter + Drop>(alloc: Global, conn: Connection<S>) -> Result<Held, AllocError>
@@ -139,7 +157,7 @@ fn opened_of<S: Alter + Drop>(alloc: Global, record: Store<S>) -> Result<String,
     match Director::open(alloc, record, LANES, Limits::full()) {
         Ok(director) => rows_of(alloc, &mut director.close()),
         Err((_, Fault::Store(StoreFault::NotOurs))) => String::from_str(alloc, NO_RECORD),
-        Err(_) => String::from_str(alloc, "not opened"),
+        Err(_) => String::from_str(alloc, NOT_OPENED),
     }
 }
 

@@ -4,13 +4,14 @@ use crate::records::Played;
 use crate::stepping::step;
 use answer_lines::{Shown, put, put_listing};
 use script_commands::{CommandFault, ScriptCommand};
+use sqlite::Alter;
 use std::alloc::Global;
 use std::io::{self, Write};
 
 /// Does a command, or writes why there is none.
-pub fn answer<W: Write>(
+pub fn answer<S: Alter + Drop, W: Write>(
     alloc: Global,
-    played: &mut Played,
+    played: &mut Played<S>,
     request: Result<ScriptCommand, CommandFault>,
     output: &mut W,
 ) -> io::Result<()> {

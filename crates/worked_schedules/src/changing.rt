@@ -2,8 +2,8 @@
 use crate::records::Played;
 use meta_store::{Store, StoreFault};
 use record_rows::Table;
-use sched_core::Schedule;
-use sqlite::{Error, ErrorCode};
+use sched_core::{Limits, Schedule};
+use sqlite::{Alter, Connection, Error, ErrorCode, MemStore};
 use std::alloc::{AllocError, Global};
 use std::io::{self, Write};
 
@@ -19,43 +19,73 @@ enum Loaded {
 /// Does these statements to a record that the same events have made, loads it, and writes what it is loaded as. This is done again where memory ran out.
 pub fn load_changed<W: Write>(
     alloc: Global,
-    played: &Played,
+    played: &Played<MemStore>,
     sql: &str,
     output: &mut W,
 ) -> io::Result<()> {
     match load_or_again(alloc, played, sql)? {
-        Loaded::Sound(schedule) => {
-            let runs = schedule.run_count();
-            let in_flight = schedule.in_flight();
-            writeln!(output, "loaded: {runs} runs, {in_flight} tries in flight")
-        }
+        Loaded::Sound(schedule) => put_loaded(&schedule, output),
         Loaded::Faulty(fault) => put_fault(&fault, output),
         Loaded::Unchanged => output.write_all(b"refused by SQLite\n"),
     }
 }
 
-fn load_or_again(alloc: Global, played: &Played, sql: &str) -> Result<Loaded, AllocError> {
+fn load_or_again(
+    alloc: Global,
+    played: &Played<MemStore>,
+    sql: &str,
+) -> Result<Loaded, AllocError> {
     match load_after(alloc, played, sql) {
         Err(_) => load_after(alloc, played, sql),
         loaded => loaded,
     }
 }
 
-fn load_after(alloc: Global, played: &Played, sql: &str) -> Result<Loaded, AllocError> {
-    let mut conn = played.record(alloc)?.release();
+fn load_after(alloc: Global, played: &Played<MemStore>, sql: &str) -> Result<Loaded, AllocError> {
+    load_with(alloc, played.record(alloc)?, sql, played.limits())
+}
+
+// Does these statements to a record, and loads it.
+fn load_with<S: Alter + Drop>(
+    alloc: Global,
+    record: Store<S>,
+    sql: &str,
+    limits: Limits,
+) -> Result<Loaded, AllocError> {
+    let mut conn = record.release();
+    let is_done = execute(&mut conn, sql)?;
+    if is_done && conn.is_autocommit() {
+        load(alloc, Store::adopt(conn), limits)
+    } else {
+        Ok(Loaded::Unchanged)
+    }
+}
+
+// Whether all statements were done.
+fn execute<S: Alter>(conn: &mut Connection<S>, sql: &str) -> Result<bool, AllocError> {
     match conn.execute_batch(sql) {
-        Ok(()) => {}
-        Err(Error::SqliteFailure(ErrorCode::OutOfMemory)) => return Err(AllocError),
-        Err(_) => return Ok(Loaded::Unchanged),
+        Ok(()) => Ok(true),
+        Err(Error::SqliteFailure(ErrorCode::OutOfMemory)) => Err(AllocError),
+        Err(_) => Ok(false),
     }
-    if !conn.is_autocommit() {
-        return Ok(Loaded::Unchanged);
-    }
-    match Store::adopt(conn).load(alloc, played.limits()) {
+}
+
+fn load<S: Alter + Drop>(
+    alloc: Global,
+    mut record: Store<S>,
+    limits: Limits,
+) -> Result<Loaded, AllocError> {
+    match record.load(alloc, limits) {
         Ok(schedule) => Ok(Loaded::Sound(schedule)),
         Err(StoreFault::Memory) => Err(AllocError),
         Err(fault) => Ok(Loaded::Faulty(fault)),
     }
+}
+
+fn put_loaded<W: Write>(schedule: &Schedule, output: &mut W) -> io::Result<()> {
+    let runs = schedule.run_count();
+    let in_flight = schedule.in_flight();
+    writeln!(output, "loaded: {runs} runs, {in_flight} tries in flight")
 }
 
 fn put_fault<W: Write>(fault: &StoreFault, output: &mut W) -> io::Result<()> {

@@ -8,6 +8,7 @@ use command_words::CommandReader;
 use sched_core::Limits;
 use script_commands::{CommandFault, ScriptCommand, SourceFault, next_command};
 use script_lines::LineReader;
+use sqlite::{Alter, MemStore};
 use std::alloc::Global;
 use std::io::{self, Write};
 use std::str;
@@ -21,7 +22,7 @@ pub fn play<W: Write>(alloc: Global, text: &[u8], output: &mut W) -> io::Result<
 
 fn play_lines<W: Write>(
     alloc: Global,
-    records: &mut Records,
+    records: &mut Records<MemStore>,
     lines: &mut LineReader,
     text: &[u8],
     output: &mut W,
@@ -44,7 +45,7 @@ fn play_lines<W: Write>(
 // Does what the first line says, and answers the text after it.
 fn play_line<'a, W: Write>(
     alloc: Global,
-    records: &mut Records,
+    records: &mut Records<MemStore>,
     lines: &mut LineReader,
     text: &'a [u8],
     output: &mut W,
@@ -62,7 +63,7 @@ fn play_line<'a, W: Write>(
 // Does a line that is none of a script.
 fn play_own<W: Write>(
     alloc: Global,
-    records: &mut Records,
+    records: &mut Records<MemStore>,
     line: &[u8],
     own: &Line<'_>,
     output: &mut W,
@@ -83,7 +84,7 @@ fn play_own<W: Write>(
 // Does a line that was written, and writes what comes of it.
 fn tell<W: Write>(
     alloc: Global,
-    records: &mut Records,
+    records: &mut Records<MemStore>,
     line: &Line<'_>,
     output: &mut W,
 ) -> io::Result<()> {
@@ -103,7 +104,7 @@ fn put_remark<W: Write>(line: &[u8], output: &mut W) -> io::Result<()> {
 // Begins a new record within the limits.
 fn limit<W: Write>(
     alloc: Global,
-    records: &mut Records,
+    records: &mut Records<MemStore>,
     limits: Option<Limits>,
     output: &mut W,
 ) -> io::Result<()> {
@@ -117,9 +118,9 @@ fn limit<W: Write>(
 }
 
 // Does the next command of a script, and answers the text after it. The command is read again where memory ran out.
-fn play_script<'a, W: Write>(
+fn play_script<'a, S: Alter + Drop, W: Write>(
     alloc: Global,
-    played: &mut Played,
+    played: &mut Played<S>,
     lines: &mut LineReader,
     text: &'a [u8],
     output: &mut W,
@@ -131,9 +132,9 @@ fn play_script<'a, W: Write>(
 }
 
 // Writes the lines of a command, and does it.
-fn play_request<W: Write>(
+fn play_request<S: Alter + Drop, W: Write>(
     alloc: Global,
-    played: &mut Played,
+    played: &mut Played<S>,
     text: &[u8],
     request: Option<Request>,
     output: &mut W,

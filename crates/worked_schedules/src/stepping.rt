@@ -5,13 +5,14 @@ use crate::records::Played;
 use answer_lines::{Shown, put};
 use director::Fault;
 use sched_core::{Answer, Event};
+use sqlite::Alter;
 use std::alloc::Global;
 use std::io::{self, Write};
 
 /// Does an event, and writes its answer, or why it is not done, and what it leaves.
-pub fn step<W: Write>(
+pub fn step<S: Alter + Drop, W: Write>(
     alloc: Global,
-    played: &mut Played,
+    played: &mut Played<S>,
     event: &Event,
     output: &mut W,
 ) -> io::Result<()> {
@@ -30,7 +31,11 @@ fn put_answer<W: Write>(
     }
 }
 
-fn done_or_again(alloc: Global, played: &mut Played, event: &Event) -> Result<Answer, Fault> {
+fn done_or_again<S: Alter + Drop>(
+    alloc: Global,
+    played: &mut Played<S>,
+    event: &Event,
+) -> Result<Answer, Fault> {
     match played.step(alloc, event) {
         Err(Fault::Memory) => played.step(alloc, event),
         answered => answered,

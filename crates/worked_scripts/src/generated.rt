@@ -5,6 +5,11 @@ use std::io::{self, Write};
 /// The script in which each `~` and the byte before it stand for so many of that byte.
 pub fn long(alloc: Global, script: &[u8], count: usize) -> Result<Vec<u8>, AllocError> {
     let mut longer = Vec::new(alloc);
+    lengthen(script, count, &mut longer)?;
+    Ok(longer)
+}
+
+fn lengthen(script: &[u8], count: usize, longer: &mut Vec<u8>) -> Result<(), AllocError> {
     let mut before = b'~';
     for byte in script {
         if *byte == b'~' {
@@ -15,26 +20,35 @@ pub fn long(alloc: Global, script: &[u8], count: usize) -> Result<Vec<u8>, Alloc
         }
         before = *byte;
     }
-    Ok(longer)
+    Ok(())
 }
 
 /// The script below the load of a graph of so many tasks, each after the one before it.
 pub fn with_chain(alloc: Global, script: &[u8], count: usize) -> io::Result<Vec<u8>> {
     let mut longer = Vec::new(alloc);
-    longer.write_all(
+    put_chain(script, count, &mut longer)?;
+    Ok(longer)
+}
+
+fn put_chain<W: Write>(script: &[u8], count: usize, output: &mut W) -> io::Result<()> {
+    output.write_all(
         b"load inline\ndag_id = \"chain\"\nschedule = \"@daily\"\nstart_date = \"2024-01-01\"\n",
     )?;
     for task in 0..count {
-        write!(
-            longer,
-            "[[task]]\ntask_id = \"t{task}\"\noperator = \"noop\"\n"
-        )?;
-        if task > 0 {
-            let before = task - 1;
-            writeln!(longer, "upstream = [\"t{before}\"]")?;
-        }
+        put_task(task, output)?;
     }
-    longer.write_all(b".\n")?;
-    longer.write_all(script)?;
-    Ok(longer)
+    output.write_all(b".\n")?;
+    output.write_all(script)
+}
+
+fn put_task<W: Write>(task: usize, output: &mut W) -> io::Result<()> {
+    write!(
+        output,
+        "[[task]]\ntask_id = \"t{task}\"\noperator = \"noop\"\n"
+    )?;
+    if task == 0 {
+        return Ok(());
+    }
+    let before = task - 1;
+    writeln!(output, "upstream = [\"t{before}\"]")
 }

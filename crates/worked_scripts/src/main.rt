@@ -39,7 +39,7 @@ mod stopping;
 use failing::Calls;
 use generated::{long, with_chain};
 use lacking::put_lacks;
-use playing::{Setting, play};
+use playing::{Played, Setting, play};
 use sections::{Kind, Section, next_section};
 use singles::put_singles;
 use std::fs;
@@ -49,16 +49,20 @@ use std::thread::Threads;
 use stopping::put_stops;
 
 fn main(rt: HostRuntime) -> io::Result<()> {
-    let alloc = rt.alloc();
     // the folder of the tries of `command`
     fs::create_dir(&rt, playing::SCRATCH)?;
-    let mut text = Vec::new(alloc);
-    rt.stdin().read_to_end(&mut text)?;
-    let mut output = BufWriter::new(alloc, rt.stdout())?;
-    run_all(&rt, &rt, text.as_slice(), &mut output)?;
-    output.flush()?;
+    put_page(&rt, &rt)?;
     fs::remove_file(&rt, playing::TOLD)?;
     fs::remove_dir(&rt, playing::SCRATCH)
+}
+
+fn put_page<T: Threads + Wait + Sync>(rt: &T, host: &HostRuntime) -> io::Result<()> {
+    let alloc = host.alloc();
+    let mut text = Vec::new(alloc);
+    host.stdin().read_to_end(&mut text)?;
+    let mut output = BufWriter::new(alloc, host.stdout())?;
+    run_all(rt, host, text.as_slice(), &mut output)?;
+    output.flush()
 }
 
 // Runs the scripts of a text, one after another.
@@ -106,15 +110,9 @@ fn put_run<T: Threads + Wait + Sync, W: Write>(
         Kind::Logged => put_logged(rt, host, section.script, output),
         Kind::Told => put_told(rt, host, section.script, output),
         Kind::Stops(part) => put_stops(rt, host, part, section.script, output),
-        Kind::Long(count) => {
-            let script = long(alloc, section.script, count)?;
-            let setting = Setting::with_lanes(0);
-            put_played(rt, host, setting, script.as_slice(), output)
-        }
+        Kind::Long(count) => put_made(rt, host, long(alloc, section.script, count)?, output),
         Kind::Tasks(count) => {
-            let script = with_chain(alloc, section.script, count)?;
-            let setting = Setting::with_lanes(0);
-            put_played(rt, host, setting, script.as_slice(), output)
+            put_made(rt, host, with_chain(alloc, section.script, count)?, output)
         }
         Kind::Single => put_singles(rt, host, section.script, output),
         Kind::Memory => put_lacks(output),
@@ -133,8 +131,22 @@ fn put_played<T: Threads + Wait + Sync, W: Write>(
     requires workers { setting.workers ≤ 16 }
 {
     let played = play(rt, host, setting, script, Calls::all())?;
+    put_ended(&played, output)
+}
+
+pub(crate) fn put_ended<W: Write>(played: &Played, output: &mut W) -> io::Result<()> {
     output.write_all(played.printed.as_slice())?;
     writeln!(output, "status {}", played.status)
+}
+
+// The same of a script that was made, without lanes.
+fn put_made<T: Threads + Wait + Sync, W: Write>(
+    rt: &T,
+    host: &HostRuntime,
+    script: Vec<u8>,
+    output: &mut W,
+) -> io::Result<()> {
+    put_played(rt, host, Setting::with_lanes(0), script.as_slice(), output)
 }
 
 // The same of a script whose programs have logs, which are removed then.

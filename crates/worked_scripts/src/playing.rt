@@ -1,5 +1,5 @@
 //! A script that is run on a new record in memory.
-ghost use Rattle.std.specs.Prelude.{◌≡◌, ◌≤◌};
+ghost use Rattle.std.specs.Prelude.{◌≡◌, ◌≤◌, false};
 
 use crate::clocks::worked_clock;
 use crate::failing::{Calls, Sink, Source};
@@ -7,12 +7,12 @@ use fault_sentences::SentenceConsole;
 use meta_store::Store;
 use moment_core::Moment;
 use sched_core::Limits;
-use script_reader::Script;
+use script_reader::{Console, Script, Sources};
 use script_runner::{FileSources, operators_for, run_team};
-use sqlite::{Connection, MemStore};
+use sqlite::{Alter, Connection, MemStore};
 use std::alloc::Global;
-use std::fs;
-use std::io::{self, BufReader, ErrorKind};
+use std::fs::{self, File};
+use std::io::{self, BufRead, BufReader, ErrorKind, Write};
 use std::sync::Wait;
 use std::thread::Threads;
 
@@ -58,6 +58,14 @@ pub struct Played {
     pub now: Moment,
 }
 
+// A script, what it is read from, and where its answers go.
+type WorkedScript<'a> = Script<
+    BufReader<Source<'a>>,
+    Sink,
+    FileSources<HostRuntime>,
+    SentenceConsole<HostRuntime, File>,
+>;
+
 /// Runs a script of which so many reads and writes do not fail.
 pub fn play<T: Threads + Wait + Sync>(
     rt: &T,
@@ -86,45 +94,93 @@ pub fn play_and_keep<T: Threads + Wait + Sync>(
     requires lanes { setting.lanes ≤ 64 }
     requires workers { setting.workers ≤ 16 }
 {
+    let script = worked_script(host, script, calls)?;
+    play_on(rt, host, setting, script, new_record(host.alloc())?)
+}
+
+fn worked_script<'a>(
+    host: &HostRuntime,
+    text: &'a [u8],
+    calls: Calls,
+) -> io::Result<WorkedScript<'a>> {
     let alloc = host.alloc();
-    let team = operators_for(*host, alloc, setting.workers, SCRATCH, setting.logs)?;
-    let mut clock = worked_clock(alloc)?;
     let source = Source {
-        text: script,
+        text,
         calls: calls.reads,
     };
     let told = fs::create(host, TOLD)?;
-    let script = Script {
+    Ok(Script {
         input: BufReader::with_capacity(alloc, 1, source)?,
         output: Sink::new(alloc, calls.writes),
         sources: FileSources::new(*host, alloc),
         console: SentenceConsole::new(*host, alloc, Vec::new(alloc), told),
+    })
+}
+
+// Runs a script on a record, whatever this stands on.
+fn play_on<S: Alter + Drop, T: Threads + Wait + Sync>(
+    rt: &T,
+    host: &HostRuntime,
+    setting: Setting<'_>,
+    script: WorkedScript<'_>,
+    record: Store<S>,
+) -> io::Result<(Played, Store<S>)>
+    requires lanes { setting.lanes ≤ 64 }
+    requires workers { setting.workers ≤ 16 }
+{
+    let (mut record, output, status) = run_by(rt, host, setting, script, record)?;
+    let now = clock_of(host.alloc(), &mut record)?;
+    let played = Played {
+        printed: output.bytes,
+        status,
+        now,
     };
-    let record = new_record(alloc)?;
+    Ok((played, record))
+}
+
+// The same, whatever the streams of the script are: the record, the output and the status.
+fn run_by<
+    S: Alter + Drop,
+    R: BufRead + Drop,
+    W: Write + Drop,
+    F: Sources,
+    P: Console,
+    T: Threads + Wait + Sync,
+>(
+    rt: &T,
+    host: &HostRuntime,
+    setting: Setting<'_>,
+    script: Script<R, W, F, P>,
+    record: Store<S>,
+) -> io::Result<(Store<S>, W, u8)>
+    requires lanes { setting.lanes ≤ 64 }
+    requires workers { setting.workers ≤ 16 }
+{
+    let alloc = host.alloc();
+    let team = operators_for(*host, alloc, setting.workers, SCRATCH, setting.logs)?;
+    let mut clock = worked_clock(alloc)?;
     match run_team(rt, alloc, record, setting.lanes, team, script, &mut clock) {
-        Ok(ran) => {
-            let mut record = ran.store;
-            let now = clock_of(alloc, &mut record)?;
-            let played = Played {
-                printed: ran.output.bytes,
-                status: ran.status,
-                now,
-            };
-            Ok((played, record))
-        }
+        Ok(ran) => Ok((ran.store, ran.output, ran.status)),
         Err(_) => Err(io::Error::other("not opened")),
     }
 }
 
 fn new_record(alloc: Global) -> io::Result<Store<MemStore>> {
-    match Store::create(alloc, Connection::open_in_memory(alloc)?) {
+    record_in(alloc, Connection::open_in_memory(alloc)?)
+}
+
+// A new record in this database.
+fn record_in<S: Alter + Drop>(alloc: Global, conn: Connection<S>) -> io::Result<Store<S>>
+    requires { conn.in_transaction ≡ false }
+{
+    match Store::create(alloc, conn) {
         Ok(record) => Ok(record),
         Err(_) => Err(io::Error::from(ErrorKind::OutOfMemory)),
     }
 }
 
 // The clock of the schedule that the record holds.
-fn clock_of(alloc: Global, record: &mut Store<MemStore>) -> io::Result<Moment> {
+fn clock_of<S: Alter>(alloc: Global, record: &mut Store<S>) -> io::Result<Moment> {
     match record.load(alloc, Limits::full()) {
         Ok(schedule) => Ok(schedule.now()),
         Err(_) => Err(io::Error::other("not read")),

@@ -1,13 +1,13 @@
 //! Commands outside of scripts.
 use crate::failing::Calls;
-use crate::playing::{Setting, play_and_keep};
-use crate::put_lines;
+use crate::playing::{Played, Setting, play_and_keep};
 use crate::sections::script_and_commands;
+use crate::{put_ended, put_lines};
 use command_runner::run_command;
-use command_words::{CommandLine, read_command};
+use command_words::{Command, CommandLine, read_command};
 use fault_sentences::SentenceConsole;
 use meta_store::Store;
-use sqlite::MemStore;
+use sqlite::Alter;
 use std::alloc::{AllocError, Global};
 use std::io::{self, ErrorKind, Write};
 use std::str;
@@ -25,14 +25,24 @@ pub fn put_singles<T: Threads + Wait + Sync, W: Write>(
     let (script, commands) = script_and_commands(text);
     let setting = Setting::with_lanes(0);
     let (played, record) = play_and_keep(rt, host, setting, script, Calls::all())?;
-    output.write_all(played.printed.as_slice())?;
-    writeln!(output, "status {}", played.status)?;
+    put_after(host, &played, record, commands, output)
+}
+
+// Writes what came of the script, and does the commands below it.
+fn put_after<S: Alter + Drop, W: Write>(
+    host: &HostRuntime,
+    played: &Played,
+    record: Store<S>,
+    commands: &[u8],
+    output: &mut W,
+) -> io::Result<()> {
+    put_ended(played, output)?;
     put_commands(host, record, commands, output)
 }
 
-fn put_commands<W: Write>(
+fn put_commands<S: Alter + Drop, W: Write>(
     host: &HostRuntime,
-    record: Store<MemStore>,
+    record: Store<S>,
     commands: &[u8],
     output: &mut W,
 ) -> io::Result<()> {
@@ -46,30 +56,65 @@ fn put_commands<W: Write>(
 }
 
 // Does one, and gives the record back.
-fn put_command<W: Write>(
+fn put_command<S: Alter + Drop, W: Write>(
     host: &HostRuntime,
-    record: Store<MemStore>,
+    record: Store<S>,
     line: &[u8],
     output: &mut W,
-) -> io::Result<Store<MemStore>> {
+) -> io::Result<Store<S>> {
+    let words = words_of(host.alloc(), line)?;
+    let asked = command_of(host.alloc(), words.as_slice())?;
+    let (record, answered) = answer(host, record, &asked.command, words);
+    answered.put(output)?;
+    Ok(record)
+}
+
+// What comes of a command.
+#[derive(Drop)]
+struct Answered {
+    printed: Vec<u8>,
+    // What a person is told.
+    told: Vec<u8>,
+    status: u8,
+}
+
+impl Answered {
+    fn put<W: Write>(&self, output: &mut W) -> io::Result<()> {
+        output.write_all(self.printed.as_slice())?;
+        put_lines(b"! ", self.told.as_slice(), output)?;
+        writeln!(output, "status {}", self.status)
+    }
+}
+
+fn answer<S: Alter + Drop>(
+    host: &HostRuntime,
+    record: Store<S>,
+    command: &Command,
+    words: Vec<String>,
+) -> (Store<S>, Answered) {
     let alloc = host.alloc();
-    let words = words_of(alloc, line)?;
-    let asked = command_of(alloc, words.as_slice())?;
     let mut printed = Vec::new(alloc);
     let mut console = SentenceConsole::in_memory(*host, alloc, words);
-    let (record, status) = run_command(alloc, record, &asked.command, &mut printed, &mut console);
-    output.write_all(printed.as_slice())?;
-    put_lines(b"! ", console.into_output().as_slice(), output)?;
-    writeln!(output, "status {status}")?;
-    Ok(record)
+    let (record, status) = run_command(alloc, record, command, &mut printed, &mut console);
+    let answered = Answered {
+        printed,
+        told: console.into_output(),
+        status,
+    };
+    (record, answered)
 }
 
 fn words_of(alloc: Global, line: &[u8]) -> Result<Vec<String>, AllocError> {
     let mut words = Vec::new(alloc);
+    push_words(alloc, line, &mut words)?;
+    Ok(words)
+}
+
+fn push_words(alloc: Global, line: &[u8], words: &mut Vec<String>) -> Result<(), AllocError> {
     for word in str::from_utf8(line).unwrap_or("").split(' ') {
         words.push(String::from_str(alloc, word)?)?;
     }
-    Ok(words)
+    Ok(())
 }
 
 fn command_of(alloc: Global, words: &[String]) -> io::Result<CommandLine> {

@@ -22,6 +22,58 @@ struct Alike {
     line: String,
 }
 
+impl Alike {
+    // Adds the next run, after so many calls: to those before it, or as the first of others, and then those before it are written.
+    fn add<W: Write>(
+        alike: &mut Option<Alike>,
+        calls: usize,
+        line: String,
+        output: &mut W,
+    ) -> io::Result<()> {
+        match alike {
+            Some(it) if it.line == line => it.last = calls,
+            _ => {
+                Alike::put(alike.as_ref(), output)?;
+                *alike = Some(Alike {
+                    first: calls,
+                    last: calls,
+                    line,
+                });
+            }
+        }
+        Ok(())
+    }
+
+    fn put<W: Write>(alike: Option<&Alike>, output: &mut W) -> io::Result<()> {
+        match alike {
+            Some(it) => writeln!(output, "after {} to {}: {}", it.first, it.last, it.line),
+            None => Ok(()),
+        }
+    }
+}
+
+// What fails, after so many calls that do not.
+#[derive(Clone, Copy)]
+struct Stop {
+    part: Part,
+    count: usize,
+}
+
+impl Stop {
+    fn calls(&self) -> Calls {
+        match self.part {
+            Part::Reads => Calls {
+                reads: self.count,
+                ..Calls::all()
+            },
+            Part::Writes => Calls {
+                writes: self.count,
+                ..Calls::all()
+            },
+        }
+    }
+}
+
 /// Writes how a script ends where so many reads or writes do not fail, up to the first run that meets no failure.
 pub fn put_stops<T: Threads + Wait + Sync, W: Write>(
     rt: &T,
@@ -32,61 +84,56 @@ pub fn put_stops<T: Threads + Wait + Sync, W: Write>(
 ) -> io::Result<()> {
     let mut alike: Option<Alike> = None;
     for count in 0..MANY {
-        let setting = Setting::with_lanes(1);
-        let played = play(rt, host, setting, script, calls_of(part, count))?;
-        let line = line_of(host.alloc(), part, &played)?;
-        if played.status != FAILED {
-            put_alike(alike.as_ref(), output)?;
-            return writeln!(output, "never: {line}");
-        }
-        match &mut alike {
-            Some(it) if it.line == line => it.last = count,
-            _ => {
-                put_alike(alike.as_ref(), output)?;
-                alike = Some(Alike {
-                    first: count,
-                    last: count,
-                    line,
-                });
-            }
+        if !is_stopped(rt, host, Stop { part, count }, script, &mut alike, output)? {
+            break;
         }
     }
     Ok(())
 }
 
-fn calls_of(part: Part, count: usize) -> Calls {
-    match part {
-        Part::Reads => Calls {
-            reads: count,
-            ..Calls::all()
-        },
-        Part::Writes => Calls {
-            writes: count,
-            ..Calls::all()
-        },
+// Whether a run met a failure. Those that did are written once a run ends otherwise.
+fn is_stopped<T: Threads + Wait + Sync, W: Write>(
+    rt: &T,
+    host: &HostRuntime,
+    stop: Stop,
+    script: &[u8],
+    alike: &mut Option<Alike>,
+    output: &mut W,
+) -> io::Result<bool> {
+    let played = play(rt, host, Setting::with_lanes(1), script, stop.calls())?;
+    let line = line_of(host.alloc(), stop.part, &played)?;
+    if played.status == FAILED {
+        Alike::add(alike, stop.count, line, output)?;
+        Ok(true)
+    } else {
+        put_last(alike.as_ref(), &line, output)?;
+        Ok(false)
     }
+}
+
+fn put_last<W: Write>(alike: Option<&Alike>, line: &str, output: &mut W) -> io::Result<()> {
+    Alike::put(alike, output)?;
+    writeln!(output, "never: {line}")
 }
 
 // The status and the record's clock, and where reads fail the lines before them: of writes that fail each run has one byte more than the one before it.
 fn line_of(alloc: Global, part: Part, played: &Played) -> io::Result<String> {
     let mut line = String::new(alloc);
     if part == Part::Reads {
-        let Ok(text) = str::from_utf8(played.printed.as_slice()) else {
-            return Err(io::Error::from(ErrorKind::InvalidData));
-        };
-        for it in text.lines() {
-            line.push_str(it)?;
-            line.push_str(" / ")?;
-        }
+        push_lines(played.printed.as_slice(), &mut line)?;
     }
     let (status, now) = (played.status, played.now);
     line.push_str(format!(in alloc; "status {status}, clock {now}")?.as_str())?;
     Ok(line)
 }
 
-fn put_alike<W: Write>(runs: Option<&Alike>, output: &mut W) -> io::Result<()> {
-    match runs {
-        Some(it) => writeln!(output, "after {} to {}: {}", it.first, it.last, it.line),
-        None => Ok(()),
+fn push_lines(printed: &[u8], line: &mut String) -> io::Result<()> {
+    let Ok(text) = str::from_utf8(printed) else {
+        return Err(io::Error::from(ErrorKind::InvalidData));
+    };
+    for it in text.lines() {
+        line.push_str(it)?;
+        line.push_str(" / ")?;
     }
+    Ok(())
 }
