@@ -12,7 +12,7 @@ from unittest import mock
 import made
 import record as records
 import snapshot
-from calling import LOOK, look
+from calling import LOOK, is_made, look
 
 PAGE = LOOK.parent / "docs" / "IN_USE.md"
 LOG = "night/logs/dag_id=night/run_id=scheduled__2024-03-01T00:00:00+00:00/task_id=check/attempt=1.log"
@@ -176,7 +176,7 @@ def check_busy(program, work, seconds):
 
 def check_night_under_way(night):
     """The night while it lasts: what was said stands there, and a program at work is told as running."""
-    while not (night.folder / "record.db-wal").exists() or "night:" not in look("grid", "night"):
+    while not is_made("night") or "night:" not in look("grid", "night"):
         time.sleep(0.3)
     seen = set()
     while "r running" not in seen:

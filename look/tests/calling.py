@@ -17,6 +17,11 @@ def look(name, *words, status=0, **more):
     return ended.stderr if status else ended.stdout
 
 
+def is_made(folder):
+    """Whether a scheduler has made the record of a folder: at first its file is empty."""
+    return subprocess.run([LOOK / "grid", folder], stdout=subprocess.DEVNULL, stderr=subprocess.DEVNULL).returncode == 0
+
+
 def written(*words, status=0, **more):
     """Calls `page`, and gives what it says."""
     done = subprocess.run([LOOK / "page", *map(str, words)], capture_output=True, text=True, env={**os.environ, **more}, timeout=200)

@@ -9,7 +9,7 @@ import time
 import made
 from asked import copies_of
 from beside import Scheduler
-from calling import LOOK, answers_of, look, measured, on_terminal
+from calling import LOOK, answers_of, is_made, look, measured, on_terminal
 from chain import READY
 from record import Record, opened, text_of
 
@@ -125,8 +125,8 @@ def check_kinds(program, work):
     try:
         scheduler.ask("resize small 1", "load waits.toml", "tick now")
         until = time.time() + 60
-        while "running" not in look("grid", folder) or "y up_for_retry" not in look("grid", folder):
-            assert time.time() < until, look("grid", folder)
+        while not is_made(folder) or "running" not in look("grid", folder) or "y up_for_retry" not in look("grid", folder):
+            assert time.time() < until, "no retry is due, or no task runs"
             scheduler.ask("tick now")
             time.sleep(0.2)
         for task, words in TOLD.items():
