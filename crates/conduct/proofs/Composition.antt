@@ -14,6 +14,7 @@ use Rattle.ruled_dispatch.specs.declared.items.JobOrStop.TheVariants as items
 use Rattle.ruled_dispatch.specs.declared.items.Report.{Report}
 use Rattle.ruled_dispatch.specs.declared.items.WorkerReport.{WorkerReport}
 use Rattle.ruled_dispatch.specs.declared.lanes.Lanes.{Lanes}
+use Rattle.sched_events.specs.SettledAndSound.{IsSoundAndSaid}
 use Rattle.sched_events.specs.Steps.{steps, handed_along, AreAccepted}
 use Rattle.sched_events.specs.declared.events.Event.{Event}
 use Rattle.sched_model.specs.Schedule.{Schedule}
@@ -167,12 +168,13 @@ module _ {G O : Type 0} (runs : O → List (Job × Outcome)) (refused : O → Li
 module _ {S G O : Type 0} where
   -- nothing was stepped, and no thread was started
   pub unstarted_run : (look : Held S → State) (runs : O → List (Job × Outcome)) (refused : O → List Job) (taken : O → Option Job) (lane_count : ℕ) (kits : List (Kit O)) (old : DirectorValue S) (run : Conducted S G O) (are_told : Schedule → List Event → Option Line → Type 0) (untouched : Type 0) (failed : Option LineFault) (is_over : Bool) (f : ConductFault)
-      → run.director ≡ old → run.minutes.items ≡ [] → run.ends.items ≡ [] → run.outcome ≡ Err f → are_told old.schedule.content [] None → untouched
+      → IsSoundAndSaid old.schedule.content → run.director ≡ old → run.minutes.items ≡ [] → run.ends.items ≡ [] → run.outcome ≡ Err f → are_told old.schedule.content [] None → untouched
       → came_to_its_end run.outcome ≡ false → EndsRun f failed → is_no_worker f ≡ (length kits == 0)
       → IsConducted look runs refused taken lane_count kits old run are_told untouched failed is_over
-  unstarted_run look runs refused taken lane_count kits old run are_told untouched failed is_over f d e nobody o nothing same short ends none =
+  unstarted_run look runs refused taken lane_count kits old run are_told untouched failed is_over f sound d e nobody o nothing same short ends none =
       let a = old.schedule.content in
       record {
+        sound = sound;
         stepped = ap (λ (x : DirectorValue S). x.schedule.content) d ∙ ap (λ (l : List Event). steps l a) (sym e);
         accepted = subst (λ (l : List Event). AreAccepted l a) (sym e) tt;
         followed = subst (λ (x : DirectorValue S). Follows a (look old.store) x.schedule.content (look x.store)) (sym d) (follows_itself a (look old.store));
@@ -193,6 +195,7 @@ module _ {S G O : Type 0} where
   -- a session was served while the workers ran, and what the workers did was settled
   pub conducted : {W R : Type 0} (look : Held S → State) (runs : O → List (Job × Outcome)) (refused : O → List Job) (taken : O → Option Job) (lanes : Lanes) (lane_count stops : ℕ) (kits : List (Kit O)) (old : DirectorValue S) (fresh now : Session S) (outcome : Result W ConductFault)
       (results : List R) (end_of : R → WorkerEnd G O) (run : Conducted S G O) (are_told : Schedule → List Event → Option Line → Type 0) (untouched : Type 0) (failed : Option LineFault) (is_over : Bool)
+      → IsSoundAndSaid old.schedule.content
       → 0 < length kits
       → fresh.director ≡ old → IsRun old.schedule.content lane_count fresh
       → IsServed look lanes lane_count stops fresh now outcome are_told untouched failed is_over
@@ -208,11 +211,12 @@ module _ {S G O : Type 0} where
       → (all_started outcome ≡ true → AreAmongSent (sent_of now.pass) run.ends.items)
       → (all_started outcome ≡ true → AreAmongTold (heard_of now.pass) run.ends.items)
       → IsConducted look runs refused taken lane_count kits old run are_told untouched failed is_over
-  conducted {W} {R} look runs refused taken lanes lane_count stops kits old fresh now outcome results end_of run are_told untouched failed is_over some of_old is_run served dir min ok pass all ends nobody once own accounts desk sent told =
+  conducted {W} {R} look runs refused taken lanes lane_count stops kits old fresh now outcome results end_of run are_told untouched failed is_over sound some of_old is_run served dir min ok pass all ends nobody once own accounts desk sent told =
       let a = old.schedule.content in
       let stop = served.run a is_run in
       let what = served.told a is_run in
       record {
+        sound = sound;
         stepped = ap (λ (x : DirectorValue S). x.schedule.content) dir ∙ stop.stepped ∙ ap (λ (l : List Event). steps l a) (sym min);
         accepted = subst (λ (l : List Event). AreAccepted l a) (sym min) stop.accepted;
         followed =

@@ -6,6 +6,7 @@ use Rattle.sqlite.specs.State.{State}
 use Rattle.instance_machine.specs.declared.tries.Outcome.{Outcome}
 use Rattle.sched_state.specs.declared.jobs.Job.{Job}
 use Rattle.operators.specs.declared.kits.Kit.{Kit}
+use Rattle.sched_events.specs.SettledAndSound.{IsSoundAndSaid}
 use Rattle.sched_events.specs.Steps.{steps, handed_along, AreAccepted}
 use Rattle.sched_events.specs.declared.events.Event.{Event}
 use Rattle.sched_model.specs.Schedule.{Schedule}
@@ -22,6 +23,8 @@ use Rattle.conduct.specs.Faults.{EndsRun, came_to_its_end, is_no_worker, is_unst
 -- first states to their last ones while minutes were made from a schedule on (are_told), or that they are as they were (untouched); what the lines failed
 -- in, and whether they are over.
 pub record IsConducted {S G O : Type 0} (look : Held S → State) (runs : O → List (Job × Outcome)) (refused : O → List Job) (taken : O → Option Job) (lane_count : ℕ) (kits : List (Kit O)) (old : DirectorValue S) (run : Conducted S G O) (are_told : Schedule → List Event → Option Line → Type 0) (untouched : Type 0) (failed : Option LineFault) (is_over : Bool) : Type 0 where
+  -- the schedule at entry is sound: so of the tries that the minutes hand out no serial stands twice, and none goes past a pool or a bound
+  pub sound : IsSoundAndSaid old.schedule.content
   -- with a fault too: the schedule is that of the minutes, each of which was accepted, and the record follows it
   pub stepped : run.director.schedule.content ≡ steps run.minutes.items old.schedule.content
   pub accepted : AreAccepted run.minutes.items old.schedule.content

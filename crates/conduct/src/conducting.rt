@@ -62,6 +62,8 @@ pub fn conduct<
     ensures { IsConducted (state S.Store) O.runs_of O.refused_of O.taken lane_count (map (λ c. c.kit) crews.items) director result
         (AreTold L.tells C.gives lines.old clock.old lines.new clock.new) ((lines.new ≡ lines.old) × (clock.new ≡ clock.old)) (L.failed lines.new) (L.over lines.new) }
 {
+    // what is known of the schedule that is run
+    let _ = director.schedule().runs();
     let workers = crews.len();
     if workers == 0 {
         return Conducted {
@@ -112,6 +114,8 @@ fn conduct_at<
     ensures { IsConducted (state S.Store) O.runs_of O.refused_of O.taken lane_count (map (λ c. c.kit) crews.items) director result
         (AreTold L.tells C.gives lines.old clock.old lines.new clock.new) ((lines.new ≡ lines.old) × (clock.new ≡ clock.old)) (L.failed lines.new) (L.over lines.new) }
 {
+    // what is known of the schedule that is run
+    let _ = director.schedule().runs();
     let workers = crews.len();
     let Ok(equipment) = equip::<D, G, O>(alloc, blank, lane_count, workers) else {
         return Conducted {
@@ -128,8 +132,6 @@ fn conduct_at<
         posts,
         room,
     } = equipment;
-    // what is known of the schedule that is run
-    let _ = director.schedule().runs();
     let session = Session::new(alloc, director, pass);
     let managed = manage(
         rt, alloc, &lanes, &desk, lane_count, session, posts, crews, lines, clock,

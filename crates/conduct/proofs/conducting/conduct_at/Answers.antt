@@ -19,7 +19,8 @@ returns-in_default g c =
     let kits = map (λ x. x.kit) crews in
     let some : 0 < length kits = subst (λ n. 0 < n) (sym (length-map crews (λ x. x.kit))) c.requires.crews.0 in
     let none : false ≡ (length kits == 0) = sym (ne_eqb (length kits) 0 (λ e. absurd (omega arith))) in
-    unstarted_run (state g.S.Store) g.O.Operator.runs_of g.O.Operator.refused_of g.O.Operator.taken c.args.lane_count kits c.args.director _ (AreTold g.L.Lines.tells g.C.Clock.gives c.args.lines.now c.args.clock.now c.args.lines.now c.args.clock.now) ((c.args.lines.now ≡ c.args.lines.now) × (c.args.clock.now ≡ c.args.clock.now)) _ _ fault.Memory refl c.new.ensures.items c.new-in_default.ensures.items refl
+    let sound : IsSoundAndSaid c.args.director.schedule.content = subst (λ (s : ScheduleValue). IsSoundAndSaid s.content) c.schedule.ensures c.runs.ensures.kept in
+    unstarted_run (state g.S.Store) g.O.Operator.runs_of g.O.Operator.refused_of g.O.Operator.taken c.args.lane_count kits c.args.director _ (AreTold g.L.Lines.tells g.C.Clock.gives c.args.lines.now c.args.clock.now c.args.lines.now c.args.clock.now) ((c.args.lines.now ≡ c.args.lines.now) × (c.args.clock.now ≡ c.args.clock.now)) _ _ fault.Memory sound refl c.new.ensures.items c.new-in_default.ensures.items refl
     (record { exchanges = []; took_place = refl; told = g.met.L.Lines.begins c.args.lines.now; given = g.met.C.Clock.begins c.args.clock.now }) (refl, refl) refl (inl c.requires.sound) none
 
 pub manage-managed-requires-after_bounds : goal.manage-managed-requires-after_bounds
@@ -115,7 +116,7 @@ returns g c =
     let stop = d.served.run a run in
     let sound : IsSoundAndSaid a = subst (λ (s : ScheduleValue). IsSoundAndSaid s.content) c.schedule.ensures c.runs.ensures.kept in
     conducted (state g.S.Store) op.runs_of op.refused_of op.taken q.lanes c.args.lane_count (length results) kits c.args.director c.new-session.result m.session m.outcome results (λ r. r.0) c.close.result _ _ _ _
-    (subst (λ k. 0 < k) (sym long) c.requires.crews.0) n.director run d.served z.director (ap vec_items z.minutes) z.ok z.fault
+    sound (subst (λ k. 0 < k) (sym long) c.requires.crews.0) n.director run d.served z.director (ap vec_items z.minutes) z.ok z.fault
     (λ started. d.all started ∙ sym long) z.ends z.none
     (also_ok c.close.result.outcome z.once (λ each. each a c.args.lane_count stop))
     (also_ok c.close.result.outcome z.own (λ each. each a c.args.lane_count sound stop))
