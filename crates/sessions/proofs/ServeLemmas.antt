@@ -185,6 +185,6 @@ pub where_ok : {A F P : Type 0} (r : Result A F) → P → OnOk r P
 where_ok (Ok v) p = p
 where_ok (Err f) p = tt
 
-pub with_restart : {A F P Q : Type 0} (r : Result A F) → P → OnOk r Q → OnOk r (P × Q)
-with_restart (Ok v) p q = (p, q)
-with_restart (Err f) p q = tt
+pub with_restart : {A F P : Type 0} (Q : Type 0) (r : Result A F) → P → OnOk r Q → OnOk r (P × Q)
+with_restart Q (Ok v) p q = (p, q)
+with_restart Q (Err f) p q = tt

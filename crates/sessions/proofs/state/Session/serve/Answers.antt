@@ -20,7 +20,7 @@ returns-in-Ok-clause-served g c =
       unbegun = on_err_none _ r.1 r.2;
       once = f.once;
       behind = f.behind;
-      known = with_restart c.follow.result r.2 f.known;
+      known = with_restart _ c.follow.result r.2 f.known;
       tells = f.tells c.args.lines.now [] (g.met.L.Lines.begins c.args.lines.now);
       gives = f.gives c.args.clock.now [] (g.met.C.Clock.begins c.args.clock.now);
     }
