@@ -7,22 +7,8 @@ returns-clause-served g c =
     let new = c.new-session.ensures in
     let stop = c.stop.ensures in
     let part = c.part.ensures in
-    let lines = c.serve_all-outcome.new.lines in
-    let begun = record { director = new.director; minutes = new.minutes.0; executor = new.executor; missed = new.missed; unsent = c.requires.unused.0; unheard = c.requires.unused.1 } in
-    let ended = record {
-      sent = stop.sent;
-      asks = stop.asks;
-      same = stop.same;
-      stepper = stop.stepper;
-      missed = stop.missed;
-      director = part.director;
-      minutes = part.minutes;
-      by = part.pass;
-      of = part.lanes;
-      mark = part.missed;
-    } in
-    served_or (state g.S.Store) g.L.Lines.failed g.L.Lines.over c.args.started.are_all c.new-session.result c.serve_all-outcome.new.session c.stop.new.self c.part.result c.serve_all-outcome.result begun c.serve_all-outcome.ensures c.requires.sound
-    (g.met.L.Lines.begins c.args.lines.now) (g.met.C.Clock.begins c.args.clock.now) ended
+    served_or (state g.S.Store) g.L.Lines.failed g.L.Lines.over c.args.started.are_all c.new-session.result c.serve_all-outcome.new.session c.stop.new.self c.part.result c.serve_all-outcome.result (record { director = new.director; minutes = new.minutes.0; executor = new.executor; missed = new.missed; unsent = c.requires.unused.0; unheard = c.requires.unused.1 }) c.serve_all-outcome.ensures c.requires.sound
+    (g.met.L.Lines.begins c.args.lines.now) (g.met.C.Clock.begins c.args.clock.now) (record { sent = stop.sent; asks = stop.asks; same = stop.same; stepper = stop.stepper; missed = stop.missed; director = part.director; minutes = part.minutes; by = part.pass; of = part.lanes; mark = part.missed; })
 
 pub returns-clause-all : goal.returns-clause-all
 returns-clause-all g c = all_or (state g.S.Store) c.args.started.are_all c.serve_all-outcome.result c.serve_all-outcome.ensures
