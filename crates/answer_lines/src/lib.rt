@@ -37,5 +37,7 @@ mod tasks;
 pub use explain::{ExplainFault, explain};
 pub use listing::put_listing;
 pub use reasons::put_reasons;
-pub use sessions::{ClockFault, ConductFault, Fault, Line, LineFault, Lines, Schedule, StoreFault};
+pub use sessions::{
+    ClockFault, ConductFault, Fault, Line, LineFault, Lines, Schedule, StoreFault, Written,
+};
 pub use shown::{Shown, put};

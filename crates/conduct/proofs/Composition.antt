@@ -1,7 +1,8 @@
 -- What a run promises, from what its session and its threads leave.
-use Rattle.std.proofs.Common.{◌≡◌, ◌++◌, ℕ, ◌<◌, ◌≤◌, ◌==◌, Bool, true, false, true≢false, not, List, [], ◌∷◌, length, map, take, replicate, Option, None, inl, inr, Result, Ok, Err, MatchResult, OnOk, IfOk, IfErr, IsOk, refl, sym, ap, ◌∙◌, subst, arith, ne_eqb}
+use Rattle.std.proofs.Common.{◌≡◌, ◌++◌, ◌+◌, ℕ, ◌<◌, ◌≤◌, ◌==◌, Bool, true, false, true≢false, not, List, [], ◌∷◌, length, map, take, replicate, Option, None, inl, inr, Result, Ok, Err, MatchResult, OnOk, IfOk, IfErr, IsOk, refl, sym, ap, ◌∙◌, subst, arith, ne_eqb}
 use Rattle.std.specs.Prelude.{sum_by}
 use Rattle.std.proofs.lemmas.List.{length-map}
+use Rattle.std.proofs.lemmas.List.Elements.{All-append, All-nil}
 use Rattle.std.proofs.Math.Seq.{take-length}
 use Rattle.sqlite.specs.Held.{Held}
 use Rattle.sqlite.specs.State.{State}
@@ -14,25 +15,32 @@ use Rattle.ruled_dispatch.specs.declared.items.JobOrStop.TheVariants as items
 use Rattle.ruled_dispatch.specs.declared.items.Report.{Report}
 use Rattle.ruled_dispatch.specs.declared.items.WorkerReport.{WorkerReport}
 use Rattle.ruled_dispatch.specs.declared.lanes.Lanes.{Lanes}
+use Rattle.ruled_dispatch.specs.declared.passes.DirectorPass.{DirectorPass}
+use Rattle.sched_events.specs.SettledAndSound.{IsSoundAndSaid}
 use Rattle.sched_events.specs.Steps.{steps, handed_along, AreAccepted}
 use Rattle.sched_events.specs.declared.events.Event.{Event}
 use Rattle.sched_model.specs.Schedule.{Schedule}
 use Rattle.sched_model.specs.States.{in_flight}
 use Rattle.minutes.specs.Minutes.{BeginWithRestart, reports_in}
-use Rattle.sessions.specs.Runs.{DirectorValue, Follows, IsRun}
+use Rattle.sessions.specs.director.Leaves.{Leaves}
+use Rattle.sessions.specs.History.{accepted, heard_in, is_reported, is_restarted, missed_in, tried_at_end, AreReported, AreRight, Restarted, Step}
+use Rattle.sessions.specs.Runs.{DirectorValue, Follows}
+use Rattle.sessions.proofs.HistoryLemmas.{reported_later}
+use Rattle.sessions.proofs.LawLemmas.{right_accepted, right_begun, right_heard}
+use Rattle.sessions.proofs.director.LeaveLemmas.{leaves_none}
 use Rattle.sessions.proofs.director.ListLemmas.{follows_itself}
 use Rattle.sessions.specs.declared.faults.ConductFault.{ConductFault}
 use Rattle.sessions.specs.declared.faults.ConductFault.TheVariants as fault
 use Rattle.sessions.specs.declared.line_reading.Line.{Line}
 use Rattle.sessions.specs.declared.line_reading.LineFault.{LineFault}
-use Rattle.sessions.specs.declared.state.Session.{Session}
+use Rattle.sessions.specs.declared.state.Parted.{Parted}
 use Rattle.work.specs.declared.crews.WorkerEnd.{WorkerEnd}
 use Rattle.work.specs.Logs.{reports_of}
 use Rattle.crews.specs.Settled.{AreAccounts, AreAmongSent, AreAmongTold}
 use Rattle.conduct.specs.declared.conducting.Conducted.{Conducted}
 use Rattle.conduct.specs.Ends.{logged, EachStandsInALog, EachToldItsOwn, HaveWorkedFor}
 use Rattle.conduct.specs.Faults.{EndsInside, EndsRun, all_started, came_to_its_end, is_no_worker, is_unstarted}
-use Rattle.conduct.specs.Served.{IsServed}
+use Rattle.conduct.specs.Served.{IsHistory, IsServed}
 use Rattle.conduct.specs.Run.{IsConducted}
 use Rattle.conduct.proofs.Logs.{jobs_among}
 
@@ -164,26 +172,55 @@ module _ {G O : Type 0} (runs : O → List (Job × Outcome)) (refused : O → Li
         omega arith;
   }
 
+-- ---- a history that is right
+-- its first event is the restart, and no other is one
+begins : (lane_count : ℕ) (h told last : List Step) (a : Schedule) → IsHistory lane_count h told last → AreRight h a → BeginWithRestart lane_count (accepted h)
+begins lane_count h told last a parts right = elim parts.first [
+  | inl none ↦ subst (λ (k : List Step). BeginWithRestart lane_count (accepted k)) (sym none.0) tt
+  | inr begun ↦
+      subst (λ (k : List Step). BeginWithRestart lane_count (accepted k)) (sym begun.2)
+      (right_begun lane_count begun.0 begun.1 (told ++ last) a (subst (λ (k : List Step). AreRight k a) begun.2 right) begun.3
+      (All-append (λ (x : Step). is_restarted x ≡ false) told last parts.once (reported_later last parts.behind)))
+]
+
+-- no report stands among its events more often than it was heard
+each_heard : (h : List Step) (a : Schedule) (heard : List WorkerReport) → AreRight h a → heard ≡ heard_in h → (weight : Report → ℕ) → sum_by weight (reports_in (accepted h)) ≤ sum_by weight (map (λ t. t.report) heard)
+each_heard h a heard right is weight =
+    let all : sum_by weight (map (λ (t : WorkerReport). t.report) (heard_in h)) ≡ sum_by weight (reports_in (accepted h)) + sum_by weight (missed_in h) = right_heard h a weight right in
+    let same : sum_by weight (map (λ (t : WorkerReport). t.report) heard) ≡ sum_by weight (map (λ (t : WorkerReport). t.report) (heard_in h)) =
+    ap (λ (l : List WorkerReport). sum_by weight (map (λ (t : WorkerReport). t.report) l)) is in
+    omega arith
+
 module _ {S G O : Type 0} where
   -- nothing was stepped, and no thread was started
-  pub unstarted_run : (look : Held S → State) (runs : O → List (Job × Outcome)) (refused : O → List Job) (taken : O → Option Job) (lane_count : ℕ) (kits : List (Kit O)) (old : DirectorValue S) (run : Conducted S G O) (are_told : Schedule → List Event → Option Line → Type 0) (untouched : Type 0) (failed : Option LineFault) (is_over : Bool) (f : ConductFault)
-      → run.director ≡ old → run.minutes.items ≡ [] → run.ends.items ≡ [] → run.outcome ≡ Err f → are_told old.schedule.content [] None → untouched
+  pub unstarted_run : (look : Held S → State) (runs : O → List (Job × Outcome)) (refused : O → List Job) (taken : O → Option Job) (lane_count : ℕ) (kits : List (Kit O)) (old : DirectorValue S) (run : Conducted S G O) (are_told : List Step → Option Line → Type 0) (untouched : Type 0) (failed : Option LineFault) (is_over : Bool) (f : ConductFault)
+      → IsSoundAndSaid old.schedule.content → run.director ≡ old → run.minutes.items ≡ [] → run.ends.items ≡ [] → run.outcome ≡ Err f → are_told [] None → untouched
       → came_to_its_end run.outcome ≡ false → EndsRun f failed → is_no_worker f ≡ (length kits == 0)
       → IsConducted look runs refused taken lane_count kits old run are_told untouched failed is_over
-  unstarted_run look runs refused taken lane_count kits old run are_told untouched failed is_over f d e nobody o nothing same short ends none =
+  unstarted_run look runs refused taken lane_count kits old run are_told untouched failed is_over f sound d e nobody o nothing same short ends none =
       let a = old.schedule.content in
       record {
+        sound = sound;
+        history = [];
+        steps_told = [];
+        last = [];
+        waits = None;
+        parts = record { first = inl (refl, refl, refl); once = All-nil (λ (x : Step). is_restarted x ≡ false); behind = All-nil (λ (x : Step). is_reported x ≡ true) };
+        right = tt;
+        told = nothing;
+        minutes = e;
         stepped = ap (λ (x : DirectorValue S). x.schedule.content) d ∙ ap (λ (l : List Event). steps l a) (sym e);
         accepted = subst (λ (l : List Event). AreAccepted l a) (sym e) tt;
         followed = subst (λ (x : DirectorValue S). Follows a (look old.store) x.schedule.content (look x.store)) (sym d) (follows_itself a (look old.store));
+        left =
+            subst (λ (l : List Event). Leaves l [] a (look old.store) (look run.director.store)) (sym e)
+            (subst (λ (x : DirectorValue S). Leaves [] [] a (look old.store) (look x.store)) (sym d) (leaves_none a (look old.store)));
         opened = ap (λ (x : DirectorValue S). x.opened) d;
         begun = subst (λ (l : List Event). BeginWithRestart lane_count l) (sym e) tt;
-        waits = None;
-        told = subst (λ (l : List Event). are_told a l None) (sym e) nothing;
         whole = λ is. absurd (true≢false (sym is ∙ short));
         fault = subst (λ r. MatchResult r (λ _. failed ≡ None) (λ g. EndsRun g failed)) (sym o) ends;
         workers = subst (λ r. MatchResult r (λ _. 0 < length kits) (λ g. is_no_worker g ≡ (length kits == 0))) (sym o) none;
-        unstarted = subst (λ r. IfErr r (λ g. is_unstarted g ≡ true → (run.minutes.items ≡ []) × untouched)) (sym o) (λ _. (e, same));
+        unstarted = subst (λ r. IfErr r (λ g. is_unstarted g ≡ true → ([] ≡ []) × untouched)) (sym o) (λ _. (refl, same));
         worked = none_worked runs refused taken kits run.ends.items run.minutes.items a nobody e;
         once = subst (λ r. OnOk r (EachStandsInALog (handed_along run.minutes.items a) run.ends.items)) (sym o) tt;
         own = subst (λ r. OnOk r (EachToldItsOwn run.minutes.items run.ends.items)) (sym o) tt;
@@ -191,11 +228,11 @@ module _ {S G O : Type 0} where
       }
 
   -- a session was served while the workers ran, and what the workers did was settled
-  pub conducted : {W R : Type 0} (look : Held S → State) (runs : O → List (Job × Outcome)) (refused : O → List Job) (taken : O → Option Job) (lanes : Lanes) (lane_count stops : ℕ) (kits : List (Kit O)) (old : DirectorValue S) (fresh now : Session S) (outcome : Result W ConductFault)
-      (results : List R) (end_of : R → WorkerEnd G O) (run : Conducted S G O) (are_told : Schedule → List Event → Option Line → Type 0) (untouched : Type 0) (failed : Option LineFault) (is_over : Bool)
+  pub conducted : {W R : Type 0} (look : Held S → State) (runs : O → List (Job × Outcome)) (refused : O → List Job) (taken : O → Option Job) (lanes : Lanes) (lane_count stops : ℕ) (kits : List (Kit O)) (old : DirectorValue S) (before : DirectorPass) (now : Parted S) (outcome : Result W ConductFault)
+      (results : List R) (end_of : R → WorkerEnd G O) (run : Conducted S G O) (are_told : List Step → Option Line → Type 0) (untouched : Type 0) (failed : Option LineFault) (is_over : Bool)
+      → IsSoundAndSaid old.schedule.content
       → 0 < length kits
-      → fresh.director ≡ old → IsRun old.schedule.content lane_count fresh
-      → IsServed look lanes lane_count stops fresh now outcome are_told untouched failed is_over
+      → IsServed look lanes lane_count stops old before now outcome are_told untouched failed is_over
       → run.director ≡ now.director → run.minutes.items ≡ now.minutes.items
       → OnOk run.outcome (IsOk outcome) → PassesOn run.outcome outcome
       → (all_started outcome ≡ true → length results ≡ length kits)
@@ -208,36 +245,46 @@ module _ {S G O : Type 0} where
       → (all_started outcome ≡ true → AreAmongSent (sent_of now.pass) run.ends.items)
       → (all_started outcome ≡ true → AreAmongTold (heard_of now.pass) run.ends.items)
       → IsConducted look runs refused taken lane_count kits old run are_told untouched failed is_over
-  conducted {W} {R} look runs refused taken lanes lane_count stops kits old fresh now outcome results end_of run are_told untouched failed is_over some of_old is_run served dir min ok pass all ends nobody once own accounts desk sent told =
+  conducted {W} {R} look runs refused taken lanes lane_count stops kits old before now outcome results end_of run are_told untouched failed is_over sound some served dir min ok pass all ends nobody once own accounts desk sent told =
       let a = old.schedule.content in
-      let stop = served.run a is_run in
-      let what = served.told a is_run in
+      let stop = served.run in
+      let h = served.history in
+      let same : run.minutes.items ≡ accepted h = min ∙ stop.minutes in
+      let are : AreAccepted (accepted h) a = right_accepted h a stop.right in
       record {
-        stepped = ap (λ (x : DirectorValue S). x.schedule.content) dir ∙ stop.stepped ∙ ap (λ (l : List Event). steps l a) (sym min);
-        accepted = subst (λ (l : List Event). AreAccepted l a) (sym min) stop.accepted;
-        followed =
-            subst (λ (x : DirectorValue S). Follows a (look old.store) x.schedule.content (look x.store)) (sym dir)
-            (subst (λ (x : DirectorValue S). Follows x.schedule.content (look x.store) now.director.schedule.content (look now.director.store)) of_old served.followed);
-        opened = ap (λ (x : DirectorValue S). x.opened) dir ∙ served.opened ∙ ap (λ (x : DirectorValue S). x.opened) of_old;
-        begun = subst (λ (l : List Event). BeginWithRestart lane_count l) (sym min) stop.begun;
-        waits = what.0;
-        told = subst (λ (l : List Event). are_told a l what.0) (sym min) what.1;
+        sound = sound;
+        history = h;
+        steps_told = served.steps_told;
+        last = served.last;
+        waits = served.waits;
+        parts = served.parts;
+        right = stop.right;
+        told = served.told;
+        minutes = same;
+        stepped = ap (λ (x : DirectorValue S). x.schedule.content) dir ∙ stop.stepped ∙ ap (λ (l : List Event). steps l a) (sym same);
+        accepted = subst (λ (l : List Event). AreAccepted l a) (sym same) are;
+        followed = subst (λ (x : DirectorValue S). Follows a (look old.store) x.schedule.content (look x.store)) (sym dir) stop.followed;
+        left =
+            subst (λ (l : List Event). Leaves l (tried_at_end h) a (look old.store) (look run.director.store)) (sym same)
+            (subst (λ (x : DirectorValue S). Leaves (accepted h) (tried_at_end h) a (look old.store) (look x.store)) (sym dir) stop.left);
+        opened = ap (λ (x : DirectorValue S). x.opened) dir ∙ stop.opened;
+        begun = subst (λ (l : List Event). BeginWithRestart lane_count l) (sym same) (begins lane_count h served.steps_told served.last a served.parts stop.right);
         whole = λ is. (
           whole_by _ run.outcome outcome failed ok pass served.fault served.over is,
-          whole_by _ run.outcome outcome failed ok pass served.fault what.2 is,
-          subst (λ (l : List Event). 0 < length l) (sym min) (whole_by _ run.outcome outcome failed ok pass served.fault served.begun is),
+          whole_by _ run.outcome outcome failed ok pass served.fault served.none is,
+          subst (λ (l : List Event). 0 < length l) (sym same) (whole_by _ run.outcome outcome failed ok pass served.fault served.begun is),
           ap (λ (x : DirectorValue S). in_flight x.schedule.content) dir ∙ whole_by _ run.outcome outcome failed ok pass served.fault served.idle is,
         );
         fault = why_by run.outcome outcome failed ok pass served.fault;
         workers = workers_by run.outcome outcome failed (length kits) some pass served.fault;
-        unstarted = unstarted_by _ _ run.outcome outcome pass served.unstarted (λ p. (min ∙ p.0, p.1));
+        unstarted = unstarted_by _ _ run.outcome outcome pass served.unstarted (λ p. p);
         worked =
             started_or outcome served.unstarted
             (λ is.
-            all_worked runs refused taken kits run.ends.items run.minutes.items now.minutes.items a (sent_of now.pass) (heard_of now.pass) stops
-            min (ap length (ends is) ∙ length-map results end_of ∙ all is) (subst (λ (l : List (WorkerEnd G O)). AreAccounts runs refused taken kits l) (sym (ends is)) (accounts is))
-            stop.sent (sent is) stop.each_heard (told is))
-            (λ is none. none_worked runs refused taken kits run.ends.items run.minutes.items a (nobody is) (min ∙ none.0));
+            all_worked runs refused taken kits run.ends.items run.minutes.items (accepted h) a (sent_of now.pass) (heard_of now.pass) stops
+            same (ap length (ends is) ∙ length-map results end_of ∙ all is) (subst (λ (l : List (WorkerEnd G O)). AreAccounts runs refused taken kits l) (sym (ends is)) (accounts is))
+            stop.sent (sent is) (each_heard h a (heard_of now.pass) stop.right stop.heard) (told is))
+            (λ is none. none_worked runs refused taken kits run.ends.items run.minutes.items a (nobody is) (same ∙ ap accepted none.0));
         once = also_ok run.outcome once (λ each. subst (λ (l : List Event). EachStandsInALog (handed_along l a) run.ends.items) (sym min) each);
         own = also_ok run.outcome own (λ each. subst (λ (l : List Event). EachToldItsOwn l run.ends.items) (sym min) each);
         desk = if_ok run.outcome desk (λ d held. (held.0, empty_list d.holds.items (subst (λ n. length d.holds.items ≤ n) held.0 held.1)));

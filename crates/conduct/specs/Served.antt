@@ -1,26 +1,30 @@
 -- What is left of a session that was served while the workers ran.
-use Rattle.std.specs.Prelude.{◌≡◌, ℕ, ◌<◌, ◌≤◌, Bool, true, false, List, [], ◌++◌, All, length, map, take, sum_by, replicate, Option, None, Result, MatchResult, OnOk, IfErr, vec_capacity}
+use Rattle.std.specs.Prelude.{◌≡◌, ◌⊎◌, ℕ, ◌<◌, ◌≤◌, Bool, true, false, List, [], ◌∷◌, ◌++◌, All, length, map, take, replicate, is_ok, Option, None, Result, MatchResult, OnErr, OnOk, IfErr, vec_capacity}
 use Rattle.sqlite.specs.Held.{Held}
 use Rattle.sqlite.specs.State.{State}
 use Rattle.ruled_dispatch.specs.Lanes.{sent_of, heard_of, IsDirectorOf, IsWorkerOf, HasWorkers}
 use Rattle.ruled_dispatch.specs.declared.items.JobOrStop.TheVariants as item
-use Rattle.ruled_dispatch.specs.declared.items.Report.{Report}
 use Rattle.ruled_dispatch.specs.declared.lanes.Lanes.{Lanes}
-use Rattle.sched_events.specs.Steps.{steps, handed_along, AreAccepted}
-use Rattle.sched_events.specs.declared.events.Event.{Event}
+use Rattle.ruled_dispatch.specs.declared.passes.DirectorPass.{DirectorPass}
+use Rattle.ruled_dispatch.specs.declared.passes.WorkerPass.{WorkerPass}
+use Rattle.sched_events.specs.Steps.{steps, handed_along}
+use Rattle.sched_events.specs.declared.answers.Answer.{Answer}
 use Rattle.sched_model.specs.Schedule.{Schedule}
 use Rattle.sched_model.specs.States.{in_flight}
-use Rattle.minutes.specs.Minutes.{reports_in, BeginWithRestart}
-use Rattle.sessions.specs.Runs.{Follows, IsRun}
-use Rattle.sessions.specs.Told.{AreToldBy}
+use Rattle.sessions.specs.director.Leaves.{Leaves}
+use Rattle.sessions.specs.Faults.{EndsBy, Fault}
+use Rattle.sessions.specs.History.{accepted, any_missed, heard_in, is_restarted, tried_at_end, AreReported, AreRight, Restarted, Step}
+use Rattle.sessions.specs.Readings.{Reading}
+use Rattle.sessions.specs.Runs.{now_of, DirectorValue, Follows}
+use Rattle.sessions.specs.Told.{IsServed as Serves}
 use Rattle.sessions.specs.declared.faults.ConductFault.{ConductFault}
 use Rattle.sessions.specs.declared.line_reading.Line.{Line}
 use Rattle.sessions.specs.declared.line_reading.LineFault.{LineFault}
+use Rattle.sessions.specs.declared.state.Parted.{Parted}
 use Rattle.sessions.specs.declared.state.Session.{Session}
 use Rattle.graph_file.specs.declared.operators.Operator.{Operator as Kind}
 use Rattle.instance_machine.specs.declared.tries.Outcome.{Outcome}
 use Rattle.sched_state.specs.declared.jobs.Job.{Job}
-use Rattle.ruled_dispatch.specs.declared.passes.WorkerPass.{WorkerPass}
 use Rattle.slot_desk.specs.declared.holds.Hold.{Hold}
 use Rattle.operators.specs.Kits.{IsKit}
 use Rattle.work.specs.declared.crews.Crew.{Crew}
@@ -29,41 +33,72 @@ use Rattle.crews.specs.Threads.{HaveWorked}
 use Rattle.conduct.specs.declared.equipment.Posts.{Posts}
 use Rattle.conduct.specs.Faults.{EndsInside, all_started, is_unstarted}
 
--- From the schedule a, with so many lanes: the schedule is that of the minutes, which were accepted; what was sent are the tries that they hand out,
--- and then so many stops; what was heard, if no report was missed, is what they report, and missed or not, they report nothing more often than it was heard;
--- and the restart is their first event.
-pub record IsStopped {S : Type 0} (a : Schedule) (lane_count stops : ℕ) (s : Session S) : Type 0 where
-  pub stepped : s.director.schedule.content ≡ steps s.minutes.items a
-  pub accepted : AreAccepted s.minutes.items a
-  pub sent : sent_of s.pass ≡ map (λ j. item.Job j) (handed_along s.minutes.items a) ++ replicate stops item.Stop
-  pub heard : s.missed ≡ false → map (λ t. t.report) (heard_of s.pass) ≡ reports_in s.minutes.items
-  pub each_heard : (weight : Report → ℕ) → sum_by weight (reports_in s.minutes.items) ≤ sum_by weight (map (λ t. t.report) (heard_of s.pass))
-  pub begun : BeginWithRestart lane_count s.minutes.items
+-- no step took place
+abbrev pub IsUnbegun : List Step → List Step → List Step → Type 0
+IsUnbegun h told last = (h ≡ []) × (told ≡ []) × (last ≡ [])
 
--- A session that had stepped nothing yet was served with so many lanes, and then so many stops were sent: what is left of it, and how it ended. Of the
--- lines and the clock: how they came from their first states to their last ones while minutes were made from a schedule on (are_told), or that they are as
--- they were (untouched); what the lines failed in, and whether they are over.
-pub record IsServed {S W : Type 0} (look : Held S → State) (lanes : Lanes) (lane_count stops : ℕ) (old new : Session S) (outcome : Result W ConductFault) (are_told : Schedule → List Event → Option Line → Type 0) (untouched : Type 0) (failed : Option LineFault) (is_over : Bool) : Type 0 where
+-- the restart, with so many lanes, took place first, and without it nothing more
+abbrev pub IsBegun : ℕ → List Step → List Step → List Step → Type 0
+IsBegun lane_count h told last =
+    (faults : List Fault) × (restart : Result Answer Fault) × (h ≡ Restarted lane_count faults restart ∷ (told ++ last)) × OnErr restart (told ++ last ≡ [])
+
+-- What a run did, step by step, and which steps of it the lines were told; behind those are these last ones, of which they were not: reports. The restart is the
+-- first step, if there is one, and no other is a restart.
+-- restates: this project's own profile
+pub record IsHistory (lane_count : ℕ) (h told last : List Step) : Type 0 where
+  pub first : IsUnbegun h told last ⊎ IsBegun lane_count h told last
+  pub once : All (λ x. is_restarted x ≡ false) told
+  pub behind : AreReported last
+
+-- From a director, by these steps, and then so many stops: each step is right at the schedule that it comes to; the schedule and the minutes are those of the
+-- accepted events, of which the tries were sent; what was heard, and whether a report was missed, are the history's. The record follows the schedule; and
+-- whatever shut it, the files may hold the schedule after the accepted events, or after one more that was tried behind them.
+pub record IsStopped {S : Type 0} (look : Held S → State) (stops : ℕ) (h : List Step) (old : DirectorValue S) (s : Parted S) : Type 0 where
+  pub right : AreRight h old.schedule.content
+  pub minutes : s.minutes.items ≡ accepted h
+  pub stepped : s.director.schedule.content ≡ steps (accepted h) old.schedule.content
+  pub sent : sent_of s.pass ≡ map (λ j. item.Job j) (handed_along (accepted h) old.schedule.content) ++ replicate stops item.Stop
+  pub heard : heard_of s.pass ≡ heard_in h
+  pub missed : s.missed ≡ any_missed h
+  pub opened : s.director.opened ≡ old.opened
+  pub followed : Follows old.schedule.content (look old.store) s.director.schedule.content (look s.director.store)
+  pub left : Leaves (accepted h) (tried_at_end h) old.schedule.content (look old.store) (look s.director.store)
+
+-- a session was served with so many lanes: what it did, and how it ended
+pub record IsFollowed {S L C W : Type 0} (look : Held S → State) (lane_count : ℕ) (tell : L → List Step → Option Line → L → Type 0) (give : C → List (Schedule × Reading) → C → Type 0)
+    (old new : Session S) (l later : L) (c then : C) (failed : Option LineFault) (is_over : Bool) (outcome : Result W ConductFault) : Type 0 where
+  pub served : Serves look lane_count tell give old new l later c then (λ restart waits. OnOk outcome ((is_ok restart ≡ true) × (waits ≡ None)))
+  pub fault : MatchResult outcome (λ _. failed ≡ None) (λ f. EndsBy f failed)
+  pub over : OnOk outcome (is_over ≡ true)
+  pub idle : OnOk outcome (in_flight (now_of new) ≡ 0)
+
+-- A session of this director was served with so many lanes, and then so many stops were sent: what is left of it, and how it ended. Of the lines and the clock:
+-- how they came from their first states to their last ones while the lines were told these steps, and which line waits then (are_told), or that they are as they
+-- were (untouched); what the lines failed in, and whether they are over.
+pub record IsServed {S W : Type 0} (look : Held S → State) (lanes : Lanes) (lane_count stops : ℕ) (old : DirectorValue S) (before : DirectorPass) (new : Parted S) (outcome : Result W ConductFault) (are_told : List Step → Option Line → Type 0) (untouched : Type 0) (failed : Option LineFault) (is_over : Bool) : Type 0 where
   pub pass : IsDirectorOf lanes new.pass
-  pub workers : (count : ℕ) → HasWorkers old.pass count → HasWorkers new.pass count
-  pub opened : new.director.opened ≡ old.director.opened
-  pub followed : Follows old.director.schedule.content (look old.director.store) new.director.schedule.content (look new.director.store)
-  pub run : (a : Schedule) → IsRun a lane_count old → IsStopped a lane_count stops new
-  pub told : (a : Schedule) → IsRun a lane_count old → AreToldBy outcome (are_told a) new.minutes.items
+  pub workers : (count : ℕ) → HasWorkers before count → HasWorkers new.pass count
+  pub history : List Step
+  pub steps_told : List Step
+  pub last : List Step
+  pub waits : Option Line
+  pub parts : IsHistory lane_count history steps_told last
+  pub run : IsStopped look stops history old new
+  pub told : are_told steps_told waits
+  pub none : OnOk outcome (waits ≡ None)
   pub fault : MatchResult outcome (λ _. failed ≡ None) (λ f. EndsInside f failed)
   pub over : OnOk outcome (is_over ≡ true)
-  pub begun : OnOk outcome (0 < length new.minutes.items)
+  pub begun : OnOk outcome (0 < length (accepted history))
   pub idle : OnOk outcome (in_flight new.director.schedule.content ≡ 0)
-  pub unstarted : IfErr outcome (λ f. is_unstarted f ≡ true → (new.minutes.items ≡ []) × untouched)
+  pub unstarted : IfErr outcome (λ f. is_unstarted f ≡ true → (history ≡ []) × untouched)
 
--- A run may start: the session has stepped nothing, and its pass is the director's; the lines did not fail and do not wait for a drain; and there is a pass, a share
--- and room for a thread for each crew, whose kits are whole.
-pub record IsReady {S D G O : Type 0} (kind_of : O → Kind) (lanes : Lanes) (lane_count : ℕ) (session : Session S) (posts : Posts D G O) (crews : List (Crew G O)) (failed : Option LineFault) (drains : Bool) : Type 0 where
-  pub pass : IsDirectorOf lanes session.pass
-  pub fresh : session.minutes.items ≡ []
-  pub within : lane_count ≤ session.director.schedule.content.limits.lanes
+-- A run may start: the pass is the director's, and nothing was sent or heard by it; the lines did not fail; and there is a pass, a share and room for a thread for each
+-- crew, whose kits are whole.
+pub record IsReady {S D G O : Type 0} (kind_of : O → Kind) (lanes : Lanes) (lane_count : ℕ) (director : DirectorValue S) (pass : DirectorPass) (posts : Posts D G O) (crews : List (Crew G O)) (failed : Option LineFault) : Type 0 where
+  pub first : IsDirectorOf lanes pass
+  pub unused : (sent_of pass ≡ []) × (heard_of pass ≡ [])
+  pub within : lane_count ≤ director.schedule.content.limits.lanes
   pub sound : failed ≡ None
-  pub undrained : drains ≡ false
   pub passes : All (IsWorkerOf lanes) posts.passes.items
   pub kits : All (λ c. IsKit kind_of c.kit) crews
   pub pass_each : length posts.passes.items ≡ length crews
@@ -71,11 +106,11 @@ pub record IsReady {S D G O : Type 0} (kind_of : O → Kind) (lanes : Lanes) (la
   pub none : posts.handles.items ≡ []
   pub room : length crews ≤ vec_capacity posts.handles
 
--- What came of the threads: the session was served, each worker that was started worked from what it was given, and these are all unless a thread was
+-- What came of the threads: a session was served, each worker that was started worked from what it was given, and these are all unless a thread was
 -- refused.
 pub record IsManaged {S D G O W : Type 0} (look : Held S → State) (kind_of : O → Kind) (runs : O → List (Job × Outcome)) (refused : O → List Job) (taken : O → Option Job) (lanes : Lanes) (lane_count : ℕ)
-    (old : Session S) (posts : Posts D G O) (crews : List (Crew G O)) (new : Session S) (outcome : Result W ConductFault) (results : List (WorkerEnd G O × WorkerPass × List Hold))
-    (are_told : Schedule → List Event → Option Line → Type 0) (untouched : Type 0) (failed : Option LineFault) (is_over : Bool) : Type 0 where
-  pub served : IsServed look lanes lane_count (length results) old new outcome are_told untouched failed is_over
+    (old : DirectorValue S) (before : DirectorPass) (posts : Posts D G O) (crews : List (Crew G O)) (new : Parted S) (outcome : Result W ConductFault) (results : List (WorkerEnd G O × WorkerPass × List Hold))
+    (are_told : List Step → Option Line → Type 0) (untouched : Type 0) (failed : Option LineFault) (is_over : Bool) : Type 0 where
+  pub served : IsServed look lanes lane_count (length results) old before new outcome are_told untouched failed is_over
   pub worked : HaveWorked kind_of runs refused taken (take (length results) posts.passes.items) (take (length results) posts.shares.items) (take (length results) (map (λ c. c.kit) crews)) results
   pub all : all_started outcome ≡ true → length results ≡ length crews

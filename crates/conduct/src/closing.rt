@@ -1,11 +1,13 @@
 //! The end of a run: what was handed out and heard is settled, and from that and the queues' rules it follows what the workers' logs hold.
-ghost use Rattle.std.specs.Prelude.{◌≡◌, ◌<◌, ◌≤◌, [], IfOk, IfErr, MatchResult, OnOk, IsOk, Ok, length, map, true, false};
+ghost use Rattle.std.specs.Prelude.{List, ◌≡◌, ◌<◌, ◌≤◌, [], IfOk, IfErr, MatchResult, OnOk, IsOk, Ok, length, map, true, false};
+ghost use Rattle.sqlite.specs.Held.{state};
 ghost use Rattle.ruled_dispatch.specs.Lanes.{sent_of, heard_of, IsDirectorOf, HasWorkers};
 ghost use Rattle.slot_desk.specs.Holds.{in_hand};
 ghost use Rattle.crews.specs.Settled.{AreBack, AreAmongSent, AreAmongTold};
 ghost use Rattle.sched_events.specs.SettledAndSound.{IsSoundAndSaid};
 ghost use Rattle.sched_events.specs.Steps.{handed_along};
-ghost use Rattle.sched_model.specs.Schedule.{Schedule};
+ghost use Rattle.sessions.specs.History.{Step};
+ghost use Rattle.sessions.specs.Runs.{DirectorValue};
 ghost use Rattle.conduct.specs.Ends.{EachStandsInALog, EachToldItsOwn};
 ghost use Rattle.conduct.specs.Faults as spec;
 ghost use Rattle.conduct.specs.Faults.{all_started};
@@ -18,7 +20,7 @@ use crews::{Room, Settled, Worked, settle};
 use minutes::each_report_is_its_workers_own;
 use operators::Operator;
 use ruled_dispatch::{DirectorPass, Lanes, Tally};
-use sessions::{ConductFault, Session};
+use sessions::{ConductFault, Parted, a_right_history_is_of_its_events};
 use slot_desk::{SlotDesk, Total};
 use sqlite::Alter;
 use std::alloc::Global;
@@ -36,43 +38,45 @@ pub fn close<D: Ledger, S: Alter, G: Gate, O: Operator, R: Wait>(
     room: Room<D, G, O>,
     managed: Managed<D, S, G, O>,
 ) -> Conducted<S, G, O>
-    requires pass { IsDirectorOf lanes managed.session.pass }
+    requires pass { IsDirectorOf lanes managed.parted.pass }
     requires workers { all_started managed.outcome ≡ true
-        → HasWorkers managed.session.pass (length managed.results.items) }
+        → HasWorkers managed.parted.pass (length managed.results.items) }
     requires back { all_started managed.outcome ≡ true → AreBack lanes managed.results.items }
     requires all { all_started managed.outcome ≡ true
         → (0 < length managed.results.items) × (length managed.results.items ≡ D.parts) × (length managed.results.items ≤ room) }
-    ensures director { result.director ≡ managed.session.director }
-    ensures minutes { result.minutes ≡ managed.session.minutes }
+    ensures director { result.director ≡ managed.parted.director }
+    ensures minutes { result.minutes ≡ managed.parted.minutes }
     ensures ok { OnOk result.outcome (IsOk managed.outcome) }
     ensures fault { IfErr result.outcome (λ f. MatchResult managed.outcome (λ _. f ≡ fault.Unequal) (λ g. f ≡ g)) }
     ensures ends { all_started managed.outcome ≡ true
         → result.ends.items ≡ map (λ r. r.0) managed.results.items }
     ensures none { all_started managed.outcome ≡ false → result.ends.items ≡ [] }
-    ensures once { OnOk result.outcome ((a : Schedule) (lane_count : _)
-        → IsStopped a lane_count (length managed.results.items) managed.session
-        → EachStandsInALog (handed_along managed.session.minutes.items a) result.ends.items) }
-    ensures own { OnOk result.outcome ((a : Schedule) (lane_count : _)
-        → IsSoundAndSaid a → IsStopped a lane_count (length managed.results.items) managed.session
-        → EachToldItsOwn managed.session.minutes.items result.ends.items) }
+    ensures once { OnOk result.outcome ((h : List Step) (old : DirectorValue S)
+        → IsStopped (state S.Store) (length managed.results.items) h old managed.parted
+        → EachStandsInALog (handed_along managed.parted.minutes.items old.schedule.content) result.ends.items) }
+    ensures own { OnOk result.outcome ((h : List Step) (old : DirectorValue S)
+        → IsSoundAndSaid old.schedule.content
+        → IsStopped (state S.Store) (length managed.results.items) h old managed.parted
+        → EachToldItsOwn managed.parted.minutes.items result.ends.items) }
     ensures desk { IfOk result.outcome (λ d. (d.slots ≡ in_hand (map (λ r. r.2) managed.results.items)) × (length d.holds.items ≤ d.slots)) }
     ensures sent { all_started managed.outcome ≡ true
-        → AreAmongSent (sent_of managed.session.pass) result.ends.items }
+        → AreAmongSent (sent_of managed.parted.pass) result.ends.items }
     ensures told { all_started managed.outcome ≡ true
-        → AreAmongTold (heard_of managed.session.pass) result.ends.items }
+        → AreAmongTold (heard_of managed.parted.pass) result.ends.items }
 {
     each_report_is_its_workers_own();
+    a_right_history_is_of_its_events();
     let Managed {
-        session,
+        parted,
         outcome,
         results,
     } = managed;
-    let Session {
+    let Parted {
         director,
         minutes,
         pass,
         missed,
-    } = session;
+    } = parted;
     match outcome {
         Ok(()) => {
             let Settled { ends, desk } = settle(rt, lanes, desk, pass, results, room);

@@ -2,7 +2,7 @@
 ghost use Rattle.std.specs.Prelude.{◌≡◌, ◌<◌, ◌≤◌, All, None, false, length, map};
 ghost use Rattle.sqlite.specs.Held.{state};
 ghost use Rattle.operators.specs.Kits.{IsKit};
-ghost use Rattle.sessions.specs.Told.{AreTold};
+ghost use Rattle.sessions.specs.History.{readings_in};
 ghost use Rattle.conduct.specs.Run.{IsConducted};
 
 use crate::closing::close;
@@ -10,7 +10,7 @@ use crate::equipment::{Equipment, equip};
 use crate::threads::manage;
 use operators::Operator;
 use sched_events::Event;
-use sessions::{Clock, ConductFault, Director, Lines, Session};
+use sessions::{Clock, ConductFault, Director, Lines};
 use slot_desk::Total;
 use sqlite::Alter;
 use std::alloc::Global;
@@ -42,7 +42,7 @@ pub fn conduct<
     S: Alter + Drop,
     G: Gate + Send,
     O: Operator + Send,
-    L: Lines,
+    L: Lines<S>,
     C: Clock,
     R: Threads + Wait + Sync,
 >(
@@ -58,10 +58,11 @@ pub fn conduct<
     requires crews { length crews.items ≤ 16 }
     requires kits { All (λ c. IsKit O.kind_of c.kit) crews.items }
     requires sound { L.failed lines.old ≡ None }
-    requires undrained { L.drains lines.old ≡ false }
     ensures { IsConducted (state S.Store) O.runs_of O.refused_of O.taken lane_count (map (λ c. c.kit) crews.items) director result
-        (AreTold L.tells C.gives lines.old clock.old lines.new clock.new) ((lines.new ≡ lines.old) × (clock.new ≡ clock.old)) (L.failed lines.new) (L.over lines.new) }
+        (λ told waits. L.tells lines.old told waits lines.new × C.gives clock.old (readings_in told) clock.new) ((lines.new ≡ lines.old) × (clock.new ≡ clock.old)) (L.failed lines.new) (L.over lines.new) }
 {
+    // what is known of the schedule that is run
+    let _ = director.schedule().runs();
     let workers = crews.len();
     if workers == 0 {
         return Conducted {
@@ -89,7 +90,7 @@ fn conduct_at<
     S: Alter + Drop,
     G: Gate + Send,
     O: Operator + Send,
-    L: Lines,
+    L: Lines<S>,
     C: Clock,
     R: Threads + Wait + Sync,
 >(
@@ -108,10 +109,11 @@ fn conduct_at<
     requires crews { (0 < length crews.items) × (length crews.items ≤ 16) }
     requires kits { All (λ c. IsKit O.kind_of c.kit) crews.items }
     requires sound { L.failed lines.old ≡ None }
-    requires undrained { L.drains lines.old ≡ false }
     ensures { IsConducted (state S.Store) O.runs_of O.refused_of O.taken lane_count (map (λ c. c.kit) crews.items) director result
-        (AreTold L.tells C.gives lines.old clock.old lines.new clock.new) ((lines.new ≡ lines.old) × (clock.new ≡ clock.old)) (L.failed lines.new) (L.over lines.new) }
+        (λ told waits. L.tells lines.old told waits lines.new × C.gives clock.old (readings_in told) clock.new) ((lines.new ≡ lines.old) × (clock.new ≡ clock.old)) (L.failed lines.new) (L.over lines.new) }
 {
+    // what is known of the schedule that is run
+    let _ = director.schedule().runs();
     let workers = crews.len();
     let Ok(equipment) = equip::<D, G, O>(alloc, blank, lane_count, workers) else {
         return Conducted {
@@ -128,11 +130,8 @@ fn conduct_at<
         posts,
         room,
     } = equipment;
-    // what is known of the schedule that is run
-    let _ = director.schedule().runs();
-    let session = Session::new(alloc, director, pass);
     let managed = manage(
-        rt, alloc, &lanes, &desk, lane_count, session, posts, crews, lines, clock,
+        rt, alloc, &lanes, &desk, lane_count, director, pass, posts, crews, lines, clock,
     );
     close(rt, alloc, lanes, desk, room, managed)
 }

@@ -17,4 +17,4 @@ mod serving;
 mod threads;
 
 pub use conducting::{Conducted, conduct};
-pub use sessions::{Clock, ClockFault, ConductFault, Director, Fault, Limits, Store};
+pub use sessions::{Clock, ClockFault, ConductFault, Director, Fault, Limits, Schedule, Store};

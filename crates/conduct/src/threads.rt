@@ -4,15 +4,15 @@
 //! of the references that the caller has.
 ghost use Rattle.std.specs.Prelude.{◌≡◌};
 ghost use Rattle.sqlite.specs.Held.{state};
-ghost use Rattle.sessions.specs.Told.{AreTold};
+ghost use Rattle.sessions.specs.History.{readings_in};
 ghost use Rattle.conduct.specs.Served.{IsReady, IsManaged};
 
 use crate::equipment::Posts;
-use crate::serving::{Started, serve};
+use crate::serving::{Served, Started, serve};
 use crews::{Worked, join_all, start_all};
 use operators::Operator;
-use ruled_dispatch::Lanes;
-use sessions::{Clock, ConductFault, Lines, Session};
+use ruled_dispatch::{DirectorPass, Lanes};
+use sessions::{Clock, ConductFault, Director, Lines, Parted};
 use slot_desk::SlotDesk;
 use sqlite::Alter;
 use std::alloc::Global;
@@ -22,18 +22,18 @@ use std::thread;
 use std::thread::{Scope, Threads};
 use work::{Crew, Gate};
 
-/// What came of the threads: the session, how it ended, and what each worker that was started gave back.
+/// What came of the threads: what is left of the session, how it ended, and what each worker that was started gave back.
 #[derive(Drop)]
 pub struct Managed<D: Ledger, S: Alter, G: Gate, O: Operator> {
-    pub session: Session<S>,
+    pub parted: Parted<S>,
     pub outcome: Result<(), ConductFault>,
     pub results: Vec<Worked<D, G, O>>,
 }
 
 // The same, with the lines and the clock that were lent.
 #[derive(Drop)]
-struct Lent<'l, 'c, D: Ledger, S: Alter, G: Gate, O: Operator, L: Lines, C: Clock> {
-    session: Session<S>,
+struct Lent<'l, 'c, D: Ledger, S: Alter, G: Gate, O: Operator, L: Lines<S>, C: Clock> {
+    parted: Parted<S>,
     outcome: Result<(), ConductFault>,
     results: Vec<Worked<D, G, O>>,
     lines: &'l mut L,
@@ -46,7 +46,7 @@ pub fn manage<
     S: Alter + Drop,
     G: Gate + Send,
     O: Operator + Send,
-    L: Lines,
+    L: Lines<S>,
     C: Clock,
     R: Threads + Wait + Sync,
 >(
@@ -55,36 +55,37 @@ pub fn manage<
     lanes: &Lanes,
     desk: &SlotDesk<D>,
     lane_count: u32,
-    session: Session<S>,
+    director: Director<S>,
+    pass: DirectorPass,
     posts: Posts<D, G, O>,
     crews: Vec<Crew<G, O>>,
     lines: &mut L,
     clock: &mut C,
 ) -> Managed<D, S, G, O>
-    requires { IsReady O.kind_of lanes.now lane_count session posts crews.items
-        (L.failed lines.old) (L.drains lines.old) }
-    ensures managed { IsManaged (state S.Store) O.kind_of O.runs_of O.refused_of O.taken lanes.now lane_count session posts crews.items result.session result.outcome result.results.items
-        (AreTold L.tells C.gives lines.old clock.old lines.new clock.new) ((lines.new ≡ lines.old) × (clock.new ≡ clock.old)) (L.failed lines.new) (L.over lines.new) }
+    requires { IsReady O.kind_of lanes.now lane_count director pass posts crews.items
+        (L.failed lines.old) }
+    ensures managed { IsManaged (state S.Store) O.kind_of O.runs_of O.refused_of O.taken lanes.now lane_count director pass posts crews.items result.parted result.outcome result.results.items
+        (λ told waits. L.tells lines.old told waits lines.new × C.gives clock.old (readings_in told) clock.new) ((lines.new ≡ lines.old) × (clock.new ≡ clock.old)) (L.failed lines.new) (L.over lines.new) }
 {
     let Lent {
-        session,
+        parted,
         outcome,
         results,
         lines: lent_lines,
         clock: lent_clock,
     } = in_scope(
-        rt, alloc, lanes, desk, lane_count, session, posts, crews, lines, clock,
+        rt, alloc, lanes, desk, lane_count, director, pass, posts, crews, lines, clock,
     );
     release(lent_lines, lent_clock);
     Managed {
-        session,
+        parted,
         outcome,
         results,
     }
 }
 
 // Lets two references go.
-fn release<L: Lines, C: Clock>(lines: &mut L, clock: &mut C)
+fn release<L, C>(lines: &mut L, clock: &mut C)
     ensures { (lines.new ≡ lines.old) × (clock.new ≡ clock.old) }
 {}
 
@@ -96,7 +97,7 @@ fn in_scope<
     S: Alter + Drop,
     G: Gate + Send,
     O: Operator + Send,
-    L: Lines,
+    L: Lines<S>,
     C: Clock,
     R: Threads + Wait + Sync,
 >(
@@ -105,30 +106,32 @@ fn in_scope<
     lanes: &Lanes,
     desk: &SlotDesk<D>,
     lane_count: u32,
-    session: Session<S>,
+    director: Director<S>,
+    pass: DirectorPass,
     posts: Posts<D, G, O>,
     crews: Vec<Crew<G, O>>,
     lines: &'l mut L,
     clock: &'c mut C,
 ) -> Lent<'l, 'c, D, S, G, O, L, C>
-    requires { IsReady O.kind_of lanes.now lane_count session posts crews.items
-        (L.failed lines.old) (L.drains lines.old) }
+    requires { IsReady O.kind_of lanes.now lane_count director pass posts crews.items
+        (L.failed lines.old) }
     ensures lent { (result.lines.ghost_name ≡ lines.entry.ghost_name) × (result.clock.ghost_name ≡ clock.entry.ghost_name) }
-    ensures managed { IsManaged (state S.Store) O.kind_of O.runs_of O.refused_of O.taken lanes.now lane_count session posts crews.items result.session result.outcome result.results.items
-        (AreTold L.tells C.gives lines.old clock.old result.lines.now result.clock.now) ((result.lines.now ≡ lines.old) × (result.clock.now ≡ clock.old)) (L.failed result.lines.now) (L.over result.lines.now) }
+    ensures managed { IsManaged (state S.Store) O.kind_of O.runs_of O.refused_of O.taken lanes.now lane_count director pass posts crews.items result.parted result.outcome result.results.items
+        (λ told waits. L.tells lines.old told waits result.lines.now × C.gives clock.old (readings_in told) result.clock.now) ((result.lines.now ≡ lines.old) × (result.clock.now ≡ clock.old)) (L.failed result.lines.now) (L.over result.lines.now) }
 {
     thread::scope(
         thread::scope_env(),
         rt,
         move |scope| -> Lent<'_, '_, D, S, G, O, L, C>
-            requires { IsReady O.kind_of lanes.now lane_count session posts crews.items
-                (L.failed lines.now) (L.drains lines.now) }
+            requires { IsReady O.kind_of lanes.now lane_count director pass posts crews.items
+                (L.failed lines.now) }
             ensures lent { (result.lines.ghost_name ≡ lines.entry.ghost_name) × (result.clock.ghost_name ≡ clock.entry.ghost_name) }
-            ensures managed { IsManaged (state S.Store) O.kind_of O.runs_of O.refused_of O.taken lanes.entry.now lane_count session posts crews.items result.session result.outcome result.results.items
-                (AreTold L.tells C.gives lines.entry.now clock.entry.now result.lines.now result.clock.now) ((result.lines.now ≡ lines.entry.now) × (result.clock.now ≡ clock.entry.now)) (L.failed result.lines.now) (L.over result.lines.now) }
+            ensures managed { IsManaged (state S.Store) O.kind_of O.runs_of O.refused_of O.taken lanes.entry.now lane_count director pass posts crews.items result.parted result.outcome result.results.items
+                (λ told waits. L.tells lines.entry.now told waits result.lines.now × C.gives clock.entry.now (readings_in told) result.clock.now) ((result.lines.now ≡ lines.entry.now) × (result.clock.now ≡ clock.entry.now)) (L.failed result.lines.now) (L.over result.lines.now) }
         {
             run(
-                scope, rt, alloc, lanes, desk, lane_count, session, posts, crews, lines, clock,
+                scope, rt, alloc, lanes, desk, lane_count, director, pass, posts, crews, lines,
+                clock,
             )
         },
     )
@@ -144,7 +147,7 @@ fn run<
     S: Alter + Drop,
     G: Gate + Send + 's,
     O: Operator + Send + 's,
-    L: Lines,
+    L: Lines<S>,
     C: Clock,
     R: Threads + Wait + Sync,
 >(
@@ -154,19 +157,19 @@ fn run<
     lanes: &'s Lanes,
     desk: &'s SlotDesk<D>,
     lane_count: u32,
-    session: Session<S>,
+    director: Director<S>,
+    pass: DirectorPass,
     posts: Posts<D, G, O>,
     crews: Vec<Crew<G, O>>,
     lines: &'l mut L,
     clock: &'c mut C,
 ) -> Lent<'l, 'c, D, S, G, O, L, C>
-    requires { IsReady O.kind_of lanes.now lane_count session posts crews.items
-        (L.failed lines.old) (L.drains lines.old) }
+    requires { IsReady O.kind_of lanes.now lane_count director pass posts crews.items
+        (L.failed lines.old) }
     ensures lent { (result.lines.ghost_name ≡ lines.entry.ghost_name) × (result.clock.ghost_name ≡ clock.entry.ghost_name) }
-    ensures managed { IsManaged (state S.Store) O.kind_of O.runs_of O.refused_of O.taken lanes.now lane_count session posts crews.items result.session result.outcome result.results.items
-        (AreTold L.tells C.gives lines.old clock.old result.lines.now result.clock.now) ((result.lines.now ≡ lines.old) × (result.clock.now ≡ clock.old)) (L.failed result.lines.now) (L.over result.lines.now) }
+    ensures managed { IsManaged (state S.Store) O.kind_of O.runs_of O.refused_of O.taken lanes.now lane_count director pass posts crews.items result.parted result.outcome result.results.items
+        (λ told waits. L.tells lines.old told waits result.lines.now × C.gives clock.old (readings_in told) result.clock.now) ((result.lines.now ≡ lines.old) × (result.clock.now ≡ clock.old)) (L.failed result.lines.now) (L.over result.lines.now) }
 {
-    let mut session = session;
     let Posts {
         mut handles,
         passes,
@@ -187,19 +190,12 @@ fn run<
         workers: handles.len(),
         are_all,
     };
-    let outcome = serve(
-        rt,
-        alloc,
-        lanes,
-        lane_count,
-        started,
-        &mut session,
-        lines,
-        clock,
+    let Served { parted, outcome } = serve(
+        rt, alloc, lanes, lane_count, started, director, pass, lines, clock,
     );
     let results = join_all(rt, handles);
     Lent {
-        session,
+        parted,
         outcome,
         results,
         lines,

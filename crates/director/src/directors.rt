@@ -10,16 +10,19 @@ ghost use Rattle.sched_events.specs.Promises.{KeepsPromises};
 ghost use Rattle.director.specs.Directors.{Follows, Opens, RestartsIn, StepsIn};
 ghost use Rattle.director.specs.Faults.{IsOpenFault, IsRefused};
 ghost use Rattle.director.specs.Lists.{IsOutcome};
+ghost use Rattle.director.specs.Written.{came_of};
 ghost use Rattle.director.specs.declared.faults.Fault.TheVariants as fault;
 
 use crate::faults::Fault;
 use crate::opening::restart;
 use crate::stepping::step;
+use crate::written::Written;
 use meta_store::{Limits, Schedule, Store};
 use sched_events::{Answer, Event};
 use sqlite::Alter;
 use std::alloc::Global;
 use std::marker::Model;
+use std::snapshot::Snapshot;
 
 /// A schedule, and the record that it stands in. Contracts see the record's connection and the schedule.
 #[derive(Drop)]
@@ -152,8 +155,45 @@ impl<S: Alter> Director<S> {
         store
     }
 
-    /// Steps an event: it is planned, written to the record in one transaction, and done in memory. Where it is not, schedule and record
-    /// are as they were.
+    /// Steps an event: it is planned, written to the record in one transaction, and done in memory. What comes back is a token of that, with the answer. Where it
+    /// is not done, schedule and record are as they were.
+    pub fn write(&mut self, alloc: Global, event: &Event) -> Result<Written<S>, Fault>
+        ensures opened { self.new.opened ≡ self.old.opened }
+        ensures of { IfOk result (λ w. (w.event ≡ event.now)
+            × (w.before ≡ self.old.schedule.content)) }
+        ensures outcome { IsOutcome self.old.schedule.content event.now (came_of result)
+            self.new.schedule.content }
+        ensures promises { OnOk result (KeepsPromises event.now self.old.schedule.content
+            self.new.schedule.content) }
+        ensures untouched { IfErr result (λ f. IsRefused f → self.new.store ≡ self.old.store) }
+        ensures followed { Follows self.old.schedule.content (state S.Store self.old.store)
+            self.new.schedule.content (state S.Store self.new.store) }
+        ensures stored { HasCleanDisk (state S.Store self.new.store) → OnOk result
+            (StepsIn event.now self.old.schedule.content (state S.Store self.old.store).now
+            (state S.Store self.new.store).now) }
+        ensures only { HasCleanDisk (state S.Store self.new.store) → OnOk result ((trees : Trees)
+            → (state S.Store self.new.store).may_leave trees
+            → trees ≡ (state S.Store self.new.store).now.trees) }
+        ensures open { HasCleanDisk (state S.Store self.new.store) → OnOk result
+            (IsTrue (state S.Store self.old.store).is_open
+            × IsTrue (state S.Store self.new.store).is_open) }
+        ensures kept { HasCleanDisk (state S.Store self.new.store)
+            → IsTrue (state S.Store self.new.store).is_open → OnErr result
+            (((state S.Store self.new.store).now ≡ (state S.Store self.old.store).now)
+            × ((state S.Store self.new.store).committed ≡ (state S.Store self.old.store).committed)) }
+        ensures crash { Survives (state S.Store self.old.store) (state S.Store self.new.store)
+            (CommitsBy (StepsIn event.now self.old.schedule.content)
+            (state S.Store self.old.store)) }
+    {
+        let before = Snapshot::of(&self.schedule);
+        match step(alloc, &mut self.store, &mut self.schedule, event) {
+            Ok(answer) => Ok(Written::of(Snapshot::of(event), before, answer)),
+            Err(fault) => Err(fault),
+        }
+    }
+
+    /// Steps an event, and gives its answer alone: it is planned, written to the record in one transaction, and done in memory. Where it is not, schedule and
+    /// record are as they were.
     pub fn step(&mut self, alloc: Global, event: &Event) -> Result<Answer, Fault>
         ensures opened { self.new.opened ≡ self.old.opened }
         ensures outcome { IsOutcome self.old.schedule.content event.now result
@@ -180,6 +220,9 @@ impl<S: Alter> Director<S> {
             (CommitsBy (StepsIn event.now self.old.schedule.content)
             (state S.Store self.old.store)) }
     {
-        step(alloc, &mut self.store, &mut self.schedule, event)
+        match self.write(alloc, event) {
+            Ok(written) => Ok(written.into_answer()),
+            Err(fault) => Err(fault),
+        }
     }
 }

@@ -1,10 +1,13 @@
-//! The laws of lists of events, and of a record that is opened again.
-ghost use Rattle.std.specs.Prelude.{◌≡◌, ◌⊎◌, ℕ, List, Result};
+//! The laws of lists of events, of what a run leaves in its record, and of a record that is opened again.
+ghost use Rattle.std.specs.Prelude.{◌≡◌, ◌⊎◌, ◌++◌, ℕ, List, [], Result, IfErr, OnOk, IsTrue};
 ghost use Rattle.sqlite.specs.Effect.{Database};
+ghost use Rattle.sqlite.specs.Held.{Held, state};
+ghost use Rattle.sqlite.specs.State.{HasCleanDisk, Survives};
+ghost use Rattle.sqlite.specs.Tree.{Trees};
 ghost use Rattle.record_rows.specs.Rows.{Rows};
 ghost use Rattle.record_rules.specs.Reading.{schedule_of};
 ghost use Rattle.meta_store.specs.record_tables.Holds.{Stores};
-ghost use Rattle.meta_store.specs.Stores.{HasRows, Migrates, OpensBy};
+ghost use Rattle.meta_store.specs.Stores.{CommitsBy, HasRows, Migrates, OpensBy};
 ghost use Rattle.sched_model.specs.Schedule.{Schedule};
 ghost use Rattle.sched_state.specs.Limits.{Bounds};
 ghost use Rattle.sched_events.specs.Outcomes.{IsStepped};
@@ -13,11 +16,15 @@ ghost use Rattle.sched_events.specs.Steps.{step, steps, AreAccepted};
 ghost use Rattle.sched_events.specs.declared.answers.Answer.{Answer};
 ghost use Rattle.sched_events.specs.declared.events.Event.{Event};
 ghost use Rattle.sched_events.specs.declared.events.Event.TheVariants.{Restart};
-ghost use Rattle.director.specs.Directors.{Keeps, Opens, RestartsIn};
+ghost use Rattle.director.specs.Directors.{Follows, Keeps, Opens, RestartsIn, StepsIn};
+ghost use Rattle.director.specs.Faults.{IsRefused};
+ghost use Rattle.director.specs.Leaves.{accepted_in, Leaves, tried_behind, tried_in};
 ghost use Rattle.director.specs.Lists.{Answers, accepted};
+ghost use Rattle.director.specs.Written.{WrittenEvent, came_of};
 ghost use Rattle.director.specs.declared.faults.Fault.{Fault};
 
 use record_rules::tables_have_no_fault;
+use sqlite::Alter;
 
 /// After a list of events the schedule is that after those which were answered and not refused, each of them accepted at the schedule that it
 /// comes to.
@@ -26,6 +33,31 @@ pub fn answered_events_are_stepped()
         → Answers a es rs b → b ≡ steps (accepted es rs) a }
     ensures accepted { (a b : Schedule) (es : List Event) (rs : List (Result Answer Fault))
         → Answers a es rs b → AreAccepted (accepted es rs) a }
+{}
+
+/// What a run leaves in its record, also where a fault of the disk has shut it, is told stretch by stretch. Of no step it is what was there; of one step it
+/// follows from what `Director::write` ensures; and of two stretches, the first of which follows the schedule, it is that of both.
+pub fn what_a_run_leaves_is_told_stretch_by_stretch<S: Alter>()
+    ensures none { (a : Schedule) (s : Held S)
+        → Leaves [] [] a (state S.Store s) (state S.Store s) }
+    ensures one { (a : Schedule) (e : Event) (r : Result WrittenEvent Fault) (old new : Held S)
+        → Survives (state S.Store old) (state S.Store new)
+        (CommitsBy (StepsIn e a) (state S.Store old))
+        → (HasCleanDisk (state S.Store new)
+        → OnOk r (StepsIn e a (state S.Store old).now (state S.Store new).now))
+        → (HasCleanDisk (state S.Store new) → OnOk r ((trees : Trees)
+        → (state S.Store new).may_leave trees → trees ≡ (state S.Store new).now.trees))
+        → (HasCleanDisk (state S.Store new)
+        → OnOk r (IsTrue (state S.Store old).is_open × IsTrue (state S.Store new).is_open))
+        → IfErr r (λ f. IsRefused f → new ≡ old)
+        → Leaves (accepted_in e (came_of r)) (tried_in e (came_of r)) a (state S.Store old)
+        (state S.Store new) }
+    ensures both { (a b : Schedule) (es more earlier later : List Event) (s t u : Held S)
+        → b ≡ steps es a → Follows a (state S.Store s) b (state S.Store t)
+        → Leaves es earlier a (state S.Store s) (state S.Store t)
+        → Leaves more later b (state S.Store t) (state S.Store u)
+        → Leaves (es ++ more) (tried_behind more earlier later) a (state S.Store s)
+        (state S.Store u) }
 {}
 
 /// Where a record stores a schedule, what is opened of it is that schedule, restarted.

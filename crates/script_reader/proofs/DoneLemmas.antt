@@ -15,8 +15,8 @@ use Rattle.command_words.specs.declared.takings.Taking.{Taking}
 use Rattle.command_words.specs.declared.takings.Taking.TheVariants as takings
 use Rattle.script_commands.specs.declared.commands.ScriptCommand.TheVariants.{Step, TakeFile, TickNow, Drain, List as ListRows, Explain}
 use Rattle.script_commands.specs.declared.commands.SourceFault.{SourceFault}
-use Rattle.answer_lines.specs.sessions.Exchanges.{heard_where, looks, Asked, Exchange, Looked, Heard, Told}
-use Rattle.answer_lines.specs.sessions.Lines.{before_answer, may_be_read, Takes}
+use Rattle.answer_lines.specs.sessions.History.{looks, ArePolled, AreReported, Asked, Looked, Step as RunStep, Told}
+use Rattle.answer_lines.specs.sessions.Lines.{may_be_read, Takes}
 use Rattle.answer_lines.specs.sessions.declared.clocks.ClockFault.{ClockFault}
 use Rattle.answer_lines.specs.sessions.declared.line_reading.Line.{Line}
 use Rattle.answer_lines.specs.sessions.declared.line_reading.Line.TheVariants as Says
@@ -24,17 +24,16 @@ use Rattle.answer_lines.specs.sessions.Faults.{Fault}
 use Rattle.answer_lines.specs.RunFaults.{clock_text}
 use Rattle.answer_lines.specs.Shown.{shown_text}
 use Rattle.answer_lines.specs.declared.shown.Shown.TheVariants.{Done as ShowsDone}
-use Rattle.script_reader.specs.Shown.{AnswersDrain}
 use Rattle.script_reader.specs.Statuses.{shown_for, status_of}
 use Rattle.std.specs.Result.{IsErrAnd}
 use Rattle.script_reader.specs.Commands.{Leaves, IsLost, Does, is_end, line_of}
-use Rattle.script_reader.specs.Done.{FileAnswer, Done, IsAnswered, IsDone, IsPerhaps, MayBeDone, IsOpen, IsUndone, HasDone, asked_from, waiting}
+use Rattle.script_reader.specs.Done.{FileAnswer, Done, IsAnswered, IsDone, IsPerhaps, MayBeDone, IsOpen, IsUndone, HasDone}
 use Rattle.script_reader.proofs.ShownLemmas.{appends_keep, appends_then}
 use Rattle.script_reader.proofs.StatusLemmas.{at_once, given_done, raised}
 
 -- one command more that is answered when it is read
-abbrev pub only_asked : Request → List FileAnswer → List Exchange → ℕ → List ℕ → Done
-only_asked r texts exchanges status shown = record { asked = r; texts = texts; exchanges = exchanges; status = status; shown = shown }
+abbrev pub only_asked : Request → List FileAnswer → List RunStep → ℕ → List ℕ → Done
+only_asked r texts steps status shown = record { asked = r; texts = texts; steps = steps; status = status; shown = shown }
 
 abbrev pub texts_in : List Done → List FileAnswer
 texts_in done = flat_map (λ (d : Done). d.texts) done
@@ -42,8 +41,8 @@ texts_in done = flat_map (λ (d : Done). d.texts) done
 abbrev pub asked_in : List Done → List Request
 asked_in done = map (λ (d : Done). d.asked) done
 
-abbrev pub exchanged_in : List Done → List Exchange
-exchanged_in done = flat_map (λ (d : Done). d.exchanges) done
+abbrev pub stepped_in : List Done → List RunStep
+stepped_in done = flat_map (λ (d : Done). d.steps) done
 
 abbrev pub shown_in : List Done → List ℕ
 shown_in done = flat_map (λ (d : Done). d.shown) done
@@ -90,23 +89,23 @@ file_given : (wanted given : Request) (taking : Taking) (path : List ℕ) → Is
 file_given wanted given taking path (inl same) is = sym same ∙ is
 file_given wanted given taking path (inr (memory, lack)) is = absurd (true≢false (sym (ap is_err memory) ∙ ap is_err is))
 
-module _ (names : Texts) (drained : Bool) where
+module _ (names : Texts) where
   -- ---- the command that comes next: what is given for it, and what is left
   pub record Next (first left' : Option (List ℕ)) (done : List Request) (given : Request) : Type 0 where
     pub wanted : Request
     pub same : IsGiven wanted given
-    pub read : (known : List ℕ) → first ≡ Some known → (bytes : List ℕ) × (left' ≡ Some bytes) × (asked_from names drained known ≡ done ++ (wanted ∷ commands_in names bytes))
+    pub read : (known : List ℕ) → first ≡ Some known → (bytes : List ℕ) × (left' ≡ Some bytes) × (commands_in names known ≡ done ++ (wanted ∷ commands_in names bytes))
 
-  pub next : (first left left' : Option (List ℕ)) (done : List Request) (given : Request) → ((known : List ℕ) → first ≡ Some known → (bytes : List ℕ) × (left ≡ Some bytes) × (asked_from names drained known ≡ done ++ commands_in names bytes)) → ((known : List ℕ) → left ≡ Some known → IsNext names known (Some given) left') → Next first left' done given
+  pub next : (first left left' : Option (List ℕ)) (done : List Request) (given : Request) → ((known : List ℕ) → first ≡ Some known → (bytes : List ℕ) × (left ≡ Some bytes) × (commands_in names known ≡ done ++ commands_in names bytes)) → ((known : List ℕ) → left ≡ Some known → IsNext names known (Some given) left') → Next first left' done given
   next None left left' done given read is = record { wanted = given; same = inl refl; read = λ known e. cc }
   next (Some known) left left' done given read is =
-      let at : (bytes : List ℕ) × (left ≡ Some bytes) × (asked_from names drained known ≡ done ++ commands_in names bytes) = read known refl in
+      let at : (bytes : List ℕ) × (left ≡ Some bytes) × (commands_in names known ≡ done ++ commands_in names bytes) = read known refl in
       let now : IsFirst names (commands_in names at.0) given left' = is at.0 at.1 in
       record {
         wanted = now.wanted;
         same = now.same;
         read = λ other e.
-            let here : asked_from names drained other ≡ asked_from names drained known = cc in
+            let here : commands_in names other ≡ commands_in names known = cc in
             (now.left, now.known, here ∙ (at.2 ∙ ap (λ (rs : List Request). done ++ rs) now.first));
       }
 
@@ -115,23 +114,23 @@ module _ (names : Texts) where
   pub next_at : {R : Type 0} (remaining : R → Option (List ℕ)) (left : Option (List ℕ)) (given : Request) (a b : R) → b ≡ a → ((known : List ℕ) → left ≡ Some known → IsNext names known (Some given) (remaining a)) → (known : List ℕ) → left ≡ Some known → IsNext names known (Some given) (remaining b)
   next_at remaining left given a b same is known e = subst (λ r. IsNext names known (Some given) (remaining r)) (sym same) (is known e)
 
-module _ (names : Texts) (before : ℕ) (drained : Bool) where
+module _ (names : Texts) (before : ℕ) where
   -- what is known where no line waits
-  module _ (first : Option (List ℕ)) (gives : List FileAnswer → Type 0) (shows : List ℕ → Type 0) (told : List Exchange) (left : Option (List ℕ)) (status : ℕ) (ended : Bool) (h : HasDone names before drained first gives shows told None left status false ended) where
+  module _ (first : Option (List ℕ)) (gives : List FileAnswer → Type 0) (shows : List ℕ → Type 0) (told : List RunStep) (left : Option (List ℕ)) (status : ℕ) (ended : Bool) (h : HasDone names before first gives shows told None left status false ended) where
     none_waits : IsOpen None h.open_asked h.open_texts
     none_waits = kept_open (false && not ended) None h.open_asked h.open_texts refl h.opens
 
     pub none_open : gives (texts_in h.done)
     none_open = subst gives (ap (λ l. texts_in h.done ++ l) none_waits.1 ∙ append-nil (texts_in h.done)) h.texts
 
-    pub none_left : (known : List ℕ) → first ≡ Some known → (bytes : List ℕ) × (left ≡ Some bytes) × (asked_from names drained known ≡ asked_in h.done ++ commands_in names bytes)
+    pub none_left : (known : List ℕ) → first ≡ Some known → (bytes : List ℕ) × (left ≡ Some bytes) × (commands_in names known ≡ asked_in h.done ++ commands_in names bytes)
     none_left known e =
         let r = h.read known e in
         let b = r.3 refl in
         (b.0, b.1, r.1 ∙ ap (λ l. asked_in h.done ++ (l ++ r.0)) none_waits.0 ∙ ap (λ l. asked_in h.done ++ l) b.2)
 
     -- the script is over
-    pub over : (left' : Option (List ℕ)) → ((known : List ℕ) → left ≡ Some known → (commands_in names known ≡ []) × (left' ≡ Some [])) → HasDone names before drained first gives shows told None left' status false true
+    pub over : (left' : Option (List ℕ)) → ((known : List ℕ) → left ≡ Some known → (commands_in names known ≡ []) × (left' ≡ Some [])) → HasDone names before first gives shows told None left' status false true
     unfolding commands_in
     over left' is = record {
       done = h.done;
@@ -140,14 +139,14 @@ module _ (names : Texts) (before : ℕ) (drained : Bool) where
       each = h.each;
       opens = inl (refl, refl);
       texts = subst gives (sym (append-nil (texts_in h.done))) none_open;
-      exchanged = h.exchanged;
+      stepped = h.stepped;
       read = λ known e. let l = none_left known e in let n = is l.0 l.1 in ([], l.2 ∙ ap (λ r. asked_in h.done ++ r) n.0, (λ _. refl), λ _. ([], n.1, refl));
       status_is = h.status_is;
       output = h.output;
     }
 
     -- it could not be read or answered further, perhaps after a command that was not answered
-    pub broken : (gives' : List FileAnswer → Type 0) (shows' : List ℕ → Type 0) (left' : Option (List ℕ)) (status' : ℕ) → (gives (texts_in h.done) → gives' (texts_in h.done)) → status' ≡ status → HasDone names before drained first gives' shows' told None left' status' true false
+    pub broken : (gives' : List FileAnswer → Type 0) (shows' : List ℕ → Type 0) (left' : Option (List ℕ)) (status' : ℕ) → (gives (texts_in h.done) → gives' (texts_in h.done)) → status' ≡ status → HasDone names before first gives' shows' told None left' status' true false
     broken gives' shows' left' status' to same = record {
       done = h.done;
       open_asked = [];
@@ -155,19 +154,19 @@ module _ (names : Texts) (before : ℕ) (drained : Bool) where
       each = h.each;
       opens = inl (refl, refl);
       texts = subst gives' (sym (append-nil (texts_in h.done))) (to none_open);
-      exchanged = h.exchanged;
+      stepped = h.stepped;
       read = λ known e. let l = none_left known e in (commands_in names l.0, l.2, (λ no. absurd (true≢false (sym no))), λ no. absurd (true≢false no));
       status_is = same ∙ h.status_is;
       output = λ no. absurd (true≢false no);
     }
 
     module _ (left' : Option (List ℕ)) (given : Request) (is : (known : List ℕ) → left ≡ Some known → IsNext names known (Some given) left') where
-      pub after : Next names drained first left' (asked_in h.done) given
-      after = next names drained first left left' (asked_in h.done) given none_left is
+      pub after : Next names first left' (asked_in h.done) given
+      after = next names first left left' (asked_in h.done) given none_left is
 
       -- a command that is answered when it is read
-      pub answered_more : (gives' : List FileAnswer → Type 0) (shows' : List ℕ → Type 0) (texts : List FileAnswer) (seen : List Exchange) (status' own : ℕ) (text : List ℕ) → (gives (texts_in h.done) → gives' (texts_in h.done ++ texts)) → (shows (shown_in h.done) → shows' (shown_in h.done ++ text)) → status' ≡ max status own → MayBeDone given texts seen own text
-          → HasDone names before drained first gives' shows' (told ++ seen) None left' status' false false
+      pub answered_more : (gives' : List FileAnswer → Type 0) (shows' : List ℕ → Type 0) (texts : List FileAnswer) (seen : List RunStep) (status' own : ℕ) (text : List ℕ) → (gives (texts_in h.done) → gives' (texts_in h.done ++ texts)) → (shows (shown_in h.done) → shows' (shown_in h.done ++ text)) → status' ≡ max status own → MayBeDone given texts seen own text
+          → HasDone names before first gives' shows' (told ++ seen) None left' status' false false
       answered_more gives' shows' texts seen status' own text to show more may =
           let n = after in
           let d : Done = only_asked n.wanted texts seen own text in
@@ -178,7 +177,7 @@ module _ (names : Texts) (before : ℕ) (drained : Bool) where
             each = All-push IsDone h.done d h.each (given_done n.wanted given texts seen own text n.same may);
             opens = inl (refl, refl);
             texts = subst gives' (sym (append-nil (texts_in (h.done ++ d ∷ [])) ∙ one_more (λ (x : Done). x.texts) h.done d)) (to none_open);
-            exchanged = ap (λ l. l ++ seen) h.exchanged ∙ sym (one_more (λ (x : Done). x.exchanges) h.done d);
+            stepped = ap (λ l. l ++ seen) h.stepped ∙ sym (one_more (λ (x : Done). x.steps) h.done d);
             read = λ known e. let r = n.read known e in (commands_in names r.0, r.2 ∙ sym (asked_more h.done d (commands_in names r.0)), (λ no. absurd (true≢false (sym no))), λ _. (r.0, r.1, refl));
             status_is = raised before status status' h.done d more h.status_is;
             output = λ _. subst shows' (sym (one_more (λ (x : Done). x.shown) h.done d)) (show (h.output refl));
@@ -186,7 +185,7 @@ module _ (names : Texts) (before : ℕ) (drained : Bool) where
 
       -- a command that leaves a line to the run
       pub opened_more : (gives' : List FileAnswer → Type 0) (shows' : List ℕ → Type 0) (line : Option Line) (texts : List FileAnswer) → IsOpen line (after.wanted ∷ []) texts → (gives (texts_in h.done) → gives' (texts_in h.done ++ texts)) → (shows (shown_in h.done) → shows' (shown_in h.done))
-          → HasDone names before drained first gives' shows' told line left' status false false
+          → HasDone names before first gives' shows' told line left' status false false
       opened_more gives' shows' line texts opens to show =
           let n = after in
           record {
@@ -196,7 +195,7 @@ module _ (names : Texts) (before : ℕ) (drained : Bool) where
             each = h.each;
             opens = inl opens;
             texts = to none_open;
-            exchanged = h.exchanged;
+            stepped = h.stepped;
             read = λ known e. let r = n.read known e in (commands_in names r.0, r.2, (λ no. absurd (true≢false (sym no))), λ _. (r.0, r.1, refl));
             status_is = h.status_is;
             output = λ _. show (h.output refl);
@@ -204,7 +203,7 @@ module _ (names : Texts) (before : ℕ) (drained : Bool) where
 
       -- the command of a file that is not read, whose answer could not be written
       pub unwritten_more : (gives' : List FileAnswer → Type 0) (shows' : List ℕ → Type 0) (status' : ℕ) (texts : List FileAnswer) (taking : Taking) (path : List ℕ) (fault : SourceFault) → given ≡ Ok (TakeFile taking path) → texts ≡ (path, Err fault) ∷ [] → (gives (texts_in h.done) → gives' (texts_in h.done ++ texts)) → status' ≡ status
-          → HasDone names before drained first gives' shows' told None left' status' true false
+          → HasDone names before first gives' shows' told None left' status' true false
       unwritten_more gives' shows' status' texts taking path fault file asked to same =
           let n = after in
           record {
@@ -214,7 +213,7 @@ module _ (names : Texts) (before : ℕ) (drained : Bool) where
             each = h.each;
             opens = inr (refl, refl, (taking, path, fault, ap (λ (r : Request). r ∷ []) (file_given n.wanted given taking path n.same file), asked));
             texts = to none_open;
-            exchanged = h.exchanged;
+            stepped = h.stepped;
             read = λ known e. let r = n.read known e in (commands_in names r.0, r.2, (λ no. absurd (true≢false (sym no))), λ no. absurd (true≢false no));
             status_is = same ∙ h.status_is;
             output = λ no. absurd (true≢false no);
@@ -235,75 +234,88 @@ module _ (names : Texts) (before : ℕ) (drained : Bool) where
   left_to_run (Err fault) texts line is = absurd is
 
   -- ---- one command more, whatever is done of it
-  module _ (first : Option (List ℕ)) (gives gives' : List FileAnswer → Type 0) (shows shows' : List ℕ → Type 0) (told : List Exchange) (left left' : Option (List ℕ)) (status status' : ℕ) (ended : Bool) (h : HasDone names before drained first gives shows told None left status false ended) (given : Request) (is : (known : List ℕ) → left ≡ Some known → IsNext names known (Some given) left') where
+  module _ (first : Option (List ℕ)) (gives gives' : List FileAnswer → Type 0) (shows shows' : List ℕ → Type 0) (told : List RunStep) (left left' : Option (List ℕ)) (status status' : ℕ) (ended : Bool) (h : HasDone names before first gives shows told None left status false ended) (given : Request) (is : (known : List ℕ) → left ≡ Some known → IsNext names known (Some given) left') where
     -- it leaves a line to the run
     pub line_more : (texts : List FileAnswer) (line : Line) → Leaves given texts line → status' ≡ status → ((xs : List FileAnswer) → gives xs → gives' (xs ++ texts)) → ((xs : List ℕ) → shows xs → shows' xs)
-        → HasDone names before drained first gives' shows' told (Some line) left' status' false false
+        → HasDone names before first gives' shows' told (Some line) left' status' false false
     line_more texts line leaves same to show =
         let n = after first gives shows told left status ended h left' given is in
         let wanted : given ≡ n.wanted = leaves_given n.wanted given texts line n.same leaves in
-        subst (λ (m : ℕ). HasDone names before drained first gives' shows' told (Some line) left' m false false) (sym same)
+        subst (λ (m : ℕ). HasDone names before first gives' shows' told (Some line) left' m false false) (sym same)
         (opened_more first gives shows told left status ended h left' given is gives' shows' (Some line) texts
         (subst (λ (r : Request). IsOpen (Some line) (r ∷ []) texts) wanted (left_to_run given texts line leaves)) (to (texts_in h.done)) (show (shown_in h.done)))
 
     -- it is answered
-    pub none_more : (a : Schedule) (texts : List FileAnswer) (own : ℕ) (text : List ℕ) → ((xs : List FileAnswer) → gives xs → gives' (xs ++ texts)) → ((xs : List ℕ) → shows xs → shows' (xs ++ text)) → status' ≡ max status own → IsAnswered a given texts own text → HasDone names before drained first gives' shows' (told ++ looks 1 a) None left' status' false false
+    pub none_more : (a : Schedule) (texts : List FileAnswer) (own : ℕ) (text : List ℕ) → ((xs : List FileAnswer) → gives xs → gives' (xs ++ texts)) → ((xs : List ℕ) → shows xs → shows' (xs ++ text)) → status' ≡ max status own → IsAnswered a given texts own text → HasDone names before first gives' shows' (told ++ looks 1 a) None left' status' false false
     none_more a texts own text to show more at =
         answered_more first gives shows told left status ended h left' given is gives' shows' texts (looks 1 a) status' own text (to (texts_in h.done)) (show (shown_in h.done)) more (at_once a given texts own text at)
 
     -- it cannot be answered
-    lost_more : (texts : List FileAnswer) → (texts ≡ []) ⊎ ((taking : Taking) × (path : List ℕ) × (fault : SourceFault) × (given ≡ Ok (TakeFile taking path)) × (texts ≡ (path, Err fault) ∷ [])) → ((xs : List FileAnswer) → gives xs → gives' (xs ++ texts)) → status' ≡ status → HasDone names before drained first gives' shows' told None left' status' true false
+    lost_more : (texts : List FileAnswer) → (texts ≡ []) ⊎ ((taking : Taking) × (path : List ℕ) × (fault : SourceFault) × (given ≡ Ok (TakeFile taking path)) × (texts ≡ (path, Err fault) ∷ [])) → ((xs : List FileAnswer) → gives xs → gives' (xs ++ texts)) → status' ≡ status → HasDone names before first gives' shows' told None left' status' true false
     lost_more texts (inl none) to same =
         let xs = texts_in h.done in
         broken first gives shows told left status ended h gives' shows' left' status' (λ g. subst gives' (ap (λ l. xs ++ l) none ∙ append-nil xs) (to xs g)) same
     lost_more texts (inr (taking, path, fault, file, asked)) to same = unwritten_more first gives shows told left status ended h left' given is gives' shows' status' texts taking path fault file asked (to (texts_in h.done)) same
 
-    pub fault_more : (texts : List FileAnswer) → IsLost given texts → ((xs : List FileAnswer) → gives xs → gives' (xs ++ texts)) → status' ≡ status → HasDone names before drained first gives' shows' told None left' status' true false
+    pub fault_more : (texts : List FileAnswer) → IsLost given texts → ((xs : List FileAnswer) → gives xs → gives' (xs ++ texts)) → status' ≡ status → HasDone names before first gives' shows' told None left' status' true false
     fault_more texts lost to same = lost_more texts (lost_file given texts lost) to same
 
   -- ---- the line that waits is answered
   -- the command that waited, and what may be done of it so
-  pub record IsClosed (asked : List Request) (texts : List FileAnswer) (told : List Exchange) (status : ℕ) (shown : List ℕ) : Type 0 where
+  pub record IsClosed (asked : List Request) (texts : List FileAnswer) (told : List RunStep) (status : ℕ) (shown : List ℕ) : Type 0 where
     pub one : Request
     pub is : asked ≡ one ∷ []
     pub done : MayBeDone one texts told status shown
 
-  perhaps : (e : Event) (q : Result Answer Fault) → IsPerhaps e (Told e q ∷ []) (status_of q) (shown_for e q)
-  perhaps e q = (q, refl, refl, refl)
+  perhaps : (e : Event) (q : Result Answer Fault) (since : List RunStep) → since ≡ [] → IsPerhaps e (since ++ Told e q ∷ []) (status_of q) (shown_for e q)
+  perhaps e q since none = (q, ap (λ (l : List RunStep). l ++ Told e q ∷ []) none, refl, refl)
 
-  pub closed : (line : Line) (asked : List Request) (texts : List FileAnswer) (e : Event) (q : Result Answer Fault) → IsOpen (Some line) asked texts → Takes line e → IsClosed asked texts (before_answer line e ++ Told e q ∷ []) (status_of q) (shown_for e q)
-  closed (Says.Event x) asked texts e q (inl (one, none)) same = record {
+  pub closed : (line : Line) (asked : List Request) (texts : List FileAnswer) (e : Event) (q : Result Answer Fault) (since : List RunStep) → IsOpen (Some line) asked texts → Takes line e since
+      → IsClosed asked texts (since ++ Told e q ∷ []) (status_of q) (shown_for e q)
+  closed (Says.Event x) asked texts e q since (inl (one, none)) (same, at) = record {
     one = Ok (Step x);
     is = one;
-    done = (none, inl (subst (λ (y : Event). IsPerhaps y (Told e q ∷ []) (status_of q) (shown_for e q)) (sym same) (perhaps e q)));
+    done = (none, inl (subst (λ (y : Event). IsPerhaps y (since ++ Told e q ∷ []) (status_of q) (shown_for e q)) (sym same) (perhaps e q since at)));
   }
-  closed (Says.Event x) asked texts e q (inr (taking, path, text, one, read, takes)) same = record {
+  closed (Says.Event x) asked texts e q since (inr (taking, path, text, one, read, takes)) (same, at) = record {
     one = Ok (TakeFile taking path);
     is = one;
-    done = inr (text, read, subst (λ (y : Event). IsPerhaps y (Told e q ∷ []) (status_of q) (shown_for e q)) (sym same ∙ takes) (perhaps e q));
+    done = inr (text, read, subst (λ (y : Event). IsPerhaps y (since ++ Told e q ∷ []) (status_of q) (shown_for e q)) (sym same ∙ takes) (perhaps e q since at));
   }
-  closed Says.TickNow asked texts e q (one, none) (moment, same) = record {
+  closed Says.TickNow asked texts e q since (one, none) (moment, b, polled, same, are, at) = record {
     one = Ok TickNow;
     is = one;
-    done = (none, inr (moment, Told e q ∷ [], ap (λ (y : Event). before_answer Says.TickNow y ++ Told e q ∷ []) same, subst (λ (y : Event). IsPerhaps y (Told e q ∷ []) (status_of q) (shown_for e q)) same (perhaps e q)));
+    done = (
+      none,
+      inr (
+        b,
+        moment,
+        polled,
+        Told e q ∷ [],
+        ap (λ (l : List RunStep). l ++ Told e q ∷ []) at ∙ append_assoc polled (Asked b (Ok moment) ∷ []) (Told e q ∷ []),
+        are,
+        subst (λ (y : Event). IsPerhaps y (Told e q ∷ []) (status_of q) (shown_for e q)) same (perhaps e q [] refl),
+      ),
+    );
   }
-  closed Says.Drain asked texts e q waits takes = absurd takes
+  closed Says.Drain asked texts e q since waits takes = absurd takes
 
-  pub closed_untold : (asked : List Request) (texts : List FileAnswer) (fault : ClockFault) → IsOpen (Some Says.TickNow) asked texts → IsClosed asked texts (Heard ∷ Asked (Err fault) ∷ []) 4 (clock_text fault)
-  closed_untold asked texts fault (one, none) = record { one = Ok TickNow; is = one; done = (none, inl (fault, refl, refl, refl)) }
+  pub closed_untold : (asked : List Request) (texts : List FileAnswer) (b : Schedule) (fault : ClockFault) (polled : List RunStep) → ArePolled polled → IsOpen (Some Says.TickNow) asked texts
+      → IsClosed asked texts (polled ++ Asked b (Err fault) ∷ []) 4 (clock_text fault)
+  closed_untold asked texts b fault polled are (one, none) = record { one = Ok TickNow; is = one; done = (none, inl (b, fault, polled, refl, are, refl, refl)) }
 
-  pub closed_drain : (asked : List Request) (texts : List FileAnswer) (a : Schedule) → in_flight a ≡ 0 → IsOpen (Some Says.Drain) asked texts → IsClosed asked texts (Heard ∷ looks 1 a) 0 (shown_text ShowsDone)
-  closed_drain asked texts a idle (one, none) = record { one = Ok Drain; is = one; done = (none, ((a, refl, idle), refl, refl)) }
+  pub closed_drain : (asked : List Request) (texts : List FileAnswer) (a : Schedule) (heard : List RunStep) → AreReported heard → in_flight a ≡ 0 → IsOpen (Some Says.Drain) asked texts → IsClosed asked texts (heard ++ looks 1 a) 0 (shown_text ShowsDone)
+  closed_drain asked texts a heard are idle (one, none) = record { one = Ok Drain; is = one; done = (none, ((a, heard, refl, are, idle), refl, refl)) }
 
-  module _ (first : Option (List ℕ)) (gives : List FileAnswer → Type 0) (shows shows' : List ℕ → Type 0) (told : List Exchange) (line : Line) (left : Option (List ℕ)) (status : ℕ) (ended : Bool) (h : HasDone names before drained first gives shows told (Some line) left status false ended) where
+  module _ (first : Option (List ℕ)) (gives : List FileAnswer → Type 0) (shows shows' : List ℕ → Type 0) (told : List RunStep) (line : Line) (left : Option (List ℕ)) (status : ℕ) (ended : Bool) (h : HasDone names before first gives shows told (Some line) left status false ended) where
     pub waits_open : IsOpen (Some line) h.open_asked h.open_texts
     waits_open = kept_open (false && not ended) (Some line) h.open_asked h.open_texts refl h.opens
 
-    closed_more : (added : List Exchange) (own status' : ℕ) (text : List ℕ) (broken : Bool) → IsClosed h.open_asked h.open_texts added own text
+    closed_more : (added : List RunStep) (own status' : ℕ) (text : List ℕ) (broken : Bool) → IsClosed h.open_asked h.open_texts added own text
         → status' ≡ max status own → (broken ≡ false → (xs : List ℕ) → shows xs → shows' (xs ++ text))
-        → HasDone names before drained first gives shows' (told ++ added) None left status' broken ended
+        → HasDone names before first gives shows' (told ++ added) None left status' broken ended
     closed_more added own status' text broken c more show =
-        let d : Done = record { asked = c.one; texts = h.open_texts; exchanges = added; status = own; shown = text } in
+        let d : Done = record { asked = c.one; texts = h.open_texts; steps = added; status = own; shown = text } in
         record {
           done = h.done ++ d ∷ [];
           open_asked = [];
@@ -311,7 +323,7 @@ module _ (names : Texts) (before : ℕ) (drained : Bool) where
           each = All-push IsDone h.done d h.each c.done;
           opens = inl (refl, refl);
           texts = subst gives (sym (append-nil (texts_in (h.done ++ d ∷ [])) ∙ one_more (λ (x : Done). x.texts) h.done d)) h.texts;
-          exchanged = ap (λ l. l ++ added) h.exchanged ∙ sym (one_more (λ (x : Done). x.exchanges) h.done d);
+          stepped = ap (λ l. l ++ added) h.stepped ∙ sym (one_more (λ (x : Done). x.steps) h.done d);
           read = λ known e.
               let r = h.read known e in
               (r.0, r.1 ∙ ap (λ l. asked_in h.done ++ (l ++ r.0)) c.is ∙ sym (asked_more h.done d r.0), r.2, λ _. r.3 refl);
@@ -319,20 +331,30 @@ module _ (names : Texts) (before : ℕ) (drained : Bool) where
           output = λ sound. subst shows' (sym (one_more (λ (x : Done). x.shown) h.done d)) (show sound (shown_in h.done) (h.output refl));
         }
 
-    pub told_more : (e : Event) (q : Result Answer Fault) (status' : ℕ) (broken : Bool) → Takes line e → status' ≡ max status (status_of q) → (broken ≡ false → (xs : List ℕ) → shows xs → shows' (xs ++ shown_for e q))
-        → HasDone names before drained first gives shows' (told ++ (before_answer line e ++ Told e q ∷ [])) None left status' broken ended
-    told_more e q status' broken takes is show = closed_more (before_answer line e ++ Told e q ∷ []) (status_of q) status' (shown_for e q) broken (closed line h.open_asked h.open_texts e q waits_open takes) is show
+    pub told_more : (e : Event) (q : Result Answer Fault) (since : List RunStep) (status' : ℕ) (broken : Bool) → Takes line e since → status' ≡ max status (status_of q) → (broken ≡ false → (xs : List ℕ) → shows xs → shows' (xs ++ shown_for e q))
+        → HasDone names before first gives shows' (told ++ (since ++ Told e q ∷ [])) None left status' broken ended
+    told_more e q since status' broken takes is show = closed_more (since ++ Told e q ∷ []) (status_of q) status' (shown_for e q) broken (closed line h.open_asked h.open_texts e q since waits_open takes) is show
 
   -- the clock gave no moment
-  pub untold_more : (first : Option (List ℕ)) (gives : List FileAnswer → Type 0) (shows shows' : List ℕ → Type 0) (told : List Exchange) (left : Option (List ℕ)) (status status' : ℕ) (fault : ClockFault) (broken ended : Bool)
-      → HasDone names before drained first gives shows told (Some Says.TickNow) left status false ended → status' ≡ max status 4 → (broken ≡ false → (xs : List ℕ) → shows xs → shows' (xs ++ clock_text fault))
-      → HasDone names before drained first gives shows' (told ++ Heard ∷ Asked (Err fault) ∷ []) None left status' broken ended
-  untold_more first gives shows shows' told left status status' fault broken ended h more show =
-      closed_more first gives shows shows' told Says.TickNow left status ended h (Heard ∷ Asked (Err fault) ∷ []) 4 status' (clock_text fault) broken (closed_untold h.open_asked h.open_texts fault (waits_open first gives shows shows' told Says.TickNow left status ended h)) more show
+  pub untold_more : (first : Option (List ℕ)) (gives : List FileAnswer → Type 0) (shows shows' : List ℕ → Type 0) (told : List RunStep) (left : Option (List ℕ)) (status status' : ℕ) (b : Schedule) (fault : ClockFault) (polled : List RunStep) (broken ended : Bool)
+      → ArePolled polled → HasDone names before first gives shows told (Some Says.TickNow) left status false ended → status' ≡ max status 4 → (broken ≡ false → (xs : List ℕ) → shows xs → shows' (xs ++ clock_text fault))
+      → HasDone names before first gives shows' (told ++ (polled ++ Asked b (Err fault) ∷ [])) None left status' broken ended
+  untold_more first gives shows shows' told left status status' b fault polled broken ended are h more show =
+      closed_more first gives shows shows' told Says.TickNow left status ended h (polled ++ Asked b (Err fault) ∷ []) 4 status' (clock_text fault) broken
+      (closed_untold h.open_asked h.open_texts b fault polled are (waits_open first gives shows shows' told Says.TickNow left status ended h)) more show
+
+  -- no try is in flight, for a drain that waits
+  pub drained_more : (first : Option (List ℕ)) (gives : List FileAnswer → Type 0) (shows shows' : List ℕ → Type 0) (told : List RunStep) (left : Option (List ℕ)) (status status' : ℕ) (a : Schedule) (heard : List RunStep) (broken ended : Bool)
+      → AreReported heard → in_flight a ≡ 0 → HasDone names before first gives shows told (Some Says.Drain) left status false ended → status' ≡ status
+      → (broken ≡ false → (xs : List ℕ) → shows xs → shows' (xs ++ shown_text ShowsDone))
+      → HasDone names before first gives shows' (told ++ (heard ++ Looked a ∷ [])) None left status' broken ended
+  drained_more first gives shows shows' told left status status' a heard broken ended are idle h same show =
+      closed_more first gives shows shows' told Says.Drain left status ended h (heard ++ looks 1 a) 0 status' (shown_text ShowsDone) broken
+      (closed_drain h.open_asked h.open_texts a heard are idle (waits_open first gives shows shows' told Says.Drain left status ended h)) (omega (arith, same)) show
 
   -- it is not said to have ended where it was not said before, and what was shown was written
-  pub ended_less : (first : Option (List ℕ)) (gives : List FileAnswer → Type 0) (shows shows' : List ℕ → Type 0) (told : List Exchange) (waits : Option Line) (left : Option (List ℕ)) (status : ℕ) (is_broken ended ended' : Bool) → (ended' ≡ true → ended ≡ true) → (is_broken ≡ false → (xs : List ℕ) → shows xs → shows' xs)
-      → HasDone names before drained first gives shows told waits left status is_broken ended → HasDone names before drained first gives shows' told waits left status is_broken ended'
+  pub ended_less : (first : Option (List ℕ)) (gives : List FileAnswer → Type 0) (shows shows' : List ℕ → Type 0) (told : List RunStep) (waits : Option Line) (left : Option (List ℕ)) (status : ℕ) (is_broken ended ended' : Bool) → (ended' ≡ true → ended ≡ true) → (is_broken ≡ false → (xs : List ℕ) → shows xs → shows' xs)
+      → HasDone names before first gives shows told waits left status is_broken ended → HasDone names before first gives shows' told waits left status is_broken ended'
   ended_less first gives shows shows' told waits left status is_broken ended ended' less show h = record {
     done = h.done;
     open_asked = h.open_asked;
@@ -340,86 +362,47 @@ module _ (names : Texts) (before : ℕ) (drained : Bool) where
     each = h.each;
     opens = undone_less is_broken ended ended' waits h.open_asked h.open_texts less h.opens;
     texts = h.texts;
-    exchanged = h.exchanged;
+    stepped = h.stepped;
     read = λ known e. let r = h.read known e in (r.0, r.1, (λ is. r.2 (less is)), r.3);
     status_is = h.status_is;
     output = λ sound. show sound (shown_in h.done) (h.output sound);
   }
 
   -- the output was flushed
-  pub flushed : (first from was now : Option (List ℕ)) (gives : List FileAnswer → Type 0) (told : List Exchange) (left : Option (List ℕ)) (status : ℕ) (ended : Bool) → Keeps was now
-      → HasDone names before drained first gives (Appends from was) told None left status false ended → HasDone names before drained first gives (Appends from now) told None left status false ended
+  pub flushed : (first from was now : Option (List ℕ)) (gives : List FileAnswer → Type 0) (told : List RunStep) (left : Option (List ℕ)) (status : ℕ) (ended : Bool) → Keeps was now
+      → HasDone names before first gives (Appends from was) told None left status false ended → HasDone names before first gives (Appends from now) told None left status false ended
   flushed first from was now gives told left status ended keeps h = ended_less first gives (Appends from was) (Appends from now) told None left status false ended ended (λ so. so) (λ fine xs w. appends_keep from was now xs w keeps) h
 
-  -- a drain that waits, if one does, is answered of a schedule in which no try is in flight
-  pub drain_answered : (first from was now : Option (List ℕ)) (gives : List FileAnswer → Type 0) (told : List Exchange) (left : Option (List ℕ)) (status : ℕ) (drains ended : Bool) (a : Schedule) → (drains ≡ true → in_flight a ≡ 0) → AnswersDrain drains was now
-      → HasDone names before drained first gives (Appends from was) told (waiting None drains) left status false ended
-      → (times : ℕ) × HasDone names before drained first gives (Appends from now) (told ++ (heard_where drains ++ looks times a)) None left status false false
-  drain_answered first from was now gives told left status false ended a idle same h = (
-    0,
-    subst (λ (t : List Exchange). HasDone names before drained first gives (Appends from now) t None left status false false) (sym (append-nil told))
-        (ended_less first gives (Appends from was) (Appends from now) told None left status false ended false (λ no. absurd (true≢false (sym no))) (λ fine xs w. subst (λ n. Appends from n xs) (sym same) w) h),
-  )
-  drain_answered first from was now gives told left status true ended a idle more h = (
-    1,
-    ended_less first gives (Appends from now) (Appends from now) (told ++ (Heard ∷ looks 1 a)) None left status false ended false (λ no. absurd (true≢false (sym no))) (λ fine xs w. w)
-        (closed_more first gives (Appends from was) (Appends from now) told Says.Drain left status ended h (Heard ∷ looks 1 a) 0 status (shown_text ShowsDone) false (closed_drain h.open_asked h.open_texts a (idle refl) (waits_open first gives (Appends from was) (Appends from now) told Says.Drain left status ended h)) (omega arith)
-        (λ fine xs w. appends_then from was now xs (shown_text ShowsDone) w more)),
-  )
-
   -- ---- the same of what was read
-  at_err : {E : Type 0} (Q : E → Type 0) (r : Result (Option Line) E) → IsErrAnd r Q → (first : Option (List ℕ)) (gives : List FileAnswer → Type 0) (shows : List ℕ → Type 0) (told : List Exchange) (left : Option (List ℕ)) (status : ℕ)
-      → HasDone names before drained first gives shows told None left status true false → HasDone names before drained first gives shows told (line_of r) left status (is_err r) (is_end r)
+  at_err : {E : Type 0} (Q : E → Type 0) (r : Result (Option Line) E) → IsErrAnd r Q → (first : Option (List ℕ)) (gives : List FileAnswer → Type 0) (shows : List ℕ → Type 0) (told : List RunStep) (left : Option (List ℕ)) (status : ℕ)
+      → HasDone names before first gives shows told None left status true false → HasDone names before first gives shows told (line_of r) left status (is_err r) (is_end r)
   at_err Q (Ok x) is first gives shows told left status h = absurd is
   at_err Q (Err e) is first gives shows told left status h = h
 
   -- the script could not be read or answered further
-  pub broken_off : {E : Type 0} (Q : E → Type 0) (r : Result (Option Line) E) → IsErrAnd r Q → (first : Option (List ℕ)) (gives : List FileAnswer → Type 0) (shows shows' : List ℕ → Type 0) (told : List Exchange) (left left' : Option (List ℕ)) (status : ℕ) (ended : Bool)
-      → HasDone names before drained first gives shows told None left status false ended → HasDone names before drained first gives shows' told (line_of r) left' status (is_err r) (is_end r)
+  pub broken_off : {E : Type 0} (Q : E → Type 0) (r : Result (Option Line) E) → IsErrAnd r Q → (first : Option (List ℕ)) (gives : List FileAnswer → Type 0) (shows shows' : List ℕ → Type 0) (told : List RunStep) (left left' : Option (List ℕ)) (status : ℕ) (ended : Bool)
+      → HasDone names before first gives shows told None left status false ended → HasDone names before first gives shows' told (line_of r) left' status (is_err r) (is_end r)
   broken_off Q r is first gives shows shows' told left left' status ended h = at_err Q r is first gives shows' told left' status (broken first gives shows told left status ended h gives shows' left' status (λ g. g) refl)
 
-  -- the answer of a drain that waits, if one does, could not be written; it counts as answered
-  drain_unwritten : (first : Option (List ℕ)) (gives : List FileAnswer → Type 0) (shows shows' : List ℕ → Type 0) (told : List Exchange) (left : Option (List ℕ)) (status : ℕ) (drains ended : Bool) (a : Schedule) → (drains ≡ true → in_flight a ≡ 0)
-      → HasDone names before drained first gives shows told (waiting None drains) left status false ended
-      → (times : ℕ) × HasDone names before drained first gives shows' (told ++ (heard_where drains ++ looks times a)) None left status true false
-  drain_unwritten first gives shows shows' told left status false ended a idle h = (
-    0,
-    subst (λ (t : List Exchange). HasDone names before drained first gives shows' t None left status true false) (sym (append-nil told))
-        (broken first gives shows told left status ended h gives shows' left status (λ g. g) refl),
-  )
-  drain_unwritten first gives shows shows' told left status true ended a idle h = (
-    1,
-    ended_less first gives shows' shows' (told ++ (Heard ∷ looks 1 a)) None left status true ended false (λ no. absurd (true≢false (sym no))) (λ fine xs w. w)
-        (closed_more first gives shows shows' told Says.Drain left status ended h (Heard ∷ looks 1 a) 0 status (shown_text ShowsDone) true (closed_drain h.open_asked h.open_texts a (idle refl) (waits_open first gives shows shows' told Says.Drain left status ended h)) (omega arith)
-        (λ no. absurd (true≢false no))),
-  )
-
-  pub drain_broken : {E : Type 0} (Q : E → Type 0) (r : Result (Option Line) E) → IsErrAnd r Q → (first : Option (List ℕ)) (gives : List FileAnswer → Type 0) (shows shows' : List ℕ → Type 0) (told : List Exchange) (left : Option (List ℕ)) (status : ℕ) (drains ended : Bool) (a : Schedule) → (drains ≡ true → in_flight a ≡ 0)
-      → HasDone names before drained first gives shows told (waiting None drains) left status false ended
-      → (times : ℕ) × HasDone names before drained first gives shows' (told ++ (heard_where drains ++ looks times a)) (line_of r) left status (is_err r) (is_end r)
-  drain_broken Q r is first gives shows shows' told left status drains ended a idle h =
-      let now = drain_unwritten first gives shows shows' told left status drains ended a idle h in
-      (now.0, at_err Q r is first gives shows' (told ++ (heard_where drains ++ looks now.0 a)) left status now.1)
-
-  module _ {E : Type 0} (from was now : Option (List ℕ)) (first : Option (List ℕ)) (gives gives' : List FileAnswer → Type 0) (told : List Exchange) (left left' : Option (List ℕ)) (status status' : ℕ) (ended : Bool)
-      (h : HasDone names before drained first gives (Appends from was) told None left status false ended)
+  module _ {E : Type 0} (from was now : Option (List ℕ)) (first : Option (List ℕ)) (gives gives' : List FileAnswer → Type 0) (told : List RunStep) (left left' : Option (List ℕ)) (status status' : ℕ) (ended : Bool)
+      (h : HasDone names before first gives (Appends from was) told None left status false ended)
       (given : Request) (is : (known : List ℕ) → left ≡ Some known → IsNext names known (Some given) left') (a : Schedule) (d : Result (Option Line) E) (texts : List FileAnswer) (to : (xs : List FileAnswer) → gives xs → gives' (xs ++ texts)) (does : Does a given texts d status status' was now) where
     -- a command could not be answered
-    pub unanswered : {A : Type 0} (Q : A → Type 0) (r : Result (Option Line) A) → IsErrAnd r Q → (e : E) → d ≡ Err e → HasDone names before drained first gives' (Appends from now) told (line_of r) left' status' (is_err r) (is_end r)
+    pub unanswered : {A : Type 0} (Q : A → Type 0) (r : Result (Option Line) A) → IsErrAnd r Q → (e : E) → d ≡ Err e → HasDone names before first gives' (Appends from now) told (line_of r) left' status' (is_err r) (is_end r)
     unanswered Q r err e by =
         let l : IsLost given texts × (status' ≡ status) = subst (λ (x : Result (Option Line) E). Does a given texts x status status' was now) by does in
         at_err Q r err first gives' (Appends from now) told left' status'
         (fault_more first gives gives' (Appends from was) (Appends from now) told left left' status status' ended h given is texts l.0 to l.1)
 
     -- it left a line to the run
-    pub left_line : (line : Line) → d ≡ Ok (Some line) → HasDone names before drained first gives' (Appends from now) told (Some line) left' status' false false
+    pub left_line : (line : Line) → d ≡ Ok (Some line) → HasDone names before first gives' (Appends from now) told (Some line) left' status' false false
     left_line line by =
         let l : Leaves given texts line × (status' ≡ status) × (now ≡ was) = subst (λ (x : Result (Option Line) E). Does a given texts x status status' was now) by does in
         line_more first gives gives' (Appends from was) (Appends from now) told left left' status status' ended h given is texts line l.0 l.1 to
         (λ xs w. subst (λ n. Appends from n xs) (sym l.2) w)
 
     -- it was answered
-    pub left_none : d ≡ Ok None → HasDone names before drained first gives' (Appends from now) (told ++ looks 1 a) None left' status' false false
+    pub left_none : d ≡ Ok None → HasDone names before first gives' (Appends from now) (told ++ looks 1 a) None left' status' false false
     left_none by =
         let l : (own : ℕ) × (shown : List ℕ) × (status' ≡ max status own) × Appends was now shown × IsAnswered a given texts own shown = subst (λ (x : Result (Option Line) E). Does a given texts x status status' was now) by does in
         none_more first gives gives' (Appends from was) (Appends from now) told left left' status status' ended h given is a texts l.0 l.1 to
@@ -437,6 +420,5 @@ pub as_ok : (E : Type 0) (a b : Option Line) → a ≡ b → ◌≡◌ {A = Resu
 as_ok E a b e = ap (λ (x : Option Line). let r : Result (Option Line) E = Ok x in r) e
 
 -- the schedule is looked at once more
-pub one_look_more : (told heard : List Exchange) (times : ℕ) (a : Schedule) → (told ++ (heard ++ looks times a)) ++ looks 1 a ≡ told ++ (heard ++ looks (times + 1) a)
-one_look_more told heard times a =
-    append_assoc told (heard ++ looks times a) (looks 1 a) ∙ ap (λ l. told ++ l) (append_assoc heard (looks times a) (looks 1 a) ∙ ap (λ l. heard ++ l) (replicate_more times (Looked a)))
+pub one_look_more : (told : List RunStep) (times : ℕ) (a : Schedule) → (told ++ looks times a) ++ looks 1 a ≡ told ++ looks (times + 1) a
+one_look_more told times a = append_assoc told (looks times a) (looks 1 a) ∙ ap (λ (l : List RunStep). told ++ l) (replicate_more times (Looked a))

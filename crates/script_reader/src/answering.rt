@@ -2,31 +2,34 @@
 ghost use Rattle.std.specs.Prelude.{◌≡◌, ◌&&◌, not, is_some, is_err, max, None, Some, Ok, OnOk, MatchResult};
 ghost use Rattle.std.specs.Io.KnownBytes.{Appends};
 ghost use Rattle.answer_lines.specs.RunFaults.{clock_text};
+ghost use Rattle.answer_lines.specs.Shown.{shown_text};
+ghost use Rattle.answer_lines.specs.declared.shown.Shown.TheVariants.{Done};
+ghost use Rattle.answer_lines.specs.sessions.director.Written.{came_of};
 ghost use Rattle.script_reader.specs.Statuses.{shown_for, status_of};
 
 use crate::console::{Console, Spot};
 use crate::reader::ScriptReader;
 use crate::sources::Sources;
 use crate::statuses::failure_status;
-use answer_lines::{ClockFault, Fault, Line, LineFault, Lines, Schedule, Shown, put};
-use sched_events::{Answer, Event};
+use answer_lines::{ClockFault, Fault, Line, LineFault, Lines, Schedule, Shown, Written, put};
+use sched_events::Event;
 use std::io::{self, ErrorKind, Read, Write};
 
 impl<R: Read + Drop, W: Write + Drop, F: Sources, P: Console> ScriptReader<R, W, F, P> {
-    // Writes the answer to an event, or why it was not accepted.
-    fn put(&mut self, event: &Event, answer: &Result<Answer, Fault>) -> io::Result<()>
+    // Writes the answer to an event that stands in the record, or why it was not accepted.
+    fn put<S>(&mut self, event: &Event, came: &Result<Written<S>, Fault>) -> io::Result<()>
         ensures input { self.new.input ≡ self.old.input }
         ensures words { self.new.words ≡ self.old.words }
         ensures sources { self.new.sources ≡ self.old.sources }
         ensures failed { self.new.failed ≡ self.old.failed }
         ensures over { self.new.is_over ≡ self.old.is_over }
-        ensures drains { self.new.has_drained ≡ self.old.has_drained }
-        ensures status { self.new.status ≡ max self.old.status (status_of answer.now) }
+        ensures status { self.new.status ≡ max self.old.status (status_of (came_of came.now)) }
         ensures shown { OnOk result (Appends (W.contents self.old.output) (W.contents self.new.output)
-            (shown_for event.now answer.now)) }
+            (shown_for event.now (came_of came.now))) }
     {
-        match answer {
-            Ok(answer) => {
+        match came {
+            Ok(written) => {
+                let answer = written.answer();
                 let spot = Spot::of(&self.lines);
                 self.console
                     .put(Some(spot), Some(event), Shown::Answer(event, answer));
@@ -49,7 +52,6 @@ impl<R: Read + Drop, W: Write + Drop, F: Sources, P: Console> ScriptReader<R, W,
         ensures sources { self.new.sources ≡ self.old.sources }
         ensures status { self.new.status ≡ self.old.status }
         ensures over { self.new.is_over ≡ self.old.is_over }
-        ensures drains { self.new.has_drained ≡ self.old.has_drained }
         ensures output { self.new.output ≡ self.old.output }
         ensures ended { is_err result ≡ is_err put }
         ensures failed { MatchResult result (λ _. self.new.failed ≡ self.old.failed)
@@ -74,20 +76,21 @@ fn fault_of(error: &io::Error) -> LineFault {
     }
 }
 
-impl<R: Read + Drop, W: Write + Drop, F: Sources, P: Console> Lines for ScriptReader<R, W, F, P> {
+impl<S, R: Read + Drop, W: Write + Drop, F: Sources, P: Console> Lines<S>
+    for ScriptReader<R, W, F, P> {
     ghost use Rattle.script_reader.specs.Readers.{Tells, tells_nothing};
 
     ghost tells = { Tells R.remaining W.contents F.gives };
 
     ghost shows = { λ s event answer t. Appends (W.contents s.output) (W.contents t.output) (shown_for event answer) };
 
+    ghost shows_done = { λ s t. Appends (W.contents s.output) (W.contents t.output) (shown_text Done) };
+
     ghost shows_no_clock = { λ s fault t. Appends (W.contents s.output) (W.contents t.output) (clock_text fault) };
 
     ghost failed = { λ s. s.failed };
 
     ghost over = { λ s. s.is_over };
-
-    ghost drains = { λ s. s.has_drained };
 
     ghost begins = { tells_nothing R.remaining W.contents F.gives F.begins };
 
@@ -110,9 +113,15 @@ impl<R: Read + Drop, W: Write + Drop, F: Sources, P: Console> Lines for ScriptRe
         &mut self,
         _schedule: &Schedule,
         event: &Event,
-        answer: &Result<Answer, Fault>,
+        came: &Result<Written<S>, Fault>,
     ) -> Result<(), LineFault> {
-        let put = self.put(event, answer);
+        let put = self.put(event, came);
+        self.end(put)
+    }
+
+    fn drained(&mut self, _schedule: &Schedule) -> Result<(), LineFault> {
+        self.console.wait_is_over();
+        let put = put(&mut self.output, Shown::Done);
         self.end(put)
     }
 
@@ -120,7 +129,7 @@ impl<R: Read + Drop, W: Write + Drop, F: Sources, P: Console> Lines for ScriptRe
         self.console.waits(schedule);
     }
 
-    fn no_clock(&mut self, fault: ClockFault) -> Result<(), LineFault> {
+    fn no_clock(&mut self, _schedule: &Schedule, fault: ClockFault) -> Result<(), LineFault> {
         let spot = Spot::of(&self.lines);
         self.console.put(Some(spot), None, Shown::NoMoment(fault));
         self.status = self.status.max(4);

@@ -2,17 +2,15 @@
 ghost use Rattle.std.specs.Prelude.{◌≡◌, ◌++◌, ℕ, max, List, [], Bool, true, false, None, Some, Option, Ok, Err, is_err, IfOk, IfErr, IfSome, MatchResult, OnOk};
 ghost use Rattle.std.specs.Io.KnownBytes.{Appends};
 ghost use Rattle.sched_model.specs.Schedule.{Schedule as ScheduleModel};
-ghost use Rattle.sched_model.specs.States.{in_flight};
 ghost use Rattle.script_commands.specs.Commands.{is_asked};
 ghost use Rattle.script_commands.specs.declared.commands.ScriptCommand.TheVariants.{TakeFile, Explain};
 ghost use Rattle.answer_lines.specs.CommandFaults.{command_fault_text};
 ghost use Rattle.command_words.specs.Lines.{IsListed};
 ghost use Rattle.word_app.specs.App.{Texts};
-ghost use Rattle.answer_lines.specs.sessions.Exchanges.{heard_where, looks, Exchange};
-ghost use Rattle.answer_lines.specs.sessions.Lines.{may_be_read, reads_drain};
+ghost use Rattle.answer_lines.specs.sessions.History.{looks, Step};
+ghost use Rattle.answer_lines.specs.sessions.Lines.{may_be_read};
 ghost use Rattle.script_reader.specs.Commands.{AnswersMore, Does, is_end, line_of};
-ghost use Rattle.script_reader.specs.Done.{FileAnswer, HasDone, waiting};
-ghost use Rattle.script_reader.specs.Shown.{AnswersDrain};
+ghost use Rattle.script_reader.specs.Done.{FileAnswer, HasDone};
 ghost use Rattle.script_reader.specs.Statuses as spec;
 
 use crate::console::{Console, Spot};
@@ -42,8 +40,6 @@ pub struct ScriptReader<R: Read + Drop, W: Write + Drop, F: Sources, P: Console>
     pub(crate) console: P,
     // The greatest status of what was answered.
     pub(crate) status: u8,
-    // A drain was read, and is answered before the next command is read.
-    pub(crate) has_drained: bool,
     pub(crate) failed: Option<LineFault>,
     pub(crate) is_over: bool,
 }
@@ -58,7 +54,6 @@ impl<R: Read + Drop, W: Write + Drop, F: Sources, P: Console> ScriptReader<R, W,
         ensures status { IfOk result (λ reader. reader.status ≡ 0) }
         ensures failed { IfOk result (λ reader. reader.failed ≡ None) }
         ensures over { IfOk result (λ reader. reader.is_over ≡ false) }
-        ensures drains { IfOk result (λ reader. reader.has_drained ≡ false) }
         ensures console { IfOk result (λ reader. reader.console ≡ script.console) }
         ensures kept { IfErr result (λ left. left ≡ script) }
     {
@@ -80,7 +75,6 @@ impl<R: Read + Drop, W: Write + Drop, F: Sources, P: Console> ScriptReader<R, W,
             sources,
             console,
             status: 0,
-            has_drained: false,
             failed: None,
             is_over: false,
         })
@@ -108,23 +102,18 @@ impl<R: Read + Drop, W: Write + Drop, F: Sources, P: Console> ScriptReader<R, W,
         }
     }
 
-    // Answers a drain that was read, of this schedule; then reads and answers commands, up to one that leaves a line to the run; nothing where the script
-    // is over.
+    // Reads and answers commands, up to one that leaves a line to the run; nothing where the script is over.
     pub(crate) fn read_line(&mut self, schedule: &Schedule) -> io::Result<Option<Line>>
-        requires drained { self.old.has_drained ≡ true → in_flight schedule.now.content ≡ 0 }
         ensures words { self.new.words ≡ self.old.words }
-        ensures told { (drained : Bool) (names : Texts) (before : ℕ) (first from : Option (List ℕ)) (s : F) (exchanges : List Exchange) (has_ended : Bool)
+        ensures told { (times : ℕ) × ((names : Texts) (before : ℕ) (first from : Option (List ℕ)) (s : F) (steps : List Step) (has_ended : Bool)
             → names ≡ self.old.words.names
-            → HasDone names before drained first (λ given. F.gives s given self.old.sources) (Appends from (W.contents self.old.output))
-            exchanges (waiting None self.old.has_drained) (R.remaining self.old.input) self.old.status false has_ended
-            → (times : ℕ) × HasDone names before drained first (λ given. F.gives s given self.new.sources) (Appends from (W.contents self.new.output))
-            (exchanges ++ (heard_where self.old.has_drained ++ looks times schedule.now.content)) (line_of result) (R.remaining self.new.input) self.new.status (is_err result) (is_end result) }
+            → HasDone names before first (λ given. F.gives s given self.old.sources) (Appends from (W.contents self.old.output))
+            steps None (R.remaining self.old.input) self.old.status false has_ended
+            → HasDone names before first (λ given. F.gives s given self.new.sources) (Appends from (W.contents self.new.output))
+            (steps ++ looks times schedule.now.content) (line_of result) (R.remaining self.new.input) self.new.status (is_err result) (is_end result)) }
         ensures failed { self.new.failed ≡ self.old.failed }
-        ensures drains { self.new.has_drained ≡ reads_drain result }
         ensures line { IfOk result (λ next. IfSome next (λ line. may_be_read line ≡ true)) }
     {
-        self.console.wait_is_over();
-        self.answer_drain()?;
         for _command in 0..MOST_COMMANDS {
             self.output.flush()?;
             self.console.tell(Some(schedule));
@@ -139,23 +128,6 @@ impl<R: Read + Drop, W: Write + Drop, F: Sources, P: Console> ScriptReader<R, W,
         Err(io::Error::from(ErrorKind::Other))
     }
 
-    // Answers a drain that was read: when the next command is read, no try is in flight.
-    fn answer_drain(&mut self) -> io::Result<()>
-        ensures input { self.new.input ≡ self.old.input }
-        ensures words { self.new.words ≡ self.old.words }
-        ensures sources { self.new.sources ≡ self.old.sources }
-        ensures status { self.new.status ≡ self.old.status }
-        ensures failed { self.new.failed ≡ self.old.failed }
-        ensures drains { self.new.has_drained ≡ false }
-        ensures shown { OnOk result (AnswersDrain self.old.has_drained (W.contents self.old.output) (W.contents self.new.output)) }
-    {
-        if self.has_drained {
-            self.has_drained = false;
-            put(&mut self.output, Shown::Done)?;
-        }
-        Ok(())
-    }
-
     // Does one command: the line that it leaves to the run, or none where it is answered.
     fn do_command(
         &mut self,
@@ -163,24 +135,19 @@ impl<R: Read + Drop, W: Write + Drop, F: Sources, P: Console> ScriptReader<R, W,
         request: Result<ScriptCommand, CommandFault>,
     ) -> io::Result<Option<Line>>
         requires asked { is_asked request ≡ true }
-        requires drains { self.old.has_drained ≡ false }
         ensures does { (texts : List FileAnswer) × AnswersMore F.gives texts self.old.sources self.new.sources
             × Does schedule.now.content request texts result self.old.status self.new.status
             (W.contents self.old.output) (W.contents self.new.output) }
         ensures input { self.new.input ≡ self.old.input }
         ensures words { self.new.words ≡ self.old.words }
         ensures failed { self.new.failed ≡ self.old.failed }
-        ensures drains { self.new.has_drained ≡ reads_drain result }
         ensures line { IfOk result (λ next. IfSome next (λ line. may_be_read line ≡ true)) }
     {
         match request {
             Ok(ScriptCommand::Step(event)) => Ok(Some(Line::Event(event))),
             Ok(ScriptCommand::TakeFile(taking, path)) => self.take(taking, &path),
             Ok(ScriptCommand::TickNow) => Ok(Some(Line::TickNow)),
-            Ok(ScriptCommand::Drain) => {
-                self.has_drained = true;
-                Ok(Some(Line::Drain))
-            }
+            Ok(ScriptCommand::Drain) => Ok(Some(Line::Drain)),
             Ok(ScriptCommand::List(listing)) => {
                 let put = put_listing(&mut self.output, schedule, listing);
                 self.count(put, 0)
@@ -198,8 +165,6 @@ impl<R: Read + Drop, W: Write + Drop, F: Sources, P: Console> ScriptReader<R, W,
         ensures input { self.new.input ≡ self.old.input }
         ensures words { self.new.words ≡ self.old.words }
         ensures failed { self.new.failed ≡ self.old.failed }
-        ensures drains { self.new.has_drained ≡ self.old.has_drained }
-        ensures event { reads_drain result ≡ false }
         ensures line { IfOk result (λ next. IfSome next (λ line. may_be_read line ≡ true)) }
     {
         match self.sources.text(path.as_str()) {
@@ -220,7 +185,6 @@ impl<R: Read + Drop, W: Write + Drop, F: Sources, P: Console> ScriptReader<R, W,
         ensures words { self.new.words ≡ self.old.words }
         ensures sources { self.new.sources ≡ self.old.sources }
         ensures failed { self.new.failed ≡ self.old.failed }
-        ensures drains { self.new.has_drained ≡ self.old.has_drained }
     {
         let Question {
             graph,
@@ -251,7 +215,6 @@ impl<R: Read + Drop, W: Write + Drop, F: Sources, P: Console> ScriptReader<R, W,
         ensures words { self.new.words ≡ self.old.words }
         ensures sources { self.new.sources ≡ self.old.sources }
         ensures failed { self.new.failed ≡ self.old.failed }
-        ensures drains { self.new.has_drained ≡ self.old.has_drained }
         ensures shown { OnOk result (Appends (W.contents self.old.output) (W.contents self.new.output) (command_fault_text fault)) }
     {
         let spot = Spot::of(&self.lines);
@@ -271,7 +234,6 @@ impl<R: Read + Drop, W: Write + Drop, F: Sources, P: Console> ScriptReader<R, W,
         ensures words { self.new.words ≡ self.old.words }
         ensures sources { self.new.sources ≡ self.old.sources }
         ensures failed { self.new.failed ≡ self.old.failed }
-        ensures drains { self.new.has_drained ≡ self.old.has_drained }
     {
         match put {
             Ok(()) => {

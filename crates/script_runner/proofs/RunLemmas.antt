@@ -1,8 +1,12 @@
 -- What the run of a script promises, from what the conductor promises.
-use Rattle.std.proofs.Common.{◌≡◌, ◌≢◌, ◌∙◌, ◌∷◌, ◌++◌, ℕ, Bool, true, false, true≢false, not, ◌&&◌, List, [], flat_map, Option, None, is_some, Result, Ok, Err, is_ok, IsTrue, MatchResult, IfErr, OnOk, refl, sym, ap, subst, inl, inr, arith, ◌≤◌}
+use Rattle.std.proofs.Common.{◌≡◌, ◌≢◌, ◌∙◌, ◌∷◌, ◌++◌, ℕ, Bool, true, false, true≢false, not, ◌&&◌, List, [], flat_map, Option, None, is_some, Result, Ok, Err, is_ok, IsTrue, MatchResult, IfErr, OnOk, append-nil, refl, sym, ap, subst, inl, inr, arith, ◌≤◌}
+use Rattle.std.proofs.lemmas.Grind.{flat_map-append}
+use Rattle.std.proofs.lemmas.List.Elements.{All-head, All-tail}
 use Rattle.std.specs.Io.KnownBytes.{Appends}
 use Rattle.sqlite.specs.Held.{Held}
+use Rattle.sqlite.specs.Effect.{Database}
 use Rattle.sqlite.specs.State.{State, HasCleanDisk}
+use Rattle.sqlite.specs.Tree.{Trees}
 use Rattle.instance_machine.specs.declared.tries.Outcome.{Outcome}
 use Rattle.sched_state.specs.declared.jobs.Job.{Job}
 use Rattle.operators.specs.declared.kits.Kit.{Kit}
@@ -17,23 +21,24 @@ use Rattle.script_commands.specs.Commands.{Request}
 use Rattle.command_words.specs.Lines.{IsListed}
 use Rattle.conduct.specs.sessions.director.Directors.{DirectorValue, Keeps, Opens, RestartsIn}
 use Rattle.conduct.proofs.sessions.director.ListLemmas.{stays_open, was_clean}
-use Rattle.minutes.specs.Minutes.{BeginWithRestart}
-use Rattle.conduct.specs.sessions.Exchanges.{Exchange, Heard, readings_in, told_in, TookPlaceBehind}
+use Rattle.minutes.specs.Minutes.{answered}
+use Rattle.conduct.specs.sessions.director.Leaves.{IsOneOf, Leaves, LeavesBy}
+use Rattle.conduct.specs.sessions.History.{accepted, is_reported, readings_in, told_by, told_in, tried_at_end, AreReported, AreRight, Asked, Looked, NoneThere, Reported, Restarted, Step, Told}
 use Rattle.conduct.specs.sessions.Readings.{Reading}
-use Rattle.conduct.proofs.sessions.ExchangeLemmas.{behind_are_answered, told_of_each}
+use Rattle.conduct.proofs.sessions.LawLemmas.{right_answered}
 use Rattle.conduct.specs.sessions.declared.faults.ConductFault.{ConductFault}
 use Rattle.conduct.specs.sessions.declared.faults.ConductFault.TheVariants as fault
 use Rattle.conduct.specs.sessions.declared.line_reading.Line.{Line}
 use Rattle.conduct.specs.sessions.declared.line_reading.LineFault.{LineFault}
 use Rattle.conduct.specs.Faults.{EndsRun, came_to_its_end, is_unstarted}
 use Rattle.conduct.specs.Run.{IsConducted}
+use Rattle.conduct.specs.Served.{IsHistory}
 use Rattle.conduct.specs.declared.conducting.Conducted.{Conducted}
-use Rattle.script_reader.specs.Done.{FileAnswer, Done, HasDone, IsOpen, IsUndone, asked_from, greatest_status, waiting}
+use Rattle.script_reader.specs.Done.{FileAnswer, Done, HasDone, IsOpen, IsUndone, greatest_status}
 use Rattle.script_reader.specs.Ends.{IsEndStatus, end_text}
 use Rattle.script_reader.proofs.DoneLemmas.{kept_open}
 use Rattle.script_reader.proofs.ShownLemmas.{appends_then}
 use Rattle.script_reader.proofs.StatusLemmas.{all_whole}
-use Rattle.conduct.specs.sessions.Told.{AreTold}
 use Rattle.slot_desk.specs.declared.desk.Total.{Total}
 use Rattle.work.specs.declared.crews.WorkerEnd.{WorkerEnd}
 use Rattle.script_reader.specs.Readers.{Tells}
@@ -101,12 +106,52 @@ ended : {T : Type 0} (broken : Bool) (status : ℕ) (shows output : List ℕ →
 ended broken status shows output text (Ok v) closes written = tt
 ended broken status shows output text (Err f) closes written = λ other. let fine = closes other in fine.1 text (written fine.0)
 
+-- ---- what lines were told of a history
+untold : (x : Step) → is_reported x ≡ true → told_by x ≡ []
+untold (Reported waited t faults came) is = refl
+untold NoneThere is = refl
+untold (Looked b) is = refl
+untold (Restarted lanes faults came) is = refl
+untold (Asked b reading) is = refl
+untold (Told e came) is = absurd (true≢false (sym is))
+
+reported_untold : (h : List Step) → AreReported h → told_in h ≡ []
+reported_untold [] are = refl
+reported_untold (x ∷ xs) are =
+    ap (λ l. l ++ told_in xs) (untold x (All-head (λ (y : Step). is_reported y ≡ true) x xs are)) ∙ reported_untold xs (All-tail (λ (y : Step). is_reported y ≡ true) x xs are)
+
+-- as accepted they were told no more than the steps that they were told
+told_of_parts : (lanes : ℕ) (h told last : List Step) → IsHistory lanes h told last → told_in h ≡ told_in told
+told_of_parts lanes h told last parts =
+    let behind : told_in (told ++ last) ≡ told_in told = flat_map-append told_by told last ∙ ap (λ l. told_in told ++ l) (reported_untold last parts.behind) ∙ append-nil (told_in told) in
+    elim parts.first [
+      | inl none ↦ ap told_in none.0 ∙ ap told_in (sym none.1)
+      | inr begun ↦ ap told_in begun.2 ∙ behind
+    ]
+
+told_of_each : {D : Type 0} (f : D → List Step) (ds : List D) → told_in (flat_map f ds) ≡ flat_map (λ d. told_in (f d)) ds
+told_of_each f [] = refl
+told_of_each f (d ∷ ds) = flat_map-append told_by (f d) (flat_map f ds) ∙ ap (λ l. told_in (f d) ++ l) (told_of_each f ds)
+
+-- ---- what the files may hold
+from_made : (es tried : List Event) (a : Schedule) (s : State) (trees : Trees) → Keeps a s.now → LeavesBy es tried a s trees → (one : List Event) × IsOneOf one tried × (db : Database) × Keeps (steps (es ++ one) a) db × (trees ≡ db.trees)
+from_made es tried a s trees keeps (one, among, (is_open, (db, holds, same))) = (one, among, db, holds keeps, same)
+
+left_files : (es tried : List Event) (a : Schedule) (s t : State) → Leaves es tried a s t → HasCleanDisk t → Keeps a s.now → ((trees : Trees) → s.may_leave trees → trees ≡ s.now.trees) → (trees : Trees) → t.may_leave trees
+    → (one : List Event) × IsOneOf one tried × (db : Database) × Keeps (steps (es ++ one) a) db × (trees ≡ db.trees)
+left_files [] tried a s t left clean keeps only trees may = elim (left.survives.crash clean trees may) [
+  | inl still ↦ ([], inl refl, s.now, keeps, only trees still)
+  | inr made ↦ from_made [] tried a s trees keeps made
+]
+left_files (e ∷ es) tried a s t left clean keeps only trees may = from_made (e ∷ es) tried a s trees keeps (left.gone (λ none. absurd (let n : e ∷ es ≡ [] = none in cc)) clean trees may)
+
 -- ---- the events of the minutes beside the script's lines
-pub named : {T : Type 0} (words : Texts) (before : ℕ) (drained : Bool) (first : Option (List ℕ)) (gives : List FileAnswer → Type 0) (clock : List Reading → Type 0) (shows output : List ℕ → Type 0) (told : List Exchange) (start : Schedule) (minutes : List Event) (waits : Option Line) (left : Option (List ℕ)) (answers status lanes : ℕ) (broken over was_over : Bool) (outcome : Result T ConductFault)
-    → IsListed words → before ≡ 0 → drained ≡ false → HasDone words before drained first gives shows told waits left answers broken (over && not was_over) → (is_ok outcome ≡ true → (broken ≡ false) × ((xs : List ℕ) → shows xs → output xs)) → (broken ≡ true → may_break_off outcome ≡ true) → IfErr outcome (λ f. status ≢ 4 → (broken ≡ false) × ((xs : List ℕ) → shows xs → output (xs ++ end_text f))) → BeginWithRestart lanes minutes → TookPlaceBehind told (Heard ∷ []) minutes start → clock (readings_in told) → was_over ≡ false
+pub named : {T : Type 0} (words : Texts) (before : ℕ) (first : Option (List ℕ)) (gives : List FileAnswer → Type 0) (clock : List (Schedule × Reading) → Type 0) (shows output : List ℕ → Type 0) (told : List Step) (start : Schedule) (minutes : List Event) (waits : Option Line) (left : Option (List ℕ)) (answers status lanes : ℕ) (broken over was_over : Bool) (outcome : Result T ConductFault)
+    → IsListed words → before ≡ 0 → HasDone words before first gives shows told waits left answers broken (over && not was_over) → (is_ok outcome ≡ true → (broken ≡ false) × ((xs : List ℕ) → shows xs → output xs)) → (broken ≡ true → may_break_off outcome ≡ true) → IfErr outcome (λ f. status ≢ 4 → (broken ≡ false) × ((xs : List ℕ) → shows xs → output (xs ++ end_text f)))
+    → (history last : List Step) → IsHistory lanes history told last → AreRight history start → minutes ≡ accepted history → clock (readings_in told) → was_over ≡ false
     → (came_to_its_end outcome ≡ true → (over ≡ true) × (waits ≡ None)) → IsEndStatus answers outcome status
-    → AreNamed first gives clock output start minutes outcome status
-named words before drained first gives clock shows output told start minutes waits left answers status lanes broken over was_over outcome listed zero undrained h writes breaks closes begun took given fresh whole is =
+    → AreNamed first gives clock output lanes start minutes outcome status
+named words before first gives clock shows output told start minutes waits left answers status lanes broken over was_over outcome listed zero h writes breaks closes history last parts right made given fresh whole is =
     let greatest : answers ≡ greatest_status h.done = omega (arith, h.status_is, zero) in
     let ends : came_to_its_end outcome ≡ true → (over && not was_over) ≡ true = λ came. ap (λ b. b && not was_over) (whole came).0 ∙ ap not fresh in
     record {
@@ -120,15 +165,20 @@ named words before drained first gives clock shows output told start minutes wai
       opens = undone (may_break_off outcome) broken (over && not was_over) waits h.open_asked h.open_texts breaks h.opens;
       none_waits = λ came. (whole came).1;
       texts = h.texts;
-      readings = subst (λ (xs : List Exchange). clock (readings_in xs)) h.exchanged given;
-      took_place = subst (λ (xs : List Exchange). TookPlaceBehind xs (Heard ∷ []) minutes start) h.exchanged took;
-      answers_are = behind_are_answered lanes told minutes start begun took ∙ ap told_in h.exchanged ∙ told_of_each (λ (d : Done). d.exchanges) h.done;
+      readings = subst (λ (xs : List Step). clock (readings_in xs)) h.stepped given;
+      history = history;
+      last = last;
+      parts = subst (λ (xs : List Step). IsHistory lanes history xs last) h.stepped parts;
+      right = right;
+      made = made;
+      answers_are =
+          ap (λ (es : List Event). answered es start) made ∙ right_answered history start right ∙ told_of_parts lanes history told last parts ∙ ap told_in h.stepped ∙ told_of_each (λ (d : Done). d.steps) h.done;
       shown = λ well. let fine = writes well in fine.1 (flat_map (λ (d : Done). d.shown) h.done) (h.output fine.0);
       ended_with = ended broken status shows output (flat_map (λ (d : Done). d.shown) h.done) outcome closes h.output;
       read = λ known e.
           let r = h.read known e in (
             r.0,
-            ap (λ b. asked_from words b known) (sym undrained) ∙ r.1,
+            r.1,
             λ came.
                 let end = whole came in
                 let none : IsOpen None h.open_asked h.open_texts = subst (λ (w : Option Line). IsOpen w h.open_asked h.open_texts) end.1 (kept_open (broken && not (over && not was_over)) waits h.open_asked h.open_texts (not_at_end broken (over && not was_over) (ends came)) h.opens) in
@@ -147,17 +197,22 @@ still : {A : Type 0} (none untouched still' : Type 0) (r : Result A ConductFault
 still none untouched still' (Ok v) to was = tt
 still none untouched still' (Err f) to was = λ is. let both = was is in (both.0, to both.1)
 
+none_made : {A : Type 0} (none made untouched : Type 0) (r : Result A ConductFault) → (none → made) → IfErr r (λ f. is_unstarted f ≡ true → none × untouched) → IfErr r (λ f. is_unstarted f ≡ true → made × untouched)
+none_made none made untouched (Ok v) to was = tt
+none_made none made untouched (Err f) to was = λ is. let both = was is in (to both.0, both.1)
+
 module _ {S G O : Type 0} (look : Held S → State) (runs : O → List (Job × Outcome)) (refused : O → List Job) (taken : O → Option Job) where
-  pub is_run : (bytes : Option (List ℕ)) (gives : List FileAnswer → Type 0) (clock : List Reading → Type 0) (output : List ℕ → Type 0) (lanes : ℕ) (kits : List (Kit O)) (before : State) (d : DirectorValue S) (conducted : Conducted S G O) (status : ℕ)
-      (are_told : Schedule → List Event → Option Line → Type 0) (untouched quiet : Type 0) (failed : Option LineFault) (over : Bool)
-      → IsConducted look runs refused taken lanes kits d conducted are_told untouched failed over → (untouched → quiet)
+  pub is_run : (bytes : Option (List ℕ)) (gives : List FileAnswer → Type 0) (clock : List (Schedule × Reading) → Type 0) (output : List ℕ → Type 0) (lanes : ℕ) (kits : List (Kit O)) (before : State) (d : DirectorValue S) (conducted : Conducted S G O) (status : ℕ)
+      (are_told : List Step → Option Line → Type 0) (untouched quiet : Type 0) (failed : Option LineFault) (over : Bool)
+      → (c : IsConducted look runs refused taken lanes kits d conducted are_told untouched failed over) → (untouched → quiet)
       → IsSoundAndSaid d.schedule.content
       → (HasCleanDisk (look d.store) → Opens ceilings 0 before.now d.schedule.content d.opened)
       → (HasCleanDisk (look d.store) → RestartsIn ceilings 0 before.now (look d.store).now)
       → (before.faults ≤ (look d.store).faults) × (HasCleanDisk (look d.store) → IsTrue (look d.store).is_open)
-      → AreNamed bytes gives clock output d.schedule.content conducted.minutes.items conducted.outcome status
+      → (HasCleanDisk (look d.store) → (trees : Trees) → (look d.store).may_leave trees → trees ≡ (look d.store).now.trees)
+      → (named : AreNamed bytes gives clock output lanes d.schedule.content conducted.minutes.items conducted.outcome status) → named.history ≡ c.history
       → IsRun look runs refused taken bytes gives clock output quiet lanes kits before conducted.director.store conducted.minutes.items conducted.ends.items conducted.outcome status
-  is_run bytes gives clock output lanes kits before d conducted status are_told untouched quiet failed over c to sound opened restarted is_open named =
+  is_run bytes gives clock output lanes kits before d conducted status are_told untouched quiet failed over c to sound opened restarted is_open only named same =
       let a = d.schedule.content in
       let es = conducted.minutes.items in
       record {
@@ -174,11 +229,16 @@ module _ {S G O : Type 0} (look : Held S → State) (runs : O → List (Job × O
             let keeps : Keeps a (look d.store).now = subst (λ (x : Schedule). Keeps x (look d.store).now) (sym (opened first rows has).stepped.after) (restarted first rows has) in
             subst (λ (x : Schedule). Keeps x (look conducted.director.store).now) c.stepped (c.followed.stored clean is_open keeps);
         named = named;
+        left = λ clean rows has.
+            let first = was_clean _ _ _ _ c.followed clean in
+            let keeps : Keeps a (look d.store).now = subst (λ (x : Schedule). Keeps x (look d.store).now) (sym (opened first rows has).stepped.after) (restarted first rows has) in
+            left_files es (tried_at_end named.history) a (look d.store) (look conducted.director.store)
+            (subst (λ (h : List Step). Leaves es (tried_at_end h) a (look d.store) (look conducted.director.store)) (sym same) c.left) clean keeps (only first);
         well = λ z. (ends_well _ status conducted.outcome named.ended z).0;
         failed = failed;
         fault = c.fault;
         workers = c.workers;
-        unstarted = still (es ≡ []) untouched quiet conducted.outcome to c.unstarted;
+        unstarted = still (es ≡ []) untouched quiet conducted.outcome to (none_made (c.history ≡ []) (es ≡ []) untouched conducted.outcome (λ none. c.minutes ∙ ap accepted none) c.unstarted);
         worked = c.worked;
         idle = where_well (in_flight (steps es a) ≡ 0) conducted.outcome (λ well. ap in_flight (sym c.stepped) ∙ (c.whole well).3);
         once = c.once;
@@ -203,10 +263,9 @@ ok_so P (Err f) p well = absurd (true≢false (sym well))
 pub record IsFresh {R W F P : Type 0} (first : ScriptReader R W F P) : Type 0 where
   pub over : first.is_over ≡ false
   pub status : first.status ≡ 0
-  pub drains : first.has_drained ≡ false
   pub listed : IsListed first.words.names
 
-module _ {S G O R W F P C : Type 0} (look : Held S → State) (runs : O → List (Job × Outcome)) (refused : O → List Job) (taken : O → Option Job) (remaining : R → Option (List ℕ)) (contents : W → Option (List ℕ)) (gives : F → List FileAnswer → F → Type 0) (ticks : C → List Reading → C → Type 0) where
+module _ {S G O R W F P C : Type 0} (look : Held S → State) (runs : O → List (Job × Outcome)) (refused : O → List Job) (taken : O → Option Job) (remaining : R → Option (List ℕ)) (contents : W → Option (List ℕ)) (gives : F → List FileAnswer → F → Type 0) (ticks : C → List (Schedule × Reading) → C → Type 0) where
   -- what comes back of what was conducted, with the last state of the reader
   pub record ComesBack (conducted : Conducted S G O) (last : ScriptReader R W F P) (store : Held S) (minutes : List Event) (ends : List (WorkerEnd G O)) (outcome : Result Total ConductFault) (status : ℕ) (sources : F) (output : W) : Type 0 where
     pub store_is : store ≡ conducted.director.store
@@ -218,18 +277,9 @@ module _ {S G O R W F P C : Type 0} (look : Held S → State) (runs : O → List
     pub output_is : OnOk conducted.outcome (output ≡ last.output)
     pub ended_is : IfErr conducted.outcome (λ f. status ≢ 4 → Appends (contents last.output) (contents output) (end_text f))
 
-  -- at the end of the run no drain waits
-  undrained : (lanes : ℕ) (kits : List (Kit O)) (d : DirectorValue S) (conducted : Conducted S G O) (first last : ScriptReader R W F P) (clock later : C)
-      → (c : IsConducted look runs refused taken lanes kits d conducted (AreTold (Tells remaining contents gives) ticks first clock last later) ((last ≡ first) × (later ≡ clock)) last.failed last.is_over)
-      → IsFresh first → came_to_its_end conducted.outcome ≡ true → (last.is_over ≡ true) × (waiting c.waits last.has_drained ≡ None)
-  undrained lanes kits d conducted first last clock later c fresh came =
-      let end = c.whole came in
-      let quiet : last.has_drained ≡ false = c.told.told.2.over (ap (λ b. b && not first.is_over) end.0 ∙ ap not fresh.over) in
-      (end.0, ap (λ w. waiting w last.has_drained) end.1 ∙ ap (waiting None) quiet)
-
   -- what was written, where the run ended well
   writes : (lanes : ℕ) (kits : List (Kit O)) (d : DirectorValue S) (conducted : Conducted S G O) (first last : ScriptReader R W F P) (clock later : C) (output : W)
-      → IsConducted look runs refused taken lanes kits d conducted (AreTold (Tells remaining contents gives) ticks first clock last later) ((last ≡ first) × (later ≡ clock)) last.failed last.is_over
+      → IsConducted look runs refused taken lanes kits d conducted (λ told waits. Tells remaining contents gives first told waits last × ticks clock (readings_in told) later) ((last ≡ first) × (later ≡ clock)) last.failed last.is_over
       → OnOk conducted.outcome (output ≡ last.output) → is_ok conducted.outcome ≡ true
       → (is_some last.failed ≡ false) × ((xs : List ℕ) → Appends (contents first.output) (contents last.output) xs → Appends (contents first.output) (contents output) xs)
   writes lanes kits d conducted first last clock later output c at well =
@@ -239,27 +289,28 @@ module _ {S G O R W F P C : Type 0} (look : Held S → State) (runs : O → List
       )
 
   pub ran : (lanes : ℕ) (kits : List (Kit O)) (before : State) (d : DirectorValue S) (conducted : Conducted S G O) (first last : ScriptReader R W F P) (clock later : C)
-      → IsConducted look runs refused taken lanes kits d conducted (AreTold (Tells remaining contents gives) ticks first clock last later) ((last ≡ first) × (later ≡ clock)) last.failed last.is_over
+      → IsConducted look runs refused taken lanes kits d conducted (λ told waits. Tells remaining contents gives first told waits last × ticks clock (readings_in told) later) ((last ≡ first) × (later ≡ clock)) last.failed last.is_over
       → IsSoundAndSaid d.schedule.content
       → (HasCleanDisk (look d.store) → Opens ceilings 0 before.now d.schedule.content d.opened)
       → (HasCleanDisk (look d.store) → RestartsIn ceilings 0 before.now (look d.store).now)
       → (before.faults ≤ (look d.store).faults) × (HasCleanDisk (look d.store) → IsTrue (look d.store).is_open)
+      → (HasCleanDisk (look d.store) → (trees : Trees) → (look d.store).may_leave trees → trees ≡ (look d.store).now.trees)
       → IsFresh first
       → (store : Held S) (minutes : List Event) (ends : List (WorkerEnd G O)) (outcome : Result Total ConductFault) (status : ℕ) (sources : F) (output : W) → ComesBack conducted last store minutes ends outcome status sources output
       → IsRun look runs refused taken (remaining first.input) (λ given. gives first.sources given sources) (λ moments. ticks clock moments later) (λ shown. Appends (contents first.output) (contents output) shown) ((sources ≡ first.sources) × (later ≡ clock)) lanes kits before store minutes ends outcome status
-  ran lanes kits before d conducted first last clock later c sound opened restarted is_open fresh store minutes ends outcome status sources output back =
+  ran lanes kits before d conducted first last clock later c sound opened restarted is_open only fresh store minutes ends outcome status sources output back =
       let es = conducted.minutes.items in
       let t = c.told in
       let bytes = remaining first.input in
       let files : List FileAnswer → Type 0 = λ given. gives first.sources given last.sources in
-      let times : List Reading → Type 0 = λ moments. ticks clock moments later in
+      let times : List (Schedule × Reading) → Type 0 = λ moments. ticks clock moments later in
       let text : List ℕ → Type 0 = λ shown. Appends (contents first.output) (contents output) shown in
       let quiet : Type 0 = (last.sources ≡ first.sources) × (later ≡ clock) in
-      let named_here : AreNamed bytes files times text d.schedule.content es conducted.outcome status =
-      named first.words.names first.status first.has_drained bytes files times (Appends (contents first.output) (contents last.output)) text t.exchanges d.schedule.content es (waiting c.waits last.has_drained) (remaining last.input) last.status status lanes (is_some last.failed) last.is_over first.is_over conducted.outcome
-      fresh.listed fresh.status fresh.drains t.told.1 (writes lanes kits d conducted first last clock later output c back.output_is) (breaks_off last.failed conducted.outcome c.fault) (closing (contents first.output) (contents last.output) (contents output) last.failed last.status status conducted.outcome c.fault back.status_is back.ended_is) c.begun t.took_place t.given fresh.over (undrained lanes kits d conducted first last clock later c fresh) back.status_is
+      let named_here : AreNamed bytes files times text lanes d.schedule.content es conducted.outcome status =
+      named first.words.names first.status bytes files times (Appends (contents first.output) (contents last.output)) text c.steps_told d.schedule.content es c.waits (remaining last.input) last.status status lanes (is_some last.failed) last.is_over first.is_over conducted.outcome
+      fresh.listed fresh.status t.0.1 (writes lanes kits d conducted first last clock later output c back.output_is) (breaks_off last.failed conducted.outcome c.fault) (closing (contents first.output) (contents last.output) (contents output) last.failed last.status status conducted.outcome c.fault back.status_is back.ended_is) c.history c.last c.parts c.right c.minutes t.1 fresh.over (λ came. let end = c.whole came in (end.0, end.1)) back.status_is
       in
-      let here = is_run look runs refused taken bytes files times text lanes kits before d conducted status _ ((last ≡ first) × (later ≡ clock)) quiet last.failed last.is_over c (λ same. (ap (λ (r : ScriptReader R W F P). r.sources) same.0, same.1)) sound opened restarted is_open named_here in
+      let here = is_run look runs refused taken bytes files times text lanes kits before d conducted status _ ((last ≡ first) × (later ≡ clock)) quiet last.failed last.is_over c (λ same. (ap (λ (r : ScriptReader R W F P). r.sources) same.0, same.1)) sound opened restarted is_open only named_here refl in
       subst (λ (f : F). IsRun look runs refused taken bytes (λ given. gives first.sources given f) times text ((f ≡ first.sources) × (later ≡ clock)) lanes kits before store minutes ends outcome status) (sym back.sources_are)
       (subst (λ (s : Held S). IsRun look runs refused taken bytes files times text quiet lanes kits before s minutes ends outcome status) (sym back.store_is)
       (subst (λ (l : List Event). IsRun look runs refused taken bytes files times text quiet lanes kits before conducted.director.store l ends outcome status) (sym back.minutes_are)

@@ -1,17 +1,18 @@
 -- What a run says beside the lines of its script.
-use Rattle.std.specs.Prelude.{◌≡◌, ◌≢◌, ℕ, Bool, true, false, List, [], ◌∷◌, ◌++◌, map, flat_map, All, Option, Some, None, Result, Err, is_ok, IfErr}
+use Rattle.std.specs.Prelude.{◌≡◌, ◌≢◌, ℕ, Bool, true, false, List, [], ◌++◌, map, flat_map, All, Option, Some, None, Result, Err, is_ok, IfErr}
 use Rattle.word_app.specs.App.{Texts}
 use Rattle.command_words.specs.Lines.{IsListed}
 use Rattle.sched_events.specs.declared.events.Event.{Event}
 use Rattle.script_commands.specs.Commands.{Request, commands_in}
 use Rattle.sched_model.specs.Schedule.{Schedule}
 use Rattle.minutes.specs.Minutes.{answered}
-use Rattle.conduct.specs.sessions.Exchanges.{readings_in, told_in, Heard, TookPlaceBehind}
+use Rattle.conduct.specs.sessions.History.{accepted, readings_in, told_in, AreRight, Step}
 use Rattle.conduct.specs.sessions.Readings.{Reading}
 use Rattle.conduct.specs.sessions.declared.faults.ConductFault.{ConductFault}
 use Rattle.conduct.specs.sessions.declared.faults.ConductFault.TheVariants.{ReadFault, Memory}
 use Rattle.conduct.specs.sessions.declared.line_reading.Line.{Line}
 use Rattle.conduct.specs.Faults.{came_to_its_end}
+use Rattle.conduct.specs.Served.{IsHistory}
 use Rattle.script_reader.specs.Done.{FileAnswer, Done, IsDone, IsUndone, greatest_status, is_whole}
 use Rattle.script_reader.specs.Ends.{IsEndStatus, end_text}
 
@@ -32,7 +33,7 @@ may_break_off _ = false
 -- by the line of its fault too. The status is the greatest of what was done, where the run ended well, and that of its fault otherwise; where it is 0, the
 -- event of each command is there.
 -- restates: this project's own profile
-pub record AreNamed {T : Type 0} (bytes : Option (List ℕ)) (sources : List FileAnswer → Type 0) (clock : List Reading → Type 0) (output : List ℕ → Type 0) (first : Schedule) (minutes : List Event) (outcome : Result T ConductFault) (status : ℕ) : Type 0 where
+pub record AreNamed {T : Type 0} (bytes : Option (List ℕ)) (sources : List FileAnswer → Type 0) (clock : List (Schedule × Reading) → Type 0) (output : List ℕ → Type 0) (lanes : ℕ) (first : Schedule) (minutes : List Event) (outcome : Result T ConductFault) (status : ℕ) : Type 0 where
   pub words : Texts
   pub listed : IsListed words
   pub done : List Done
@@ -44,16 +45,21 @@ pub record AreNamed {T : Type 0} (bytes : Option (List ℕ)) (sources : List Fil
   pub opens : IsUndone (may_break_off outcome) waits open_asked open_texts
   pub none_waits : came_to_its_end outcome ≡ true → waits ≡ None
   pub texts : sources (flat_map (λ d. d.texts) done ++ open_texts)
-  -- what the clock gave is what passed of it, in order: for each `tick now` reports were heard, then the clock was asked, and then the tick was told
-  pub readings : clock (readings_in (flat_map (λ d. d.exchanges) done))
-  -- what passed between the commands and the run, one after another, took place behind the restart while the minutes were made, and then reports were heard;
-  -- so the events that were told as accepted are those that the minutes answer
-  pub took_place : TookPlaceBehind (flat_map (λ d. d.exchanges) done) (Heard ∷ []) minutes first
-  pub answers_are : answered minutes first ≡ flat_map (λ d. told_in d.exchanges) done
+  -- what the clock gave is what the steps say, in order, each at its schedule: for each `tick now` the reports that were there were heard, then the clock was asked,
+  -- and then the tick was told
+  pub readings : clock (readings_in (flat_map (λ d. d.steps) done))
+  -- what the run did, step by step: behind the restart the steps of the commands, one after another, and then reports. Each is right at the schedule that it came to,
+  -- and the minutes are its accepted events; so the events that were told as accepted are those that the minutes answer
+  pub history : List Step
+  pub last : List Step
+  pub parts : IsHistory lanes history (flat_map (λ d. d.steps) done) last
+  pub right : AreRight history first
+  pub made : minutes ≡ accepted history
+  pub answers_are : answered minutes first ≡ flat_map (λ d. told_in d.steps) done
   pub shown : is_ok outcome ≡ true → output (flat_map (λ d. d.shown) done)
   pub ended_with : IfErr outcome (λ f. status ≢ 4 → output (flat_map (λ d. d.shown) done ++ end_text f))
   pub read : (known : List ℕ) → bytes ≡ Some known
       → (rest : List Request) × (commands_in words known ≡ map (λ d. d.asked) done ++ (open_asked ++ rest))
       × (came_to_its_end outcome ≡ true → (open_asked ≡ []) × (rest ≡ []))
   pub ended : IsEndStatus (greatest_status done) outcome status
-  pub whole : status ≡ 0 → All (λ d. is_whole d.asked d.exchanges ≡ true) done
+  pub whole : status ≡ 0 → All (λ d. is_whole d.asked d.steps ≡ true) done

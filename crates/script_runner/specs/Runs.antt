@@ -1,7 +1,9 @@
 -- What the run of a script promises.
-use Rattle.std.specs.Prelude.{◌≡◌, ◌==◌, ℕ, ◌<◌, true, List, [], length, Option, None, Result, is_ok, IfErr, IfOk, IsTrue, MatchResult, OnOk}
+use Rattle.std.specs.Prelude.{◌≡◌, ◌==◌, ◌++◌, ℕ, ◌<◌, true, List, [], length, Option, None, Result, is_ok, IfErr, IfOk, IsTrue, MatchResult, OnOk}
 use Rattle.sqlite.specs.Held.{Held}
+use Rattle.sqlite.specs.Effect.{Database}
 use Rattle.sqlite.specs.State.{State, HasCleanDisk}
+use Rattle.sqlite.specs.Tree.{Trees}
 use Rattle.instance_machine.specs.declared.tries.Outcome.{Outcome}
 use Rattle.sched_state.specs.declared.jobs.Job.{Job}
 use Rattle.operators.specs.declared.kits.Kit.{Kit}
@@ -14,6 +16,8 @@ use Rattle.sched_events.specs.Steps.{steps, handed_along, AreAccepted}
 use Rattle.sched_events.specs.declared.answers.Answer.{Answer}
 use Rattle.sched_events.specs.declared.events.Event.{Event}
 use Rattle.conduct.specs.sessions.director.Directors.{Keeps, Opens, StaysOpen}
+use Rattle.conduct.specs.sessions.director.Leaves.{IsOneOf}
+use Rattle.conduct.specs.sessions.History.{tried_at_end}
 use Rattle.conduct.specs.sessions.director.meta_store.Stores.{HasRows}
 use Rattle.minutes.specs.Minutes.{BeginWithRestart}
 use Rattle.conduct.specs.sessions.Readings.{Reading}
@@ -30,7 +34,7 @@ use Rattle.script_runner.specs.Named.{AreNamed}
 -- crews, and the status. The sources and the clock gave what their relations say, or were asked nothing (untouched); the output has grown as its relation
 -- says.
 -- restates: this project's own profile
-pub record IsRun {S G O : Type 0} (look : Held S → State) (runs : O → List (Job × Outcome)) (refused : O → List Job) (taken : O → Option Job) (bytes : Option (List ℕ)) (sources : List FileAnswer → Type 0) (clock : List Reading → Type 0) (output : List ℕ → Type 0) (untouched : Type 0) (lanes : ℕ) (kits : List (Kit O)) (before : State) (store : Held S) (minutes : List Event) (ends : List (WorkerEnd G O)) (outcome : Result Total ConductFault) (status : ℕ) : Type 0 where
+pub record IsRun {S G O : Type 0} (look : Held S → State) (runs : O → List (Job × Outcome)) (refused : O → List Job) (taken : O → Option Job) (bytes : Option (List ℕ)) (sources : List FileAnswer → Type 0) (clock : List (Schedule × Reading) → Type 0) (output : List ℕ → Type 0) (untouched : Type 0) (lanes : ℕ) (kits : List (Kit O)) (before : State) (store : Held S) (minutes : List Event) (ends : List (WorkerEnd G O)) (outcome : Result Total ConductFault) (status : ℕ) : Type 0 where
   -- the schedule that was opened, without lanes, and the answer to its restart
   pub first : Schedule
   pub given : Answer
@@ -47,7 +51,11 @@ pub record IsRun {S G O : Type 0} (look : Held S → State) (runs : O → List (
   pub stored : HasCleanDisk (look store) → IsTrue (look store).is_open → (rows : Rows) → HasRows before.now rows → Keeps (steps minutes first) (look store).now
   -- those that are no report and no restart, with their answers, are what the script's lines name; what is shown is of these; and the status is that of what
   -- was done and of the end
-  pub named : AreNamed bytes sources clock output first minutes outcome status
+  pub named : AreNamed bytes sources clock output lanes first minutes outcome status
+  -- whatever shut the record: where it had rows, in either version, a crash leaves of it the schedule after the minutes, or after one event more that was tried
+  -- behind them
+  pub left : HasCleanDisk (look store) → (rows : Rows) → HasRows before.now rows → (trees : Trees) → (look store).may_leave trees
+      → (one : List Event) × IsOneOf one (tried_at_end named.history) × (db : Database) × Keeps (steps (minutes ++ one) first) db × (trees ≡ db.trees)
   -- where the status is 0, the run ended well
   pub well : status ≡ 0 → is_ok outcome ≡ true
   -- why it ended otherwise, by what the script failed in, if it did; there is no worker where there is no kit; and where no event was stepped, nothing was

@@ -6,7 +6,7 @@ ghost use Rattle.moment_core.specs.Moments.{seconds_end};
 ghost use Rattle.conduct.specs.sessions.declared.clocks.ClockFault.TheVariants.{OutOfRange};
 ghost use Rattle.script_runner.specs.SystemFaults.{clock_fault};
 
-use conduct::{Clock, ClockFault};
+use conduct::{Clock, ClockFault, Schedule};
 use moment_core::Moment;
 use std::io::{self, ErrorKind};
 use std::rt;
@@ -30,7 +30,7 @@ impl<R: rt::Clock + Drop> Clock for SystemClock<R> {
 
     ghost begins = { λ c. tt };
 
-    fn now(&mut self) -> Result<Moment, ClockFault> {
+    fn now(&mut self, _schedule: &Schedule) -> Result<Moment, ClockFault> {
         match SystemTime::now(&self.rt) {
             Ok(now) => moment_of(now),
             Err(error) => Err(fault_of(&error)),

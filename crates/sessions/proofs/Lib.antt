@@ -1,4 +1,5 @@
-pub mod RunLemmas
-pub mod ExchangeLemmas
-pub mod LineLemmas
-pub use Rattle.director.proofs as director
+pub mod Places
+pub mod HistoryLemmas
+pub mod GoesLemmas
+pub mod ServeLemmas
+pub mod LawLemmas

@@ -1,7 +1,8 @@
-pub mod Exchanges
 pub mod Readings
+pub mod History
 pub mod Lines
-pub mod Told
 pub mod Faults
+pub mod Executors
 pub mod Runs
+pub mod Told
 pub use Rattle.director.specs as director

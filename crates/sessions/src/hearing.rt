@@ -1,58 +1,42 @@
 //! What a session does with the reports of the workers.
-ghost use Rattle.std.specs.Prelude.{◌≡◌, ◌+◌, ◌<◌, ◌++◌, ◌∷◌, [], ℕ, List, length, None, IfOk, IfErr, OnOk, if◌then◌else◌};
+ghost use Rattle.std.specs.Prelude.{◌≡◌, List, true, false, None, Result, IfErr, MatchResult, OnOk, length};
 ghost use Rattle.sqlite.specs.Held.{state};
-ghost use Rattle.ruled_dispatch.specs.Lanes.{heard_of, IsDirectorOf, HasWorkers};
-ghost use Rattle.ruled_dispatch.specs.declared.items.WorkerReport.{WorkerReport};
-ghost use Rattle.sched_model.specs.Schedule.{Schedule};
+ghost use Rattle.sched_events.specs.declared.answers.Answer.{Answer as AnswerValue};
 ghost use Rattle.sched_model.specs.States.{in_flight};
-ghost use Rattle.director.specs.Directors.{Follows};
-ghost use Rattle.sessions.specs.Exchanges.{StillTookPlace};
+ghost use Rattle.director.specs.declared.faults.Fault.{Fault as FaultValue};
 ghost use Rattle.sessions.specs.Faults.{EndsBy};
+ghost use Rattle.sessions.specs.History.{is_lost, report_of, ArePolled, AreReported, AreTries};
 ghost use Rattle.sessions.specs.Lines.{TellsOn};
-ghost use Rattle.sessions.specs.Runs.{GoesOn, IsRun, IsRunWith};
+ghost use Rattle.sessions.specs.Runs.{GoesBy, IsDone};
+ghost use Rattle.sessions.specs.Told.{IsPoll, IsReport};
 
 use crate::faults::{ConductFault, ended_by};
 use crate::line_reading::Lines;
 use crate::state::Session;
 use director::Fault;
-use ruled_dispatch::{Lanes, WorkerReport};
+use ruled_dispatch::WorkerReport;
 use sched_events::Event;
 use sqlite::Alter;
 use std::alloc::Global;
 use std::sync::Wait;
 
-impl<S: Alter> Session<S> {
-    // Steps a report that was just heard. One that is refused is passed over.
+impl<'l, S: Alter> Session<'l, S> {
+    // Tries a report that was just heard. One that is refused is passed over.
     fn step_report<R: Wait>(
         &mut self,
         rt: &R,
         alloc: Global,
-        lanes: &Lanes,
         told: WorkerReport,
     ) -> Result<(), ConductFault>
-        requires pass { IsDirectorOf lanes.now self.old.pass }
-        requires begun { 0 < length self.old.minutes.items }
-        ensures pass { IsDirectorOf lanes.now self.new.pass }
-        ensures workers { (count : ℕ) → HasWorkers self.old.pass count
-            → HasWorkers self.new.pass count }
-        ensures opened { self.new.director.opened ≡ self.old.director.opened }
-        ensures followed { Follows self.old.director.schedule.content
-            (state S.Store self.old.director.store) self.new.director.schedule.content
-            (state S.Store self.new.director.store) }
-        ensures run { (a : Schedule) (lane_count : ℕ) (before : List WorkerReport)
-            → heard_of self.old.pass ≡ before ++ told ∷ []
-            → IsRunWith before a lane_count self.old → IsRun a lane_count self.new }
-        ensures heard { heard_of self.new.pass ≡ heard_of self.old.pass }
-        ensures begun { 0 < length self.new.minutes.items }
-        ensures told { StillTookPlace self.old.minutes.items self.new.minutes.items }
+        ensures done { (faults : List FaultValue) × (came : Result AnswerValue FaultValue)
+            × AreTries faults came
+            × IsDone (state S.Store) (report_of told) (length faults) came (is_lost came) self.old self.new }
         ensures fault { IfErr result (λ f. EndsBy f None) }
     {
         let event = Event::Report(told.report.serial, told.report.stage);
-        match self.try_thrice(alloc, &event) {
-            Ok(answer) => {
-                self.accept(rt, lanes, event, answer);
-                Ok(())
-            }
+        let came = self.stepper.try_thrice(alloc, &event);
+        match self.put(rt, event, came) {
+            Ok(()) => Ok(()),
             Err(fault) => {
                 self.missed = true;
                 match fault {
@@ -63,69 +47,37 @@ impl<S: Alter> Session<S> {
         }
     }
 
-    /// Hears a report, where one is there, and steps it; whether one was there. A report that the schedule refuses is passed over, and counts
+    /// Hears a report, where one is there, and tries it; whether one was there. A report that the schedule refuses is passed over, and counts
     /// as missed.
-    pub fn hear_one<R: Wait>(
-        &mut self,
-        rt: &R,
-        alloc: Global,
-        lanes: &Lanes,
-    ) -> Result<bool, ConductFault>
-        requires pass { IsDirectorOf lanes.now self.old.pass }
-        requires begun { 0 < length self.old.minutes.items }
-        ensures goes_on { (lane_count : ℕ)
-            → GoesOn (state S.Store) lanes.now lane_count self.old self.new }
-        ensures begun { 0 < length self.new.minutes.items }
-        ensures heard { IfOk result (λ there. length (heard_of self.new.pass)
-            ≡ length (heard_of self.old.pass) + (if there then 1 else 0)) }
-        ensures told { StillTookPlace self.old.minutes.items self.new.minutes.items }
+    pub(crate) fn hear_one<R: Wait>(&mut self, rt: &R, alloc: Global) -> Result<bool, ConductFault>
+        ensures went { GoesBy (state S.Store) (λ h. MatchResult result (λ there. IsPoll there h) (λ f. IsReport false h)) self.old self.new }
         ensures fault { IfErr result (λ f. EndsBy f None) }
     {
-        match lanes.hear(rt, &mut self.pass) {
+        match self.executor.poll(rt) {
             None => Ok(false),
-            Some(told) => match self.step_report(rt, alloc, lanes, told) {
+            Some(told) => match self.step_report(rt, alloc, told) {
                 Ok(()) => Ok(true),
                 Err(fault) => Err(fault),
             },
         }
     }
 
-    // Hears the next report, once there is one, and steps it.
-    fn await_one<R: Wait>(
-        &mut self,
-        rt: &R,
-        alloc: Global,
-        lanes: &Lanes,
-    ) -> Result<(), ConductFault>
-        requires pass { IsDirectorOf lanes.now self.old.pass }
-        requires begun { 0 < length self.old.minutes.items }
-        ensures goes_on { (lane_count : ℕ)
-            → GoesOn (state S.Store) lanes.now lane_count self.old self.new }
-        ensures begun { 0 < length self.new.minutes.items }
-        ensures told { StillTookPlace self.old.minutes.items self.new.minutes.items }
+    // Hears the next report, once there is one, and tries it.
+    fn await_one<R: Wait>(&mut self, rt: &R, alloc: Global) -> Result<(), ConductFault>
+        ensures went { GoesBy (state S.Store) (IsReport true) self.old self.new }
         ensures fault { IfErr result (λ f. EndsBy f None) }
     {
-        let told = lanes.wait_to_hear(rt, &mut self.pass);
-        self.step_report(rt, alloc, lanes, told)
+        let told = self.executor.wait(rt);
+        self.step_report(rt, alloc, told)
     }
 
-    /// Hears and steps the reports that are there.
-    pub fn hear_all<R: Wait>(
-        &mut self,
-        rt: &R,
-        alloc: Global,
-        lanes: &Lanes,
-    ) -> Result<(), ConductFault>
-        requires pass { IsDirectorOf lanes.now self.old.pass }
-        requires begun { 0 < length self.old.minutes.items }
-        ensures goes_on { (lane_count : ℕ)
-            → GoesOn (state S.Store) lanes.now lane_count self.old self.new }
-        ensures begun { 0 < length self.new.minutes.items }
-        ensures told { StillTookPlace self.old.minutes.items self.new.minutes.items }
+    /// Hears and tries the reports that are there.
+    pub(crate) fn hear_all<R: Wait>(&mut self, rt: &R, alloc: Global) -> Result<(), ConductFault>
+        ensures went { GoesBy (state S.Store) (λ h. MatchResult result (λ _. ArePolled h) (λ f. AreReported h)) self.old self.new }
         ensures fault { IfErr result (λ f. EndsBy f None) }
     {
         for _ in rt.forever() {
-            match self.hear_one(rt, alloc, lanes) {
+            match self.hear_one(rt, alloc) {
                 Ok(true) => {}
                 Ok(false) => return Ok(()),
                 Err(fault) => return Err(fault),
@@ -134,33 +86,26 @@ impl<S: Alter> Session<S> {
         unreachable!()
     }
 
-    /// Hears and steps reports until no try is in flight. The lines are shown how the schedule stands before each is waited for.
-    pub fn drain<L: Lines, R: Wait>(
+    /// Hears and tries reports until no try is in flight. The lines are shown how the schedule stands before each is waited for.
+    pub(crate) fn drain<L: Lines<S>, R: Wait>(
         &mut self,
         rt: &R,
         alloc: Global,
-        lanes: &Lanes,
         lines: &mut L,
     ) -> Result<(), ConductFault>
-        requires pass { IsDirectorOf lanes.now self.old.pass }
-        requires begun { 0 < length self.old.minutes.items }
-        ensures goes_on { (lane_count : ℕ)
-            → GoesOn (state S.Store) lanes.now lane_count self.old self.new }
-        ensures begun { 0 < length self.new.minutes.items }
-        ensures kept { StillTookPlace self.old.minutes.items self.new.minutes.items }
+        ensures went { GoesBy (state S.Store) AreReported self.old self.new }
         ensures told { TellsOn L.tells lines.old lines.new }
         ensures failed { L.failed lines.new ≡ L.failed lines.old }
         ensures over { L.over lines.new ≡ L.over lines.old }
-        ensures drains { L.drains lines.new ≡ L.drains lines.old }
         ensures fault { IfErr result (λ f. EndsBy f None) }
-        ensures idle { OnOk result (in_flight self.new.director.schedule.content ≡ 0) }
+        ensures idle { OnOk result (in_flight self.new.stepper.director.schedule.content ≡ 0) }
     {
         for _ in rt.forever() {
-            if self.director.schedule().in_flight() == 0 {
+            if self.stepper.schedule().in_flight() == 0 {
                 return Ok(());
             }
-            lines.waits(self.director.schedule());
-            if let Err(fault) = self.await_one(rt, alloc, lanes) {
+            lines.waits(self.stepper.schedule());
+            if let Err(fault) = self.await_one(rt, alloc) {
                 return Err(fault);
             }
         }

@@ -1,6 +1,7 @@
 -- What a listed clock gave.
-use Rattle.std.specs.Prelude.{◌≡◌, ℕ, List, [], ◌++◌}
+use Rattle.std.specs.Prelude.{◌≡◌, ℕ, List, [], ◌++◌, map}
 use Rattle.std.proofs.Common.{sym, append-nil}
+use Rattle.sched_model.specs.Schedule.{Schedule}
 use Rattle.sessions.specs.Readings.{Reading, moments_in}
 use Rattle.worked_scripts.specs.declared.listed_clock.ListedClock.{ListedClock}
 
@@ -9,8 +10,8 @@ abbrev pub given_of : ListedClock → List ℕ
 given_of c = c.given.items
 
 -- from one state of it to another it gave the moments of these readings
-abbrev pub Gives : ListedClock → List Reading → ListedClock → Type 0
-Gives c readings later = given_of later ≡ given_of c ++ moments_in readings
+abbrev pub Gives : ListedClock → List (Schedule × Reading) → ListedClock → Type 0
+Gives c readings later = given_of later ≡ given_of c ++ moments_in (map (λ r. r.1) readings)
 
 pub gives_none : (c : ListedClock) → Gives c [] c
 gives_none c = sym (append-nil (given_of c))

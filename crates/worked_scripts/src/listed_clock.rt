@@ -2,7 +2,7 @@
 ghost use Rattle.std.specs.Prelude.{◌≡◌, []};
 
 use moment_core::Moment;
-use sessions::{Clock, ClockFault};
+use sessions::{Clock, ClockFault, Schedule};
 use std::alloc::Global;
 
 /// A clock that gives what stands in a list, in its order, and keeps what it gave. Behind the last there is no clock.
@@ -43,7 +43,7 @@ impl Clock for ListedClock {
 
     ghost begins = { gives_none };
 
-    fn now(&mut self) -> Result<Moment, ClockFault> {
+    fn now(&mut self, _schedule: &Schedule) -> Result<Moment, ClockFault> {
         if self.given.reserve(1).is_err() {
             return Err(ClockFault::Memory);
         }

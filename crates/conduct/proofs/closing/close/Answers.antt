@@ -1,8 +1,13 @@
-use Rattle.std.proofs.Common.{◌≡◌, ◌≤◌, ◌∙◌, length, map, not, vec_items, ap, sym}
+use Rattle.std.proofs.Common.{◌≡◌, ◌≤◌, ◌∙◌, List, length, map, not, vec_items, ap, subst, sym}
 use Rattle.ruled_dispatch.specs.Lanes.{sent_of, heard_of}
+use Rattle.ruled_dispatch.specs.declared.items.WorkerReport.{WorkerReport}
+use Rattle.sched_events.specs.Steps.{handed_along, AreAccepted}
+use Rattle.sched_events.specs.declared.events.Event.{Event}
+use Rattle.sched_model.specs.Schedule.{Schedule}
+use Rattle.minutes.specs.Minutes.{reports_in}
 use Rattle.slot_desk.specs.Holds.{in_hand}
 use Rattle.work.specs.declared.crews.WorkerEnd.{WorkerEnd}
-use Rattle.conduct.specs.Ends.{logged}
+use Rattle.conduct.specs.Ends.{logged, EachStandsInALog}
 use Rattle.conduct.specs.Faults.{all_started}
 use Rattle.conduct.proofs.Composition.{started_err, refused_err}
 use Rattle.conduct.proofs.Logs.{passed_on, both_passed_on, counted, jobs_stand, are_logs, told_own}
@@ -13,23 +18,30 @@ settle-ends-requires-clause-back g c = c.requires.back (ap all_started c.in-Ok.i
 
 pub returns-in-Ok-clause-once : goal.returns-in-Ok-clause-once
 returns-in-Ok-clause-once g c =
-    let pass = c.args.managed.session.pass in
+    let pass = c.args.managed.parted.pass in
     let settled = c.settle-ends.result in
-    passed_on settled.desk c.unless_missed.result c.unless_missed.ensures.desk c.settle-ends.ensures.once (λ stand a lane_count stopped. jobs_stand (vec_items settled.ends) (sent_of pass) _ _ stopped.sent stand)
+    passed_on settled.desk c.unless_missed.result c.unless_missed.ensures.desk c.settle-ends.ensures.once (λ stand h old stopped.
+    subst (λ (l : List Event). EachStandsInALog (handed_along l old.schedule.content) (vec_items settled.ends)) (sym stopped.minutes) (jobs_stand (vec_items settled.ends) (sent_of pass) _ _ stopped.sent stand))
 
 pub returns-in-Ok-clause-own : goal.returns-in-Ok-clause-own
 returns-in-Ok-clause-own g c =
     let e = c.settle-ends.ensures in
     let law = c.each_report_is_its_workers_own.ensures in
-    let session = c.args.managed.session in
+    let session = c.args.managed.parted in
     let es = vec_items session.minutes in
     let heard = heard_of session.pass in
     let ends = vec_items c.settle-ends.result.ends in
     both_passed_on c.settle-ends.result.desk c.unless_missed.result c.unless_missed.ensures.desk c.unless_missed.ensures.missed e.once e.heard
-    (λ none stand told a lane_count sound stopped.
-    let each = jobs_stand ends (sent_of session.pass) _ _ stopped.sent stand in
+    (λ none stand told h old sound stopped.
+    let a : Schedule = old.schedule.content in
+    let right = c.a_right_history_is_of_its_events.ensures in
+    let are : AreAccepted es a = subst (λ (l : List Event). AreAccepted l a) (sym stopped.minutes) (right.accepted h a stopped.right) in
+    let reported : map (λ (t : WorkerReport). t.report) heard ≡ reports_in es =
+    ap (map (λ (t : WorkerReport). t.report)) stopped.heard ∙ right.in_order h a stopped.right (sym stopped.missed ∙ none) ∙ ap reports_in (sym stopped.minutes) in
+    let each0 = jobs_stand ends (sent_of session.pass) _ _ stopped.sent stand in
+    let each : EachStandsInALog (handed_along es a) ends = subst (λ (l : List Event). EachStandsInALog (handed_along l a) ends) (sym stopped.minutes) each0 in
     told_own ends heard es told
-    (λ k below. law es a (map (λ (x : WorkerEnd g.row.G.Denot g.row.O.Denot). logged (vec_items x.log)) ends) heard stopped.accepted sound (are_logs ends heard es a each told (stopped.heard none)) k below))
+    (λ k below. law es a (map (λ (x : WorkerEnd g.row.G.Denot g.row.O.Denot). logged (vec_items x.log)) ends) heard are sound (are_logs ends heard es a each told reported) k below))
 
 pub returns-in-Ok-clause-desk : goal.returns-in-Ok-clause-desk
 returns-in-Ok-clause-desk g c =

@@ -1,11 +1,10 @@
 use Rattle.std.proofs.Common.{rules, ◌≡◌, ◌<◌, ◌≤◌, ◌==◌, inl, false, [], length, map, vec_items, vec_capacity, refl, sym, ap, ◌∙◌, subst, arith, ne_eqb}
 use Rattle.std.proofs.lemmas.List.{length-map}
 use Rattle.sqlite.specs.Held.{state}
-use Rattle.ruled_dispatch.specs.Lanes.{IsDirectorOf, HasWorkers}
-use Rattle.ruled_dispatch.specs.declared.passes.DirectorPass.{DirectorPass}
+use Rattle.ruled_dispatch.specs.Lanes.{HasWorkers}
 use Rattle.sched_events.specs.SettledAndSound.{IsSoundAndSaid}
-use Rattle.sessions.specs.Runs.{DirectorValue, ScheduleValue}
-use Rattle.sessions.specs.Told.{AreTold}
+use Rattle.sessions.specs.Runs.{ScheduleValue}
+use Rattle.sessions.specs.History.{readings_in}
 use Rattle.sessions.specs.declared.faults.ConductFault.TheVariants as fault
 use Rattle.crews.specs.Threads.{HaveWorked}
 use Rattle.crews.proofs.Backs.{are_back, are_accounts, none_in_hand}
@@ -19,21 +18,20 @@ returns-in_default g c =
     let kits = map (λ x. x.kit) crews in
     let some : 0 < length kits = subst (λ n. 0 < n) (sym (length-map crews (λ x. x.kit))) c.requires.crews.0 in
     let none : false ≡ (length kits == 0) = sym (ne_eqb (length kits) 0 (λ e. absurd (omega arith))) in
-    unstarted_run (state g.S.Store) g.O.Operator.runs_of g.O.Operator.refused_of g.O.Operator.taken c.args.lane_count kits c.args.director _ (AreTold g.L.Lines.tells g.C.Clock.gives c.args.lines.now c.args.clock.now c.args.lines.now c.args.clock.now) ((c.args.lines.now ≡ c.args.lines.now) × (c.args.clock.now ≡ c.args.clock.now)) _ _ fault.Memory refl c.new.ensures.items c.new-in_default.ensures.items refl
-    (record { exchanges = []; took_place = refl; told = g.met.L.Lines.begins c.args.lines.now; given = g.met.C.Clock.begins c.args.clock.now }) (refl, refl) refl (inl c.requires.sound) none
+    let sound : IsSoundAndSaid c.args.director.schedule.content = subst (λ (s : ScheduleValue). IsSoundAndSaid s.content) c.schedule.ensures c.runs.ensures.kept in
+    unstarted_run (state g.S.Store) g.O.Operator.runs_of g.O.Operator.refused_of g.O.Operator.taken c.args.lane_count kits c.args.director _ (λ told waits. g.L.Lines.tells c.args.lines.now told waits c.args.lines.now × g.C.Clock.gives c.args.clock.now (readings_in told) c.args.clock.now) ((c.args.lines.now ≡ c.args.lines.now) × (c.args.clock.now ≡ c.args.clock.now)) _ _ fault.Memory sound refl c.new.ensures.items c.new-in_default.ensures.items refl
+    (g.met.L.Lines.begins c.args.lines.now, g.met.C.Clock.begins c.args.clock.now) (refl, refl) refl (inl c.requires.sound) none
 
 pub manage-managed-requires-after_bounds : goal.manage-managed-requires-after_bounds
 manage-managed-requires-after_bounds g c κs within =
     let q = c.in-Ok.equipment in
     let e = c.in-Ok.ensures in
-    let n = c.new-session.ensures in
     let len : c.len-workers.result ≡ length (vec_items c.args.crews) = search rules in
     record {
-      pass = subst (λ (p : DirectorPass). IsDirectorOf q.lanes p) (sym n.pass) e.all.0;
-      fresh = n.minutes;
-      within = subst (λ (x : DirectorValue g.row.S.Denot). c.args.lane_count ≤ x.schedule.content.limits.lanes) (sym n.director) c.requires.lanes.1;
+      first = e.all.0;
+      unused = e.unused;
+      within = c.requires.lanes.1;
       sound = c.requires.sound;
-      undrained = c.requires.undrained;
       passes = e.all.1;
       kits = c.requires.kits;
       pass_each = e.workers.0 ∙ len;
@@ -49,8 +47,7 @@ close-requires-clause-workers g c =
     let d = c.manage-managed.ensures.managed in
     let passes = vec_items c.in-Ok.equipment.posts.passes in
     let len : c.len-workers.result ≡ length (vec_items c.args.crews) = search rules in
-    let has = subst (λ (p : DirectorPass). HasWorkers p (length passes)) (sym c.new-session.ensures.pass) e.all.2 in
-    λ started. subst (λ k. HasWorkers m.session.pass k) (e.workers.0 ∙ len ∙ sym (d.all started)) (d.served.workers (length passes) has)
+    λ started. subst (λ k. HasWorkers m.parted.pass k) (e.workers.0 ∙ len ∙ sym (d.all started)) (d.served.workers (length passes) e.all.2)
 
 pub close-requires-clause-back : goal.close-requires-clause-back
 close-requires-clause-back g c =
@@ -93,7 +90,6 @@ pub returns : goal.returns
 returns g c =
     let q = c.in-Ok.equipment in
     let e = c.in-Ok.ensures in
-    let n = c.new-session.ensures in
     let m = c.manage-managed.result in
     let d = c.manage-managed.ensures.managed in
     let z = c.close.ensures in
@@ -111,14 +107,14 @@ returns g c =
     worked_from op.kind_of op.runs_of op.refused_of op.taken _ _ _ _ _ _ results (take_all (length results) passes (same ∙ sym len ∙ sym e.workers.0)) (take_all (length results) shares (same ∙ sym len ∙ sym e.workers.1))
     (take_all (length results) kits (same ∙ sym long)) d.worked
     in
-    let run = n.run c.args.lane_count e.unused.0 e.unused.1 in
-    let stop = d.served.run a run in
+    let stop = d.served.run in
+    let h = d.served.history in
     let sound : IsSoundAndSaid a = subst (λ (s : ScheduleValue). IsSoundAndSaid s.content) c.schedule.ensures c.runs.ensures.kept in
-    conducted (state g.S.Store) op.runs_of op.refused_of op.taken q.lanes c.args.lane_count (length results) kits c.args.director c.new-session.result m.session m.outcome results (λ r. r.0) c.close.result _ _ _ _
-    (subst (λ k. 0 < k) (sym long) c.requires.crews.0) n.director run d.served z.director (ap vec_items z.minutes) z.ok z.fault
+    conducted (state g.S.Store) op.runs_of op.refused_of op.taken q.lanes c.args.lane_count (length results) kits c.args.director q.pass m.parted m.outcome results (λ r. r.0) c.close.result _ _ _ _
+    sound (subst (λ k. 0 < k) (sym long) c.requires.crews.0) d.served z.director (ap vec_items z.minutes) z.ok z.fault
     (λ started. d.all started ∙ sym long) z.ends z.none
-    (also_ok c.close.result.outcome z.once (λ each. each a c.args.lane_count stop))
-    (also_ok c.close.result.outcome z.own (λ each. each a c.args.lane_count sound stop))
+    (also_ok c.close.result.outcome z.once (λ each. each h c.args.director stop))
+    (also_ok c.close.result.outcome z.own (λ each. each h c.args.director sound stop))
     (λ started. are_accounts op.kind_of op.runs_of op.refused_of op.taken passes shares kits results (worked (d.all started)))
     (both_ok c.close.result.outcome m.outcome z.ok (on_ok m.outcome (λ started. none_in_hand op.kind_of op.runs_of op.refused_of op.taken passes shares kits results (worked (d.all started)) (e.workers.1 ∙ sym e.workers.0) e.none)) z.desk
     (λ s none p. (p.0 ∙ none, p.1)))

@@ -1,9 +1,12 @@
-use Rattle.sqlite.specs.Held.{state}
-use Rattle.sessions.proofs.RunLemmas.{heard_goes}
+use Rattle.std.proofs.Common.{[], ◌∷◌, true, refl}
+use Rattle.sessions.specs.History.{Reported}
+use Rattle.sessions.proofs.GoesLemmas.{goes_reported}
+use Rattle.sessions.proofs.HistoryLemmas.{works_heard}
 use Rattle.sessions.proofs.state.Session.await_one.Goals as goal
 
-pub returns-clause-goes_on : goal.returns-clause-goes_on
-returns-clause-goes_on g c n =
-    let heard = c.wait_to_hear-told.ensures in
-    let done = c.step_report.ensures in
-    heard_goes (state g.S.Store) c.args.lanes.now n c.args.self.now c.step_report.new.self c.wait_to_hear-told.new.pass c.wait_to_hear-told.result heard.heard heard.sent heard.workers done.pass done.workers done.opened done.followed done.run
+pub returns-clause-went : goal.returns-clause-went
+returns-clause-went g c =
+    let d = c.step_report.ensures.done in
+    let told = c.wait-told.result in
+    let waited = c.wait-told.ensures in
+    (Reported true told d.0 d.1 ∷ [], (told, d.0, d.1, refl), goes_reported true c.args.self.now d.2 (works_heard 1 waited.heard waited.nones waited.waits waited.sent waited.same) d.3)
