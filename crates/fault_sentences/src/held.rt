@@ -96,7 +96,7 @@ impl Done {
         let made = self.made;
         write!(
             sentence,
-            "these {made} runs go before later ones and may take all {lanes} lanes: a pool with fewer slots in their tasks leaves lanes to others"
+            "these {made} runs go before later ones and may take all lanes: a pool for their tasks, with fewer slots than there are lanes, leaves some to others"
         )
     }
 }

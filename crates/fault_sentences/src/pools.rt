@@ -1,7 +1,7 @@
 //! Sentences on pools.
 use crate::keys::nearest;
 use crate::notes::size_of;
-use graph_file::{Name, TaskSpec};
+use graph_file::{DEFAULT_POOL, Name, TaskSpec};
 use instance_machine::Instance;
 use sched_state::{LoadedGraph, Run, RunPhase};
 use script_reader::Schedule;
@@ -70,15 +70,14 @@ fn waits(task: &TaskSpec, instance: &Instance, pool: &Name) -> bool {
         )
 }
 
-// Whether a task of a graph names a pool.
+// Whether a pool is one that each schedule has, or a task of a graph names it.
 fn is_used(schedule: &Schedule, pool: &Name) -> bool {
-    schedule.graphs().iter().any(|graph| graph
-        .dag
-        .spec()
-        .tasks
-        .as_slice()
-        .iter()
-        .any(|task| task.pool == *pool))
+    pool.as_str() == DEFAULT_POOL || schedule.graphs().iter().any(|graph| names(graph, pool))
+}
+
+fn names(graph: &LoadedGraph, pool: &Name) -> bool {
+    let mut tasks = graph.dag.spec().tasks.as_slice().iter();
+    tasks.any(|task| task.pool == *pool)
 }
 
 // Adds which pool was probably meant by a name that no task has.
