@@ -1,5 +1,5 @@
 -- The step that an accepted event makes, and its answer.
-use Rattle.std.specs.Prelude.{◌≡◌, List, [], ◌∷◌, ◌++◌, map, flat_map, None, Some}
+use Rattle.std.specs.Prelude.{◌≡◌, List, [], ◌∷◌, ◌++◌, map, flat_map, None}
 use Rattle.sched_state.specs.declared.jobs.Job.{Job}
 use Rattle.sched_laws.specs.sched_model.Schedule.{Schedule}
 use Rattle.sched_laws.specs.sched_model.NamedRuns.{NamedRun}
@@ -24,11 +24,6 @@ steps (e ∷ es) a = steps es (step e a)
 abbrev pub AreAccepted : List Event → Schedule → Type 0
 AreAccepted [] a = Unit {0}
 AreAccepted (e ∷ es) a = IsInRange e × (refused a e ≡ None) × AreAccepted es (step e a)
-
--- of a list of events those that are accepted, each at the schedule that it comes to
-abbrev pub accepted_among : List Event → Schedule → List Event
-accepted_among [] a = []
-accepted_among (e ∷ es) a = elim (refused a e) [ None ↦ e ∷ accepted_among es (step e a) | Some r ↦ accepted_among es a ]
 
 -- the runs that a list of events names, each at the schedule that it comes to
 abbrev pub named_along : List Event → Schedule → List NamedRun

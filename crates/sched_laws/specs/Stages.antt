@@ -68,11 +68,3 @@ leads_down g = list_all (λ b. b) (map_places is_sound_row 0 g.upstreams)
 pub record IsOrdered (a : Schedule) : Type 0 where
   pub runs : rises run_before a.runs ≡ true
   pub graphs : list_all (λ (g : LoadedGraph). leads_down g.dag) a.graphs ≡ true
-
--- w lies on the way that settling takes from start, and no move is possible in it outside what is marked
-pub record IsSettling (start w : Schedule) (dirty : ℕ → ℕ → Bool) (ends : ℕ → Bool) (starts : List ℕ → Bool) : Type 0 where
-  pub settles : settle start ≡ settle w
-  pub ordered : IsOrdered w
-  pub decisions : Covers dirty w
-  pub endings : CoversEnds ends w
-  pub startings : CoversStarts starts w
