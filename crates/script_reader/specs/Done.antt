@@ -131,10 +131,10 @@ IsUnwritten asked texts = (taking : Taking) × (path : List ℕ) × (fault : Sou
 abbrev pub IsUndone : Bool → Option Line → List Request → List FileAnswer → Type 0
 IsUndone broke_off waits asked texts = IsOpen waits asked texts ⊎ ((broke_off ≡ true) × (waits ≡ None) × IsUnwritten asked texts)
 
--- What was done of a script, of whose bytes these were there at first: commands one after another, with what the sources answered, and with these steps of the
--- run; what was shown of them; this line waits for its answer; and these bytes are left. What is left and what was shown is not said where the script could not be read or answered further; there one command
--- of a file more may have been read, whose answer was not written. Where the script has ended, no command is left. The status is the greatest of what was
--- done and of the one before.
+-- What was done of a script, of whose bytes these were there at first: commands one after another, with what the sources answered, and with these steps of
+-- the run; what was shown of them; this line waits for its answer; and these bytes are left. What is left and what was shown is not said where the script
+-- could not be read or answered further; there one command of a file more may have been read, whose answer was not written. Where the script has ended, no
+-- command is left. The status is the greatest of what was done and of the one before.
 pub record HasDone (names : Texts) (before : ℕ) (first : Option (List ℕ)) (gives : List FileAnswer → Type 0) (shows : List ℕ → Type 0) (steps : List RunStep) (waits : Option Line) (left : Option (List ℕ)) (status : ℕ) (is_broken has_ended : Bool) : Type 0 where
   pub done : List Done
   pub open_asked : List Request

@@ -8,8 +8,8 @@ use Rattle.script_reader.specs.Shown.{nothing_written}
 use Rattle.script_reader.specs.declared.reader.ScriptReader.{ScriptReader}
 
 module _ {R W F P : Type 0} (remaining : R → Option (List ℕ)) (contents : W → Option (List ℕ)) (gives : F → List FileAnswer → F → Type 0) where
-  -- from one state to another words are read in the same way, and the commands of the script were done, with these steps of the run, with what the sources gave;
-  -- what is shown of them was written
+  -- from one state to another words are read in the same way, and the commands of the script were done, with these steps of the run, with what the sources
+  -- gave; what is shown of them was written
   abbrev pub Tells : ScriptReader R W F P → List Step → Option Line → ScriptReader R W F P → Type 0
   Tells s steps waits t =
       (t.words.names ≡ s.words.names)

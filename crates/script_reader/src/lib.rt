@@ -11,7 +11,7 @@
 //! conduct(rt, alloc, director, 4, crews, &mut reader, &mut clock)
 //! ```
 //!
-//! Easy to get wrong: a drain is answered when the next command is read, since only then no try is in flight.
+//! Easy to get wrong: a drain is not answered when it is read, but by `drained`, once no try is in flight.
 #![tactic(auto)]
 
 mod answering;

@@ -150,43 +150,45 @@ pub named : {T : Type 0} (words : Texts) (before : ℕ) (first : Option (List �
     → IsListed words → before ≡ 0 → HasDone words before first gives shows told waits left answers broken (over && not was_over) → (is_ok outcome ≡ true → (broken ≡ false) × ((xs : List ℕ) → shows xs → output xs)) → (broken ≡ true → may_break_off outcome ≡ true) → IfErr outcome (λ f. status ≢ 4 → (broken ≡ false) × ((xs : List ℕ) → shows xs → output (xs ++ end_text f)))
     → (history last : List Step) → IsHistory lanes history told last → AreRight history start → minutes ≡ accepted history → clock (readings_in told) → was_over ≡ false
     → (came_to_its_end outcome ≡ true → (over ≡ true) × (waits ≡ None)) → IsEndStatus answers outcome status
-    → AreNamed first gives clock output lanes start minutes outcome status
+    → (n : AreNamed first gives clock output lanes start minutes outcome status) × (n.history ≡ history)
 named words before first gives clock shows output told start minutes waits left answers status lanes broken over was_over outcome listed zero h writes breaks closes history last parts right made given fresh whole is =
     let greatest : answers ≡ greatest_status h.done = omega (arith, h.status_is, zero) in
-    let ends : came_to_its_end outcome ≡ true → (over && not was_over) ≡ true = λ came. ap (λ b. b && not was_over) (whole came).0 ∙ ap not fresh in
-    record {
-      words = words;
-      listed = listed;
-      done = h.done;
-      each = h.each;
-      waits = waits;
-      open_asked = h.open_asked;
-      open_texts = h.open_texts;
-      opens = undone (may_break_off outcome) broken (over && not was_over) waits h.open_asked h.open_texts breaks h.opens;
-      none_waits = λ came. (whole came).1;
-      texts = h.texts;
-      readings = subst (λ (xs : List Step). clock (readings_in xs)) h.stepped given;
-      history = history;
-      last = last;
-      parts = subst (λ (xs : List Step). IsHistory lanes history xs last) h.stepped parts;
-      right = right;
-      made = made;
-      answers_are =
-          ap (λ (es : List Event). answered es start) made ∙ right_answered history start right ∙ told_of_parts lanes history told last parts ∙ ap told_in h.stepped ∙ told_of_each (λ (d : Done). d.steps) h.done;
-      shown = λ well. let fine = writes well in fine.1 (flat_map (λ (d : Done). d.shown) h.done) (h.output fine.0);
-      ended_with = ended broken status shows output (flat_map (λ (d : Done). d.shown) h.done) outcome closes h.output;
-      read = λ known e.
-          let r = h.read known e in (
-            r.0,
-            r.1,
-            λ came.
-                let end = whole came in
-                let none : IsOpen None h.open_asked h.open_texts = subst (λ (w : Option Line). IsOpen w h.open_asked h.open_texts) end.1 (kept_open (broken && not (over && not was_over)) waits h.open_asked h.open_texts (not_at_end broken (over && not was_over) (ends came)) h.opens) in
-                (none.0, r.2 (ends came)),
-          );
-      ended = subst (λ n. IsEndStatus n outcome status) greatest is;
-      whole = λ z. all_whole h.done h.each (sym greatest ∙ (ends_well answers status outcome is z).1);
-    }
+    let ends : came_to_its_end outcome ≡ true → (over && not was_over) ≡ true = λ came. ap (λ b. b && not was_over) (whole came).0 ∙ ap not fresh in (
+      record {
+        words = words;
+        listed = listed;
+        done = h.done;
+        each = h.each;
+        waits = waits;
+        open_asked = h.open_asked;
+        open_texts = h.open_texts;
+        opens = undone (may_break_off outcome) broken (over && not was_over) waits h.open_asked h.open_texts breaks h.opens;
+        none_waits = λ came. (whole came).1;
+        texts = h.texts;
+        readings = subst (λ (xs : List Step). clock (readings_in xs)) h.stepped given;
+        history = history;
+        last = last;
+        parts = subst (λ (xs : List Step). IsHistory lanes history xs last) h.stepped parts;
+        right = right;
+        made = made;
+        answers_are =
+            ap (λ (es : List Event). answered es start) made ∙ right_answered history start right ∙ told_of_parts lanes history told last parts ∙ ap told_in h.stepped ∙ told_of_each (λ (d : Done). d.steps) h.done;
+        shown = λ well. let fine = writes well in fine.1 (flat_map (λ (d : Done). d.shown) h.done) (h.output fine.0);
+        ended_with = ended broken status shows output (flat_map (λ (d : Done). d.shown) h.done) outcome closes h.output;
+        read = λ known e.
+            let r = h.read known e in (
+              r.0,
+              r.1,
+              λ came.
+                  let end = whole came in
+                  let none : IsOpen None h.open_asked h.open_texts = subst (λ (w : Option Line). IsOpen w h.open_asked h.open_texts) end.1 (kept_open (broken && not (over && not was_over)) waits h.open_asked h.open_texts (not_at_end broken (over && not was_over) (ends came)) h.opens) in
+                  (none.0, r.2 (ends came)),
+            );
+        ended = subst (λ n. IsEndStatus n outcome status) greatest is;
+        whole = λ z. all_whole h.done h.each (sym greatest ∙ (ends_well answers status outcome is z).1);
+      },
+      refl,
+    )
 
 -- ---- the whole run
 where_well : {A : Type 0} (P : Type 0) (r : Result A ConductFault) → (came_to_its_end r ≡ true → P) → OnOk r P
@@ -306,11 +308,11 @@ module _ {S G O R W F P C : Type 0} (look : Held S → State) (runs : O → List
       let times : List (Schedule × Reading) → Type 0 = λ moments. ticks clock moments later in
       let text : List ℕ → Type 0 = λ shown. Appends (contents first.output) (contents output) shown in
       let quiet : Type 0 = (last.sources ≡ first.sources) × (later ≡ clock) in
-      let named_here : AreNamed bytes files times text lanes d.schedule.content es conducted.outcome status =
+      let named_here : (n : AreNamed bytes files times text lanes d.schedule.content es conducted.outcome status) × (n.history ≡ c.history) =
       named first.words.names first.status bytes files times (Appends (contents first.output) (contents last.output)) text c.steps_told d.schedule.content es c.waits (remaining last.input) last.status status lanes (is_some last.failed) last.is_over first.is_over conducted.outcome
       fresh.listed fresh.status t.0.1 (writes lanes kits d conducted first last clock later output c back.output_is) (breaks_off last.failed conducted.outcome c.fault) (closing (contents first.output) (contents last.output) (contents output) last.failed last.status status conducted.outcome c.fault back.status_is back.ended_is) c.history c.last c.parts c.right c.minutes t.1 fresh.over (λ came. let end = c.whole came in (end.0, end.1)) back.status_is
       in
-      let here = is_run look runs refused taken bytes files times text lanes kits before d conducted status _ ((last ≡ first) × (later ≡ clock)) quiet last.failed last.is_over c (λ same. (ap (λ (r : ScriptReader R W F P). r.sources) same.0, same.1)) sound opened restarted is_open only named_here refl in
+      let here = is_run look runs refused taken bytes files times text lanes kits before d conducted status _ ((last ≡ first) × (later ≡ clock)) quiet last.failed last.is_over c (λ same. (ap (λ (r : ScriptReader R W F P). r.sources) same.0, same.1)) sound opened restarted is_open only named_here.0 named_here.1 in
       subst (λ (f : F). IsRun look runs refused taken bytes (λ given. gives first.sources given f) times text ((f ≡ first.sources) × (later ≡ clock)) lanes kits before store minutes ends outcome status) (sym back.sources_are)
       (subst (λ (s : Held S). IsRun look runs refused taken bytes files times text quiet lanes kits before s minutes ends outcome status) (sym back.store_is)
       (subst (λ (l : List Event). IsRun look runs refused taken bytes files times text quiet lanes kits before conducted.director.store l ends outcome status) (sym back.minutes_are)

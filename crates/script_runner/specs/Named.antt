@@ -45,11 +45,11 @@ pub record AreNamed {T : Type 0} (bytes : Option (List ℕ)) (sources : List Fil
   pub opens : IsUndone (may_break_off outcome) waits open_asked open_texts
   pub none_waits : came_to_its_end outcome ≡ true → waits ≡ None
   pub texts : sources (flat_map (λ d. d.texts) done ++ open_texts)
-  -- what the clock gave is what the steps say, in order, each at its schedule: for each `tick now` the reports that were there were heard, then the clock was asked,
-  -- and then the tick was told
+  -- what the clock gave is what the steps say, in order, each at its schedule: for each `tick now` the reports that were there were heard, then the clock was
+  -- asked, and then the tick was told
   pub readings : clock (readings_in (flat_map (λ d. d.steps) done))
-  -- what the run did, step by step: behind the restart the steps of the commands, one after another, and then reports. Each is right at the schedule that it came to,
-  -- and the minutes are its accepted events; so the events that were told as accepted are those that the minutes answer
+  -- what the run did, step by step: behind the restart the steps of the commands, one after another, and then reports. Each is right at the schedule that it
+  -- came to, and the minutes are its accepted events; so the events that were told as accepted are those that the minutes answer
   pub history : List Step
   pub last : List Step
   pub parts : IsHistory lanes history (flat_map (λ d. d.steps) done) last
