@@ -220,7 +220,7 @@ module _ {S G O : Type 0} where
         whole = λ is. absurd (true≢false (sym is ∙ short));
         fault = subst (λ r. MatchResult r (λ _. failed ≡ None) (λ g. EndsRun g failed)) (sym o) ends;
         workers = subst (λ r. MatchResult r (λ _. 0 < length kits) (λ g. is_no_worker g ≡ (length kits == 0))) (sym o) none;
-        unstarted = subst (λ r. IfErr r (λ g. is_unstarted g ≡ true → ([] ≡ []) × untouched)) (sym o) (λ _. (refl, same));
+        unstarted = subst (λ r. IfErr r (λ g. is_unstarted g ≡ true → (◌≡◌ {A = List Step} [] []) × untouched)) (sym o) (λ _. (refl, same));
         worked = none_worked runs refused taken kits run.ends.items run.minutes.items a nobody e;
         heard = λ weight. omega arith;
         once = subst (λ r. OnOk r (EachStandsInALog (handed_along run.minutes.items a) run.ends.items)) (sym o) tt;

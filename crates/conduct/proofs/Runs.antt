@@ -171,7 +171,7 @@ module _ {S : Type 0} (look : Held S → State) where
     pub unserved : {lane_count stops : ℕ} {lanes : Lanes} {old : DirectorValue S} {pass : DirectorPass} (first now last : Session S) (p : Parted S) (outcome : Result W ConductFault) {l later : L} {c then : C}
         {failed : Option LineFault} {is_over : Bool} → Begins lanes old pass first → now ≡ first → later ≡ l → then ≡ c → outcome ≡ Err fault.SpawnRefused → failed ≡ None → tell l [] None l → give c [] c → Ends stops now last p
         → IsServed look lanes lane_count stops old pass p outcome (λ told waits. tell l told waits later × give c (readings_in told) then) ((later ≡ l) × (then ≡ c)) failed is_over
-    unserved {stops = stops} first now last p outcome {l} {later} {c} {then} {failed} begun still at that is none nothing ungiven ended =
+    unserved {stops = stops} first now last p outcome {l} {later} {c} {then} {failed} {is_over} begun still at that is none nothing ungiven ended =
         let went : Goes look [] first now = subst (λ (x : Session S). Goes look [] first x) (sym still) (goes_nowhere first) in
         record {
           pass = still_of first now last p begun went ended;
@@ -183,12 +183,12 @@ module _ {S : Type 0} (look : Held S → State) where
           parts = record { first = inl (refl, refl, refl); once = All-nil (λ (x : Step). is_restarted x ≡ false); behind = All-nil (λ (x : Step). is_reported x ≡ true) };
           run = stopped stops first now last p begun went ended;
           told = (subst (λ (m : L). tell l [] None m) (sym at) nothing, subst (λ (d : C). give c [] d) (sym that) ungiven);
-          none = subst (λ (r : Result W ConductFault). OnOk r (None ≡ None)) (sym is) tt;
+          none = subst (λ (r : Result W ConductFault). OnOk r (◌≡◌ {A = Option Line} None None)) (sym is) tt;
           fault = subst (λ (r : Result W ConductFault). MatchResult r (λ _. failed ≡ None) (λ f. EndsInside f failed)) (sym is) none;
-          over = subst (λ (r : Result W ConductFault). OnOk r _) (sym is) tt;
-          begun = subst (λ (r : Result W ConductFault). OnOk r _) (sym is) tt;
-          idle = subst (λ (r : Result W ConductFault). OnOk r _) (sym is) tt;
-          unstarted = subst (λ (r : Result W ConductFault). IfErr r (λ f. is_unstarted f ≡ true → ([] ≡ []) × ((later ≡ l) × (then ≡ c)))) (sym is) (λ _. (refl, (at, that)));
+          over = subst (λ (r : Result W ConductFault). OnOk r (is_over ≡ true)) (sym is) tt;
+          begun = subst (λ (r : Result W ConductFault). OnOk r (0 < length (accepted []))) (sym is) tt;
+          idle = subst (λ (r : Result W ConductFault). OnOk r (in_flight p.director.schedule.content ≡ 0)) (sym is) tt;
+          unstarted = subst (λ (r : Result W ConductFault). IfErr r (λ f. is_unstarted f ≡ true → (◌≡◌ {A = List Step} [] []) × ((later ≡ l) × (then ≡ c)))) (sym is) (λ _. (refl, (at, that)));
         }
 
     -- one or the other
