@@ -9,7 +9,7 @@ use Rattle.script_reader.proofs.answering.ScriptReaderLines.drained.Goals as goa
 pub returns-clause-told : goal.returns-clause-told
 returns-clause-told g c s told heard are h =
     let e = c.end.ensures in
-    drained_tells g.R.Read.remaining g.W.Write.contents g.F.Sources.gives s c.args.self.now c.end.new.self told c.args.schedule.now.content heard
+    drained_tells g.R.Read.remaining g.W.Write.contents g.F.Sources.gives s c.args.self.now c.end.new.self told c.args._schedule.now.content heard
     (record { words = ap (λ w. w.names) e.words; input = e.input; sources = e.sources; over = e.over })
     e.status
     (λ fine.

@@ -8,7 +8,7 @@ use Rattle.script_reader.proofs.answering.ScriptReaderLines.no_clock.Goals as go
 pub returns-clause-told : goal.returns-clause-told
 returns-clause-told g c s told polled are h =
     let e = c.end.ensures in
-    untold_tells g.R.Read.remaining g.W.Write.contents g.F.Sources.gives s c.args.self.now c.end.new.self told c.args.schedule.now.content c.args.fault polled
+    untold_tells g.R.Read.remaining g.W.Write.contents g.F.Sources.gives s c.args.self.now c.end.new.self told c.args._schedule.now.content c.args.fault polled
     (record { words = ap (λ w. w.names) e.words; input = e.input; sources = e.sources; over = e.over })
     (search rules)
     (λ fine.

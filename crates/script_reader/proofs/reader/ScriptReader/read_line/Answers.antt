@@ -26,7 +26,7 @@ returns-in_err-flush-clause-told g c = (
   c.loop-command.invariant.told.0,
   λ names before first from s told ended e h.
       let was = c.loop-command.invariant.told.1 names before first from s told ended e h in
-      broken_off names before _ _ c.from_residual-in_err-flush.ensures.1 first (λ given. g.F.Sources.gives s given c.loop-command.self.sources) _ _ (told ++ looks c.loop-command.invariant.told.0 c.args.schedule.now.content) _ _ _ false was,
+      broken_off names before _ _ c.from_residual.ensures.1 first (λ given. g.F.Sources.gives s given c.loop-command.self.sources) _ _ (told ++ looks c.loop-command.invariant.told.0 c.args.schedule.now.content) _ _ _ false was,
 )
 
 pub returns-in_err-next_command-clause-told : goal.returns-in_err-next_command-clause-told
