@@ -82,6 +82,11 @@ pub fn name_of(event: &Event) -> &'static str {
     }
 }
 
+/// Whether a line may name the event: it is no restart, and no worker reports it.
+pub fn is_of_line(event: &Event) -> bool {
+    !matches!(event, Event::Restart(_) | Event::Report(_, _))
+}
+
 fn push_backfills(alloc: Global, events: &mut Vec<Event>) -> Result<(), AllocError> {
     events.push(backfill(alloc, "2024-01-02", "2024-01-02", false)?)?;
     events.push(backfill(alloc, "2024-01-01", "2024-01-03", false)?)?;

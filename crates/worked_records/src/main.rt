@@ -4,9 +4,9 @@
 //! `rows` steps a list of events with a record, and prints the rows that each writes and those that are read at the end. `stop` stops a round at each call of its
 //! files in turn, and says for each step whether the schedule before it or after it was found, in the rows and in what a director makes of them; `stop retried` does so
 //! with events by which a task is tried again. `refuse N` runs a script of one task over a new record, of whose log N writes in a row are refused, after 0, 1, 2 ..
-//! that are not, until a run meets none. `fuse` runs it over files that fail each call after the first 0, 1, 2 .., and says how many events were accepted and what the
-//! record is opened as then. Runs that print the same share a line. `meet` has two workers
-//! wait for one another at their gates.
+//! that are not, until a run meets none. `fuse` runs it over files that fail each call after the first 0, 1, 2 .., and says how many events were accepted, which were
+//! refused since, and what the record is opened as then: after the accepted events, or after these and one of the refused. Runs that print the same share a line.
+//! `meet` has two workers wait for one another at their gates.
 #![tactic(auto)]
 
 mod alike;

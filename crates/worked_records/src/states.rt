@@ -11,7 +11,8 @@ use sqlite_disk::Disk;
 use std::alloc::{AllocError, Global};
 use std::io;
 
-const NO_RECORD: &str = "no record";
+/// What is opened where there is no record.
+pub const NO_RECORD: &str = "no record";
 
 const NOT_OPENED: &str = "not opened";
 
@@ -28,7 +29,7 @@ pub struct Held {
 enum Done<'a> {
     Nothing,
     Created,
-    Stepped(&'a [Event]),
+    Stepped(&'a [Event], Option<&'a Event>),
     Reopened(&'a [Event]),
 }
 
@@ -38,11 +39,20 @@ pub fn states(alloc: Global, events: &[Event]) -> Result<Vec<Held>, AllocError> 
     states.push(state(alloc, Done::Nothing)?)?;
     states.push(state(alloc, Done::Created)?)?;
     for place in 0..=events.len() {
-        states.push(state(alloc, Done::Stepped(&events[..place]))?)?;
+        states.push(state(alloc, Done::Stepped(&events[..place], None))?)?;
     }
     states.push(state(alloc, Done::Reopened(events))?)?;
     states.push(state(alloc, Done::Reopened(events))?)?;
     Ok(states)
+}
+
+/// What a sound record holds after these events, and after one more, where one is given.
+pub fn held_by_events(
+    alloc: Global,
+    events: &[Event],
+    one: Option<&Event>,
+) -> Result<Held, AllocError> {
+    state(alloc, Done::Stepped(events, one))
 }
 
 fn state(alloc: Global, done: Done<'_>) -> Result<Held, AllocError> {
@@ -72,7 +82,7 @@ fn held_at<S: Alter + Drop>(
     match done {
         Done::Nothing => held_by(alloc, conn),
         Done::Created => held_new(alloc, conn),
-        Done::Stepped(events) => held_after(alloc, conn, events),
+        Done::Stepped(events, one) => held_after(alloc, conn, events, one),
         Done::Reopened(events) => held_anew(alloc, conn, events),
     }
 }
@@ -87,18 +97,32 @@ fn held_new<S: Alter + Drop>(alloc: Global, conn: Connection<S>) -> Result<Held,
     }
 }
 
-// What a record holds that is opened, after these events.
+// What a record holds that is opened, after these events and perhaps one more.
 fn held_after<S: Alter + Drop>(
     alloc: Global,
     conn: Connection<S>,
     events: &[Event],
+    one: Option<&Event>,
 ) -> Result<Held, AllocError>
     requires { conn.in_transaction ≡ false }
 {
     match step_all(alloc, conn, events) {
-        Ok(director) => held_of(alloc, director.close()),
+        Ok(director) => held_after_one(alloc, director, one),
         Err(_) => Err(AllocError),
     }
+}
+
+fn held_after_one<S: Alter + Drop>(
+    alloc: Global,
+    mut director: Director<S>,
+    one: Option<&Event>,
+) -> Result<Held, AllocError> {
+    if let Some(event) = one {
+        if director.step(alloc, event).is_err() {
+            return Err(AllocError);
+        }
+    }
+    held_of(alloc, director.close())
 }
 
 // The same, where the record is opened anew at the end.
