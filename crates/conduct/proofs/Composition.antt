@@ -220,8 +220,9 @@ module _ {S G O : Type 0} where
         whole = λ is. absurd (true≢false (sym is ∙ short));
         fault = subst (λ r. MatchResult r (λ _. failed ≡ None) (λ g. EndsRun g failed)) (sym o) ends;
         workers = subst (λ r. MatchResult r (λ _. 0 < length kits) (λ g. is_no_worker g ≡ (length kits == 0))) (sym o) none;
-        unstarted = subst (λ r. IfErr r (λ g. is_unstarted g ≡ true → ([] ≡ []) × untouched)) (sym o) (λ _. (refl, same));
+        unstarted = subst (λ r. IfErr r (λ g. is_unstarted g ≡ true → (◌≡◌ {A = List Step} [] []) × untouched)) (sym o) (λ _. (refl, same));
         worked = none_worked runs refused taken kits run.ends.items run.minutes.items a nobody e;
+        heard = λ weight. omega arith;
         once = subst (λ r. OnOk r (EachStandsInALog (handed_along run.minutes.items a) run.ends.items)) (sym o) tt;
         own = subst (λ r. OnOk r (EachToldItsOwn run.minutes.items run.ends.items)) (sym o) tt;
         desk = subst (λ r. IfOk r (λ d. (d.slots ≡ 0) × (d.holds.items ≡ []))) (sym o) tt;
@@ -285,6 +286,9 @@ module _ {S G O : Type 0} where
             same (ap length (ends is) ∙ length-map results end_of ∙ all is) (subst (λ (l : List (WorkerEnd G O)). AreAccounts runs refused taken kits l) (sym (ends is)) (accounts is))
             stop.sent (sent is) (each_heard h a (heard_of now.pass) stop.right stop.heard) (told is))
             (λ is none. none_worked runs refused taken kits run.ends.items run.minutes.items a (nobody is) (same ∙ ap accepted none.0));
+        heard =
+            started_or outcome served.unstarted (λ is. subst (λ (l : List WorkerReport). AreAmongTold l run.ends.items) stop.heard (told is))
+            (λ is none. subst (λ (k : List Step). AreAmongTold (heard_in k) run.ends.items) (sym none.0) (λ weight. omega arith));
         once = also_ok run.outcome once (λ each. subst (λ (l : List Event). EachStandsInALog (handed_along l a) run.ends.items) (sym min) each);
         own = also_ok run.outcome own (λ each. subst (λ (l : List Event). EachToldItsOwn l run.ends.items) (sym min) each);
         desk = if_ok run.outcome desk (λ d held. (held.0, empty_list d.holds.items (subst (λ n. length d.holds.items ≤ n) held.0 held.1)));

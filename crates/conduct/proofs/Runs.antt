@@ -88,13 +88,13 @@ some_accepted : (lane_count : ℕ) (faults : List Fault) (restart : Result Answe
 some_accepted lane_count faults (Ok answer) h is = omega arith
 some_accepted lane_count faults (Err fault) h is = absurd (true≢false (sym is))
 
-where_both : {W P Q : Type 0} (r : Result W ConductFault) → OnOk r (P × Q) → OnOk r Q
-where_both (Ok w) both = both.1
-where_both (Err f) both = tt
+where_both : {W : Type 0} (P Q : Type 0) (r : Result W ConductFault) → OnOk r (P × Q) → OnOk r Q
+where_both P Q (Ok w) both = both.1
+where_both P Q (Err f) both = tt
 
-where_first : {W P Q R : Type 0} (r : Result W ConductFault) → OnOk r (P × Q) → (P → R) → OnOk r R
-where_first (Ok w) both f = f both.0
-where_first (Err e) both f = tt
+where_first : {W P R : Type 0} (Q : Type 0) (r : Result W ConductFault) → OnOk r (P × Q) → (P → R) → OnOk r R
+where_first Q (Ok w) both f = f both.0
+where_first Q (Err e) both f = tt
 
 along : {W P Q : Type 0} (r : Result W ConductFault) → OnOk r P → (P → Q) → OnOk r Q
 along (Ok w) p f = f p
@@ -140,7 +140,7 @@ module _ {S : Type 0} (look : Held S → State) where
       subst (λ (q : DirectorPass). HasWorkers q count) (sym ended.by)
       (ended.same.workers count (went.works.same.workers count (subst (λ (x : ExecutorValue). HasWorkers x.pass count) (sym begun.executor) has)))
 
-  module _ {L C W : Type 0} {tell : L → List Step → Option Line → L → Type 0} {give : C → List (Schedule × Reading) → C → Type 0} where
+  module _ {L C W : Type 0} (tell : L → List Step → Option Line → L → Type 0) (give : C → List (Schedule × Reading) → C → Type 0) where
     -- it was served
     pub served : {lane_count stops : ℕ} {lanes : Lanes} {old : DirectorValue S} {pass : DirectorPass} (first now last : Session S) (p : Parted S) (outcome : Result W ConductFault) {l later : L} {c then : C} {untouched : Type 0}
         {failed : Option LineFault} {is_over : Bool} → Begins lanes old pass first → IsFollowed look lane_count tell give first now l later c then failed is_over outcome → Ends stops now last p
@@ -158,10 +158,10 @@ module _ {S : Type 0} (look : Held S → State) where
           parts = record { first = inr (s.faults, s.restart, refl, s.unbegun); once = s.once; behind = s.behind };
           run = stopped stops first now last p begun went ended;
           told = (s.tells, s.gives);
-          none = where_both outcome s.known;
+          none = where_both _ _ outcome s.known;
           fault = ends_inside outcome failed follows.fault;
           over = follows.over;
-          begun = where_first outcome s.known (some_accepted lane_count s.faults s.restart (s.told ++ s.last));
+          begun = where_first _ outcome s.known (some_accepted lane_count s.faults s.restart (s.told ++ s.last));
           idle = along outcome follows.idle
               (λ idle. ap (λ (d : DirectorValue S). in_flight d.schedule.content) (ended.director ∙ ap (λ (x : Stepper S). x.director) ended.stepper) ∙ idle);
           unstarted = never_unstarted _ outcome failed follows.fault;
@@ -171,7 +171,7 @@ module _ {S : Type 0} (look : Held S → State) where
     pub unserved : {lane_count stops : ℕ} {lanes : Lanes} {old : DirectorValue S} {pass : DirectorPass} (first now last : Session S) (p : Parted S) (outcome : Result W ConductFault) {l later : L} {c then : C}
         {failed : Option LineFault} {is_over : Bool} → Begins lanes old pass first → now ≡ first → later ≡ l → then ≡ c → outcome ≡ Err fault.SpawnRefused → failed ≡ None → tell l [] None l → give c [] c → Ends stops now last p
         → IsServed look lanes lane_count stops old pass p outcome (λ told waits. tell l told waits later × give c (readings_in told) then) ((later ≡ l) × (then ≡ c)) failed is_over
-    unserved {stops = stops} first now last p outcome {l} {later} {c} {then} {failed} begun still at that is none nothing ungiven ended =
+    unserved {stops = stops} first now last p outcome {l} {later} {c} {then} {failed} {is_over} begun still at that is none nothing ungiven ended =
         let went : Goes look [] first now = subst (λ (x : Session S). Goes look [] first x) (sym still) (goes_nowhere first) in
         record {
           pass = still_of first now last p begun went ended;
@@ -183,12 +183,12 @@ module _ {S : Type 0} (look : Held S → State) where
           parts = record { first = inl (refl, refl, refl); once = All-nil (λ (x : Step). is_restarted x ≡ false); behind = All-nil (λ (x : Step). is_reported x ≡ true) };
           run = stopped stops first now last p begun went ended;
           told = (subst (λ (m : L). tell l [] None m) (sym at) nothing, subst (λ (d : C). give c [] d) (sym that) ungiven);
-          none = subst (λ (r : Result W ConductFault). OnOk r (None ≡ None)) (sym is) tt;
+          none = subst (λ (r : Result W ConductFault). OnOk r (◌≡◌ {A = Option Line} None None)) (sym is) tt;
           fault = subst (λ (r : Result W ConductFault). MatchResult r (λ _. failed ≡ None) (λ f. EndsInside f failed)) (sym is) none;
-          over = subst (λ (r : Result W ConductFault). OnOk r _) (sym is) tt;
-          begun = subst (λ (r : Result W ConductFault). OnOk r _) (sym is) tt;
-          idle = subst (λ (r : Result W ConductFault). OnOk r _) (sym is) tt;
-          unstarted = subst (λ (r : Result W ConductFault). IfErr r (λ f. is_unstarted f ≡ true → ([] ≡ []) × ((later ≡ l) × (then ≡ c)))) (sym is) (λ _. (refl, (at, that)));
+          over = subst (λ (r : Result W ConductFault). OnOk r (is_over ≡ true)) (sym is) tt;
+          begun = subst (λ (r : Result W ConductFault). OnOk r (0 < length (accepted []))) (sym is) tt;
+          idle = subst (λ (r : Result W ConductFault). OnOk r (in_flight p.director.schedule.content ≡ 0)) (sym is) tt;
+          unstarted = subst (λ (r : Result W ConductFault). IfErr r (λ f. is_unstarted f ≡ true → (◌≡◌ {A = List Step} [] []) × ((later ≡ l) × (then ≡ c)))) (sym is) (λ _. (refl, (at, that)));
         }
 
     -- one or the other
@@ -201,11 +201,10 @@ module _ {S : Type 0} (look : Held S → State) where
     served_or fails ends false first now last p outcome begun refused sound nothing ungiven ended =
         unserved first now last p outcome begun refused.0 refused.1 refused.2 refused.3 (ap fails refused.1 ∙ sound) nothing ungiven ended
 
-    pub all_or : {lane_count : ℕ} {first now : Session S} {l later : L} {c then : C} {failed : Option LineFault} {is_over : Bool} (are_all : Bool) (outcome : Result W ConductFault)
-        → MatchBool are_all (IsFollowed look lane_count tell give first now l later c then failed is_over outcome) ((now ≡ first) × (later ≡ l) × (then ≡ c) × (outcome ≡ Err fault.SpawnRefused))
-        → all_started outcome ≡ true → are_all ≡ true
-    all_or true outcome followed started = refl
-    all_or false outcome refused started = absurd (true≢false (sym started ∙ ap all_started refused.3))
+-- it was served, so all were started; else a thread was refused
+pub all_or : {W : Type 0} (P A B C : Type 0) (are_all : Bool) (outcome : Result W ConductFault) → MatchBool are_all P (A × B × C × (outcome ≡ Err fault.SpawnRefused)) → all_started outcome ≡ true → are_all ≡ true
+all_or P A B C true outcome followed started = refl
+all_or P A B C false outcome refused started = absurd (true≢false (sym started ∙ ap all_started refused.3))
 
 module _ {S : Type 0} where
   pub same_stops : {W : Type 0} {look : Held S → State} {lanes : Lanes} {lane_count : ℕ} {old : DirectorValue S} {pass : DirectorPass} {now : Parted S} {outcome : Result W ConductFault} {are_told : List Step → Option Line → Type 0}

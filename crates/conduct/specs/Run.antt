@@ -6,6 +6,7 @@ use Rattle.sqlite.specs.State.{State}
 use Rattle.instance_machine.specs.declared.tries.Outcome.{Outcome}
 use Rattle.sched_state.specs.declared.jobs.Job.{Job}
 use Rattle.operators.specs.declared.kits.Kit.{Kit}
+use Rattle.crews.specs.Settled.{AreAmongTold}
 use Rattle.sched_events.specs.SettledAndSound.{IsSoundAndSaid}
 use Rattle.sched_events.specs.Steps.{steps, handed_along, AreAccepted}
 use Rattle.sched_events.specs.declared.events.Event.{Event}
@@ -13,7 +14,7 @@ use Rattle.sched_model.specs.Schedule.{Schedule}
 use Rattle.sched_model.specs.States.{in_flight}
 use Rattle.minutes.specs.Minutes.{BeginWithRestart}
 use Rattle.sessions.specs.director.Leaves.{Leaves}
-use Rattle.sessions.specs.History.{accepted, tried_at_end, AreRight, Step}
+use Rattle.sessions.specs.History.{accepted, heard_in, tried_at_end, AreRight, Step}
 use Rattle.sessions.specs.Runs.{DirectorValue, Follows}
 use Rattle.sessions.specs.declared.line_reading.Line.{Line}
 use Rattle.sessions.specs.declared.line_reading.LineFault.{LineFault}
@@ -58,6 +59,8 @@ pub record IsConducted {S G O : Type 0} (look : Held S → State) (runs : O → 
   -- with a fault too: each worker that came back told what its operators did, which did no job that was not handed out; and the minutes report nothing that
   -- none of them told
   pub worked : HaveWorkedFor runs refused taken kits run.ends.items run.minutes.items old.schedule.content
+  -- with a fault too: no report of the history, missed or not, was heard more often than the workers told it
+  pub heard : AreAmongTold (heard_in history) run.ends.items
   -- where it ended well: each try that was handed out stands in the log of one worker, as often as it was handed out, and no other does
   pub once : OnOk run.outcome (EachStandsInALog (handed_along run.minutes.items old.schedule.content) run.ends.items)
   -- what the minutes report of a worker's jobs is what that worker told, in its order

@@ -7,8 +7,10 @@ returns-clause-served g c =
     let new = c.new-session.ensures in
     let stop = c.stop.ensures in
     let part = c.part.ensures in
-    served_or (state g.S.Store) g.L.Lines.failed g.L.Lines.over c.args.started.are_all c.new-session.result c.serve_all-outcome.new.session c.stop.new.self c.part.result c.serve_all-outcome.result (record { director = new.director; minutes = new.minutes.0; executor = new.executor; missed = new.missed; unsent = c.requires.unused.0; unheard = c.requires.unused.1 }) c.serve_all-outcome.ensures c.requires.sound
-    (g.met.L.Lines.begins c.args.lines.now) (g.met.C.Clock.begins c.args.clock.now) (record { sent = stop.sent; asks = stop.asks; same = stop.same; stepper = stop.stepper; missed = stop.missed; director = part.director; minutes = part.minutes; by = part.pass; of = part.lanes; mark = part.missed; })
+    let begins : Begins c.args.lanes.now c.args.director c.args.pass c.new-session.result = record { director = new.director; minutes = new.minutes.0; executor = new.executor; missed = new.missed; unsent = c.requires.unused.0; unheard = c.requires.unused.1 } in
+    let ends : Ends c.args.started.workers c.serve_all-outcome.new.session c.stop.new.self c.part.result = record { sent = stop.sent; asks = stop.asks; same = stop.same; stepper = stop.stepper; missed = stop.missed; director = part.director; minutes = part.minutes; by = part.pass; of = part.lanes; mark = part.missed } in
+    served_or (state g.S.Store) g.L.Lines.tells g.C.Clock.gives g.L.Lines.failed g.L.Lines.over c.args.started.are_all c.new-session.result c.serve_all-outcome.new.session c.stop.new.self c.part.result c.serve_all-outcome.result begins c.serve_all-outcome.ensures c.requires.sound
+    (g.met.L.Lines.begins c.args.lines.now) (g.met.C.Clock.begins c.args.clock.now) ends
 
 pub returns-clause-all : goal.returns-clause-all
-returns-clause-all g c = all_or (state g.S.Store) c.args.started.are_all c.serve_all-outcome.result c.serve_all-outcome.ensures
+returns-clause-all g c = all_or _ _ _ _ c.args.started.are_all c.serve_all-outcome.result c.serve_all-outcome.ensures

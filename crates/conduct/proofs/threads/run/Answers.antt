@@ -12,12 +12,12 @@ returns-clause-managed g c =
     let counted : c.len.result ≡ length hs = search rules in
     let long : vec_len c.start_all-are_all.new.handles ≡ length results = search rules in
     record {
-      served = same_stops c.len.result (length results) (counted ∙ sym joined) c.serve.ensures.served;
+      served = same_stops c.len.result (length results) (counted ∙ sym joined) c.serve-parted.ensures.served;
       worked =
           worked_from g.O.Operator.kind_of g.O.Operator.runs_of g.O.Operator.refused_of g.O.Operator.taken _ _ _ _ _ _ results
           (started.passes ∙ ap (λ n. take n (vec_items c.args.posts.passes)) long)
           (started.shares ∙ ap (λ n. take n (vec_items c.args.posts.shares)) long)
           (started.kits ∙ ap (λ n. take n (map (λ x. x.kit) (vec_items c.args.crews))) long)
           c.join_all-results.ensures;
-      all = each_started c.serve.result.outcome c.start_all-are_all.result _ _ (length results) c.serve.ensures.all started.all (sym long);
+      all = each_started c.serve-parted.result.outcome c.start_all-are_all.result _ _ (length results) c.serve-parted.ensures.all started.all (sym long);
     }
