@@ -23,7 +23,8 @@ use Rattle.conduct.specs.sessions.director.Directors.{DirectorValue, Keeps, Open
 use Rattle.conduct.proofs.sessions.director.ListLemmas.{stays_open, was_clean}
 use Rattle.minutes.specs.Minutes.{answered}
 use Rattle.conduct.specs.sessions.director.Leaves.{IsOneOf, Leaves, LeavesBy}
-use Rattle.conduct.specs.sessions.History.{accepted, is_reported, readings_in, told_by, told_in, tried_at_end, AreReported, AreRight, Asked, Looked, NoneThere, Reported, Restarted, Step, Told}
+use Rattle.crews.specs.Settled.{AreAmongTold}
+use Rattle.conduct.specs.sessions.History.{accepted, heard_in, is_reported, readings_in, told_by, told_in, tried_at_end, AreReported, AreRight, Asked, Looked, NoneThere, Reported, Restarted, Step, Told}
 use Rattle.conduct.specs.sessions.Readings.{Reading}
 use Rattle.conduct.proofs.sessions.LawLemmas.{right_answered}
 use Rattle.conduct.specs.sessions.declared.faults.ConductFault.{ConductFault}
@@ -242,6 +243,7 @@ module _ {S G O : Type 0} (look : Held S → State) (runs : O → List (Job × O
         workers = c.workers;
         unstarted = still (es ≡ []) untouched quiet conducted.outcome to (none_made (c.history ≡ []) (es ≡ []) untouched conducted.outcome (λ none. c.minutes ∙ ap accepted none) c.unstarted);
         worked = c.worked;
+        heard = subst (λ (h : List Step). AreAmongTold (heard_in h) conducted.ends.items) (sym same) c.heard;
         idle = where_well (in_flight (steps es a) ≡ 0) conducted.outcome (λ well. ap in_flight (sym c.stepped) ∙ (c.whole well).3);
         once = c.once;
         own = c.own;

@@ -17,7 +17,7 @@ use Rattle.sched_events.specs.declared.answers.Answer.{Answer}
 use Rattle.sched_events.specs.declared.events.Event.{Event}
 use Rattle.conduct.specs.sessions.director.Directors.{Keeps, Opens, StaysOpen}
 use Rattle.conduct.specs.sessions.director.Leaves.{IsOneOf}
-use Rattle.conduct.specs.sessions.History.{tried_at_end}
+use Rattle.conduct.specs.sessions.History.{heard_in, tried_at_end}
 use Rattle.conduct.specs.sessions.director.meta_store.Stores.{HasRows}
 use Rattle.minutes.specs.Minutes.{BeginWithRestart}
 use Rattle.conduct.specs.sessions.Readings.{Reading}
@@ -25,6 +25,7 @@ use Rattle.conduct.specs.sessions.declared.faults.ConductFault.{ConductFault}
 use Rattle.conduct.specs.sessions.declared.line_reading.LineFault.{LineFault}
 use Rattle.slot_desk.specs.declared.desk.Total.{Total}
 use Rattle.work.specs.declared.crews.WorkerEnd.{WorkerEnd}
+use Rattle.crews.specs.Settled.{AreAmongTold}
 use Rattle.conduct.specs.Ends.{EachStandsInALog, EachToldItsOwn, HaveWorkedFor}
 use Rattle.conduct.specs.Faults.{EndsRun, came_to_its_end, is_no_worker, is_unstarted}
 use Rattle.script_reader.specs.Done.{FileAnswer}
@@ -67,6 +68,8 @@ pub record IsRun {S G O : Type 0} (look : Held S → State) (runs : O → List (
   -- with a fault too: each worker that came back told what its operators did, which did no job that was not handed out; and the minutes report nothing that
   -- none of them told
   pub worked : HaveWorkedFor runs refused taken kits ends minutes first
+  -- with a fault too: no report of the history, missed or not, was heard more often than the workers told it
+  pub heard : AreAmongTold (heard_in named.history) ends
   -- where the run ended well: no try is in flight; each try that was handed out stands in the log of one worker, as often as it was handed out, and no
   -- other does; and what the minutes report of a worker's jobs is what that worker told, in its order
   pub idle : OnOk outcome (in_flight (steps minutes first) ≡ 0)
