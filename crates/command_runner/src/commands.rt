@@ -2,9 +2,8 @@
 ghost use Rattle.sqlite.specs.Held.{state};
 ghost use Rattle.command_runner.specs.Commands.{IsDone};
 
-use crate::events::step_event;
-use crate::looks::{answer_question, show_rows};
-use crate::writing::status_after;
+use crate::doing::{Came, read_schedule, step_event};
+use crate::telling::{status_after, tell_event, tell_failure, tell_reasons, tell_rows};
 use command_words::{Command, UsageFault};
 use director::Store;
 use script_commands::CommandFault;
@@ -17,8 +16,8 @@ use std::io::Write;
 ///
 /// `trigger`, `backfill`, `clear`, `pause`, `unpause` and `resize` open the record within the greatest limits, without lanes, which makes one of version 1
 /// one of version 2, and step their event. `list` and `explain` look at what the record holds, of either version, and leave it as it is. `run` is the
-/// caller's; it and what is for scripts alone, `load`, `replace`, `tick` and `drain`, have no place here. The console is given what came of an event, or why
-/// a question was not answered, and may tell of it before the output is flushed.
+/// caller's; it and what is for scripts alone, `load`, `replace`, `tick` and `drain`, have no place here. Each is done before anything is written. The console
+/// is given what came of an event, or why a question was not answered, and may tell of it before the output is flushed.
 pub fn run_command<S: Alter + Drop, W: Write, P: Console>(
     alloc: Global,
     store: Store<S>,
@@ -28,10 +27,28 @@ pub fn run_command<S: Alter + Drop, W: Write, P: Console>(
 ) -> (Store<S>, u8)
     ensures { IsDone (state S.Store) store command.now (W.contents output.old) (W.contents output.new) result.0 result.1 }
 {
+    let mut store = store;
     match command {
-        Command::Step(event) => step_event(alloc, store, event, output, console),
-        Command::List(listing) => show_rows(alloc, store, *listing, output, console),
-        Command::Explain(question) => answer_question(alloc, store, question, output, console),
+        Command::Step(event) => match step_event(alloc, store, event) {
+            Came::Stepped(director, came) => {
+                let status = tell_event(event, &came, director.schedule(), output, console);
+                (director.close(), status)
+            }
+            Came::Unopened(store, fault) => {
+                let status = tell_failure(&fault, Some(event), None, output, console);
+                (store, status)
+            }
+        },
+        Command::List(listing) => {
+            let read = read_schedule(alloc, &mut store);
+            let status = tell_rows(&read, *listing, output, console);
+            (store, status)
+        }
+        Command::Explain(question) => {
+            let read = read_schedule(alloc, &mut store);
+            let status = tell_reasons(alloc, &read, question, output, console);
+            (store, status)
+        }
         Command::Run(_) | Command::Take(_, _) | Command::Tick(_) | Command::Drain => {
             let fault = CommandFault::Usage(UsageFault::NotHere);
             let put = put(output, Shown::NoCommand(fault));

@@ -9,8 +9,7 @@
 #![tactic(auto)]
 
 mod commands;
-mod events;
-mod looks;
-mod writing;
+mod doing;
+mod telling;
 
 pub use commands::run_command;
