@@ -1,6 +1,5 @@
 -- An event in a record that was opened for it.
-use Rattle.std.proofs.Common.{◌≡◌, ◌≤◌, ◌∙◌, ◌∷◌, ◌++◌, ℕ, List, [], Option, Result, Ok, Err, OnOk, MatchResult, IsTrue, refl, sym, subst, inl, inr}
-use Rattle.std.specs.Io.KnownBytes.{Appends}
+use Rattle.std.proofs.Common.{◌≡◌, ◌≤◌, ◌∷◌, ◌++◌, List, [], Result, IsTrue, refl, sym, subst, inl, inr}
 use Rattle.sqlite.specs.Effect.{Database}
 use Rattle.sqlite.specs.Held.{Held}
 use Rattle.sqlite.specs.State.{State, HasCleanDisk}
@@ -19,7 +18,6 @@ use Rattle.director.specs.Lists.{IsOutcome}
 use Rattle.director.specs.declared.faults.Fault.{Fault}
 use Rattle.director.proofs.ListLemmas.{stays_open, was_clean}
 use Rattle.command_runner.specs.Events.{IsStepped}
-use Rattle.command_runner.specs.Writes.{IsWritten}
 
 -- ---- what the files may hold
 from_made : (es tried : List Event) (a : Schedule) (s : State) (trees : Trees) → Keeps a s.now → LeavesBy es tried a s trees → (one : List Event) × IsOneOf one tried × (db : Database) × Keeps (steps (es ++ one) a) db × (trees ≡ db.trees)
@@ -61,7 +59,7 @@ stepped look before d left e came opened restarted only is_open sound outcome fo
           left_files (accepted_in e came) (tried_in e came) a (look d.store) (look left.store) leaves clean (keeps first rows has) (only first);
     }
 
--- ---- what was written, by what came of writing it
-pub written : {E T : Type 0} (text : List ℕ) (wanted told : ℕ) (old new : Option (List ℕ)) (put : Result T E) (status : ℕ) → told ≡ wanted → OnOk put (Appends old new text) → MatchResult put (λ _. status ≡ told) (λ _. status ≡ 4) → IsWritten text wanted old new status
-written text wanted told old new (Ok v) status same text_is is = inl (is ∙ same, text_is)
-written text wanted told old new (Err e) status same text_is is = inr is
+-- the record that is given back
+pub given_back : {S : Type 0} (look : Held S → State) (before : State) (e : Event) (came : Result Answer Fault) (after : Schedule) (kept store : Held S) → store ≡ kept → IsStepped look before e came after kept
+    → IsStepped look before e came after store
+given_back {S} look before e came after kept store same = subst (λ (s : Held S). IsStepped look before e came after s) (sym same)
