@@ -31,6 +31,7 @@ use Rattle.sched_laws.proofs.KeyLemmas.{date_once}
 use Rattle.sched_laws.proofs.RankLemmas.{not_both, not_itself, not_less_through, rank_total}
 use Rattle.sched_ready.proofs.LeadLemmas.{least_date, pair_cmp, pair_less}
 use Rattle.sched_handout.specs.Choices.{offer_if_ready}
+use Rattle.sched_handout.specs.Rooms.{HasRoom}
 use Rattle.sched_handout.specs.Shelving.{IsBest, IsBestOf, IsBoundAt, IsFitting, IsLoaded, IsOfferOf, NoneAmong, fits_with, is_behind, stands_among, stands_waiting}
 use Rattle.sched_handout.specs.declared.shelving.Best.{Best}
 
@@ -137,6 +138,13 @@ graph_within a n g h = slice_get_within a.graphs n h.loaded.loaded h.loaded.ther
 
 pub bound_read : (a : Schedule) (n : ℕ) (g : Dag) (bound : ℕ) → IsBoundAt a n g → option_map (λ (l : LoadedGraph). l.max_active_tasks) (slice_get a.graphs n) ≡ Some bound → bound ≡ bound_of a g.spec.dag_id
 bound_read a n g bound h e = same_Some bound h.loaded.loaded.max_active_tasks (sym e ∙ ap (option_map (λ (l : LoadedGraph). l.max_active_tasks)) h.loaded.there) ∙ sym h.bound
+
+-- whether there is room for one more try, by what is known at the position
+pub room_read : (a : Schedule) (n : ℕ) (g : Dag) (left : Bool) → IsBoundAt a n g → HasRoom a n left → left ≡ nat_lt (active_tries a g.spec.dag_id) (bound_of a g.spec.dag_id)
+room_read a n g left h known =
+    known h.loaded.loaded h.loaded.there
+    ∙ (ap (λ (i : List ℕ). nat_lt (active_tries a i) h.loaded.loaded.max_active_tasks) (same_is h.loaded.loaded.dag.spec.dag_id g.spec.dag_id h.loaded.named)
+    ∙ ap (nat_lt (active_tries a g.spec.dag_id)) (sym h.bound))
 
 -- an offer fits as its task does
 pub task_fits_with : (a : Schedule) (g : Dag) (p : ℕ) (x : Offer) → IsTaskOffer a g p x → fits a x ≡ fits_with a g.spec.dag_id (task_of g p).pool (task_of g p).pool_slots

@@ -1,7 +1,9 @@
 //! The best of what stands on shelves, one kind of task after another.
-ghost use Rattle.std.specs.Prelude.{◌≡◌, ◌^◌, ◌<◌, ◌||◌, ◌&&◌, Bool, length, slice_get, Some};
+ghost use Rattle.std.specs.Prelude.{◌≡◌, ◌^◌, ◌<◌, ◌||◌, Bool, length, nat_lt, slice_get, Some};
 ghost use Rattle.dag_check.specs.Graphs.{Dag, task_of};
 ghost use Rattle.sched_model.specs.Handout as model;
+ghost use Rattle.sched_model.specs.Schedule.{bound_of};
+ghost use Rattle.sched_model.specs.States.{active_tries};
 ghost use Rattle.sched_model.specs.Sound.{IsSound};
 ghost use Rattle.sched_state.specs.declared.graphs.LoadedGraph as states;
 ghost use Rattle.sched_ready.specs.Held.{FitShelves, FitsShelf};
@@ -43,6 +45,16 @@ fn is_ahead(now: u64, soonest: Option<u64>) -> bool
     }
 }
 
+// Whether the graph, which stands at this position, may have one more try.
+fn may_have_more(draft: &Draft<'_>, taken: &Occupied, graph: usize, dag: &Graph) -> bool
+    requires taken { AreOccupied draft.now.content taken.now }
+    requires few { taken.now.in_flight < 2 ^ 32 }
+    requires graph { IsBoundAt draft.now.content graph dag.now }
+    ensures { result ≡ nat_lt (active_tries draft.now.content dag.now.spec.dag_id) (bound_of draft.now.content dag.now.spec.dag_id) }
+{
+    has_room(draft, taken, graph)
+}
+
 // Whether offers of the task at a place fit, of the graph at a position.
 fn fits_task(
     draft: &Draft<'_>,
@@ -60,7 +72,7 @@ fn fits_task(
     let task = dag.task(place);
     has_slots(taken, &task.pool, task.pool_slots)
         && has_lane(draft, taken)
-        && has_room(draft, taken, graph)
+        && may_have_more(draft, taken, graph, dag)
 }
 
 // The best of what stands on the shelf of a graph and is of a kind, and of what was chosen before it.
