@@ -24,9 +24,11 @@ use Rattle.sched_core.proofs.BookLemmas.{counted_same, end_counted, occupied_as}
 use Rattle.sched_laws.proofs.SlotLemmas.{open_settled}
 use Rattle.sched_core.specs.Inside.{IsOver, IsLast, drafted, completed}
 use Rattle.sched_core.proofs.EffectLemmas.{completed_last}
-use Rattle.sched_core.specs.Effects.{changed, applied, shelved, with_rest, IsEffect, IsRestOf, IsFitted}
+use Rattle.sched_core.specs.Effects.{changed, applied, with_rest, HoldsAfter, IsEffect, IsRestOf, IsFitted}
 use Rattle.sched_core.specs.declared.changes.Rest.{Rest}
-use Rattle.sched_core.specs.declared.changes.ShelfChange.{ShelfChange}
+use Rattle.std.specs.Global.{Vec}
+use Rattle.sched_ready.specs.Patched.{patched}
+use Rattle.sched_ready.specs.declared.patches.Patch.{Patch}
 use Rattle.sched_ready.specs.Held.{AreShelvesOf}
 use Rattle.sched_ready.specs.Shelves.{ShelfValue}
 use Rattle.sched_core.specs.declared.changes.GraphChange.{GraphChange}
@@ -49,19 +51,19 @@ completed_by : (g : GraphChange) (a : Schedule) (qs : List Pool) (now lanes next
 completed_by graphs.Same a qs now lanes next runs = refl
 completed_by (graphs.Load text dag shelf dates) a qs now lanes next runs = refl
 completed_by (graphs.Pause id paused) a qs now lanes next runs = refl
-completed_by (graphs.Replace graph) a qs now lanes next runs = refl
+completed_by (graphs.Replace graph shelves) a qs now lanes next runs = refl
 
 completed_open : (g : GraphChange) (b : Schedule) → IsLast g b → open_tries (completed g (hand_out (settle b))) ≡ open_tries (hand_out (settle b))
 completed_open graphs.Same b last = refl
 completed_open (graphs.Load text dag shelf dates) b last = load_open text dag (hand_out (settle b)) (no_runs_after b dag.spec.dag_id ∙ last)
 completed_open (graphs.Pause id paused) b last = refl
-completed_open (graphs.Replace graph) b last = refl
+completed_open (graphs.Replace graph shelves) b last = refl
 
 completed_pools : (g : GraphChange) (b : Schedule) → (completed g b).pools ≡ b.pools
 completed_pools graphs.Same b = refl
 completed_pools (graphs.Load text dag shelf dates) b = refl
 completed_pools (graphs.Pause id paused) b = refl
-completed_pools (graphs.Replace graph) b = refl
+completed_pools (graphs.Replace graph shelves) b = refl
 
 -- settling leaves the next serial
 move_next : (a b : Schedule) → move a ≡ Some b → b.next ≡ a.next
@@ -111,8 +113,8 @@ finished_later a b l = let e = repeat_keeps (λ (c : Schedule). c.now) hand_one 
 
 -- ---- what is left of a draft
 -- with it the graphs are changed and the rest is the draft's
-pub closed_is : (g : GraphChange) (a : Schedule) (d : DraftValue) (t : Occupied) (n : Rest) (k : ShelfChange) → d.base ≡ a → IsOver g a d.content → IsRestOf d t n → applied (record { graphs = g; shelves = k; rest = Some n }) a ≡ completed g d.content
-closed_is g a d t n k base over rest =
+pub closed_is : (g : GraphChange) (a : Schedule) (d : DraftValue) (t : Occupied) (n : Rest) (ps : Vec Patch) → d.base ≡ a → IsOver g a d.content → IsRestOf d t n → applied (record { graphs = g; patches = ps; rest = Some n }) a ≡ completed g d.content
+closed_is g a d t n ps base over rest =
     let b : Schedule = d.content in
     completed_by g a (pools_in n.occupied.pools.pools) n.clock n.lanes n.serial (edited n.edits a.runs)
     ∙ ap (completed g)
@@ -125,18 +127,18 @@ completed_due : (g : GraphChange) (b : Schedule) (P : ℕ → List Run → Type 
 completed_due graphs.Same b P h = h
 completed_due (graphs.Load text dag shelf dates) b P h = h
 completed_due (graphs.Pause id paused) b P h = h
-completed_due (graphs.Replace graph) b P h = h
+completed_due (graphs.Replace graph shelves) b P h = h
 
 -- and it is an effect, with the rows that then differ
-pub closed_effect : (g : GraphChange) (a : Schedule) (d : DraftValue) (t : Occupied) (n : Rest) (k : ShelfChange) (rows : Rows) → d.base ≡ a → IsOver g a d.content → IsRestOf d t n → IsFitted g → IsLast g d.content
+pub closed_effect : (g : GraphChange) (a : Schedule) (d : DraftValue) (t : Occupied) (n : Rest) (ps : Vec Patch) (rows : Rows) → d.base ≡ a → IsOver g a d.content → IsRestOf d t n → IsFitted g → IsLast g d.content
     → IsHeldWith true (completed g d.content) t → rows ≡ rows_between a (completed g d.content)
-    → ((ss : List ShelfValue) → AreShelvesOf a.now a.graphs a.runs ss → AreShelvesOf d.content.now (drafted g a.graphs) d.content.runs (shelved k ss))
-    → IsEffect (record { graphs = g; shelves = k; rest = Some n }) rows a
-closed_effect g a d t n k rows base over rest fitted last held rows_are shelves =
-    let is = closed_is g a d t n k base over rest in
+    → ((ss : List ShelfValue) → AreShelvesOf a.now a.graphs a.runs ss → HoldsAfter g d.content.now a.graphs d.content.runs (patched ps.items ss))
+    → IsEffect (record { graphs = g; patches = ps; rest = Some n }) rows a
+closed_effect g a d t n ps rows base over rest fitted last held rows_are shelves =
+    let is = closed_is g a d t n ps base over rest in
     record {
-      keeps = λ numbers was before. subst (IsHeldWith true (applied (record { graphs = g; shelves = k; rest = Some n }) a)) (sym rest.numbers) (subst (λ (s : Schedule). IsHeldWith true s t) (sym is) held);
-      shelves = λ ss h. subst (λ (s : Schedule). AreShelvesOf s.now (drafted g a.graphs) s.runs (shelved k ss)) (sym is) (completed_due g d.content (λ now rs. AreShelvesOf now (drafted g a.graphs) rs (shelved k ss)) (shelves ss h));
+      keeps = λ numbers was before. subst (IsHeldWith true (applied (record { graphs = g; patches = ps; rest = Some n }) a)) (sym rest.numbers) (subst (λ (s : Schedule). IsHeldWith true s t) (sym is) held);
+      shelves = λ ss h. subst (λ (s : Schedule). HoldsAfter g s.now a.graphs s.runs (patched ps.items ss)) (sym is) (completed_due g d.content (λ now rs. HoldsAfter g now a.graphs rs (patched ps.items ss)) (shelves ss h));
       fitted = fitted;
       last = subst (IsLast g) (sym is) (completed_last g d.content last);
       edits = subst (λ (s : Schedule). AreEditsOf s.runs n.edits) base rest.edits;

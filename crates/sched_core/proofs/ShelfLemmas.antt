@@ -16,6 +16,7 @@ use Rattle.sched_laws.proofs.SettleLemmas.{map_some}
 use Rattle.sched_ready.specs.Held.{AreShelvesOf, FitShelves, FitsShelf, HoldsPlace, IsLater}
 use Rattle.sched_ready.specs.Shelves.{ShelfValue}
 use Rattle.sched_ready.specs.declared.queues.Queue.{Queue}
+use Rattle.sched_core.specs.Effects.{HoldsAfter}
 use Rattle.sched_core.specs.Inside.{IsOver, LeavesDags, drafted}
 use Rattle.sched_core.specs.declared.changes.GraphChange.{GraphChange}
 use Rattle.sched_core.specs.declared.changes.GraphChange.TheVariants as graphs
@@ -110,7 +111,7 @@ pub drafted_long : (g : GraphChange) (gs : List LoadedGraph) → LeavesDags g �
 drafted_long graphs.Same gs leaves = refl
 drafted_long (graphs.Load text dag shelf dates) gs leaves = refl
 drafted_long (graphs.Pause id paused) gs leaves = length-map gs (pause_graph id paused)
-drafted_long (graphs.Replace graph) gs leaves = absurd leaves
+drafted_long (graphs.Replace graph shelves) gs leaves = absurd leaves
 
 pub drafted_alike : (g : GraphChange) (gs : List LoadedGraph) → LeavesDags g → (n : ℕ) (x y : LoadedGraph) → slice_get gs n ≡ Some x → slice_get (drafted g gs) n ≡ Some y → y.dag ≡ x.dag
 drafted_alike graphs.Same gs leaves n x y e f = ap (λ (k : LoadedGraph). k.dag) (sym (same_Some x y (sym e ∙ f)))
@@ -118,10 +119,17 @@ drafted_alike (graphs.Load text dag shelf dates) gs leaves n x y e f = ap (λ (k
 drafted_alike (graphs.Pause id paused) gs leaves n x y e f =
     let is : pause_graph id paused x ≡ y = same_Some (pause_graph id paused x) y (sym (slice_get-map (pause_graph id paused) gs n ∙ ap (option_map (pause_graph id paused)) e) ∙ f) in
     ap (λ (k : LoadedGraph). k.dag) (sym is) ∙ paused_dag id paused x
-drafted_alike (graphs.Replace graph) gs leaves n x y e f = absurd leaves
+drafted_alike (graphs.Replace graph shelves) gs leaves n x y e f = absurd leaves
 
-pub shelves_drafted : (g : GraphChange) (now : ℕ) (gs : List LoadedGraph) (rs : List Run) (ss : List ShelfValue) → LeavesDags g → AreShelvesOf now gs rs ss → AreShelvesOf now (drafted g gs) rs ss
-shelves_drafted g now gs rs ss leaves h = shelves_alike now gs (drafted g gs) rs ss (drafted_long g gs leaves) (drafted_alike g gs leaves) h
+-- what holds before the graphs are changed holds after that
+pub holds_after : (g : GraphChange) (now : ℕ) (gs : List LoadedGraph) (rs : List Run) (ss : List ShelfValue) → LeavesDags g → AreShelvesOf now gs rs ss → HoldsAfter g now gs rs ss
+holds_after graphs.Same now gs rs ss leaves h = h
+holds_after (graphs.Load text dag shelf dates) now gs rs ss leaves h = h
+holds_after (graphs.Pause id paused) now gs rs ss leaves h = h
+holds_after (graphs.Replace graph shelves) now gs rs ss leaves h = absurd leaves
+
+pub shelves_paused : (id : List ℕ) (paused : Bool) (now : ℕ) (gs : List LoadedGraph) (rs : List Run) (ss : List ShelfValue) → AreShelvesOf now gs rs ss → AreShelvesOf now (map (pause_graph id paused) gs) rs ss
+shelves_paused id paused now gs rs ss h = shelves_alike now gs (map (pause_graph id paused) gs) rs ss (drafted_long (graphs.Pause id paused) gs tt) (drafted_alike (graphs.Pause id paused) gs tt) h
 
 -- a draft over a schedule is later
 pub later_over : (g : GraphChange) (a b : Schedule) → LeavesDags g → IsOver g a b → a.now ≤ b.now → IsLater a b

@@ -14,20 +14,19 @@ use Rattle.sched_handout.specs.declared.occupied.Occupied.{Occupied}
 use Rattle.record_rows.specs.Rows.{Rows}
 use Rattle.record_writing.specs.record_changes.Changes.{rows_between}
 use Rattle.sched_core.specs.Books.{IsHeldWith}
-use Rattle.sched_core.specs.Inside.{IsLast, drafted}
+use Rattle.sched_core.specs.Inside.{IsLast}
 use Rattle.sched_core.specs.declared.changes.Effect.{Effect}
 use Rattle.sched_core.specs.declared.changes.GraphChange.{GraphChange}
 use Rattle.sched_core.specs.declared.changes.GraphChange.TheVariants as graphs
+use Rattle.sched_state.specs.declared.runs.Run.{Run}
 use Rattle.sched_core.specs.declared.changes.Rest.{Rest}
-use Rattle.sched_core.specs.declared.changes.ShelfChange.{ShelfChange}
-use Rattle.sched_core.specs.declared.changes.ShelfChange.TheVariants as shelves
 
 -- what a change makes of the graphs
 abbrev pub changed : GraphChange → List LoadedGraph → List LoadedGraph
 changed graphs.Same gs = gs
 changed (graphs.Load text dag shelf dates) gs = with_graph text dag gs
 changed (graphs.Pause id paused) gs = map (pause_graph id paused) gs
-changed (graphs.Replace graph) gs = with_other (Some graph) gs
+changed (graphs.Replace graph shelves) gs = with_other (Some graph) gs
 
 -- and of a schedule
 abbrev pub with_change : GraphChange → Schedule → Schedule
@@ -66,16 +65,18 @@ abbrev pub IsFitted : GraphChange → Type 0
 IsFitted graphs.Same = Unit {0}
 IsFitted (graphs.Load text dag shelf dates) = FitsShelf dag shelf × (dates.dates ≡ [])
 IsFitted (graphs.Pause id paused) = Unit {0}
-IsFitted (graphs.Replace graph) = Unit {0}
+IsFitted (graphs.Replace graph shelves) = Unit {0}
 
--- what a change makes of shelves
-abbrev pub shelved : ShelfChange → List ShelfValue → List ShelfValue
-shelved (shelves.Patches ps) ss = patched ps.items ss
-shelved (shelves.Anew all) ss = all.items
+-- the shelves hold what is due once the change is made: where another graph is put in, those that come with it
+abbrev pub HoldsAfter : GraphChange → ℕ → List LoadedGraph → List Run → List ShelfValue → Type 0
+HoldsAfter graphs.Same now gs rs ss = AreShelvesOf now gs rs ss
+HoldsAfter (graphs.Load text dag shelf dates) now gs rs ss = AreShelvesOf now gs rs ss
+HoldsAfter (graphs.Pause id paused) now gs rs ss = AreShelvesOf now gs rs ss
+HoldsAfter (graphs.Replace graph shelves) now gs rs ss = AreShelvesOf now (with_other (Some graph) gs) rs shelves.items
 
--- whatever shelves hold what is due in the schedule, then they hold what is due in the one after the effect, but for a text that is taken in last
+-- whatever shelves hold what is due in the schedule, with the patches they hold what is due after the effect
 abbrev pub KeepsShelves : Effect → Schedule → Type 0
-KeepsShelves e a = (ss : List ShelfValue) → AreShelvesOf a.now a.graphs a.runs ss → AreShelvesOf (applied e a).now (drafted e.graphs a.graphs) (applied e a).runs (shelved e.shelves ss)
+KeepsShelves e a = (ss : List ShelfValue) → AreShelvesOf a.now a.graphs a.runs ss → HoldsAfter e.graphs (applied e a).now a.graphs (applied e a).runs (patched e.patches.items ss)
 
 -- so it keeps the hold and the shelves, brings a shelf with a text, which is of a graph without runs or of the one whose runs go on by it, its edits are of the schedule's runs, and these are the rows that the schedule lacks after it
 pub record IsEffect (e : Effect) (rows : Rows) (a : Schedule) : Type 0 where
@@ -91,4 +92,4 @@ abbrev pub IsQuiet : GraphChange → Schedule → Type 0
 IsQuiet graphs.Same a = Unit {0}
 IsQuiet (graphs.Load text dag shelf dates) a = has_runs a dag.spec.dag_id ≡ false
 IsQuiet (graphs.Pause id paused) a = paused ≡ true
-IsQuiet (graphs.Replace graph) a = ⊥
+IsQuiet (graphs.Replace graph shelves) a = ⊥

@@ -40,7 +40,7 @@ OwnsRunsOf id rs d = (n : ℕ) (r : Run) → slice_get rs n ≡ Some r → same 
 
 -- with the graph this is the effect on a schedule in which the graph is replaced, moves are made and tries are handed out
 abbrev pub effect_of : LoadedGraph → Aftermath → Effect
-effect_of g k = record { graphs = graphs.Replace g; shelves = k.shelves; rest = Some k.rest }
+effect_of g k = record { graphs = graphs.Replace g k.shelves; patches = k.patches; rest = Some k.rest }
 
 pub record IsAftermath (a : Schedule) (g : LoadedGraph) (k : Aftermath) : Type 0 where
   pub effect : IsEffect (effect_of g k) k.rows a

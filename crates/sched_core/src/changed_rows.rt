@@ -95,7 +95,7 @@ fn dags_changed(
             Some(graph) => dag_lacked(alloc, graphs, id, &graph.text, *paused),
             None => Ok(Vec::new(alloc)),
         },
-        GraphChange::Replace(graph) => dags_with(alloc, graphs, graph),
+        GraphChange::Replace(graph, _) => dags_with(alloc, graphs, graph),
     }
 }
 
@@ -132,7 +132,7 @@ fn limits_changed(
             let bound = bound_after(graphs, text, dag);
             limit_lacked(alloc, graphs, &dag.spec().dag_id, bound)
         }
-        GraphChange::Replace(graph) => limits_with(alloc, graphs, graph),
+        GraphChange::Replace(graph, _) => limits_with(alloc, graphs, graph),
     }
 }
 

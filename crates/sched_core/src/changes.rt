@@ -20,7 +20,8 @@ use std::snapshot::Snapshot;
 #[derive(Drop)]
 pub struct Effect {
     pub graphs: GraphChange,
-    pub shelves: ShelfChange,
+    // Of the shelves, before the graphs are changed.
+    pub patches: Vec<Patch>,
     pub rest: Option<Rest>,
 }
 
@@ -33,8 +34,8 @@ pub enum GraphChange {
     Load(GraphText, Graph, Shelf, RunIndex),
     // The graph with this id is paused, or is no more.
     Pause(Name, bool),
-    // The graph with the id of this one is this one. Its runs go on by it.
-    Replace(LoadedGraph),
+    // The graph with the id of this one is this one. Its runs go on by it, and all shelves are these.
+    Replace(LoadedGraph, Vec<Shelf>),
 }
 
 // What an event leaves, but for the graphs.
@@ -48,15 +49,6 @@ pub struct Rest {
     pub serial: u64,
     // What becomes of the runs.
     pub edits: Edits,
-}
-
-// What becomes of the shelves, before the graphs are changed.
-#[derive(Drop)]
-pub enum ShelfChange {
-    // Queues are put on them.
-    Patches(Vec<Patch>),
-    // They are these.
-    Anew(Vec<Shelf>),
 }
 
 /// What an accepted event will do: it is made by `Schedule::plan`, and done by `Schedule::commit`.

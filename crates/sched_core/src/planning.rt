@@ -17,7 +17,7 @@ ghost use Rattle.sched_core.specs.Books.{IsCounted};
 ghost use Rattle.sched_core.specs.Effects.{applied, with_change, IsEffect, IsQuiet, IsRestOf, IsFitted};
 ghost use Rattle.sched_core.specs.Inside.{IsOver, IsLast, LeavesDags, completed, drafted_as, over};
 
-use crate::changes::{Change, Effect, GraphChange, Rest, ShelfChange};
+use crate::changes::{Change, Effect, GraphChange, Rest};
 use crate::losing::lose_all;
 use crate::schedules::Schedule;
 use graph_file::{Name, Sequence};
@@ -78,10 +78,10 @@ impl Schedule {
         }) }
     {
         let rows = self.rows_of_graphs(alloc, &graphs)?;
-        let shelves = ShelfChange::Patches(Vec::new(alloc));
+        let patches = Vec::new(alloc);
         let effect = Effect {
             graphs,
-            shelves,
+            patches,
             rest: None,
         };
         Ok(self.change_of(effect, quiet_answer(alloc), rows))
@@ -204,7 +204,7 @@ impl Schedule {
         let patches = patches_of(alloc, self.shelves.as_slice(), &draft)?;
         let effect = Effect {
             graphs,
-            shelves: ShelfChange::Patches(patches),
+            patches,
             rest: Some(rest_of(draft, occupied)),
         };
         Ok(self.change_of(effect, Answer { jobs, ..answer }, rows))

@@ -19,7 +19,7 @@ ghost use Rattle.sched_core.specs.Plans.{IsPlanned};
 ghost use Rattle.sched_core.specs.Replaced.{IsAftermath, IsDisturbance, OwnsRunsOf, TakeAlike, with_other_graph};
 
 use crate::changed_rows::{dags_with, limits_with};
-use crate::changes::{Change, Effect, GraphChange, Rest, ShelfChange};
+use crate::changes::{Change, Effect, GraphChange, Rest};
 use crate::graph_texts::new_graph;
 use crate::lookups::position_of;
 use crate::planning::{quiet_answer, rest_of};
@@ -33,17 +33,20 @@ use sched_clearing::span_of_all;
 use sched_draft::Draft;
 use sched_events::{Answer, Refusal};
 use sched_handout::hand_out;
-use sched_ready::shelves_of;
+use sched_ready::{Patch, Shelf, shelves_of};
 use sched_replacing::{least_moved, lost_task, reached, refit, resized_task};
 use sched_settling::settle;
 use sched_state::{GraphText, Job, LoadedGraph};
 use std::alloc::{AllocError, Global};
 
-// What a replaced graph leaves, but for the graph itself: the rest, the tries that are handed out, and the rows that the schedule lacks then.
+// What a replaced graph leaves, but for the graph itself: the rest, the shelves, the tries that are handed out, and the rows that the schedule lacks
+// then.
 #[derive(Drop)]
 pub struct Aftermath {
     pub rest: Rest,
-    pub shelves: ShelfChange,
+    pub shelves: Vec<Shelf>,
+    // None.
+    pub patches: Vec<Patch>,
     pub jobs: Sequence<Job>,
     pub rows: Rows,
 }
@@ -127,8 +130,8 @@ impl Schedule {
         let graph = with_text_of(&self.graphs[place], text.copy(alloc)?, dag);
         let aftermath = self.aftermath(alloc, place, &graph)?;
         let effect = Effect {
-            graphs: GraphChange::Replace(graph),
-            shelves: aftermath.shelves,
+            graphs: GraphChange::Replace(graph, aftermath.shelves),
+            patches: aftermath.patches,
             rest: Some(aftermath.rest),
         };
         let answer = Answer {
@@ -161,7 +164,8 @@ impl Schedule {
         let shelves = shelves_of(alloc, &draft)?;
         Ok(Aftermath {
             rest: rest_of(draft, occupied),
-            shelves: ShelfChange::Anew(shelves),
+            shelves,
+            patches: Vec::new(alloc),
             jobs,
             rows,
         })

@@ -14,10 +14,10 @@ ghost use Rattle.sched_creation.specs.Dates.{HaveDates};
 ghost use Rattle.sched_draft.specs.Parts.{with_other};
 ghost use Rattle.sched_ready.specs.Held.{AreShelvesOf, FitsShelf};
 ghost use Rattle.sched_core.specs.Changes.{HasRoom};
-ghost use Rattle.sched_core.specs.Effects.{changed, shelved, IsFitted};
-ghost use Rattle.sched_core.specs.Inside.{IsLast, drafted};
+ghost use Rattle.sched_core.specs.Effects.{changed, HoldsAfter, IsFitted};
+ghost use Rattle.sched_core.specs.Inside.{IsLast};
 
-use crate::changes::{Change, Effect, GraphChange, ShelfChange};
+use crate::changes::{Change, Effect, GraphChange};
 use crate::dates::{note, room_for_dates};
 use crate::default_pools::default_pools;
 use crate::graph_texts::{new_graph, take_text};
@@ -189,14 +189,14 @@ impl Schedule {
             before: _,
             effect: Effect {
                 graphs,
-                shelves,
+                patches,
                 rest,
             },
             answer,
             rows: _,
         } = change;
         note(&self.graphs, &mut self.dates, &rest);
-        change_shelves(&mut self.shelves, shelves);
+        put_all(&mut self.shelves, patches);
         change_graphs(&mut self.graphs, &mut self.shelves, &mut self.dates, graphs);
         if let Some(rest) = rest {
             self.occupied = rest.occupied;
@@ -240,11 +240,11 @@ fn room_for_graphs(
             shelves.reserve(1)?;
             dates.reserve(1)
         }
-        GraphChange::Same | GraphChange::Pause(_, _) | GraphChange::Replace(_) => Ok(()),
+        GraphChange::Same | GraphChange::Pause(_, _) | GraphChange::Replace(_, _) => Ok(()),
     }
 }
 
-// The graphs are changed so, and their shelves and dates with them. What a pause or another graph leaves due stands on the shelves already.
+// The graphs are changed so, and their shelves and dates with them.
 fn change_graphs(
     graphs: &mut Vec<LoadedGraph>,
     shelves: &mut Vec<Shelf>,
@@ -258,7 +258,7 @@ fn change_graphs(
     requires fitted { IsFitted change }
     requires long { length dates.old.items ≡ length graphs.old.items }
     ensures graphs { graphs.new.items ≡ changed change graphs.old.items }
-    ensures shelves { (a : Content) → AreShelvesOf a.now (drafted change graphs.old.items) a.runs shelves.old.items → IsLast change a
+    ensures shelves { (a : Content) → HoldsAfter change a.now graphs.old.items a.runs shelves.old.items → IsLast change a
         → AreShelvesOf a.now graphs.new.items a.runs shelves.new.items }
     ensures dates { (a : Content) → HaveDates graphs.old.items a.runs dates.old.items → IsLast change a
         → HaveDates graphs.new.items a.runs dates.new.items }
@@ -269,7 +269,10 @@ fn change_graphs(
             take_in(graphs, shelves, dates, text, dag, shelf, index)
         }
         GraphChange::Pause(id, paused) => set_paused(graphs, &id, paused),
-        GraphChange::Replace(graph) => put_other(graphs, graph),
+        GraphChange::Replace(graph, others) => {
+            put_other(graphs, graph);
+            *shelves = others;
+        }
     }
 }
 
@@ -322,15 +325,5 @@ fn put_other(graphs: &mut Vec<LoadedGraph>, graph: LoadedGraph)
     match position_of(graphs, &graph.dag.spec().dag_id) {
         Some(place) => graphs[place] = graph,
         None => {}
-    }
-}
-
-// Queues are put on the shelves, or they are others. This takes no memory.
-fn change_shelves(shelves: &mut Vec<Shelf>, change: ShelfChange)
-    ensures { shelves.new.items ≡ shelved change shelves.old.items }
-{
-    match change {
-        ShelfChange::Patches(patches) => put_all(shelves, patches),
-        ShelfChange::Anew(others) => *shelves = others,
     }
 }

@@ -40,7 +40,7 @@ length_at f n [] = refl
 length_at f zero (x ∷ xs) = refl
 length_at f (suc n) (x ∷ xs) = ap suc (length_at f n xs)
 
-patched_long : (ps : List Patch) (ss : List ShelfValue) → length (patched ps ss) ≡ length ss
+pub patched_long : (ps : List Patch) (ss : List ShelfValue) → length (patched ps ss) ≡ length ss
 patched_long [] ss = refl
 patched_long (x ∷ ps) ss = patched_long ps (at (with_queues x.queues.items) x.graph ss) ∙ length_at (with_queues x.queues.items) x.graph ss
 

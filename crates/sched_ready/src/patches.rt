@@ -1,5 +1,5 @@
 //! Changes of shelves, and how they are done.
-ghost use Rattle.std.specs.Prelude.{◌≡◌, ◌<◌, ◌∷◌, [], length};
+ghost use Rattle.std.specs.Prelude.{◌≡◌, ◌<◌, ◌∷◌, [], length, vec_capacity};
 ghost use Rattle.sched_ready.specs.Patched.{patched, put_at, with_queues};
 
 use crate::queues::Queue;
@@ -14,7 +14,8 @@ pub struct Patch {
 
 /// The queues of the patches are put on the shelves, one patch after another. This takes no memory.
 pub fn put_all(shelves: &mut Vec<Shelf>, patches: Vec<Patch>)
-    ensures { shelves.new.items ≡ patched patches.items shelves.old.items }
+    ensures shelves { shelves.new.items ≡ patched patches.items shelves.old.items }
+    ensures places { vec_capacity shelves.new ≡ vec_capacity shelves.old }
 {
     for patch in patches {
         put_patch(shelves, patch);
@@ -23,7 +24,8 @@ pub fn put_all(shelves: &mut Vec<Shelf>, patches: Vec<Patch>)
 
 // The queues of a patch are put on the shelf of its graph.
 fn put_patch(shelves: &mut Vec<Shelf>, patch: Patch)
-    ensures { shelves.new.items ≡ patched (patch ∷ []) shelves.old.items }
+    ensures shelves { shelves.new.items ≡ patched (patch ∷ []) shelves.old.items }
+    ensures places { vec_capacity shelves.new ≡ vec_capacity shelves.old }
 {
     let Patch { graph, queues } = patch;
     if graph < shelves.len() {

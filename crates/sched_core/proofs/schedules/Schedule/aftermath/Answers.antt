@@ -19,10 +19,9 @@ use Rattle.sched_handout.specs.declared.occupied.Occupied.{Occupied}
 use Rattle.sched_handout.proofs.JobLemmas.{sound_none}
 use Rattle.sched_core.specs.Books.{IsCounted, IsHeldWith}
 use Rattle.sched_core.specs.Changes.{ScheduleValue}
-use Rattle.sched_core.specs.Inside.{IsOver, drafted}
+use Rattle.sched_core.specs.Inside.{IsOver}
 use Rattle.sched_core.specs.Replaced.{OwnsRunsOf, with_other_graph}
 use Rattle.sched_core.specs.declared.changes.GraphChange.TheVariants as graphs
-use Rattle.sched_core.specs.declared.changes.ShelfChange.TheVariants.{Anew}
 use Rattle.sched_core.proofs.FinishLemmas.{closed_effect, closed_is, finished_held, finished_over, settled_next, settled_occupied}
 use Rattle.sched_core.proofs.ReplacingLemmas.{counted_alike, occupied_alike}
 use Rattle.sched_core.proofs.schedules.Schedule.aftermath.Goals.{In_ok-settle, In_ok-jobs}
@@ -125,13 +124,13 @@ returns c =
     let base : d.base ≡ a = c.in_ok-own_runs_of.ensures.base ∙ (c.in_ok-jobs.ensures.base ∙ (c.in_ok-settle.ensures.base ∙ c.in_ok-draft.ensures.base)) in
     let numbers : AreOccupied e t = subst (λ (s : Schedule). AreOccupied s t) out c.in_ok-jobs.ensures.taken in
     let counted : IsCounted b = counted_alike a b c.requires.taken (subst (λ (h : ScheduleValue). IsCounted h.content) c.self.view_is c.self.invariant.held.counted) in
-    let start : IsOver (graphs.Replace k) a b = record { limits = refl; graphs = refl } in
-    let over : IsOver (graphs.Replace k) a d.content = subst (IsOver (graphs.Replace k) a) (sym end) (finished_over (graphs.Replace k) a b start) in
-    let due : (ss : List ShelfValue) → AreShelvesOf a.now a.graphs a.runs ss → AreShelvesOf d.content.now (drafted (graphs.Replace k) a.graphs) d.content.runs c.in_ok-shelves.shelves.items = λ ss h. subst (λ (gs : List LoadedGraph). AreShelvesOf d.content.now gs d.content.runs c.in_ok-shelves.shelves.items) over.graphs c.in_ok-shelves.ensures in
+    let start : IsOver (graphs.Replace k c.in_ok-shelves.shelves) a b = record { limits = refl; graphs = refl } in
+    let over : IsOver (graphs.Replace k c.in_ok-shelves.shelves) a d.content = subst (IsOver (graphs.Replace k c.in_ok-shelves.shelves) a) (sym end) (finished_over (graphs.Replace k c.in_ok-shelves.shelves) a b start) in
+    let due = subst (λ (gs : List LoadedGraph). AreShelvesOf d.content.now gs d.content.runs c.in_ok-shelves.shelves.items) over.graphs c.in_ok-shelves.ensures in
     record {
-      effect = closed_effect (graphs.Replace k) a d t c.rest_of.result (Anew c.in_ok-shelves.shelves) c.in_ok-rows.rows base over c.rest_of.ensures tt tt
-          (subst (λ (s : Schedule). IsHeldWith true s t) (sym end) (finished_held (graphs.Replace k) b t c.requires.sound counted tt c.requires.kept numbers)) c.in_ok-rows.ensures due;
-      after = closed_is (graphs.Replace k) a d t c.rest_of.result (Anew c.in_ok-shelves.shelves) base over c.rest_of.ensures ∙ end;
+      effect = closed_effect (graphs.Replace k c.in_ok-shelves.shelves) a d t c.rest_of.result c.new.result c.in_ok-rows.rows base over c.rest_of.ensures tt tt
+          (subst (λ (s : Schedule). IsHeldWith true s t) (sym end) (finished_held (graphs.Replace k c.in_ok-shelves.shelves) b t c.requires.sound counted tt c.requires.kept numbers)) c.in_ok-rows.ensures (λ ss h. due);
+      after = closed_is (graphs.Replace k c.in_ok-shelves.shelves) a d t c.rest_of.result c.new.result base over c.rest_of.ensures ∙ end;
       jobs = c.in_ok-jobs.ensures.jobs
           ∙ (ap (λ (s : Schedule). handed s c.hand_out.new.draft.content) moved
           ∙ (ap (handed (settle b)) out ∙ ap (λ n. flat_map (job_at e) (range_with_len n (e.next - n))) (settled_next b)));

@@ -22,8 +22,7 @@ use Rattle.sched_core.specs.Books.{IsHeldWith}
 use Rattle.sched_core.specs.Changes.{ScheduleValue, Planned}
 use Rattle.sched_core.proofs.ChangedRowLemmas.{draft_dags, last_after}
 use Rattle.sched_core.proofs.FinishLemmas.{closed_effect, closed_is, finished_held, finished_later, finished_over, settled_later, settled_next, settled_occupied, settled_over}
-use Rattle.sched_core.proofs.ShelfLemmas.{later_over, shelves_drafted}
-use Rattle.sched_core.specs.declared.changes.ShelfChange.TheVariants.{Patches}
+use Rattle.sched_core.proofs.ShelfLemmas.{holds_after, later_over}
 use Rattle.sched_core.proofs.schedules.Schedule.finish_with.Goals as goal
 
 pub settle_draft-requires-clause-dags : goal.settle_draft-requires-clause-dags
@@ -114,9 +113,9 @@ change_of-requires c =
     let base : d.base ≡ a = c.in_ok-jobs.ensures.base ∙ c.in_ok-settle_draft.ensures.base ∙ c.requires.based in
     let numbers : AreOccupied e t = subst (λ (s : Schedule). AreOccupied s t) end c.in_ok-jobs.ensures.taken in
     let held : IsHeldWith true (completed g e) t = finished_held g b t c.requires.sound c.requires.counted c.requires.last c.requires.kept numbers in
-    closed_effect g a d t c.rest_of.result (Patches c.in_ok-patches.patches) c.in_ok-rows.rows base (subst (IsOver g a) (sym end) (finished_over g a b c.requires.over)) c.rest_of.ensures c.requires.fitted (subst (IsLast g) (sym end) (last_after g b c.requires.last))
+    closed_effect g a d t c.rest_of.result c.in_ok-patches.patches c.in_ok-rows.rows base (subst (IsOver g a) (sym end) (finished_over g a b c.requires.over)) c.rest_of.ensures c.requires.fitted (subst (IsLast g) (sym end) (last_after g b c.requires.last))
     (subst (λ (s : Schedule). IsHeldWith true (completed g s) t) (sym end) held) c.in_ok-rows.ensures
-    (λ ss h. shelves_drafted g d.content.now a.graphs d.content.runs (patched c.in_ok-patches.patches.items ss) c.requires.leaves
+    (λ ss h. holds_after g d.content.now a.graphs d.content.runs (patched c.in_ok-patches.patches.items ss) c.requires.leaves
     (patched_shelves a d.content c.in_ok-patches.patches.items ss h (subst (λ (s : Schedule). ArePatches s d.content c.in_ok-patches.patches.items) base c.in_ok-patches.ensures)
     (subst (IsLater a) (sym end) (later_over g a e c.requires.leaves (finished_over g a b c.requires.over) (finished_later a b c.requires.later)))))
 
@@ -129,7 +128,7 @@ returns c =
     let e : Schedule = hand_out (settle b) in
     let end : d.content ≡ e = c.in_ok-jobs.ensures.draft ∙ ap hand_out c.in_ok-settle_draft.ensures.settled in
     let base : d.base ≡ a = c.in_ok-jobs.ensures.base ∙ c.in_ok-settle_draft.ensures.base ∙ c.requires.based in
-    let is = closed_is g a d c.hand_out.new.taken c.rest_of.result (Patches c.in_ok-patches.patches) base (subst (IsOver g a) (sym end) (finished_over g a b c.requires.over)) c.rest_of.ensures ∙ ap (completed g) end in
+    let is = closed_is g a d c.hand_out.new.taken c.rest_of.result c.in_ok-patches.patches base (subst (IsOver g a) (sym end) (finished_over g a b c.requires.over)) c.rest_of.ensures ∙ ap (completed g) end in
     let jobs : c.in_ok-jobs.jobs ≡ handed a e =
     c.in_ok-jobs.ensures.jobs
     ∙ (ap (λ (s : Schedule). handed s d.content) c.in_ok-settle_draft.ensures.settled
