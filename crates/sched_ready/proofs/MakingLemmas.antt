@@ -16,7 +16,7 @@ use Rattle.sched_model.specs.instance_machine.Instances.{InstanceValue}
 use Rattle.sched_laws.proofs.DecisionLemmas.{by_bool}
 use Rattle.sched_ready.specs.Due.{due_at, due_if, due_of}
 use Rattle.sched_ready.specs.Held.{AreShelvesOf, FitShelves, FitsShelf, IsLater, WeighTasks}
-use Rattle.sched_ready.specs.Kinds.{AreKinds}
+use Rattle.sched_ready.specs.Kinds.{AreKinds, AreSamples, HasJoined, IsKindOf}
 use Rattle.sched_ready.specs.Patched.{ArePatches, patched}
 use Rattle.sched_ready.specs.Patching.{ArePatchesOn, AreShelvesBefore, IsStillOn}
 use Rattle.sched_ready.specs.Shelves.{AreAllEmpty, AreEmpty, IsEmpty, ShelfValue}
@@ -24,7 +24,7 @@ use Rattle.sched_ready.specs.declared.patches.Patch.{Patch}
 use Rattle.sched_ready.specs.declared.queues.Queue.{Queue}
 use Rattle.sched_ready.proofs.PatchLemmas.{patched_shelves}
 use Rattle.sched_ready.proofs.PatchingLemmas.{IsPatching}
-use Rattle.sched_ready.proofs.LeadLemmas.{get_last, one_longer}
+use Rattle.sched_ready.proofs.LeadLemmas.{get_first, get_last, one_longer}
 
 -- ---- nothing stands on a shelf
 -- one queue more
@@ -35,6 +35,36 @@ empty_more qs rs q is e h p w f = elim (get_last qs q w p (ap (λ xs. slice_get 
 ]
 
 -- ---- kinds
+kept_kind : (g : Dag) (old new : List ℕ) (place kind : ℕ) (t : TaskSpec) → (new ≡ old) ⊎ (new ≡ old ++ place ∷ []) → IsKindOf g old t kind → IsKindOf g new t kind
+kept_kind g old new place kind t (inl e) h = subst (λ ss. IsKindOf g ss t kind) (sym e) h
+kept_kind g old new place kind t (inr e) h = record { place = h.place; sample = h.sample; place_is = ap (λ ss. slice_get ss kind) e ∙ get_first old (place ∷ []) h.place kind h.place_is; sample_is = h.sample_is; pool = h.pool; slots = h.slots }
+
+kept_long : (old new : List ℕ) (place : ℕ) → (new ≡ old) ⊎ (new ≡ old ++ place ∷ []) → length old ≤ length new
+kept_long old new place (inl e) = let l = ap (λ (xs : List ℕ). length xs) e in omega (arith, l)
+kept_long old new place (inr e) = let l = ap (λ (xs : List ℕ). length xs) e ∙ one_longer old place in omega (arith, l)
+
+kept_samples : (g : Dag) (old new : List ℕ) (place : ℕ) → place < length g.tasks → (new ≡ old) ⊎ (new ≡ old ++ place ∷ []) → AreSamples g old → AreSamples g new
+kept_samples g old new place l (inl e) h = subst (AreSamples g) (sym e) h
+kept_samples g old new place l (inr e) h = λ k p f. elim (get_last old place p k (ap (λ (xs : List ℕ). slice_get xs k) (sym e) ∙ f)) as (λ _. p < length g.tasks) [
+  | inl i ↦ h k p i
+  | inr i ↦ (let j = i.1 in omega (arith, l, j))
+]
+
+-- one place more
+pub kinds_more : (g : Dag) (place : ℕ) (ks ms old new : List ℕ) (kind : ℕ) → place < length g.tasks → HasJoined g place old new kind → ms ≡ ks ++ kind ∷ [] → AreKinds g place ks old → AreKinds g (place + 1) ms new
+kinds_more g place ks ms old new kind l joined e h = subst (λ xs. AreKinds g (place + 1) xs new) (sym e) (record {
+  long = one_longer ks kind ∙ ap (λ n. n + 1) h.long;
+  each = λ p k t a b. elim (get_last ks kind k p a) as (λ _. IsKindOf g new t k) [
+    | inl i ↦ kept_kind g old new place k t joined.from (h.each p k t i b)
+    | inr i ↦ subst (IsKindOf g new t) i.1 (joined.kind_is t (ap (slice_get g.tasks) (sym (i.0 ∙ h.long)) ∙ b))
+  ];
+  within = λ p k a. elim (get_last ks kind k p a) as (λ _. k < length new) [
+    | inl i ↦ (let m = h.within p k i in let n = kept_long old new place joined.from in omega (arith, m, n))
+    | inr i ↦ (let m = joined.within in let n = i.1 in omega (arith, m, n))
+  ];
+  sampled = kept_samples g old new place l joined.from h.sampled;
+})
+
 pub fits_empty : (g : Dag) (s : ShelfValue) (ks ss ws : List ℕ) → WeighTasks g ws → AreKinds g (length g.tasks) ks ss → s.weights ≡ ws → s.kinds ≡ ks → s.samples ≡ ss → length s.queues ≡ length ws → FitsShelf g s
 fits_empty g s ks ss ws weighed h a b c d = record {
   weights = subst (WeighTasks g) (sym a) weighed;

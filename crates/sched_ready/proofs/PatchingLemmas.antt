@@ -192,7 +192,7 @@ patch_found n (p ∷ ps) (Some i) e =
     let f = position-Some (is_of n) (p ∷ ps) i p (sym e) in
     let x = element_at (p ∷ ps) i f.0 in
     let is : get_or (p ∷ ps) i p ≡ x.0 = get_or_from_slice_get (p ∷ ps) i x.0 p x.1 in
-    (x.0, (x.1, eqb-true x.0.graph n (ap (is_of n) (sym is) ∙ f.1.0)))
+    (x.0, (x.1, eqb-true x.0.graph n (ap (is_of n) (sym is) ∙ f.1)))
 
 -- so it is the patch of the graph, which is there or is put behind
 pub patch_there : (n places index : ℕ) (ps qs : List Patch) → Some index ≡ position (is_of n) ps → qs ≡ ps → IsPatchOf n places ps qs index

@@ -1,4 +1,5 @@
-use Rattle.std.proofs.Common.{◌≡◌, ◌+◌, ◌<◌, length, refl, slice_get, subst, sym, Some, Vec, arith}
+use Rattle.std.proofs.Common.{◌≡◌, ◌+◌, ◌<◌, length, refl, slice_get, subst, sym, Some, arith}
+use Rattle.std.specs.Global.{Vec}
 use Rattle.sched_ready.specs.declared.patches.Patch.{Patch}
 use Rattle.sched_ready.proofs.LeadLemmas.{read_at}
 use Rattle.sched_ready.proofs.PlacesLemmas.{AreFirstTo, first_all, first_more, first_over}
