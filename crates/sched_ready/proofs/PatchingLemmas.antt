@@ -132,8 +132,7 @@ shelf_held : (a b : Schedule) (ss : List ShelfValue) (n : ℕ) (g : LoadedGraph)
 shelf_held a b ss n g s h there shelf =
     let within : n < length b.graphs = slice_get_within b.graphs n g there in
     let k = element_at a.graphs n (omega (arith, within, h.later.long)) in
-    let dag : g.dag ≡ k.0.dag = h.later.graphs n k.0 g k.1 there in
-    (
+    let dag : g.dag ≡ k.0.dag = h.later.graphs n k.0 g k.1 there in (
       subst (λ (d : Dag). FitsShelf d s) (sym dag) (h.shelves.fit.fits n k.0 s k.1 shelf),
       λ p t q task queue. subst (λ (d : Dag). HoldsPlace a.now a.runs d.spec.dag_id t p q) (sym dag) (h.shelves.held n p k.0 s t q k.1 shelf (ap (λ (d : Dag). slice_get d.tasks p) (sym dag) ∙ task) queue),
     )
@@ -482,8 +481,8 @@ patching_more a b ss left others n r before old new e shelves before_is takes h 
     behind m f =
         let there : is_in (n ∷ others) m ≡ true = ap (λ ns. is_in ns m) (sym e) ∙ h.rest m (first_false (h.done m) _ f) in
         let apart : nat_eq n m ≡ false = by_bool {C = nat_eq n m ≡ false} (nat_eq n m)
-            (λ i. absurd (true≢false (sym (eq-eqb m n (sym (eqb-true n m i))) ∙ second_false (h.done m) _ f)))
-            (λ i. i) in
+        (λ i. absurd (true≢false (sym (eq-eqb m n (sym (eqb-true n m i))) ∙ second_false (h.done m) _ f)))
+        (λ i. i) in
         sym (ap (λ b. b || is_in others m) apart) ∙ there
 
 pub patching_done : (a b : Schedule) (ss : List ShelfValue) (left : List ℕ) (ps : List Patch) → length left ≡ 0 → AreShelvesBefore a b ss → IsPatching a b ss left ps → ArePatches a b ps

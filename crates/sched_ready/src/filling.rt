@@ -46,12 +46,7 @@ pub fn due_before(run: Option<&Run>, task: &TaskSpec, place: usize) -> Option<u6
 }
 
 // A date that is due from a moment on is put in.
-fn put_date(
-    queue: &mut Queue,
-    now: u64,
-    moment: u64,
-    date: Moment,
-) -> Result<(), AllocError>
+fn put_date(queue: &mut Queue, now: u64, moment: u64, date: Moment) -> Result<(), AllocError>
     ensures marked { OnOk result (is_kept now queue.new date moment ≡ true) }
     ensures kept { OnOk result ((d m : ℕ) → is_kept now queue.old d m ≡ true
         → is_kept now queue.new d m ≡ true) }

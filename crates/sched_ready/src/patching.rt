@@ -88,11 +88,7 @@ fn patch_of(
 }
 
 // The patches for the graphs in which a date waits for a moment that has come.
-fn moved_patches(
-    alloc: Global,
-    shelves: &[Shelf],
-    now: u64,
-) -> Result<Vec<Patch>, AllocError>
+fn moved_patches(alloc: Global, shelves: &[Shelf], now: u64) -> Result<Vec<Patch>, AllocError>
     ensures { IfOk result (λ patches. AreFirstPatches now shelves.now patches.items) }
 {
     let mut patches = Vec::new(alloc);

@@ -47,11 +47,7 @@ pub struct Kinds {
 
 impl Shelf {
     // A shelf with these weights and kinds, on which nothing stands.
-    pub(crate) fn empty(
-        alloc: Global,
-        weights: Vec<u64>,
-        kinds: Kinds,
-    ) -> Result<Shelf, AllocError>
+    pub(crate) fn empty(alloc: Global, weights: Vec<u64>, kinds: Kinds) -> Result<Shelf, AllocError>
         requires weights { length weights.items ≡ length kinds.kinds.items }
         requires kinds { (n k : ℕ) → slice_get kinds.kinds.items n ≡ Some k → k < length kinds.samples.items }
         ensures weights { IfOk result (λ s. s.weights ≡ weights.items) }
