@@ -75,10 +75,7 @@ impl Schedule {
 }
 
 // The logical dates of the runs of each graph, and the shelves of the graphs, with what is due in their runs.
-fn kept_beside(
-    alloc: Global,
-    base: Base<'_>,
-) -> Result<(Vec<RunIndex>, Vec<Shelf>), AllocError>
+fn kept_beside(alloc: Global, base: Base<'_>) -> Result<(Vec<RunIndex>, Vec<Shelf>), AllocError>
     requires { IsSound base }
     ensures dates { IfOk result (λ kept. HaveDates base.entry.graphs base.entry.runs kept.0.items) }
     ensures shelves { IfOk result (λ kept. AreShelvesOf base.entry.now base.entry.graphs base.entry.runs kept.1.items) }

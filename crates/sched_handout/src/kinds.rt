@@ -56,13 +56,7 @@ fn may_have_more(draft: &Draft<'_>, taken: &Occupied, graph: usize, dag: &Graph)
 }
 
 // Whether offers of the task at a place fit, of the graph at a position.
-fn fits_task(
-    draft: &Draft<'_>,
-    taken: &Occupied,
-    graph: usize,
-    dag: &Graph,
-    place: usize,
-) -> bool
+fn fits_task(draft: &Draft<'_>, taken: &Occupied, graph: usize, dag: &Graph, place: usize) -> bool
     requires taken { AreOccupied draft.now.content taken.now }
     requires few { taken.now.in_flight < 2 ^ 32 }
     requires graph { IsBoundAt draft.now.content graph dag.now }
