@@ -154,4 +154,4 @@ serve_fit d ss (inr h) = h.fit
 
 pub serve_covers : (d : DraftValue) (ss : List ShelfValue) (cs : List Candidate) → Serve ss d → AreAllTouched d.touched d.base.runs d.content.runs → AreCandidatesOf d.content.graphs (heads d.content.runs) d.touched cs → Covers ss cs d.content
 serve_covers d ss cs (inl h) all found = covers_base d.base d.content ss d.touched cs h.0 h.1 all found
-serve_covers d ss cs (inr h) all found x e = either (is_in (positions cs) x.run) _ (shelved d.content d.content ss x h (itself d.content) e x.run e.run_is)
+serve_covers d ss cs (inr h) all found = λ x e. either (is_in (positions cs) x.run) _ (shelved d.content d.content ss x h (itself d.content) e x.run e.run_is)
