@@ -106,10 +106,10 @@ hand_now : (a b : Schedule) → hand_one a ≡ Some b → b.now ≡ a.now
 hand_now a b e = let t = map_some (hand a) (best_offer a) b e in ap (λ (c : Schedule). c.now) (sym t.2)
 
 pub settled_later : (a b : Schedule) → a.now ≤ b.now → a.now ≤ (settle b).now
-settled_later a b l = let e = repeat_keeps (λ (c : Schedule). c.now) move move_now (moves_left b) b in omega (arith, e, l)
+settled_later a b l = let e : (settle b).now ≡ b.now = repeat_keeps (λ (c : Schedule). c.now) move move_now (moves_left b) b in omega (arith, e, l)
 
 pub finished_later : (a b : Schedule) → a.now ≤ b.now → a.now ≤ (hand_out (settle b)).now
-finished_later a b l = let e = repeat_keeps (λ (c : Schedule). c.now) hand_one hand_now (serials_left (settle b)) (settle b) in let k = settled_later a b l in omega (arith, e, k)
+finished_later a b l = let e : (hand_out (settle b)).now ≡ (settle b).now = repeat_keeps (λ (c : Schedule). c.now) hand_one hand_now (serials_left (settle b)) (settle b) in let k = settled_later a b l in omega (arith, e, k)
 
 -- ---- what is left of a draft
 -- with it the graphs are changed and the rest is the draft's
