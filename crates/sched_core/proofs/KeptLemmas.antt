@@ -1,5 +1,5 @@
 -- What is kept beside a schedule is that of a draft over it.
-use Rattle.std.proofs.Common.{◌≡◌, sym, subst, ℕ, List, map}
+use Rattle.std.proofs.Common.{◌≡◌, sym, subst, List, map}
 use Rattle.std.specs.Global.{Vec}
 use Rattle.run_lists.specs.Rooms.{RunsValue}
 use Rattle.sched_state.specs.declared.graphs.LoadedGraph.{LoadedGraph}

@@ -1,5 +1,5 @@
 -- Shelves stay beside their graphs: where a graph is put in, replaced or paused, and after an effect.
-use Rattle.std.proofs.Common.{◌≡◌, ◌∙◌, refl, sym, ap, subst, ℕ, zero, suc, ◌+◌, ◌<◌, ◌≤◌, List, [], ◌∷◌, ◌++◌, Bool, true, false, ◌||◌, length, map, take, drop, insert, Option, Some, None, option_map, slice_get, slice_set, true≢false, arith}
+use Rattle.std.proofs.Common.{◌≡◌, ◌∙◌, refl, sym, ap, subst, ℕ, zero, suc, ◌+◌, ◌<◌, ◌≤◌, List, [], ◌∷◌, ◌++◌, Bool, true, false, ◌||◌, length, map, take, drop, insert, Some, option_map, slice_get, slice_set, true≢false, arith}
 use Rattle.std.specs.List.{list_any}
 use Rattle.std.proofs.lemmas.List.{length-map}
 use Rattle.std.proofs.lemmas.Option.{none-some, same_Some, slice_get-map, slice_get_within}
@@ -12,8 +12,7 @@ use Rattle.sched_state.proofs.ElementLemmas.{element_at}
 use Rattle.sched_model.specs.Changes.{pause_graph}
 use Rattle.sched_model.specs.Schedule.{Schedule}
 use Rattle.sched_laws.proofs.GraphLemmas.{paused_dag}
-use Rattle.sched_laws.proofs.SettleLemmas.{map_some}
-use Rattle.sched_ready.specs.Held.{AreShelvesOf, FitShelves, FitsShelf, HoldsPlace, IsLater}
+use Rattle.sched_ready.specs.Held.{AreShelvesOf, FitsShelf, HoldsPlace, IsLater}
 use Rattle.sched_ready.specs.Shelves.{ShelfValue}
 use Rattle.sched_ready.specs.declared.queues.Queue.{Queue}
 use Rattle.sched_core.specs.Effects.{HoldsAfter}

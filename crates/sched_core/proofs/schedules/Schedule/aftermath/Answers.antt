@@ -14,7 +14,6 @@ use Rattle.sched_events.proofs.StepLemmas.{out_graphs, settle_graphs, without_se
 use Rattle.sched_handout.specs.Noted.{NoneFrom}
 use Rattle.sched_handout.specs.Occupied.{AreOccupied}
 use Rattle.sched_ready.specs.Held.{AreShelvesOf}
-use Rattle.sched_ready.specs.Shelves.{ShelfValue}
 use Rattle.sched_handout.specs.declared.occupied.Occupied.{Occupied}
 use Rattle.sched_handout.proofs.JobLemmas.{sound_none}
 use Rattle.sched_core.specs.Books.{IsCounted, IsHeldWith}
