@@ -1,8 +1,8 @@
 -- Shelves stay beside their graphs: where a graph is put in, replaced or paused, and after an effect.
-use Rattle.std.proofs.Common.{◌≡◌, ◌∙◌, refl, sym, ap, subst, ℕ, zero, suc, ◌+◌, ◌<◌, ◌≤◌, List, [], ◌∷◌, ◌++◌, Bool, true, false, ◌||◌, length, map, take, drop, insert, Some, option_map, slice_get, slice_set, true≢false, arith}
+use Rattle.std.proofs.Common.{◌≡◌, ◌∙◌, refl, sym, ap, subst, ℕ, zero, suc, ◌+◌, ◌<◌, ◌≤◌, List, [], ◌∷◌, ◌++◌, Bool, true, false, length, map, take, drop, insert, Some, option_map, slice_get, slice_set, true≢false, arith}
 use Rattle.std.specs.List.{list_any}
 use Rattle.std.proofs.lemmas.List.{length-map}
-use Rattle.std.proofs.lemmas.Option.{none-some, same_Some, slice_get-map, slice_get_within}
+use Rattle.std.proofs.lemmas.Option.{same_Some, slice_get-map, slice_get_within}
 use Rattle.graph_file.specs.declared.task_specs.TaskSpec.{TaskSpec}
 use Rattle.dag_check.specs.Graphs.{Dag}
 use Rattle.sched_state.specs.Lists.{same}
@@ -12,6 +12,7 @@ use Rattle.sched_state.proofs.ElementLemmas.{element_at}
 use Rattle.sched_model.specs.Changes.{pause_graph}
 use Rattle.sched_model.specs.Schedule.{Schedule}
 use Rattle.sched_laws.proofs.GraphLemmas.{paused_dag}
+use Rattle.record_writing.proofs.record_changes.KeyLemmas.{any_get}
 use Rattle.sched_ready.specs.Held.{AreShelvesOf, FitsShelf, HoldsPlace, IsLater}
 use Rattle.sched_ready.specs.Shelves.{ShelfValue}
 use Rattle.sched_ready.specs.declared.queues.Queue.{Queue}
@@ -41,16 +42,10 @@ from_beside now gs rs ss h = record {
 
 -- of a graph without runs nothing is due
 pub quiet_shelf : (now : ℕ) (rs : List Run) (g : LoadedGraph) (s : ShelfValue) → FitsShelf g.dag s → list_any (λ (r : Run). same r.graph g.dag.spec.dag_id) rs ≡ false → IsShelfOf now rs g s
-quiet_shelf now rs g s fits none = record { fits = fits; held = λ p t q i j n m r there of_graph due. absurd (true≢false (sym (any_there rs n r there of_graph) ∙ none)) }
-  where
-    either : (b c : Bool) → c ≡ true → (b || c) ≡ true
-    either true c e = refl
-    either false c e = e
-
-    any_there : (xs : List Run) (n : ℕ) (r : Run) → slice_get xs n ≡ Some r → same r.graph g.dag.spec.dag_id ≡ true → list_any (λ (x : Run). same x.graph g.dag.spec.dag_id) xs ≡ true
-    any_there [] n r e f = absurd (none-some r e)
-    any_there (x ∷ xs) zero r e f = ap (λ b. b || list_any (λ (y : Run). same y.graph g.dag.spec.dag_id) xs) (ap (λ (y : Run). same y.graph g.dag.spec.dag_id) (same_Some x r e) ∙ f)
-    any_there (x ∷ xs) (suc n) r e f = either (same x.graph g.dag.spec.dag_id) _ (any_there xs n r e f)
+quiet_shelf now rs g s fits none = record {
+  fits = fits;
+  held = λ p t q i j n m r there of_graph due. absurd (true≢false (sym (any_get (λ (x : Run). same x.graph g.dag.spec.dag_id) rs n r there of_graph) ∙ none));
+}
 
 -- ---- one graph before the others
 first : (now : ℕ) (g : LoadedGraph) (s : ShelfValue) (gs : List LoadedGraph) (rs : List Run) (ss : List ShelfValue) → AreBeside now (g ∷ gs) rs (s ∷ ss) → IsShelfOf now rs g s

@@ -39,10 +39,10 @@ settle-requires c =
     record { ordered = sound_ordered c.in_ok-draft.draft.content sound; graphs = sound.graphs_by_id }
 
 -- the shelves are made of what is settled, and of what is handed out
-pub before-requires : goal.before-requires
-before-requires c =
+pub shelves_of-requires : goal.shelves_of-requires
+shelves_of-requires c =
     let b : Schedule = with_other_graph c.args.graph.now c.args.self.now.content in
-    subst IsSound (sym (settled (goal.at.before-requires c).In_ok-settle)) (settle_sound b c.requires.sound)
+    subst IsSound (sym (settled (goal.at.shelves_of-requires c).In_ok-settle)) (settle_sound b c.requires.sound)
 
 pub hand_out-requires-clause-sound : goal.hand_out-requires-clause-sound
 hand_out-requires-clause-sound c =
@@ -54,10 +54,10 @@ hand_out-requires-clause-shelves c =
     let d : DraftValue = c.settle.new.draft in
     inr (subst (AreShelvesOf d.content.now d.content.graphs d.content.runs) (sym c.as_slice.ensures.value) c.in_ok-before.ensures)
 
-pub shelves-requires : goal.shelves-requires
-shelves-requires c =
+pub shelves_of-requires-2 : goal.shelves_of-requires-2
+shelves_of-requires-2 c =
     let b : Schedule = with_other_graph c.args.graph.now c.args.self.now.content in
-    let at = goal.at.shelves-requires c in
+    let at = goal.at.shelves_of-requires-2 c in
     let end = c.in_ok-own_runs_of.ensures.content ∙ handed_out at.In_ok-jobs (settled at.In_ok-settle) in
     subst IsSound (sym end) (without_settled (hand_out (settle b)) c.requires.kept).sound
 

@@ -33,8 +33,8 @@ invariant_of-result c =
     record {
       held = subst (λ (rs : List Run). IsHeldWith false (record (schedule_in p) { runs = rs }) t) (sym c.in_ok-runs.ensures)
           (record { kept = record { sound = h.sound; said = h.said }; settled = λ e. absurd (true≢false (sym e)); counted = h.counted; occupied = read_occupied (schedule_in p) t h.counted flight refl h.taken active });
-      shelves = subst (λ (gs : List LoadedGraph). AreShelvesOf p.clock gs c.in_ok-runs.runs.runs c.in_ok-kept_beside.field-0.1.items) c.as_slice.ensures.value c.in_ok-kept_beside.ensures.shelves;
-      dates = subst (λ (gs : List LoadedGraph). HaveDates gs c.in_ok-runs.runs.runs c.in_ok-kept_beside.field-0.0.items) c.as_slice.ensures.value c.in_ok-kept_beside.ensures.dates;
+      shelves = subst (λ (gs : List LoadedGraph). AreShelvesOf p.clock gs c.in_ok-runs.runs.runs c.in_ok-dates.shelves.items) c.as_slice.ensures.value c.in_ok-dates.ensures.shelves;
+      dates = subst (λ (gs : List LoadedGraph). HaveDates gs c.in_ok-runs.runs.runs c.in_ok-dates.dates.items) c.as_slice.ensures.value c.in_ok-dates.ensures.dates;
     }
 
 pub kept_beside-requires : goal.kept_beside-requires
