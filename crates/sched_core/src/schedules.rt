@@ -319,8 +319,8 @@ fn take_in(
 
 // The graph with the id of this one is this one.
 fn put_other(graphs: &mut Vec<LoadedGraph>, graph: LoadedGraph)
-    requires order { rises graph_before graphs.old.items ≡ true }
-    ensures graphs { graphs.new.items ≡ with_other (Some graph) graphs.old.items }
+    requires { rises graph_before graphs.old.items ≡ true }
+    ensures { graphs.new.items ≡ with_other (Some graph) graphs.old.items }
 {
     match position_of(graphs, &graph.dag.spec().dag_id) {
         Some(place) => graphs[place] = graph,

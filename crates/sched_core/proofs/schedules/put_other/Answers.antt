@@ -13,7 +13,7 @@ returns-in-Some c =
     let stands : StandsAt c.args.graph.dag.spec.dag_id gs c.in-Some.place =
     subst (λ (s : GraphSpec). StandsAt s.dag_id gs c.in-Some.place) c.spec.ensures.spec
     (subst (λ (ks : List LoadedGraph). StandsAt c.spec.result.now.dag_id ks c.in-Some.place) c.deref.ensures.value c.in-Some.ensures) in
-    other_at c.args.graph gs c.in-Some.place stands.graph stands.there stands.named c.requires.order
+    other_at c.args.graph gs c.in-Some.place stands.graph stands.there stands.named c.requires
 
 pub returns-in-None : goal.returns-in-None
 returns-in-None c =
