@@ -15,7 +15,7 @@ pub change_of-requires : goal.change_of-requires
 change_of-requires c =
     let a : Schedule = c.args.self.now.content in
     record {
-      keeps = quiet_keeps c.args.graphs _ a c.requires.sound c.requires.quiet c.requires.settled;
+      keeps = quiet_keeps c.args.graphs c.new-patches.result a c.requires.sound c.requires.quiet c.requires.settled;
       shelves = λ ss h. subst (λ (ps : List Patch). HoldsAfter c.args.graphs a.now a.graphs a.runs (patched ps ss)) (sym c.new-patches.ensures.items)
           (holds_after c.args.graphs a.now a.graphs a.runs ss (quiet_leaves c.args.graphs a c.requires.quiet) h);
       fitted = c.requires.fitted;
