@@ -133,44 +133,44 @@ each_dag gs hs (q ∷ rs) all (suc n) r e = each_dag gs hs rs all.1 n r e
 
 pub alike_dags : (g : GraphChange) (gs : List LoadedGraph) (b : Schedule) → IsQuiet g b → HaveSameDags gs (changed g gs) b.runs
 alike_dags graphs.Same gs b quiet = λ n r e. refl
-alike_dags (graphs.Load text dag weights dates) gs b quiet = each_dag gs (with_graph text dag gs) b.runs (dags_found gs (with_graph text dag gs) b.runs (found_after text dag gs b.runs quiet))
+alike_dags (graphs.Load text dag shelf dates) gs b quiet = each_dag gs (with_graph text dag gs) b.runs (dags_found gs (with_graph text dag gs) b.runs (found_after text dag gs b.runs quiet))
 alike_dags (graphs.Pause id paused) gs b quiet = λ n r e. same_dag_paused id paused gs r.graph
-alike_dags (graphs.Replace graph weights) gs b quiet = absurd quiet
+alike_dags (graphs.Replace graph shelves) gs b quiet = absurd quiet
 
 pub last_after : (g : GraphChange) (b : Schedule) → IsLast g b → IsLast g (hand_out (settle b))
 last_after graphs.Same b last = tt
-last_after (graphs.Load text dag weights dates) b last = no_runs_after b dag.spec.dag_id ∙ last
+last_after (graphs.Load text dag shelf dates) b last = no_runs_after b dag.spec.dag_id ∙ last
 last_after (graphs.Pause id paused) b last = tt
-last_after (graphs.Replace graph weights) b last = tt
+last_after (graphs.Replace graph shelves) b last = tt
 
 -- ---- a draft, and what it is made into
 drafted_dags : (g : GraphChange) (gs : List LoadedGraph) (rs : List Run) → LeavesDags g → HaveSameDags gs (drafted g gs) rs
 drafted_dags graphs.Same gs rs leaves = λ n r e. refl
-drafted_dags (graphs.Load text dag weights dates) gs rs leaves = λ n r e. refl
+drafted_dags (graphs.Load text dag shelf dates) gs rs leaves = λ n r e. refl
 drafted_dags (graphs.Pause id paused) gs rs leaves = λ n r e. same_dag_paused id paused gs r.graph
-drafted_dags (graphs.Replace graph weights) gs rs leaves = absurd leaves
+drafted_dags (graphs.Replace graph shelves) gs rs leaves = absurd leaves
 
 -- at each place a graph of the same id
 drafted_ids : (g : GraphChange) (gs : List LoadedGraph) → AreNamedAlike gs (drafted g gs)
 drafted_ids graphs.Same gs = refl
-drafted_ids (graphs.Load text dag weights dates) gs = refl
+drafted_ids (graphs.Load text dag shelf dates) gs = refl
 drafted_ids (graphs.Pause id paused) gs = pause_alike (Some id) paused gs
-drafted_ids (graphs.Replace graph weights) gs = other_alike (Some graph) gs
+drafted_ids (graphs.Replace graph shelves) gs = other_alike (Some graph) gs
 
 pub draft_ids : (g : GraphChange) (a d : Schedule) → IsOver g a d → AreNamedAlike a.graphs d.graphs
 draft_ids g a d over = subst (AreNamedAlike a.graphs) (sym over.graphs) (drafted_ids g a.graphs)
 
 drafted_alike : (g : GraphChange) (gs : List LoadedGraph) (b : Schedule) → IsLast g b → HaveSameDags (drafted g gs) (changed g gs) b.runs
 drafted_alike graphs.Same gs b last = λ n r e. refl
-drafted_alike (graphs.Load text dag weights dates) gs b last = alike_dags (graphs.Load text dag weights dates) gs b last
+drafted_alike (graphs.Load text dag shelf dates) gs b last = alike_dags (graphs.Load text dag shelf dates) gs b last
 drafted_alike (graphs.Pause id paused) gs b last = λ n r e. refl
-drafted_alike (graphs.Replace graph weights) gs b last = λ n r e. refl
+drafted_alike (graphs.Replace graph shelves) gs b last = λ n r e. refl
 
 completed_over : (g : GraphChange) (a d : Schedule) → IsOver g a d → completed g d ≡ record d { graphs = changed g a.graphs }
 completed_over graphs.Same a d over = ap (λ gs. record d { graphs = gs }) over.graphs
-completed_over (graphs.Load text dag weights dates) a d over = ap (λ gs. record d { graphs = with_graph text dag gs }) over.graphs
+completed_over (graphs.Load text dag shelf dates) a d over = ap (λ gs. record d { graphs = with_graph text dag gs }) over.graphs
 completed_over (graphs.Pause id paused) a d over = ap (λ gs. record d { graphs = gs }) over.graphs
-completed_over (graphs.Replace graph weights) a d over = ap (λ gs. record d { graphs = gs }) over.graphs
+completed_over (graphs.Replace graph shelves) a d over = ap (λ gs. record d { graphs = gs }) over.graphs
 
 pub draft_dags : (g : GraphChange) (a d : Schedule) → LeavesDags g → IsOver g a d → SameDags a d
 draft_dags g a d leaves over = subst (λ (gs : List LoadedGraph). HaveSameDags a.graphs gs d.runs) (sym over.graphs) (drafted_dags g a.graphs d.runs leaves)

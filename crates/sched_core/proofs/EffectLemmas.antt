@@ -23,6 +23,8 @@ use Rattle.sched_core.specs.Inside.{IsOver, IsLast, LeavesDags, completed}
 use Rattle.sched_core.specs.declared.changes.Effect.{Effect}
 use Rattle.sched_core.specs.declared.changes.Rest.{Rest}
 use Rattle.sched_core.specs.declared.changes.GraphChange.{GraphChange}
+use Rattle.std.specs.Global.{Vec}
+use Rattle.sched_ready.specs.declared.patches.Patch.{Patch}
 use Rattle.sched_core.specs.declared.changes.GraphChange.TheVariants as graphs
 use Rattle.sched_core.proofs.BookLemmas.{quiet_held}
 use Rattle.sched_core.proofs.PlanLemmas.{no_jobs}
@@ -39,19 +41,19 @@ rest_graphs (Some n) a = refl
 -- ---- changes that enable nothing
 pub quiet_settled : (g : GraphChange) (a : Schedule) → IsQuiet g a → IsSettled a → IsSettled (with_change g a)
 quiet_settled graphs.Same a quiet still = still
-quiet_settled (graphs.Replace graph weights) a quiet still = absurd quiet
-quiet_settled (graphs.Load text dag weights dates) a quiet still = record { settled = load_still text dag a quiet still.settled; handed = load_no_hand text dag a quiet still.handed }
+quiet_settled (graphs.Replace graph shelves) a quiet still = absurd quiet
+quiet_settled (graphs.Load text dag shelf dates) a quiet still = record { settled = load_still text dag a quiet still.settled; handed = load_no_hand text dag a quiet still.handed }
 quiet_settled (graphs.Pause id paused) a quiet still =
     subst (λ (p : Bool). IsSettled (set_paused id p a)) (sym quiet) (record { settled = pause_still id a still.settled; handed = pause_no_hand id a still.handed })
 
 quiet_open : (g : GraphChange) (a : Schedule) → IsQuiet g a → open_tries (with_change g a) ≡ open_tries a
 quiet_open graphs.Same a quiet = refl
-quiet_open (graphs.Load text dag weights dates) a quiet = load_open text dag a quiet
+quiet_open (graphs.Load text dag shelf dates) a quiet = load_open text dag a quiet
 quiet_open (graphs.Pause id paused) a quiet = open_paused id paused a
-quiet_open (graphs.Replace graph weights) a quiet = absurd quiet
+quiet_open (graphs.Replace graph shelves) a quiet = absurd quiet
 
-pub quiet_keeps : (g : GraphChange) (a : Schedule) → IsSoundAndSaid (with_change g a) → IsQuiet g a → IsSettled a → KeepsHold (record { graphs = g; rest = None }) a
-quiet_keeps g a sound quiet still t was held = quiet_held a (with_change g a) t was sound (quiet_settled g a quiet still) (quiet_open g a quiet) refl held
+pub quiet_keeps : (g : GraphChange) (ps : Vec Patch) (a : Schedule) → IsSoundAndSaid (with_change g a) → IsQuiet g a → IsSettled a → KeepsHold (record { graphs = g; patches = ps; rest = None }) a
+quiet_keeps g ps a sound quiet still t was held = quiet_held a (with_change g a) t was sound (quiet_settled g a quiet still) (quiet_open g a quiet) refl held
 
 -- nothing follows of them in a schedule that is settled
 pub quiet_step : (g : GraphChange) (a : Schedule) → IsQuiet g a → IsSettled a → hand_out (settle (with_change g a)) ≡ with_change g a
@@ -63,34 +65,34 @@ quiet_step g a quiet still =
 -- and in any they may be made last
 pub quiet_last : (g : GraphChange) (a : Schedule) → IsQuiet g a → IsLast g a
 quiet_last graphs.Same a quiet = tt
-quiet_last (graphs.Load text dag weights dates) a quiet = quiet
+quiet_last (graphs.Load text dag shelf dates) a quiet = quiet
 quiet_last (graphs.Pause id paused) a quiet = tt
-quiet_last (graphs.Replace graph weights) a quiet = tt
+quiet_last (graphs.Replace graph shelves) a quiet = tt
 
 -- and then too
 pub quiet_after : (g : GraphChange) (a : Schedule) → IsQuiet g a → IsLast g (with_change g a)
 quiet_after graphs.Same a quiet = tt
-quiet_after (graphs.Load text dag weights dates) a quiet = quiet
+quiet_after (graphs.Load text dag shelf dates) a quiet = quiet
 quiet_after (graphs.Pause id paused) a quiet = tt
-quiet_after (graphs.Replace graph weights) a quiet = tt
+quiet_after (graphs.Replace graph shelves) a quiet = tt
 
 -- no graph with runs gets other tasks
 pub quiet_leaves : (g : GraphChange) (a : Schedule) → IsQuiet g a → LeavesDags g
 quiet_leaves graphs.Same a quiet = tt
-quiet_leaves (graphs.Load text dag weights dates) a quiet = tt
+quiet_leaves (graphs.Load text dag shelf dates) a quiet = tt
 quiet_leaves (graphs.Pause id paused) a quiet = tt
-quiet_leaves (graphs.Replace graph weights) a quiet = quiet
+quiet_leaves (graphs.Replace graph shelves) a quiet = quiet
 
 pub completed_last : (g : GraphChange) (b : Schedule) → IsLast g b → IsLast g (completed g b)
 completed_last graphs.Same b last = tt
-completed_last (graphs.Load text dag weights dates) b last = last
+completed_last (graphs.Load text dag shelf dates) b last = last
 completed_last (graphs.Pause id paused) b last = tt
-completed_last (graphs.Replace graph weights) b last = tt
+completed_last (graphs.Replace graph shelves) b last = tt
 
 pub made_last : (g : GraphChange) (a : Schedule) → IsQuiet g a → IsOver g a a → completed g (hand_out (settle a)) ≡ hand_out (settle (with_change g a))
 made_last graphs.Same a quiet over = refl
-made_last (graphs.Load text dag weights dates) a quiet over = sym (load_beside text dag a quiet)
-made_last (graphs.Replace graph weights) a quiet over = absurd quiet
+made_last (graphs.Load text dag shelf dates) a quiet over = sym (load_beside text dag a quiet)
+made_last (graphs.Replace graph shelves) a quiet over = absurd quiet
 made_last (graphs.Pause id paused) a quiet over = ap (λ gs. let b : Schedule = record a { graphs = gs } in hand_out (settle b)) over.graphs
 
 -- so a quiet change is what the change and what follows of it are, with no try handed out
@@ -106,9 +108,9 @@ quiet_whole g a c quiet still is =
 -- ---- changes that are made last
 last_jobs : (g : GraphChange) (a b : Schedule) → IsLast g b → handed a (completed g (hand_out (settle b))) ≡ handed a (hand_out (settle b))
 last_jobs graphs.Same a b last = refl
-last_jobs (graphs.Load text dag weights dates) a b last = load_handed text dag a (hand_out (settle b)) (no_runs_after b dag.spec.dag_id ∙ last)
+last_jobs (graphs.Load text dag shelf dates) a b last = load_handed text dag a (hand_out (settle b)) (no_runs_after b dag.spec.dag_id ∙ last)
 last_jobs (graphs.Pause id paused) a b last = refl
-last_jobs (graphs.Replace graph weights) a b last = refl
+last_jobs (graphs.Replace graph shelves) a b last = refl
 
 pub last_whole : (g : GraphChange) (a d : Schedule) (answer : Answer) (c : Planned) → IsQuiet g a → IsOver g a a → d ≡ a → answer ≡ no_runs
     → c ≡ record { before = a; after = completed g (hand_out (settle d)); answer = record answer { jobs = handed a (hand_out (settle d)) } }

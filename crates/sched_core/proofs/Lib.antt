@@ -2,7 +2,7 @@ pub mod InsertLemmas
 pub mod GraphLemmas
 pub mod OtherLemmas
 pub mod TakeInLemmas
-pub mod WeightLemmas
+pub mod ShelfLemmas
 pub mod DateLemmas
 pub mod KeptLemmas
 pub mod LoadingLemmas

@@ -1,4 +1,4 @@
--- A schedule beside the numbers of what its tries without an end occupy, and beside the weights of its graphs.
+-- A schedule beside the numbers of what its tries without an end occupy, and beside its shelves.
 use Rattle.std.specs.Prelude.{◌≡◌, ℕ, ◌≤◌, Bool, true, List}
 use Rattle.pool_book.specs.Limits.{most_taken}
 use Rattle.sched_model.specs.Schedule.{Schedule}
@@ -6,7 +6,7 @@ use Rattle.sched_model.specs.States.{occupied}
 use Rattle.sched_draft.specs.Books.{pools_in}
 use Rattle.sched_handout.specs.Occupied.{AreOccupied}
 use Rattle.sched_creation.specs.Dates.{HaveDates}
-use Rattle.sched_handout.specs.Weighing.{WeighGraphs}
+use Rattle.sched_ready.specs.Held.{AreShelvesOf}
 use Rattle.sched_handout.specs.declared.occupied.Occupied.{Occupied}
 use Rattle.sched_events.specs.SettledAndSound.{IsSoundAndSaid, IsSettled}
 use Rattle.sched_core.specs.declared.schedules.Schedule.TheInside.{Inside}
@@ -34,8 +34,8 @@ pub record IsHeldWith (is_settled : Bool) (a : Schedule) (t : Occupied) : Type 0
   pub counted : IsCounted a
   pub occupied : AreOccupied a t
 
--- with these numbers it is held, and these are the weights of its graphs, and the dates of their runs
+-- with these numbers it is held, and these are its shelves, and the dates of its graphs' runs
 pub record IsKept (s : Inside) : Type 0 where
   pub held : IsHeldWith s.is_settled (content_inside s) s.occupied
-  pub weights : WeighGraphs s.graphs.items s.weights.items
+  pub shelves : AreShelvesOf s.clock s.graphs.items s.runs.runs s.shelves.items
   pub dates : HaveDates s.graphs.items s.runs.runs s.dates.items

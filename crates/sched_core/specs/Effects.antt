@@ -1,5 +1,5 @@
 -- What the effect of a change makes of a schedule, and of what is occupied in it.
-use Rattle.std.specs.Prelude.{◌≡◌, Bool, true, false, List, [], Option, Some, None, map}
+use Rattle.std.specs.Prelude.{◌≡◌, ℕ, Bool, true, false, List, [], Option, Some, None, map}
 use Rattle.sched_state.specs.declared.graphs.LoadedGraph.{LoadedGraph}
 use Rattle.run_lists.specs.Edits.{AreEditsOf, edited}
 use Rattle.sched_model.specs.Schedule.{Schedule, has_runs}
@@ -7,7 +7,9 @@ use Rattle.sched_model.specs.Changes.{with_graph, pause_graph}
 use Rattle.sched_draft.specs.Books.{pools_in}
 use Rattle.sched_draft.specs.Drafts.{DraftValue}
 use Rattle.sched_draft.specs.Parts.{with_other}
-use Rattle.sched_handout.specs.Weighing.{WeighTasks}
+use Rattle.sched_ready.specs.Held.{AreShelvesOf, FitsShelf}
+use Rattle.sched_ready.specs.Patched.{patched}
+use Rattle.sched_ready.specs.Shelves.{ShelfValue}
 use Rattle.sched_handout.specs.declared.occupied.Occupied.{Occupied}
 use Rattle.record_rows.specs.Rows.{Rows}
 use Rattle.record_writing.specs.record_changes.Changes.{rows_between}
@@ -16,14 +18,15 @@ use Rattle.sched_core.specs.Inside.{IsLast}
 use Rattle.sched_core.specs.declared.changes.Effect.{Effect}
 use Rattle.sched_core.specs.declared.changes.GraphChange.{GraphChange}
 use Rattle.sched_core.specs.declared.changes.GraphChange.TheVariants as graphs
+use Rattle.sched_state.specs.declared.runs.Run.{Run}
 use Rattle.sched_core.specs.declared.changes.Rest.{Rest}
 
 -- what a change makes of the graphs
 abbrev pub changed : GraphChange → List LoadedGraph → List LoadedGraph
 changed graphs.Same gs = gs
-changed (graphs.Load text dag weights dates) gs = with_graph text dag gs
+changed (graphs.Load text dag shelf dates) gs = with_graph text dag gs
 changed (graphs.Pause id paused) gs = map (pause_graph id paused) gs
-changed (graphs.Replace graph weights) gs = with_other (Some graph) gs
+changed (graphs.Replace graph shelves) gs = with_other (Some graph) gs
 
 -- and of a schedule
 abbrev pub with_change : GraphChange → Schedule → Schedule
@@ -57,17 +60,29 @@ numbers_after (Some n) t = n.occupied
 abbrev pub KeepsHold : Effect → Schedule → Type 0
 KeepsHold e a = (t : Occupied) (is_settled : Bool) → IsHeldWith is_settled a t → IsHeldWith true (applied e a) (numbers_after e.rest t)
 
--- a text that is taken in brings the weights of its graph, and no date; so does another graph, whose runs keep their dates
-abbrev pub IsWeighed : GraphChange → Type 0
-IsWeighed graphs.Same = Unit {0}
-IsWeighed (graphs.Load text dag weights dates) = WeighTasks dag weights.items × (dates.dates ≡ [])
-IsWeighed (graphs.Pause id paused) = Unit {0}
-IsWeighed (graphs.Replace graph weights) = WeighTasks graph.dag weights.items
+-- a text that is taken in brings a shelf that fits its graph, and no date
+abbrev pub IsFitted : GraphChange → Type 0
+IsFitted graphs.Same = Unit {0}
+IsFitted (graphs.Load text dag shelf dates) = FitsShelf dag shelf × (dates.dates ≡ [])
+IsFitted (graphs.Pause id paused) = Unit {0}
+IsFitted (graphs.Replace graph shelves) = Unit {0}
 
--- so it keeps the hold, brings weights with a text, which is of a graph without runs or of the one whose runs go on by it, its edits are of the schedule's runs, and these are the rows that the schedule lacks after it
+-- the shelves hold what is due once the change is made: where another graph is put in, those that come with it
+abbrev pub HoldsAfter : GraphChange → ℕ → List LoadedGraph → List Run → List ShelfValue → Type 0
+HoldsAfter graphs.Same now gs rs ss = AreShelvesOf now gs rs ss
+HoldsAfter (graphs.Load text dag shelf dates) now gs rs ss = AreShelvesOf now gs rs ss
+HoldsAfter (graphs.Pause id paused) now gs rs ss = AreShelvesOf now gs rs ss
+HoldsAfter (graphs.Replace graph shelves) now gs rs ss = AreShelvesOf now (with_other (Some graph) gs) rs shelves.items
+
+-- whatever shelves hold what is due in the schedule, with the patches they hold what is due after the effect
+abbrev pub KeepsShelves : Effect → Schedule → Type 0
+KeepsShelves e a = (ss : List ShelfValue) → AreShelvesOf a.now a.graphs a.runs ss → HoldsAfter e.graphs (applied e a).now a.graphs (applied e a).runs (patched e.patches.items ss)
+
+-- so it keeps the hold and the shelves, brings a shelf with a text, which is of a graph without runs or of the one whose runs go on by it, its edits are of the schedule's runs, and these are the rows that the schedule lacks after it
 pub record IsEffect (e : Effect) (rows : Rows) (a : Schedule) : Type 0 where
   pub keeps : KeepsHold e a
-  pub weighed : IsWeighed e.graphs
+  pub shelves : KeepsShelves e a
+  pub fitted : IsFitted e.graphs
   pub last : IsLast e.graphs (applied e a)
   pub edits : AreOfRuns e.rest a
   pub rows_are : rows ≡ rows_between a (applied e a)
@@ -75,6 +90,6 @@ pub record IsEffect (e : Effect) (rows : Rows) (a : Schedule) : Type 0 where
 -- the change enables nothing in a schedule: a text takes in a graph without runs, or a graph is paused
 abbrev pub IsQuiet : GraphChange → Schedule → Type 0
 IsQuiet graphs.Same a = Unit {0}
-IsQuiet (graphs.Load text dag weights dates) a = has_runs a dag.spec.dag_id ≡ false
+IsQuiet (graphs.Load text dag shelf dates) a = has_runs a dag.spec.dag_id ≡ false
 IsQuiet (graphs.Pause id paused) a = paused ≡ true
-IsQuiet (graphs.Replace graph weights) a = ⊥
+IsQuiet (graphs.Replace graph shelves) a = ⊥

@@ -90,9 +90,9 @@ IsReadFault text r = (r ≡ refusal.Memory) ⊎ ((fault : GraphFault) × (r ≡ 
 -- the graphs of a draft: a pause is made before it is settled, and so is another graph; a text is taken in after it
 abbrev pub drafted : GraphChange → List LoadedGraph → List LoadedGraph
 drafted graphs.Same gs = gs
-drafted (graphs.Load text dag weights dates) gs = gs
+drafted (graphs.Load text dag shelf dates) gs = gs
 drafted (graphs.Pause id paused) gs = map (pause_graph id paused) gs
-drafted (graphs.Replace graph weights) gs = with_other (Some graph) gs
+drafted (graphs.Replace graph shelves) gs = with_other (Some graph) gs
 
 -- the draft is over the same limits, and over these graphs
 pub record IsOver (g : GraphChange) (a b : Schedule) : Type 0 where
@@ -106,23 +106,23 @@ drafted_as named paused a = record { base = a; content = record a { graphs = wit
 -- what a settled draft is made into
 abbrev pub completed : GraphChange → Schedule → Schedule
 completed graphs.Same b = b
-completed (graphs.Load text dag weights dates) b = load_graph text dag b
+completed (graphs.Load text dag shelf dates) b = load_graph text dag b
 completed (graphs.Pause id paused) b = b
-completed (graphs.Replace graph weights) b = b
+completed (graphs.Replace graph shelves) b = b
 
 -- a text that is taken in after the draft takes in a graph without runs
 abbrev pub IsLast : GraphChange → Schedule → Type 0
 IsLast graphs.Same b = Unit {0}
-IsLast (graphs.Load text dag weights dates) b = has_runs b dag.spec.dag_id ≡ false
+IsLast (graphs.Load text dag shelf dates) b = has_runs b dag.spec.dag_id ≡ false
 IsLast (graphs.Pause id paused) b = Unit {0}
-IsLast (graphs.Replace graph weights) b = Unit {0}
+IsLast (graphs.Replace graph shelves) b = Unit {0}
 
 -- the tasks and edges of each graph that has runs stay
 abbrev pub LeavesDags : GraphChange → Type 0
 LeavesDags graphs.Same = Unit {0}
-LeavesDags (graphs.Load text dag weights dates) = Unit {0}
+LeavesDags (graphs.Load text dag shelf dates) = Unit {0}
 LeavesDags (graphs.Pause id paused) = Unit {0}
-LeavesDags (graphs.Replace graph weights) = ⊥
+LeavesDags (graphs.Replace graph shelves) = ⊥
 
 -- the schedule over the pools of a book
 abbrev pub over : Entries → Schedule → Schedule

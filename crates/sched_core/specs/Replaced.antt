@@ -1,6 +1,5 @@
 -- Another text for a graph that is there, which has runs.
 use Rattle.std.specs.Prelude.{◌≡◌, ℕ, true, List, map, Some, ◌⊎◌, slice_get}
-use Rattle.std.specs.Global.{Vec}
 use Rattle.dag_check.specs.Graphs.{Dag}
 use Rattle.sched_state.specs.Lists.{same}
 use Rattle.sched_state.specs.declared.graphs.LoadedGraph.{LoadedGraph}
@@ -16,7 +15,6 @@ use Rattle.sched_draft.specs.Parts.{with_other}
 use Rattle.sched_events.specs.Causes.{disturbed}
 use Rattle.sched_events.specs.declared.refusals.Refusal.{Refusal}
 use Rattle.sched_events.specs.declared.refusals.Refusal.TheVariants as refusal
-use Rattle.sched_handout.specs.Weighing.{WeighTasks}
 use Rattle.sched_core.specs.Effects.{applied, IsEffect}
 use Rattle.sched_core.specs.declared.changes.Effect.{Effect}
 use Rattle.sched_core.specs.declared.changes.GraphChange.TheVariants as graphs
@@ -40,8 +38,11 @@ IsDisturbance a dag r = (r ≡ refusal.Memory) ⊎ (disturbed a dag ≡ Some r)
 abbrev pub OwnsRunsOf : List ℕ → List Run → DraftValue → Type 0
 OwnsRunsOf id rs d = (n : ℕ) (r : Run) → slice_get rs n ≡ Some r → same r.graph id ≡ true → IsOwn n d
 
--- with the graph, and with its weights, this is the effect on a schedule in which the graph is replaced, moves are made and tries are handed out
+-- with the graph this is the effect on a schedule in which the graph is replaced, moves are made and tries are handed out
+abbrev pub effect_of : LoadedGraph → Aftermath → Effect
+effect_of g k = record { graphs = graphs.Replace g k.shelves; patches = k.patches; rest = Some k.rest }
+
 pub record IsAftermath (a : Schedule) (g : LoadedGraph) (k : Aftermath) : Type 0 where
-  pub effect : (weights : Vec ℕ) → WeighTasks g.dag weights.items → IsEffect (record { graphs = graphs.Replace g weights; rest = Some k.rest }) k.rows a
-  pub after : (weights : Vec ℕ) → (let e : Effect = record { graphs = graphs.Replace g weights; rest = Some k.rest } in applied e a ≡ hand_out (settle (with_other_graph g a)))
+  pub effect : IsEffect (effect_of g k) k.rows a
+  pub after : applied (effect_of g k) a ≡ hand_out (settle (with_other_graph g a))
   pub jobs : k.jobs ≡ handed a (hand_out (settle (with_other_graph g a)))

@@ -11,14 +11,17 @@ use run_lists::Edits;
 use run_planner::RunIndex;
 use sched_events::Answer;
 use sched_handout::Occupied;
+use sched_ready::{Patch, Shelf};
 use sched_state::{GraphText, LoadedGraph};
 use std::marker::Model;
 use std::snapshot::Snapshot;
 
-// What a change does to the schedule that it was planned for: to its graphs, and to all else, where that does not stay.
+// What a change does to the schedule that it was planned for: to its graphs, to its shelves, and to all else, where that does not stay.
 #[derive(Drop)]
 pub struct Effect {
     pub graphs: GraphChange,
+    // Of the shelves, before the graphs are changed.
+    pub patches: Vec<Patch>,
     pub rest: Option<Rest>,
 }
 
@@ -27,12 +30,12 @@ pub struct Effect {
 pub enum GraphChange {
     // They stay.
     Same,
-    // A text is taken in, which says this graph, with the effective weights of its tasks, and with no date.
-    Load(GraphText, Graph, Vec<u64>, RunIndex),
+    // A text is taken in, which says this graph, with a shelf for it, and with no date.
+    Load(GraphText, Graph, Shelf, RunIndex),
     // The graph with this id is paused, or is no more.
     Pause(Name, bool),
-    // The graph with the id of this one is this one, with the effective weights of its tasks. Its runs go on by it.
-    Replace(LoadedGraph, Vec<u64>),
+    // The graph with the id of this one is this one. Its runs go on by it, and all shelves are these.
+    Replace(LoadedGraph, Vec<Shelf>),
 }
 
 // What an event leaves, but for the graphs.

@@ -23,7 +23,7 @@ use pool_book::Pools;
 use record_restoring::is_within;
 use run_planner::RunIndex;
 use sched_events::Refusal;
-use sched_handout::weigh_tasks;
+use sched_ready::shelf_of;
 use sched_state::{GraphText, Limits};
 use std::alloc::{AllocError, Global};
 
@@ -89,8 +89,8 @@ impl Schedule {
         }) }
     {
         let text = text.copy(alloc)?;
-        let weights = weigh_tasks(alloc, &dag)?;
-        let change = GraphChange::Load(text, dag, weights, RunIndex::new(alloc));
+        let shelf = shelf_of(alloc, &dag)?;
+        let change = GraphChange::Load(text, dag, shelf, RunIndex::new(alloc));
         self.graph_change(alloc, change)
     }
 }

@@ -1,5 +1,5 @@
 //! Planning an event: refused for its first cause, or a change that does exactly its step.
-ghost use Rattle.std.specs.Prelude.{◌≡◌, IfOk, IfErr, OnOk, map};
+ghost use Rattle.std.specs.Prelude.{◌≡◌, ◌≤◌, IfOk, IfErr, OnOk, map};
 ghost use Rattle.std.specs.Option.{option_copied};
 ghost use Rattle.sched_draft.specs.Drafts.{SameDags};
 ghost use Rattle.sched_model.specs.Settle.{settle};
@@ -14,7 +14,7 @@ ghost use Rattle.sched_model.specs.States.{open_tries};
 ghost use Rattle.sched_handout.specs.Occupied.{AreOccupied};
 ghost use Rattle.sched_draft.specs.Books.{IsBookOf};
 ghost use Rattle.sched_core.specs.Books.{IsCounted};
-ghost use Rattle.sched_core.specs.Effects.{applied, with_change, IsEffect, IsQuiet, IsRestOf, IsWeighed};
+ghost use Rattle.sched_core.specs.Effects.{applied, with_change, IsEffect, IsQuiet, IsRestOf, IsFitted};
 ghost use Rattle.sched_core.specs.Inside.{IsOver, IsLast, LeavesDags, completed, drafted_as, over};
 
 use crate::changes::{Change, Effect, GraphChange, Rest};
@@ -29,6 +29,7 @@ use sched_creation::{add, named_by_tick};
 use sched_draft::{Draft, graph_named};
 use sched_events::{Answer, Event, Refusal, RunId};
 use sched_handout::{Occupied, hand_out};
+use sched_ready::patches_of;
 use sched_settling::{settle, settle_touched};
 use sched_state::Run;
 use std::alloc::{AllocError, Global};
@@ -67,7 +68,7 @@ impl Schedule {
     fn quiet_change(&self, alloc: Global, graphs: GraphChange) -> Result<Change, AllocError>
         requires sound { IsSoundAndSaid (with_change graphs self.now.content) }
         requires quiet { IsQuiet graphs self.now.content }
-        requires weighed { IsWeighed graphs }
+        requires fitted { IsFitted graphs }
         requires settled { IsSettled self.now.content }
         ensures { IfOk result (λ change. change ≡ record {
           before = self.now.content;
@@ -77,7 +78,12 @@ impl Schedule {
         }) }
     {
         let rows = self.rows_of_graphs(alloc, &graphs)?;
-        let effect = Effect { graphs, rest: None };
+        let patches = Vec::new(alloc);
+        let effect = Effect {
+            graphs,
+            patches,
+            rest: None,
+        };
         Ok(self.change_of(effect, quiet_answer(alloc), rows))
     }
 
@@ -89,7 +95,7 @@ impl Schedule {
     ) -> Result<Change, AllocError>
         requires sound { IsSoundAndSaid (with_change graphs self.now.content) }
         requires quiet { IsQuiet graphs self.now.content }
-        requires weighed { IsWeighed graphs }
+        requires fitted { IsFitted graphs }
         requires over { IsOver graphs self.now.content self.now.content }
         ensures { IfOk result (λ change. change ≡ record {
           before = self.now.content;
@@ -146,9 +152,10 @@ impl Schedule {
         requires based { draft.base ≡ self.now.content }
         requires sound { IsSound draft.content }
         requires over { IsOver graphs self.now.content draft.content }
+        requires later { self.now.content.now ≤ draft.content.now }
         requires last { IsLast graphs draft.content }
         requires leaves { LeavesDags graphs }
-        requires weighed { IsWeighed graphs }
+        requires fitted { IsFitted graphs }
         requires kept { IsSettledAndSound (completed graphs (hand_out (settle draft.content))) }
         requires pools { draft.content.pools ≡ self.now.content.pools }
         requires open { open_tries draft.content ≡ open_tries self.now.content }
@@ -175,9 +182,10 @@ impl Schedule {
         requires based { draft.base ≡ self.now.content }
         requires sound { IsSound draft.content }
         requires over { IsOver graphs self.now.content draft.content }
+        requires later { self.now.content.now ≤ draft.content.now }
         requires last { IsLast graphs draft.content }
         requires leaves { LeavesDags graphs }
-        requires weighed { IsWeighed graphs }
+        requires fitted { IsFitted graphs }
         requires kept { IsSettledAndSound (completed graphs (hand_out (settle draft.content))) }
         requires counted { IsCounted draft.content }
         requires occupied { AreOccupied draft.content occupied }
@@ -191,10 +199,12 @@ impl Schedule {
         let mut draft = draft;
         let mut occupied = occupied;
         self.settle_draft(alloc, &mut draft)?;
-        let jobs = hand_out(alloc, &mut draft, self.weights.as_slice(), &mut occupied)?;
+        let jobs = hand_out(alloc, &mut draft, self.shelves.as_slice(), &mut occupied)?;
         let rows = self.rows_changed(alloc, &draft, &graphs)?;
+        let patches = patches_of(alloc, self.shelves.as_slice(), &draft)?;
         let effect = Effect {
             graphs,
+            patches,
             rest: Some(rest_of(draft, occupied)),
         };
         Ok(self.change_of(effect, Answer { jobs, ..answer }, rows))

@@ -1,5 +1,5 @@
 //! Planning another text for a graph that is there: its runs go on by it, whether it has some or not.
-ghost use Rattle.std.specs.Prelude.{◌≡◌, false, map, IfOk, IfErr, MatchResult, None, OnOk, Some, slice_get, true};
+ghost use Rattle.std.specs.Prelude.{◌≡◌, false, IfOk, IfErr, MatchResult, None, OnOk, Some, slice_get, true};
 ghost use Rattle.record_writing.specs.record_changes.Changes.{rows_between};
 ghost use Rattle.sched_state.specs.declared.graphs.LoadedGraph as states;
 ghost use Rattle.sched_state.specs.Lists.{same};
@@ -14,7 +14,6 @@ ghost use Rattle.sched_events.specs.Causes.{disturbed, refused};
 ghost use Rattle.sched_events.specs.Outcomes.{IsRefusal};
 ghost use Rattle.sched_events.specs.SettledAndSound.{IsSettledAndSound};
 ghost use Rattle.sched_events.specs.declared.events.Event.TheVariants.{Replace};
-ghost use Rattle.sched_handout.specs.Weighing.{WeighGraphs, WeighTasks};
 ghost use Rattle.sched_core.specs.Inside.{IsTaken, StandsAt};
 ghost use Rattle.sched_core.specs.Plans.{IsPlanned};
 ghost use Rattle.sched_core.specs.Replaced.{IsAftermath, IsDisturbance, OwnsRunsOf, TakeAlike, with_other_graph};
@@ -33,16 +32,21 @@ use run_planner::makes_anew;
 use sched_clearing::span_of_all;
 use sched_draft::Draft;
 use sched_events::{Answer, Refusal};
-use sched_handout::{hand_out, weigh_tasks};
+use sched_handout::hand_out;
+use sched_ready::{Patch, Shelf, shelves_of};
 use sched_replacing::{least_moved, lost_task, reached, refit, resized_task};
 use sched_settling::settle;
 use sched_state::{GraphText, Job, LoadedGraph};
 use std::alloc::{AllocError, Global};
 
-// What a replaced graph leaves, but for the graph itself: the rest, the tries that are handed out, and the rows that the schedule lacks then.
+// What a replaced graph leaves, but for the graph itself: the rest, the shelves, the tries that are handed out, and the rows that the schedule lacks
+// then.
 #[derive(Drop)]
 pub struct Aftermath {
     pub rest: Rest,
+    pub shelves: Vec<Shelf>,
+    // None.
+    pub patches: Vec<Patch>,
     pub jobs: Sequence<Job>,
     pub rows: Rows,
 }
@@ -124,10 +128,10 @@ impl Schedule {
         ensures { IfOk result (IsPlanned self.now.content (Replace text.now)) }
     {
         let graph = with_text_of(&self.graphs[place], text.copy(alloc)?, dag);
-        let weights = weigh_tasks(alloc, &graph.dag)?;
-        let aftermath = self.aftermath(alloc, place, &graph, weights.as_slice())?;
+        let aftermath = self.aftermath(alloc, place, &graph)?;
         let effect = Effect {
-            graphs: GraphChange::Replace(graph, weights),
+            graphs: GraphChange::Replace(graph, aftermath.shelves),
+            patches: aftermath.patches,
             rest: Some(aftermath.rest),
         };
         let answer = Answer {
@@ -137,52 +141,34 @@ impl Schedule {
         Ok(self.change_of(effect, answer, aftermath.rows))
     }
 
-    // What is left where the graph at the place is this one, with these weights.
+    // What is left where the graph at the place is this one. The shelves are made anew, before tries are handed out and after.
     fn aftermath(
         &self,
         alloc: Global,
         place: usize,
         graph: &LoadedGraph,
-        own_weights: &[u64],
     ) -> Result<Aftermath, AllocError>
         requires stands { StandsAt graph.now.dag.spec.dag_id self.now.content.graphs place }
-        requires weighed { WeighTasks graph.now.dag own_weights.now }
         requires sound { IsSound (with_other_graph graph.now self.now.content) }
         requires kept { IsSettledAndSound (hand_out (settle (with_other_graph graph.now self.now.content))) }
         requires taken { TakeAlike self.now.content (with_other_graph graph.now self.now.content) }
         ensures { IfOk result (IsAftermath self.now.content graph.now) }
     {
-        let weights = self.weights_with(alloc, place, graph, own_weights)?;
         let mut occupied = self.occupied.copy(alloc)?;
         let mut draft = self.refitted(alloc, place, graph)?;
         settle(alloc, &mut draft)?;
-        let jobs = hand_out(alloc, &mut draft, weights.as_slice(), &mut occupied)?;
+        let before = shelves_of(alloc, &draft)?;
+        let jobs = hand_out(alloc, &mut draft, before.as_slice(), &mut occupied)?;
         own_runs_of(alloc, &mut draft, &graph.dag.spec().dag_id)?;
         let rows = self.rows_replaced(alloc, &draft, graph)?;
+        let shelves = shelves_of(alloc, &draft)?;
         Ok(Aftermath {
             rest: rest_of(draft, occupied),
+            shelves,
+            patches: Vec::new(alloc),
             jobs,
             rows,
         })
-    }
-
-    // The weights of the graphs, where the one at the place is this one, with these.
-    fn weights_with(
-        &self,
-        alloc: Global,
-        place: usize,
-        graph: &LoadedGraph,
-        own_weights: &[u64],
-    ) -> Result<Vec<Vec<u64>>, AllocError>
-        requires stands { StandsAt graph.now.dag.spec.dag_id self.now.content.graphs place }
-        requires weighed { WeighTasks graph.now.dag own_weights.now }
-        ensures { IfOk result (λ weights. WeighGraphs
-            (with_other (Some graph.now) self.now.content.graphs) weights.items) }
-    {
-        let mut weights = copied(alloc, &self.weights)?;
-        let own = own_weights.to_vec(alloc)?;
-        weights[place] = own;
-        Ok(weights)
     }
 
     // The schedule as a draft, in which the graph at the place is this one, and its runs go on by it.
@@ -229,18 +215,6 @@ fn with_text_of(old: &LoadedGraph, text: GraphText, dag: Graph) -> LoadedGraph
         paused: old.paused,
         ..new_graph(text, dag)
     }
-}
-
-// The same weights once more.
-fn copied(alloc: Global, weights: &[Vec<u64>]) -> Result<Vec<Vec<u64>>, AllocError>
-    ensures { IfOk result (λ copies. map (λ row. row.items) copies.items
-        ≡ map (λ row. row.items) weights.now) }
-{
-    let mut copies = Vec::new(alloc);
-    for row in weights {
-        copies.push(row.as_slice().to_vec(alloc)?)?;
-    }
-    Ok(copies)
 }
 
 // The runs of the graph may be changed: what was not touched stays as it is. The runs stand in the order of their keys.

@@ -1,12 +1,12 @@
 //! The schedule that rows of the record say.
-ghost use Rattle.std.specs.Prelude.{◌≡◌, None, IfOk, IfErr, true};
+ghost use Rattle.std.specs.Prelude.{◌≡◌, None, IfOk, IfErr};
 ghost use Rattle.sched_creation.specs.Dates.{HaveDates};
-ghost use Rattle.sched_model.specs.Lists.{rises};
-ghost use Rattle.sched_model.specs.Schedule.{run_before};
+ghost use Rattle.sched_model.specs.Sound.{IsSound};
 ghost use Rattle.sched_model.specs.Tables.{tables};
 ghost use Rattle.record_restoring.specs.record_rules.Reading.{schedule_of};
 ghost use Rattle.record_restoring.specs.record_rules.Faults.{record_fault};
 ghost use Rattle.record_restoring.specs.Results.{IsFault};
+ghost use Rattle.sched_ready.specs.Held.{AreShelvesOf};
 
 use crate::counting::count_open;
 use crate::schedules::Schedule;
@@ -15,7 +15,8 @@ use run_lists::Runs;
 use run_planner::RunIndex;
 use sched_creation::dates_of_all;
 use sched_draft::{Base, Draft};
-use sched_handout::{Occupied, weigh_graphs};
+use sched_handout::Occupied;
+use sched_ready::{Shelf, shelves_of};
 use sched_state::Limits;
 use std::alloc::{AllocError, Global};
 
@@ -42,7 +43,6 @@ impl Schedule {
             next,
             runs,
         } = restore_parts(alloc, limits, rows)?;
-        let weights = weigh_graphs(alloc, graphs.as_slice())?;
         let counted = count_open(alloc, &runs)?;
         let runs = Runs::of(alloc, runs)?;
         let base = Base {
@@ -54,11 +54,11 @@ impl Schedule {
             next,
             runs: &runs,
         };
-        let dates = dates_in(alloc, base)?;
+        let (dates, shelves) = kept_beside(alloc, base)?;
         Ok(Schedule {
             limits,
             graphs,
-            weights,
+            shelves,
             dates,
             occupied: Occupied {
                 in_flight: counted.in_all,
@@ -74,11 +74,14 @@ impl Schedule {
     }
 }
 
-// The logical dates of the runs of each graph.
-fn dates_in(alloc: Global, base: Base<'_>) -> Result<Vec<RunIndex>, AllocError>
-    requires { rises run_before base.runs ≡ true }
-    ensures { IfOk result (λ all. HaveDates base.entry.graphs base.entry.runs all.items) }
+// The logical dates of the runs of each graph, and the shelves of the graphs, with what is due in their runs.
+fn kept_beside(alloc: Global, base: Base<'_>) -> Result<(Vec<RunIndex>, Vec<Shelf>), AllocError>
+    requires { IsSound base }
+    ensures dates { IfOk result (λ kept. HaveDates base.entry.graphs base.entry.runs kept.0.items) }
+    ensures shelves { IfOk result (λ kept. AreShelvesOf base.entry.now base.entry.graphs base.entry.runs kept.1.items) }
 {
     let draft = Draft::over(alloc, base, None, false);
-    dates_of_all(alloc, &draft)
+    let dates = dates_of_all(alloc, &draft)?;
+    let shelves = shelves_of(alloc, &draft)?;
+    Ok((dates, shelves))
 }

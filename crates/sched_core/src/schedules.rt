@@ -12,9 +12,9 @@ ghost use Rattle.sched_events.specs.SettledAndSound.{IsSoundAndSaid};
 ghost use Rattle.sched_events.specs.Outcomes.{IsStepped, IsRefusal};
 ghost use Rattle.sched_creation.specs.Dates.{HaveDates};
 ghost use Rattle.sched_draft.specs.Parts.{with_other};
-ghost use Rattle.sched_handout.specs.Weighing.{WeighTasks, WeighGraphs};
+ghost use Rattle.sched_ready.specs.Held.{AreShelvesOf, FitsShelf};
 ghost use Rattle.sched_core.specs.Changes.{HasRoom};
-ghost use Rattle.sched_core.specs.Effects.{changed, IsWeighed};
+ghost use Rattle.sched_core.specs.Effects.{changed, HoldsAfter, IsFitted};
 ghost use Rattle.sched_core.specs.Inside.{IsLast};
 
 use crate::changes::{Change, Effect, GraphChange};
@@ -32,6 +32,7 @@ use run_planner::RunIndex;
 use sched_draft::graph_named;
 use sched_events::{Answer, Event, Refusal};
 use sched_handout::{ActiveTries, Occupied};
+use sched_ready::{Shelf, put_all};
 use sched_state::{GraphText, Limits, LoadedGraph};
 use std::alloc::{AllocError, Global};
 use std::marker::Model;
@@ -43,8 +44,8 @@ use std::marker::Model;
 pub struct Schedule {
     pub(crate) limits: Limits,
     pub(crate) graphs: Vec<LoadedGraph>,
-    // The effective weights of their tasks, by position and place: they stay as long as their texts do.
-    pub(crate) weights: Vec<Vec<u64>>,
+    // What is ready in their runs, by position, with the effective weights of their tasks.
+    pub(crate) shelves: Vec<Shelf>,
     // The logical dates of their runs, by position.
     pub(crate) dates: Vec<RunIndex>,
     // What the tries without an end take, and the pools.
@@ -69,7 +70,7 @@ impl Model for Schedule {
     ghost view = { λ s. record {
       content = content_inside s;
       room = record {
-        graphs = min (vec_capacity s.graphs - vec_len s.graphs) (min (vec_capacity s.weights - vec_len s.weights) (vec_capacity s.dates - vec_len s.dates));
+        graphs = min (vec_capacity s.graphs - vec_len s.graphs) (min (vec_capacity s.shelves - vec_len s.shelves) (vec_capacity s.dates - vec_len s.dates));
         runs = s.runs.room;
         dates = map (λ (x : Index). x.room) s.dates.items;
       };
@@ -87,7 +88,7 @@ impl Schedule {
         Ok(Schedule {
             limits,
             graphs: Vec::new(alloc),
-            weights: Vec::new(alloc),
+            shelves: Vec::new(alloc),
             dates: Vec::new(alloc),
             occupied: Occupied {
                 in_flight: 0,
@@ -167,7 +168,7 @@ impl Schedule {
         room_for_dates(&self.graphs, &mut self.dates, &change.effect.rest)?;
         room_for_graphs(
             &mut self.graphs,
-            &mut self.weights,
+            &mut self.shelves,
             &mut self.dates,
             &change.effect.graphs,
         )?;
@@ -186,12 +187,17 @@ impl Schedule {
     {
         let Change {
             before: _,
-            effect: Effect { graphs, rest },
+            effect: Effect {
+                graphs,
+                patches,
+                rest,
+            },
             answer,
             rows: _,
         } = change;
         note(&self.graphs, &mut self.dates, &rest);
-        change_graphs(&mut self.graphs, &mut self.weights, &mut self.dates, graphs);
+        put_all(&mut self.shelves, patches);
+        change_graphs(&mut self.graphs, &mut self.shelves, &mut self.dates, graphs);
         if let Some(rest) = rest {
             self.occupied = rest.occupied;
             self.clock = rest.clock;
@@ -215,77 +221,82 @@ impl Schedule {
     }
 }
 
-// Makes room for the graph that a change takes in, for its weights and for its dates.
+// Makes room for the graph that a change takes in, for its shelf and for its dates.
 fn room_for_graphs(
     graphs: &mut Vec<LoadedGraph>,
-    weights: &mut Vec<Vec<u64>>,
+    shelves: &mut Vec<Shelf>,
     dates: &mut Vec<RunIndex>,
     change: &GraphChange,
 ) -> Result<(), AllocError>
     ensures graphs { graphs.new.items ≡ graphs.old.items }
-    ensures weights { weights.new.items ≡ weights.old.items }
+    ensures shelves { shelves.new.items ≡ shelves.old.items }
     ensures dates { dates.new.items ≡ dates.old.items }
     ensures room { OnOk result ((gs : List LoadedGraph) → length (changed change.now gs) ≤ length gs
-        + min (vec_capacity graphs.new - vec_len graphs.new) (min (vec_capacity weights.new - vec_len weights.new) (vec_capacity dates.new - vec_len dates.new))) }
+        + min (vec_capacity graphs.new - vec_len graphs.new) (min (vec_capacity shelves.new - vec_len shelves.new) (vec_capacity dates.new - vec_len dates.new))) }
 {
     match change {
         GraphChange::Load(_, _, _, _) => {
             graphs.reserve(1)?;
-            weights.reserve(1)?;
+            shelves.reserve(1)?;
             dates.reserve(1)
         }
         GraphChange::Same | GraphChange::Pause(_, _) | GraphChange::Replace(_, _) => Ok(()),
     }
 }
 
-// The graphs are changed so, and their weights and dates with them.
+// The graphs are changed so, and their shelves and dates with them.
 fn change_graphs(
     graphs: &mut Vec<LoadedGraph>,
-    weights: &mut Vec<Vec<u64>>,
+    shelves: &mut Vec<Shelf>,
     dates: &mut Vec<RunIndex>,
     change: GraphChange,
 )
     requires order { rises graph_before graphs.old.items ≡ true }
     requires room { length (changed change graphs.old.items) ≤ vec_capacity graphs.old }
-    requires places { length (changed change graphs.old.items) ≤ min (vec_capacity weights.old) (vec_capacity dates.old) }
-    requires weights { WeighGraphs graphs.old.items weights.old.items }
-    requires weighed { IsWeighed change }
+    requires places { length (changed change graphs.old.items) ≤ min (vec_capacity shelves.old) (vec_capacity dates.old) }
+    requires shelves { length shelves.old.items ≡ length graphs.old.items }
+    requires fitted { IsFitted change }
     requires long { length dates.old.items ≡ length graphs.old.items }
     ensures graphs { graphs.new.items ≡ changed change graphs.old.items }
-    ensures weights { WeighGraphs graphs.new.items weights.new.items }
+    ensures shelves { (a : Content) → HoldsAfter change a.now graphs.old.items a.runs shelves.old.items → IsLast change a
+        → AreShelvesOf a.now graphs.new.items a.runs shelves.new.items }
     ensures dates { (a : Content) → HaveDates graphs.old.items a.runs dates.old.items → IsLast change a
         → HaveDates graphs.new.items a.runs dates.new.items }
 {
     match change {
         GraphChange::Same => {}
-        GraphChange::Load(text, dag, row, index) => {
-            take_in(graphs, weights, dates, text, dag, row, index)
+        GraphChange::Load(text, dag, shelf, index) => {
+            take_in(graphs, shelves, dates, text, dag, shelf, index)
         }
         GraphChange::Pause(id, paused) => set_paused(graphs, &id, paused),
-        GraphChange::Replace(graph, row) => put_other(graphs, weights, graph, row),
+        GraphChange::Replace(graph, others) => {
+            put_other(graphs, graph);
+            *shelves = others;
+        }
     }
 }
 
-// Takes a text in that says this, with these weights and no date: a known graph that has another text gets the weights in the place of its
-// own, and a new one is put at its place. The bound is the one that the text says.
+// Takes a text in that says this, with this shelf and no date: a known graph that has another text gets the shelf in the place of its own, and a
+// new one is put at its place. The bound is the one that the text says. The graph has no runs, so nothing of it is due.
 fn take_in(
     graphs: &mut Vec<LoadedGraph>,
-    weights: &mut Vec<Vec<u64>>,
+    shelves: &mut Vec<Shelf>,
     dates: &mut Vec<RunIndex>,
     text: GraphText,
     dag: Graph,
-    row: Vec<u64>,
+    shelf: Shelf,
     index: RunIndex,
 )
     requires order { rises graph_before graphs.old.items ≡ true }
     requires room { length (with_graph text dag graphs.old.items) ≤ vec_capacity graphs.old }
-    requires places { length (with_graph text dag graphs.old.items) ≤ min (vec_capacity weights.old) (vec_capacity dates.old) }
-    requires weights { WeighGraphs graphs.old.items weights.old.items }
-    requires row { WeighTasks dag row.items }
+    requires places { length (with_graph text dag graphs.old.items) ≤ min (vec_capacity shelves.old) (vec_capacity dates.old) }
+    requires shelves { length shelves.old.items ≡ length graphs.old.items }
+    requires shelf { FitsShelf dag shelf }
     requires index { index.dates ≡ [] }
     requires long { length dates.old.items ≡ length graphs.old.items }
     ensures graphs { graphs.new.items ≡ with_graph text dag graphs.old.items }
-    ensures weights { WeighGraphs graphs.new.items weights.new.items }
+    ensures shelves { (a : Content) → AreShelvesOf a.now graphs.old.items a.runs shelves.old.items → has_runs a dag.spec.dag_id ≡ false
+        → AreShelvesOf a.now graphs.new.items a.runs shelves.new.items }
     ensures dates { (a : Content) → HaveDates graphs.old.items a.runs dates.old.items → has_runs a dag.spec.dag_id ≡ false
         → HaveDates graphs.new.items a.runs dates.new.items }
 {
@@ -293,37 +304,26 @@ fn take_in(
         Some(place) => {
             if !graphs[place].text.is_same(&text) {
                 take_text(&mut graphs[place], text, dag);
-                weights[place] = row;
+                shelves[place] = shelf;
             }
         }
         None => {
             let graph = new_graph(text, dag);
             let place = place_for_graph(graphs, &graph);
             let _ = graphs.insert(place, graph);
-            let _ = weights.insert(place, row);
+            let _ = shelves.insert(place, shelf);
             let _ = dates.insert(place, index);
         }
     }
 }
 
-// The graph with the id of this one is this one, with these weights.
-fn put_other(
-    graphs: &mut Vec<LoadedGraph>,
-    weights: &mut Vec<Vec<u64>>,
-    graph: LoadedGraph,
-    row: Vec<u64>,
-)
-    requires order { rises graph_before graphs.old.items ≡ true }
-    requires weights { WeighGraphs graphs.old.items weights.old.items }
-    requires row { WeighTasks graph.dag row.items }
-    ensures graphs { graphs.new.items ≡ with_other (Some graph) graphs.old.items }
-    ensures weights { WeighGraphs graphs.new.items weights.new.items }
+// The graph with the id of this one is this one.
+fn put_other(graphs: &mut Vec<LoadedGraph>, graph: LoadedGraph)
+    requires { rises graph_before graphs.old.items ≡ true }
+    ensures { graphs.new.items ≡ with_other (Some graph) graphs.old.items }
 {
     match position_of(graphs, &graph.dag.spec().dag_id) {
-        Some(place) => {
-            graphs[place] = graph;
-            weights[place] = row;
-        }
+        Some(place) => graphs[place] = graph,
         None => {}
     }
 }

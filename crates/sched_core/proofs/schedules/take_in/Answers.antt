@@ -1,5 +1,4 @@
 use Rattle.std.proofs.Common.{◌≡◌, ◌+◌, ◌≤◌, ◌∙◌, ap, subst, sym, ℕ, List, Bool, true, false, cond, insert, length, slice_set, arith}
-use Rattle.std.specs.Global.{Vec}
 use Rattle.std.specs.List.{list_any}
 use Rattle.std.specs.Result.{is_ok}
 use Rattle.graph_file.specs.declared.graph_specs.GraphSpec.{GraphSpec}
@@ -12,9 +11,12 @@ use Rattle.sched_core.proofs.TakeInLemmas.{one_there, kept_known, taken_known, t
 use Rattle.run_planner.specs.Index.{Index}
 use Rattle.sched_state.proofs.NameLemmas.{same_is}
 use Rattle.sched_creation.specs.Dates.{HaveDates}
-use Rattle.sched_handout.specs.Weighing.{WeighTasks, WeighGraphs}
+use Rattle.dag_check.specs.Graphs.{Dag}
+use Rattle.sched_state.specs.declared.runs.Run.{Run}
+use Rattle.sched_ready.specs.Held.{AreShelvesOf, FitsShelf}
+use Rattle.sched_ready.specs.Shelves.{ShelfValue}
 use Rattle.sched_core.proofs.DateLemmas.{dates_set, dates_insert, no_dates}
-use Rattle.sched_core.proofs.WeightLemmas.{weigh_set, weigh_insert}
+use Rattle.sched_core.proofs.ShelfLemmas.{IsShelfOf, beside, from_beside, quiet_shelf, shelves_insert, shelves_set}
 use Rattle.sched_core.proofs.schedules.take_in.Goals as goal
 
 pub returns-then-not-is_same-clause-graphs : goal.returns-then-not-is_same-clause-graphs
@@ -52,33 +54,37 @@ returns-in-None-clause-graphs c =
     ∙ (ap (insert gs c.place_for_graph-place.result) c.new_graph-graph.ensures
     ∙ taken_new c.args.text c.args.dag gs c.place_for_graph-place.result unknown placed))
 
-pub returns-then-not-is_same-clause-weights : goal.returns-then-not-is_same-clause-weights
-returns-then-not-is_same-clause-weights c =
+pub returns-then-not-is_same-clause-shelves : goal.returns-then-not-is_same-clause-shelves
+returns-then-not-is_same-clause-shelves c a h none =
     let gs : List LoadedGraph = c.args.graphs.now.items in
-    let ws : List (Vec ℕ) = c.args.weights.now.items in
+    let ss : List ShelfValue = c.args.shelves.now.items in
     let stands : StandsAt c.args.dag.spec.dag_id gs c.in-Some.place =
     subst (λ (s : GraphSpec). StandsAt s.dag_id gs c.in-Some.place) c.spec.ensures.spec
     (subst (λ (ks : List LoadedGraph). StandsAt c.spec.result.now.dag_id ks c.in-Some.place) c.deref.ensures.value c.in-Some.ensures) in
-    let weighed : WeighTasks c.take_text.new.graph.dag c.args.row.items = subst (λ (k : LoadedGraph). WeighTasks k.dag c.args.row.items) (sym c.take_text.ensures) c.requires.row in
-    weigh_set gs ws c.in-Some.place c.take_text.new.graph c.args.row stands.below c.requires.weights weighed
+    let g : LoadedGraph = c.take_text.new.graph in
+    let is : g.dag ≡ c.args.dag = ap (λ (k : LoadedGraph). k.dag) c.take_text.ensures in
+    let own : IsShelfOf a.now a.runs g c.args.shelf = quiet_shelf a.now a.runs g c.args.shelf (subst (λ (d : Dag). FitsShelf d c.args.shelf) (sym is) c.requires.shelf) (ap (λ (d : Dag). list_any (λ (r : Run). same r.graph d.spec.dag_id) a.runs) is ∙ none) in
+    from_beside a.now (slice_set gs c.in-Some.place g) a.runs (slice_set ss c.in-Some.place c.args.shelf) (shelves_set a.now gs a.runs ss c.in-Some.place g c.args.shelf stands.below (beside a.now gs a.runs ss h) own)
 
-pub returns-in-None-clause-weights : goal.returns-in-None-clause-weights
-returns-in-None-clause-weights c =
+pub returns-in-None-clause-shelves : goal.returns-in-None-clause-shelves
+returns-in-None-clause-shelves c a h none =
     let gs : List LoadedGraph = c.args.graphs.now.items in
-    let ws : List (Vec ℕ) = c.args.weights.now.items in
+    let ss : List ShelfValue = c.args.shelves.now.items in
     let place : ℕ = c.place_for_graph-place.result in
     let new : LoadedGraph = new_graph c.args.text c.args.dag in
     let unknown = subst (λ (s : GraphSpec). list_any (λ (k : LoadedGraph). same k.dag.spec.dag_id s.dag_id) gs ≡ false) c.spec.ensures.spec
     (ap (list_any (λ (k : LoadedGraph). same k.dag.spec.dag_id c.spec.result.now.dag_id)) (sym c.deref.ensures.value) ∙ c.in-None.ensures) in
     let long : length (with_graph c.args.text c.args.dag gs) ≡ length gs + 1 = length-new c.args.text c.args.dag gs unknown in
     let ok : is_ok c.insert.result ≡ true = c.insert.ensures.succeeds (omega (arith, long, c.requires.room)) in
-    let beside : is_ok c.insert-in-None.result ≡ true = c.insert-in-None.ensures.succeeds (omega (arith, long, c.requires.places, c.requires.weights.long)) in
+    let beside_it : is_ok c.insert-in-None.result ≡ true = c.insert-in-None.ensures.succeeds (omega (arith, long, c.requires.places, c.requires.shelves)) in
     let graphs : c.insert.new.self.items ≡ insert gs place new =
     c.insert.ensures.items ∙ (ap (λ (b : Bool). cond b (insert gs place c.new_graph-graph.result) gs) ok ∙ ap (insert gs place) c.new_graph-graph.ensures) in
-    let rows : c.insert-in-None.new.self.items ≡ insert ws place c.args.row = c.insert-in-None.ensures.items ∙ ap (λ (b : Bool). cond b (insert ws place c.args.row) ws) beside in
+    let rows : c.insert-in-None.new.self.items ≡ insert ss place c.args.shelf = c.insert-in-None.ensures.items ∙ ap (λ (b : Bool). cond b (insert ss place c.args.shelf) ss) beside_it in
     let within : place ≤ length gs = subst (λ (ks : List LoadedGraph). place ≤ length ks) c.deref-in-None.ensures.value c.place_for_graph-place.ensures.within in
-    subst (λ (ks : List LoadedGraph). WeighGraphs ks c.insert-in-None.new.self.items) (sym graphs)
-    (subst (WeighGraphs (insert gs place new)) (sym rows) (weigh_insert gs ws place new c.args.row within c.requires.weights c.requires.row))
+    let own : IsShelfOf a.now a.runs new c.args.shelf = quiet_shelf a.now a.runs new c.args.shelf c.requires.shelf none in
+    subst (λ (ks : List LoadedGraph). AreShelvesOf a.now ks a.runs c.insert-in-None.new.self.items) (sym graphs)
+    (subst (AreShelvesOf a.now (insert gs place new) a.runs) (sym rows)
+    (from_beside a.now (insert gs place new) a.runs (insert ss place c.args.shelf) (shelves_insert a.now gs a.runs ss place new c.args.shelf within (beside a.now gs a.runs ss h) own)))
 
 pub returns-then-not-is_same-clause-dates : goal.returns-then-not-is_same-clause-dates
 returns-then-not-is_same-clause-dates c a h none =

@@ -1,5 +1,4 @@
-use Rattle.std.proofs.Common.{◌≡◌, ◌∙◌, ◌-◌, refl, sym, ap, subst, ℕ, List, true, flat_map}
-use Rattle.std.specs.Global.{Vec}
+use Rattle.std.proofs.Common.{◌≡◌, ◌∙◌, ◌-◌, inr, refl, sym, ap, subst, List, true, flat_map}
 use Rattle.std.specs.List.{range_with_len}
 use Rattle.graph_file.specs.declared.graph_specs.GraphSpec.{GraphSpec}
 use Rattle.sched_state.specs.declared.graphs.LoadedGraph.{LoadedGraph}
@@ -14,7 +13,7 @@ use Rattle.sched_draft.specs.Drafts.{DraftValue}
 use Rattle.sched_events.proofs.StepLemmas.{out_graphs, settle_graphs, without_settled}
 use Rattle.sched_handout.specs.Noted.{NoneFrom}
 use Rattle.sched_handout.specs.Occupied.{AreOccupied}
-use Rattle.sched_handout.specs.Weighing.{WeighGraphs}
+use Rattle.sched_ready.specs.Held.{AreShelvesOf}
 use Rattle.sched_handout.specs.declared.occupied.Occupied.{Occupied}
 use Rattle.sched_handout.proofs.JobLemmas.{sound_none}
 use Rattle.sched_core.specs.Books.{IsCounted, IsHeldWith}
@@ -39,12 +38,28 @@ settle-requires c =
     let sound : IsSound c.in_ok-draft.draft.content = subst IsSound (sym c.in_ok-draft.ensures.content) c.requires.sound in
     record { ordered = sound_ordered c.in_ok-draft.draft.content sound; graphs = sound.graphs_by_id }
 
-pub hand_out-requires-clause-weights : goal.hand_out-requires-clause-weights
-hand_out-requires-clause-weights c =
+-- the shelves are made of what is settled, and of what is handed out
+pub shelves_of-requires : goal.shelves_of-requires
+shelves_of-requires c =
     let b : Schedule = with_other_graph c.args.graph.now c.args.self.now.content in
-    let is : c.settle.new.draft.content ≡ settle b = settled (goal.at.hand_out-requires-clause-weights c).In_ok-settle in
-    subst (λ (rows : List (Vec ℕ)). WeighGraphs c.settle.new.draft.content.graphs rows) (sym c.as_slice.ensures.value)
-    (subst (λ (gs : List LoadedGraph). WeighGraphs gs c.in_ok-weights.weights.items) (sym (ap (λ (s : Schedule). s.graphs) is ∙ settle_graphs b)) c.in_ok-weights.ensures)
+    subst IsSound (sym (settled (goal.at.shelves_of-requires c).In_ok-settle)) (settle_sound b c.requires.sound)
+
+pub hand_out-requires-clause-sound : goal.hand_out-requires-clause-sound
+hand_out-requires-clause-sound c =
+    let b : Schedule = with_other_graph c.args.graph.now c.args.self.now.content in
+    subst IsSound (sym (settled (goal.at.hand_out-requires-clause-sound c).In_ok-settle)) (settle_sound b c.requires.sound)
+
+pub hand_out-requires-clause-shelves : goal.hand_out-requires-clause-shelves
+hand_out-requires-clause-shelves c =
+    let d : DraftValue = c.settle.new.draft in
+    inr (subst (AreShelvesOf d.content.now d.content.graphs d.content.runs) (sym c.as_slice.ensures.value) c.in_ok-before.ensures)
+
+pub shelves_of-requires-2 : goal.shelves_of-requires-2
+shelves_of-requires-2 c =
+    let b : Schedule = with_other_graph c.args.graph.now c.args.self.now.content in
+    let at = goal.at.shelves_of-requires-2 c in
+    let end = c.in_ok-own_runs_of.ensures.content ∙ handed_out at.In_ok-jobs (settled at.In_ok-settle) in
+    subst IsSound (sym end) (without_settled (hand_out (settle b)) c.requires.kept).sound
 
 pub hand_out-requires-clause-taken : goal.hand_out-requires-clause-taken
 hand_out-requires-clause-taken c =
@@ -108,11 +123,13 @@ returns c =
     let base : d.base ≡ a = c.in_ok-own_runs_of.ensures.base ∙ (c.in_ok-jobs.ensures.base ∙ (c.in_ok-settle.ensures.base ∙ c.in_ok-draft.ensures.base)) in
     let numbers : AreOccupied e t = subst (λ (s : Schedule). AreOccupied s t) out c.in_ok-jobs.ensures.taken in
     let counted : IsCounted b = counted_alike a b c.requires.taken (subst (λ (h : ScheduleValue). IsCounted h.content) c.self.view_is c.self.invariant.held.counted) in
-    let over = λ (w : Vec ℕ). let start : IsOver (graphs.Replace k w) a b = record { limits = refl; graphs = refl } in subst (IsOver (graphs.Replace k w) a) (sym end) (finished_over (graphs.Replace k w) a b start) in
+    let start : IsOver (graphs.Replace k c.in_ok-shelves.shelves) a b = record { limits = refl; graphs = refl } in
+    let over : IsOver (graphs.Replace k c.in_ok-shelves.shelves) a d.content = subst (IsOver (graphs.Replace k c.in_ok-shelves.shelves) a) (sym end) (finished_over (graphs.Replace k c.in_ok-shelves.shelves) a b start) in
+    let due = subst (λ (gs : List LoadedGraph). AreShelvesOf d.content.now gs d.content.runs c.in_ok-shelves.shelves.items) over.graphs c.in_ok-shelves.ensures in
     record {
-      effect = λ w weighed. closed_effect (graphs.Replace k w) a d t c.rest_of.result c.in_ok-rows.rows base (over w) c.rest_of.ensures weighed tt
-          (subst (λ (s : Schedule). IsHeldWith true s t) (sym end) (finished_held (graphs.Replace k w) b t c.requires.sound counted tt c.requires.kept numbers)) c.in_ok-rows.ensures;
-      after = λ w. closed_is (graphs.Replace k w) a d t c.rest_of.result base (over w) c.rest_of.ensures ∙ end;
+      effect = closed_effect (graphs.Replace k c.in_ok-shelves.shelves) a d t c.rest_of.result c.new.result c.in_ok-rows.rows base over c.rest_of.ensures tt tt
+          (subst (λ (s : Schedule). IsHeldWith true s t) (sym end) (finished_held (graphs.Replace k c.in_ok-shelves.shelves) b t c.requires.sound counted tt c.requires.kept numbers)) c.in_ok-rows.ensures (λ ss h. due);
+      after = closed_is (graphs.Replace k c.in_ok-shelves.shelves) a d t c.rest_of.result c.new.result base over c.rest_of.ensures ∙ end;
       jobs = c.in_ok-jobs.ensures.jobs
           ∙ (ap (λ (s : Schedule). handed s c.hand_out.new.draft.content) moved
           ∙ (ap (handed (settle b)) out ∙ ap (λ n. flat_map (job_at e) (range_with_len n (e.next - n))) (settled_next b)));

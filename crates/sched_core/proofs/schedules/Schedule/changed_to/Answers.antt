@@ -53,7 +53,7 @@ aftermath-requires-clause-taken c =
     (replaced_alike a c.args.text.now c.args.dag c.args.place g kept c.requires.taken c.requires.stands read c.requires.other c.requires.quiet)
 
 pub change_of-requires : goal.change_of-requires
-change_of-requires c = c.in_ok-aftermath.ensures.effect c.in_ok-weights.weights c.in_ok-weights.ensures
+change_of-requires c = c.in_ok-aftermath.ensures.effect
 
 pub returns : goal.returns
 returns c =
@@ -61,6 +61,6 @@ returns c =
     let b : Schedule = with_other_graph c.with_text_of-graph.result a in
     let is : c.change_of.result ≡ record { before = a; after = hand_out (settle b); answer = record c.quiet_answer.result { jobs = handed a (hand_out (settle b)) } } =
     c.change_of.ensures
-    ∙ (ap (λ (s : Schedule). let p : Planned = record { before = a; after = s; answer = record c.quiet_answer.result { jobs = c.in_ok-aftermath.aftermath.jobs } } in p) (c.in_ok-aftermath.ensures.after c.in_ok-weights.weights)
+    ∙ (ap (λ (s : Schedule). let p : Planned = record { before = a; after = s; answer = record c.quiet_answer.result { jobs = c.in_ok-aftermath.aftermath.jobs } } in p) c.in_ok-aftermath.ensures.after
     ∙ ap (λ js. let p : Planned = record { before = a; after = hand_out (settle b); answer = record c.quiet_answer.result { jobs = js } } in p) c.in_ok-aftermath.ensures.jobs) in
     draft_planned c.quiet_answer.result c.change_of.result (drafted (goal.at.returns c).After-with_text_of-graph) c.quiet_answer.ensures is

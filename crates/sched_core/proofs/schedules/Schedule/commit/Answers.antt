@@ -5,12 +5,16 @@ use Rattle.sched_state.specs.declared.graphs.LoadedGraph.{LoadedGraph}
 use Rattle.sched_state.specs.declared.runs.Run.{Run}
 use Rattle.sched_model.specs.Schedule.{Schedule, graph_before}
 use Rattle.sched_model.specs.Lists.{rises}
+use Rattle.sched_ready.specs.Held.{AreShelvesOf}
+use Rattle.sched_ready.specs.Patched.{patched}
+use Rattle.sched_ready.proofs.PatchLemmas.{patched_long}
+use Rattle.sched_ready.specs.Shelves.{ShelfValue}
 use Rattle.sched_core.specs.Books.{IsHeldWith, IsKept, content_inside}
 use Rattle.sched_creation.specs.Dates.{HaveDates}
 use Rattle.sched_core.specs.Changes.{ScheduleValue, Planned, count_of}
 use Rattle.sched_core.specs.Dates.{AreNoted, AreNotedWith, HaveRoomWith}
 use Rattle.sched_core.specs.Inside.{IsLast}
-use Rattle.sched_core.specs.Effects.{applied, AreOfRuns}
+use Rattle.sched_core.specs.Effects.{applied, AreOfRuns, HoldsAfter}
 use Rattle.sched_core.specs.declared.changes.Effect.{Effect}
 use Rattle.sched_core.specs.declared.changes.Rest.{Rest}
 use Rattle.sched_core.specs.declared.schedules.Schedule.TheInside.{Inside}
@@ -27,12 +31,17 @@ invariant_of-self c =
     let e : Effect = c.change.inside.effect in
     let xs : List Index = c.self.inside.dates.items in
     let ys : List Index = c.note.new.dates.items in
+    let ss : List ShelfValue = c.self.inside.shelves.items in
+    let due : (f : Effect) → e ≡ f → HoldsAfter e.graphs (applied f a).now a.graphs (applied f a).runs c.put_all.new.shelves.items = λ f is.
+    subst (λ (k : Effect). HoldsAfter e.graphs (applied k a).now a.graphs (applied k a).runs c.put_all.new.shelves.items) is
+    (subst (HoldsAfter e.graphs (applied e a).now a.graphs (applied e a).runs) (sym c.put_all.ensures.shelves)
+    (subst (λ (s : Schedule). AreShelvesOf s.now s.graphs s.runs ss → HoldsAfter e.graphs (applied e s).now s.graphs (applied e s).runs (patched e.patches.items ss)) before (c.change.invariant.shelves ss) c.self.invariant.shelves)) in
     let all : AreNotedWith a.graphs e.rest xs ys = subst (λ (gs : List LoadedGraph). AreNotedWith gs e.rest xs ys) c.deref.ensures.value c.note.ensures.noted in
     elim c.match-rest.branch [
       | in-Some w ↦
           let n = w.in-Some.rest in
-          let f : Effect = record { graphs = e.graphs; rest = Some n } in
-          let is : e ≡ f = ap (λ (o : Option Rest). let k : Effect = record { graphs = e.graphs; rest = o } in k) w.in-Some.is in
+          let f : Effect = record { graphs = e.graphs; patches = e.patches; rest = Some n } in
+          let is : e ≡ f = ap (λ (o : Option Rest). let k : Effect = record { graphs = e.graphs; patches = e.patches; rest = o } in k) w.in-Some.is in
           let done = done_held e f c.change.inside.before.value.content a c.self.inside.occupied c.self.inside.is_settled c.change.invariant.keeps is before c.self.invariant.held in
           let of : AreEditsOf a.runs n.edits = subst (λ (s : Schedule). AreOfRuns (Some n) s) before (subst (λ (o : Option Rest). AreOfRuns o c.change.inside.before.value.content) w.in-Some.is c.change.invariant.edits) in
           let noted : AreNoted a.graphs n.edits xs ys = subst (λ (o : Option Rest). AreNotedWith a.graphs o xs ys) w.in-Some.is all in
@@ -41,17 +50,18 @@ invariant_of-self c =
           subst (λ (i : Inside). IsKept (record i { is_settled = true })) (sym w.self-inside-is) (record {
             held = subst (λ (rs : List Run). IsHeldWith true (record (applied f a) { graphs = c.change_graphs.new.graphs.items; runs = rs }) n.occupied) (sym w.write.ensures.runs)
                 (subst (λ (gs : List LoadedGraph). IsHeldWith true (record (applied f a) { graphs = gs }) n.occupied) (sym c.change_graphs.ensures.graphs) done);
-            weights = c.change_graphs.ensures.weights;
+            shelves = subst (λ (rs : List Run). AreShelvesOf n.clock c.change_graphs.new.graphs.items rs c.change_graphs.new.shelves.items) (sym w.write.ensures.runs)
+                (c.change_graphs.ensures.shelves (applied f a) (due f is) last);
             dates = subst (λ (rs : List Run). HaveDates c.change_graphs.new.graphs.items rs c.change_graphs.new.dates.items) (sym w.write.ensures.runs) (c.change_graphs.ensures.dates (applied f a) dated last);
           })
       | in_default w ↦
-          let f : Effect = record { graphs = e.graphs; rest = None } in
-          let is : e ≡ f = ap (λ (o : Option Rest). let k : Effect = record { graphs = e.graphs; rest = o } in k) w.in_default.is in
+          let f : Effect = record { graphs = e.graphs; patches = e.patches; rest = None } in
+          let is : e ≡ f = ap (λ (o : Option Rest). let k : Effect = record { graphs = e.graphs; patches = e.patches; rest = o } in k) w.in_default.is in
           let done = done_held e f c.change.inside.before.value.content a c.self.inside.occupied c.self.inside.is_settled c.change.invariant.keeps is before c.self.invariant.held in
           let last : IsLast e.graphs (applied f a) = subst (λ (k : Effect). IsLast e.graphs (applied k a)) is (subst (λ (s : Schedule). IsLast e.graphs (applied e s)) before c.change.invariant.last) in
           subst (λ (i : Inside). IsKept (record i { is_settled = true })) (sym w.self-inside-is) (record {
             held = subst (λ (gs : List LoadedGraph). IsHeldWith true (record a { graphs = gs }) c.self.inside.occupied) (sym c.change_graphs.ensures.graphs) done;
-            weights = c.change_graphs.ensures.weights;
+            shelves = c.change_graphs.ensures.shelves (applied f a) (due f is) last;
             dates = c.change_graphs.ensures.dates (applied f a) (subst (HaveDates a.graphs a.runs) (sym (subst (λ (o : Option Rest). AreNotedWith a.graphs o xs ys) w.in_default.is all)) c.self.invariant.dates) last;
           })
     ]
@@ -66,8 +76,8 @@ pub write-requires-clause-places : goal.write-requires-clause-places
 write-requires-clause-places c =
     let a : Schedule = c.change.inside.before.value.content in
     let e : Effect = c.change.inside.effect in
-    let f : Effect = record { graphs = e.graphs; rest = Some c.in-Some.rest } in
-    let is : e ≡ f = ap (λ (o : Option Rest). let k : Effect = record { graphs = e.graphs; rest = o } in k) c.in-Some.is in
+    let f : Effect = record { graphs = e.graphs; patches = e.patches; rest = Some c.in-Some.rest } in
+    let is : e ≡ f = ap (λ (o : Option Rest). let k : Effect = record { graphs = e.graphs; patches = e.patches; rest = o } in k) c.in-Some.is in
     let of : AreOfRuns (Some c.in-Some.rest) a = subst (λ (o : Option Rest). AreOfRuns o a) c.in-Some.is c.change.invariant.edits in
     let after : c.args.change.after ≡ applied f a = sym (ap (λ (p : Planned). p.after) c.change.view_is) ∙ ap (λ (k : Effect). applied k a) is in
     let was : c.args.change.before ≡ a = sym (ap (λ (p : Planned). p.before) c.change.view_is) in
@@ -96,3 +106,8 @@ note-requires-clause-room c =
 
 pub note-requires-clause-order : goal.note-requires-clause-order
 note-requires-clause-order c = ap (rises graph_before) c.deref.ensures.value ∙ c.self.invariant.held.kept.sound.graphs_by_id
+
+pub change_graphs-requires-clause-shelves : goal.change_graphs-requires-clause-shelves
+change_graphs-requires-clause-shelves c =
+    let ss : List ShelfValue = c.self.inside.shelves.items in
+    ap (λ (xs : List ShelfValue). length xs) c.put_all.ensures.shelves ∙ (patched_long c.change.inside.effect.patches.items ss ∙ c.self.invariant.shelves.fit.long)

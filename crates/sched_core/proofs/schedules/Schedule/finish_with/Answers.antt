@@ -1,5 +1,4 @@
-use Rattle.std.proofs.Common.{◌≡◌, ◌∙◌, ◌-◌, sym, ap, subst, ℕ, List, flat_map, true}
-use Rattle.std.specs.Global.{Vec}
+use Rattle.std.proofs.Common.{◌≡◌, ◌∙◌, ◌-◌, inl, sym, ap, subst, List, flat_map, true}
 use Rattle.std.specs.List.{range_with_len}
 use Rattle.sched_model.specs.Schedule.{Schedule}
 use Rattle.sched_model.specs.Settle.{settle}
@@ -10,31 +9,63 @@ use Rattle.sched_events.proofs.StepLemmas.{without_settled}
 use Rattle.sched_handout.specs.Occupied.{AreOccupied}
 use Rattle.sched_handout.specs.declared.occupied.Occupied.{Occupied}
 use Rattle.sched_handout.specs.Noted.{NoneFrom}
-use Rattle.sched_handout.specs.Weighing.{WeighGraphs}
+use Rattle.sched_ready.specs.Held.{AreShelvesOf, IsLater}
+use Rattle.sched_ready.specs.Patched.{ArePatches, patched}
+use Rattle.sched_ready.specs.Shelves.{ShelfValue}
+use Rattle.sched_ready.proofs.PatchLemmas.{patched_shelves}
 use Rattle.sched_handout.proofs.JobLemmas.{sound_none}
-use Rattle.sched_laws.proofs.SoundLemmas.{settle_sound}
+use Rattle.sched_laws.proofs.SoundLemmas.{settle_sound, out_sound}
 use Rattle.sched_draft.specs.Drafts.{DraftValue, SameDags}
 use Rattle.sched_core.specs.Inside.{IsOver, IsLast, completed}
 use Rattle.sched_core.specs.declared.changes.GraphChange.{GraphChange}
 use Rattle.sched_core.specs.Books.{IsHeldWith}
 use Rattle.sched_core.specs.Changes.{ScheduleValue, Planned}
 use Rattle.sched_core.proofs.ChangedRowLemmas.{draft_dags, last_after}
-use Rattle.sched_core.proofs.FinishLemmas.{closed_effect, closed_is, finished_held, finished_over, settled_next, settled_occupied}
-use Rattle.sched_core.proofs.WeightLemmas.{weigh_settled}
+use Rattle.sched_core.proofs.FinishLemmas.{closed_effect, closed_is, finished_held, finished_later, finished_over, settled_later, settled_next, settled_occupied, settled_over}
+use Rattle.sched_core.proofs.ShelfLemmas.{holds_after, later_over}
 use Rattle.sched_core.proofs.schedules.Schedule.finish_with.Goals as goal
 
 pub settle_draft-requires-clause-dags : goal.settle_draft-requires-clause-dags
 settle_draft-requires-clause-dags c =
     subst (λ (s : Schedule). SameDags s c.args.draft.content) (sym c.requires.based) (draft_dags c.args.graphs c.args.self.now.content c.args.draft.content c.requires.leaves c.requires.over)
 
-pub hand_out-requires-clause-weights : goal.hand_out-requires-clause-weights
-hand_out-requires-clause-weights c =
+pub hand_out-requires-clause-sound : goal.hand_out-requires-clause-sound
+hand_out-requires-clause-sound c = subst IsSound (sym c.in_ok-settle_draft.ensures.settled) (settle_sound c.args.draft.content c.requires.sound)
+
+pub hand_out-requires-clause-shelves : goal.hand_out-requires-clause-shelves
+hand_out-requires-clause-shelves c =
     let a : Schedule = c.args.self.now.content in
     let b : Schedule = c.args.draft.content in
-    let ws : List (Vec ℕ) = c.self.inside.weights.items in
-    let kept : WeighGraphs a.graphs ws = subst (λ (h : ScheduleValue). WeighGraphs h.content.graphs ws) c.self.view_is c.self.invariant.weights in
-    subst (λ (rows : List (Vec ℕ)). WeighGraphs c.settle_draft.new.draft.content.graphs rows) (sym c.as_slice.ensures.value)
-    (subst (λ (s : Schedule). WeighGraphs s.graphs ws) (sym c.in_ok-settle_draft.ensures.settled) (weigh_settled c.args.graphs a b ws c.requires.leaves c.requires.over kept))
+    let ss : List ShelfValue = c.self.inside.shelves.items in
+    let kept : AreShelvesOf a.now a.graphs a.runs ss = subst (λ (h : ScheduleValue). AreShelvesOf h.content.now h.content.graphs h.content.runs ss) c.self.view_is c.self.invariant.shelves in
+    let base = c.in_ok-settle_draft.ensures.base ∙ c.requires.based in
+    let later : IsLater a (settle b) = later_over c.args.graphs a (settle b) c.requires.leaves (settled_over c.args.graphs a b c.requires.over) (settled_later a b c.requires.later) in
+    inl (
+      subst (λ (s : Schedule). AreShelvesOf s.now s.graphs s.runs c.as_slice.result.now) (sym base) (subst (AreShelvesOf a.now a.graphs a.runs) (sym c.as_slice.ensures.value) kept),
+      subst (λ (s : Schedule). IsLater s c.settle_draft.new.draft.content) (sym base) (subst (IsLater a) (sym c.in_ok-settle_draft.ensures.settled) later),
+    )
+
+pub patches_of-requires-clause-sound : goal.patches_of-requires-clause-sound
+patches_of-requires-clause-sound c =
+    let b : Schedule = c.args.draft.content in
+    let end : c.hand_out.new.draft.content ≡ hand_out (settle b) = c.in_ok-jobs.ensures.draft ∙ ap hand_out c.in_ok-settle_draft.ensures.settled in
+    subst IsSound (sym end) (out_sound (settle b) (settle_sound b c.requires.sound))
+
+pub patches_of-requires-clause-shelves : goal.patches_of-requires-clause-shelves
+patches_of-requires-clause-shelves c =
+    let a : Schedule = c.args.self.now.content in
+    let ss : List ShelfValue = c.self.inside.shelves.items in
+    let kept : AreShelvesOf a.now a.graphs a.runs ss = subst (λ (h : ScheduleValue). AreShelvesOf h.content.now h.content.graphs h.content.runs ss) c.self.view_is c.self.invariant.shelves in
+    let base = c.in_ok-jobs.ensures.base ∙ c.in_ok-settle_draft.ensures.base ∙ c.requires.based in
+    subst (λ (s : Schedule). AreShelvesOf s.now s.graphs s.runs c.as_slice-2.result.now) (sym base) (subst (AreShelvesOf a.now a.graphs a.runs) (sym c.as_slice-2.ensures.value) kept)
+
+pub patches_of-requires-clause-later : goal.patches_of-requires-clause-later
+patches_of-requires-clause-later c =
+    let a : Schedule = c.args.self.now.content in
+    let b : Schedule = c.args.draft.content in
+    let end : c.hand_out.new.draft.content ≡ hand_out (settle b) = c.in_ok-jobs.ensures.draft ∙ ap hand_out c.in_ok-settle_draft.ensures.settled in
+    let base = c.in_ok-jobs.ensures.base ∙ c.in_ok-settle_draft.ensures.base ∙ c.requires.based in
+    subst (λ (s : Schedule). IsLater s c.hand_out.new.draft.content) (sym base) (subst (IsLater a) (sym end) (later_over c.args.graphs a (hand_out (settle b)) c.requires.leaves (finished_over c.args.graphs a b c.requires.over) (finished_later a b c.requires.later)))
 
 pub hand_out-requires-clause-taken : goal.hand_out-requires-clause-taken
 hand_out-requires-clause-taken c =
@@ -82,8 +113,11 @@ change_of-requires c =
     let base : d.base ≡ a = c.in_ok-jobs.ensures.base ∙ c.in_ok-settle_draft.ensures.base ∙ c.requires.based in
     let numbers : AreOccupied e t = subst (λ (s : Schedule). AreOccupied s t) end c.in_ok-jobs.ensures.taken in
     let held : IsHeldWith true (completed g e) t = finished_held g b t c.requires.sound c.requires.counted c.requires.last c.requires.kept numbers in
-    closed_effect g a d t c.rest_of.result c.in_ok-rows.rows base (subst (IsOver g a) (sym end) (finished_over g a b c.requires.over)) c.rest_of.ensures c.requires.weighed (subst (IsLast g) (sym end) (last_after g b c.requires.last))
+    closed_effect g a d t c.rest_of.result c.in_ok-patches.patches c.in_ok-rows.rows base (subst (IsOver g a) (sym end) (finished_over g a b c.requires.over)) c.rest_of.ensures c.requires.fitted (subst (IsLast g) (sym end) (last_after g b c.requires.last))
     (subst (λ (s : Schedule). IsHeldWith true (completed g s) t) (sym end) held) c.in_ok-rows.ensures
+    (λ ss h. holds_after g d.content.now a.graphs d.content.runs (patched c.in_ok-patches.patches.items ss) c.requires.leaves
+    (patched_shelves a d.content c.in_ok-patches.patches.items ss h (subst (λ (s : Schedule). ArePatches s d.content c.in_ok-patches.patches.items) base c.in_ok-patches.ensures)
+    (subst (IsLater a) (sym end) (later_over g a e c.requires.leaves (finished_over g a b c.requires.over) (finished_later a b c.requires.later)))))
 
 pub returns : goal.returns
 returns c =
@@ -94,7 +128,7 @@ returns c =
     let e : Schedule = hand_out (settle b) in
     let end : d.content ≡ e = c.in_ok-jobs.ensures.draft ∙ ap hand_out c.in_ok-settle_draft.ensures.settled in
     let base : d.base ≡ a = c.in_ok-jobs.ensures.base ∙ c.in_ok-settle_draft.ensures.base ∙ c.requires.based in
-    let is = closed_is g a d c.hand_out.new.taken c.rest_of.result base (subst (IsOver g a) (sym end) (finished_over g a b c.requires.over)) c.rest_of.ensures ∙ ap (completed g) end in
+    let is = closed_is g a d c.hand_out.new.taken c.rest_of.result c.in_ok-patches.patches base (subst (IsOver g a) (sym end) (finished_over g a b c.requires.over)) c.rest_of.ensures ∙ ap (completed g) end in
     let jobs : c.in_ok-jobs.jobs ≡ handed a e =
     c.in_ok-jobs.ensures.jobs
     ∙ (ap (λ (s : Schedule). handed s d.content) c.in_ok-settle_draft.ensures.settled

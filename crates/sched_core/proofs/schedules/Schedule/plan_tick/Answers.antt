@@ -54,6 +54,12 @@ finish-requires-clause-over c = record {
   graphs = ap (λ (s : Schedule). s.graphs) c.in_ok-add.ensures.added ∙ (ap (λ (v : DraftValue). v.content.graphs) c.set_clock.ensures ∙ ap (λ (v : DraftValue). v.content.graphs) c.draft-draft.ensures);
 }
 
+pub finish-requires-clause-later : goal.finish-requires-clause-later
+finish-requires-clause-later c =
+    let end : c.add.new.draft.content.now ≡ c.args.moment = ap (λ (s : Schedule). s.now) c.in_ok-add.ensures.added ∙ ap (λ (v : DraftValue). v.content.now) c.set_clock.ensures in
+    let now : c.self.inside.clock ≡ c.args.self.now.content.now = ap (λ (h : ScheduleValue). h.content.now) c.self.view_is in
+    omega (arith, end, now, c.secs.ensures.value, c.secs-2.ensures.value, c.if-secs.false)
+
 pub finish-requires-clause-sound : goal.finish-requires-clause-sound
 unfolding added
 finish-requires-clause-sound c = draft_sound (draft_is c.add.new.draft.content (drafted (goal.at.finish-requires-clause-sound c).After-set_clock) c.in_ok-add.ensures.added)

@@ -19,7 +19,7 @@ pub returns-in-Some-clause-room : goal.returns-in-Some-clause-room
 returns-in-Some-clause-room c =
     let a : Schedule = c.change.inside.before.value.content in
     let e : Effect = c.change.inside.effect in
-    let places : ℕ = min (vec_capacity c.room_for_graphs.new.graphs - vec_len c.room_for_graphs.new.graphs) (min (vec_capacity c.room_for_graphs.new.weights - vec_len c.room_for_graphs.new.weights) (vec_capacity c.room_for_graphs.new.dates - vec_len c.room_for_graphs.new.dates)) in
+    let places : ℕ = min (vec_capacity c.room_for_graphs.new.graphs - vec_len c.room_for_graphs.new.graphs) (min (vec_capacity c.room_for_graphs.new.shelves - vec_len c.room_for_graphs.new.shelves) (vec_capacity c.room_for_graphs.new.dates - vec_len c.room_for_graphs.new.dates)) in
     let room : ℕ = c.reserve.new.self.room in
     let gs : List LoadedGraph = c.self.inside.graphs.items in
     let ys : List Index = c.room_for_graphs.new.dates.items in
@@ -37,21 +37,21 @@ returns-in-Some-clause-room c =
     c.reserve.ensures.places
 
 pub invariant_of-self : goal.invariant_of-self
-invariant_of-self c = kept_room c.self.inside c.self.inside.graphs c.self.inside.weights c.room_for_dates.new.dates c.self.inside.runs refl refl c.room_for_dates.ensures.dates refl c.self.invariant
+invariant_of-self c = kept_room c.self.inside c.self.inside.graphs c.self.inside.shelves c.room_for_dates.new.dates c.self.inside.runs refl refl c.room_for_dates.ensures.dates refl c.self.invariant
 
 pub invariant_of-self-in_err-room_for_graphs : goal.invariant_of-self-in_err-room_for_graphs
 invariant_of-self-in_err-room_for_graphs c =
-    kept_room c.self.inside c.room_for_graphs.new.graphs c.room_for_graphs.new.weights c.room_for_graphs.new.dates c.self.inside.runs c.room_for_graphs.ensures.graphs c.room_for_graphs.ensures.weights
+    kept_room c.self.inside c.room_for_graphs.new.graphs c.room_for_graphs.new.shelves c.room_for_graphs.new.dates c.self.inside.runs c.room_for_graphs.ensures.graphs c.room_for_graphs.ensures.shelves
     (ap (map (λ (x : Index). x.dates)) c.room_for_graphs.ensures.dates ∙ c.room_for_dates.ensures.dates) refl c.self.invariant
 
 pub invariant_of-self-in-None : goal.invariant_of-self-in-None
 invariant_of-self-in-None c =
-    kept_room c.self.inside c.room_for_graphs.new.graphs c.room_for_graphs.new.weights c.room_for_graphs.new.dates c.self.inside.runs c.room_for_graphs.ensures.graphs c.room_for_graphs.ensures.weights
+    kept_room c.self.inside c.room_for_graphs.new.graphs c.room_for_graphs.new.shelves c.room_for_graphs.new.dates c.self.inside.runs c.room_for_graphs.ensures.graphs c.room_for_graphs.ensures.shelves
     (ap (map (λ (x : Index). x.dates)) c.room_for_graphs.ensures.dates ∙ c.room_for_dates.ensures.dates) refl c.self.invariant
 
 pub invariant_of-self-in-Some : goal.invariant_of-self-in-Some
 invariant_of-self-in-Some c =
-    kept_room c.self.inside c.room_for_graphs.new.graphs c.room_for_graphs.new.weights c.room_for_graphs.new.dates c.reserve.new.self c.room_for_graphs.ensures.graphs c.room_for_graphs.ensures.weights
+    kept_room c.self.inside c.room_for_graphs.new.graphs c.room_for_graphs.new.shelves c.room_for_graphs.new.dates c.reserve.new.self c.room_for_graphs.ensures.graphs c.room_for_graphs.ensures.shelves
     (ap (map (λ (x : Index). x.dates)) c.room_for_graphs.ensures.dates ∙ c.room_for_dates.ensures.dates) c.reserve.ensures.runs c.self.invariant
 
 pub room_for_dates-requires-clause-order : goal.room_for_dates-requires-clause-order

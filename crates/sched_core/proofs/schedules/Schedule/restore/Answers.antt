@@ -2,12 +2,13 @@ use Rattle.std.proofs.Common.{◌≡◌, ◌∙◌, ◌≤◌, ◌+◌, true, fa
 use Rattle.sched_state.specs.declared.graphs.LoadedGraph.{LoadedGraph}
 use Rattle.sched_state.specs.declared.runs.Run.{Run}
 use Rattle.sched_model.specs.Lists.{rises}
-use Rattle.sched_model.specs.Schedule.{graph_before, run_before}
+use Rattle.sched_model.specs.Schedule.{graph_before}
+use Rattle.sched_model.specs.Sound.{IsSound}
 use Rattle.sched_model.specs.Handout.{last_serial}
 use Rattle.sched_model.specs.States.{active_tries, in_flight}
 use Rattle.record_restoring.specs.Parts.{schedule_in}
 use Rattle.sched_creation.specs.Dates.{HaveDates}
-use Rattle.sched_handout.specs.Weighing.{WeighGraphs}
+use Rattle.sched_ready.specs.Held.{AreShelvesOf}
 use Rattle.sched_handout.specs.Active.{count_of}
 use Rattle.sched_handout.specs.declared.occupied.Occupied.{Occupied}
 use Rattle.sched_core.specs.Books.{IsHeldWith}
@@ -32,12 +33,15 @@ invariant_of-result c =
     record {
       held = subst (λ (rs : List Run). IsHeldWith false (record (schedule_in p) { runs = rs }) t) (sym c.in_ok-runs.ensures)
           (record { kept = record { sound = h.sound; said = h.said }; settled = λ e. absurd (true≢false (sym e)); counted = h.counted; occupied = read_occupied (schedule_in p) t h.counted flight refl h.taken active });
-      weights = subst (λ (gs : List LoadedGraph). WeighGraphs gs c.in_ok-weights.weights.items) c.as_slice.ensures.value c.in_ok-weights.ensures;
-      dates = subst (λ (gs : List LoadedGraph). HaveDates gs c.in_ok-runs.runs.runs c.in_ok-dates.dates.items) c.as_slice-2.ensures.value c.in_ok-dates.ensures;
+      shelves = subst (λ (gs : List LoadedGraph). AreShelvesOf p.clock gs c.in_ok-runs.runs.runs c.in_ok-dates.shelves.items) c.as_slice.ensures.value c.in_ok-dates.ensures.shelves;
+      dates = subst (λ (gs : List LoadedGraph). HaveDates gs c.in_ok-runs.runs.runs c.in_ok-dates.dates.items) c.as_slice.ensures.value c.in_ok-dates.ensures.dates;
     }
 
-pub dates_in-requires : goal.dates_in-requires
-dates_in-requires c = subst (λ (rs : List Run). rises run_before rs ≡ true) (sym c.in_ok-runs.ensures) c.in_ok-limits.ensures.restored.sound.runs_by_key
+pub kept_beside-requires : goal.kept_beside-requires
+kept_beside-requires c =
+    let p = c.in_ok-limits.field-0 in
+    subst (λ (rs : List Run). IsSound (record (schedule_in p) { graphs = c.as_slice.result.now; runs = rs })) (sym c.in_ok-runs.ensures)
+    (subst (λ (gs : List LoadedGraph). IsSound (record (schedule_in p) { graphs = gs })) (sym c.as_slice.ensures.value) c.in_ok-limits.ensures.restored.sound)
 
 pub invariant_of-base : goal.invariant_of-base
-invariant_of-base c = ap (rises graph_before) c.as_slice-2.ensures.value ∙ c.in_ok-limits.ensures.restored.sound.graphs_by_id
+invariant_of-base c = ap (rises graph_before) c.as_slice.ensures.value ∙ c.in_ok-limits.ensures.restored.sound.graphs_by_id

@@ -1,0 +1,9 @@
+pub mod LeadLemmas
+pub mod PatchLemmas
+pub mod PlaceLemmas
+pub mod FillLemmas
+pub mod PatchingLemmas
+pub mod WeighLemmas
+pub mod PutLemmas
+pub mod PlacesLemmas
+pub mod MakingLemmas

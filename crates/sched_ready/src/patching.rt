@@ -1,0 +1,103 @@
+//! The patches of an event, made from the runs that it touches.
+ghost use Rattle.std.specs.Prelude.{◌≡◌, ◌<◌, length, position, slice_get, IfOk, OnOk, Some};
+ghost use Rattle.std.specs.Option.{option_copied};
+ghost use Rattle.sched_model.specs.Sound.{IsSound};
+ghost use Rattle.sched_state.specs.declared.runs.Run.{Run};
+ghost use Rattle.sched_ready.specs.Held.{AreShelvesOf, IsLater};
+ghost use Rattle.sched_ready.specs.Patched.{ArePatches};
+ghost use Rattle.sched_ready.specs.Patching.{AreFirstPatches, IsPatchOf, TakesIn, is_of};
+
+use crate::patches::Patch;
+use crate::places::{moved_queues, no_queues, patch_places};
+use crate::shelves::Shelf;
+use sched_draft::Draft;
+use sched_state::Run;
+use std::alloc::{AllocError, Global};
+
+/// The patches that make the shelves of the schedule under a draft those of the draft. Only the touched runs are looked at, and the places at
+/// which a moment has come.
+pub fn patches_of(
+    alloc: Global,
+    shelves: &[Shelf],
+    draft: &Draft<'_>,
+) -> Result<Vec<Patch>, AllocError>
+    requires sound { IsSound draft.now.content }
+    requires shelves { AreShelvesOf draft.now.base.now draft.now.base.graphs draft.now.base.runs shelves.now }
+    requires later { IsLater draft.now.base draft.now.content }
+    ensures { IfOk result (λ patches. ArePatches draft.now.base draft.now.content patches.items) }
+{
+    let mut patches = moved_patches(alloc, shelves, draft.clock().secs())?;
+    for position in draft.touched(alloc)? {
+        let before = draft.before(position);
+        patch_run(alloc, shelves, draft, position, before, &mut patches)?;
+    }
+    Ok(patches)
+}
+
+/// The patches take in what is due in the run at a position, which may have been there as it was before.
+pub fn patch_run(
+    alloc: Global,
+    shelves: &[Shelf],
+    draft: &Draft<'_>,
+    position: usize,
+    before: Option<&Run>,
+    patches: &mut Vec<Patch>,
+) -> Result<(), AllocError>
+    requires sound { IsSound draft.now.content }
+    requires position { position < length draft.now.content.runs }
+    requires long { length shelves.now ≡ length draft.now.content.graphs }
+    ensures { OnOk result ((r : Run) → slice_get draft.now.content.runs position ≡ Some r
+        → TakesIn draft.now.content shelves.now position r (option_copied before.entry)
+        patches.old.items patches.new.items) }
+{
+    let run = draft.run(position);
+    let Some(graph) = draft.position_of(&run.graph) else {
+        return Ok(());
+    };
+    let dag = draft.dag_at(graph);
+    let index = patch_of(alloc, graph, dag.len(), patches)?;
+    let now = draft.clock().secs();
+    let shelf = &shelves[graph];
+    let queues = &mut patches[index].queues;
+    patch_places(alloc, now, dag, shelf, run, before, queues)
+}
+
+// Where the patch of the graph at a position stands.
+fn find(patches: &[Patch], graph: usize) -> Option<usize>
+    ensures { result ≡ position (is_of graph) patches.now }
+{
+    patches.iter().position(|patch| patch.graph == graph)
+}
+
+// The same, where one with no queue is put behind them if there is none.
+fn patch_of(
+    alloc: Global,
+    graph: usize,
+    places: usize,
+    patches: &mut Vec<Patch>,
+) -> Result<usize, AllocError>
+    ensures { IfOk result (IsPatchOf graph places patches.old.items patches.new.items) }
+{
+    if let Some(index) = find(patches, graph) {
+        return Ok(index);
+    }
+    let index = patches.len();
+    let queues = no_queues(alloc, places)?;
+    patches.push(Patch { graph, queues })?;
+    Ok(index)
+}
+
+// The patches for the graphs in which a date waits for a moment that has come.
+fn moved_patches(alloc: Global, shelves: &[Shelf], now: u64) -> Result<Vec<Patch>, AllocError>
+    ensures { IfOk result (λ patches. AreFirstPatches now shelves.now patches.items) }
+{
+    let mut patches = Vec::new(alloc);
+    for graph in 0..shelves.len() {
+        let shelf = &shelves[graph];
+        if shelf.has_come(now) {
+            let queues = moved_queues(alloc, shelf, now)?;
+            patches.push(Patch { graph, queues })?;
+        }
+    }
+    Ok(patches)
+}
