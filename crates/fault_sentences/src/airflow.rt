@@ -129,6 +129,10 @@ static WORDS: [(&str, &str); 64] = [
 
 // What stands here for a word of Airflow that is none of a graph file.
 pub fn airflow_text(word: &str) -> Option<&'static str> {
-    let pair = WORDS.iter().find(|pair| pair.0 == word)?;
-    Some(pair.1)
+    for (name, said) in WORDS.as_slice() {
+        if *name == word {
+            return Some(*said);
+        }
+    }
+    None
 }

@@ -1,75 +1,68 @@
 //! Sentences on another text for a graph that has runs.
-use crate::notes::Rest;
-use crate::records::told;
-use graph_file::{Name, read_graph};
+use crate::notes::{Rest, near_graph};
+use crate::parts::Part::{Date, Number, Text};
+use crate::parts::{say, say_more};
+use graph_file::Name;
 use moment_core::Moment;
 use sched_events::Refusal;
 use sched_state::RunPhase;
 use script_reader::Schedule;
 use std::alloc::{AllocError, Global};
 
-// Why a graph is not given this text, and what may be written instead. `None` where this is no cause against a change alone.
-pub fn change_sentence(
-    alloc: Global,
-    text: &str,
+// Adds why the graph is not given its text, and what may be written instead; nothing where this is no cause against a change alone.
+pub fn push_change(
+    sentence: &mut String,
+    graph: &Name,
     refusal: &Refusal,
-) -> Result<Option<String>, AllocError> {
+) -> Result<(), AllocError> {
     match refusal {
-        Refusal::UnknownGraph => unknown_sentence(alloc, text),
-        Refusal::InFlight(_) => told(
-            alloc,
+        Refusal::UnknownGraph => say(
+            sentence,
+            "there is no graph \"{}\", and replace makes none: load does",
+            &[Text(graph.as_str())],
+        ),
+        Refusal::InFlight(_) => sentence.push_str(
             "wait until it has ended (in a script of your own: drain), or leave its pool as it is",
         ),
-        Refusal::OtherTasks(task) => {
-            let task = task.as_str();
-            Ok(Some(format!(in alloc;
-                "the graph has runs with the task \"{task}\", which this text lacks: leave it in the file, with operator = \"noop\", without upstream and argv, and with its pool and pool_slots; a task of another name is a new one"
-            )?))
-        }
-        Refusal::OtherSlots(task) => {
-            let task = task.as_str();
-            Ok(Some(format!(in alloc;
-                "task \"{task}\" has tries, each of which has taken the slots of its task"
-            )?))
-        }
-        Refusal::Redoes(reached) => redoes_sentence(alloc, *reached),
-        _ => Ok(None),
+        Refusal::OtherTasks(task) => say(
+            sentence,
+            "the graph has runs with the task \"{}\", which this text lacks: leave it in the file, with operator = \"noop\", without upstream and argv, and with its pool and pool_slots; a task of another name is a new one",
+            &[Text(task.as_str())],
+        ),
+        Refusal::OtherSlots(task) => say(
+            sentence,
+            "task \"{}\" has tries, each of which has taken the slots of its task",
+            &[Text(task.as_str())],
+        ),
+        Refusal::Redoes(reached) => push_redoes(sentence, *reached),
+        _ => Ok(()),
     }
 }
 
-// That there is no graph to be changed.
-fn unknown_sentence(alloc: Global, text: &str) -> Result<Option<String>, AllocError> {
-    let Ok(spec) = read_graph(alloc, text) else {
-        return Ok(None);
-    };
-    let id = spec.dag_id.as_str();
-    Ok(Some(format!(in alloc; "there is no graph \"{id}\", and replace makes none: load does")?))
-}
-
-// That a tick would make runs before the moment up to which those of the graph reach.
-fn redoes_sentence(alloc: Global, reached: Moment) -> Result<Option<String>, AllocError> {
-    let text = format!(in alloc; "{reached}")?;
+// Adds that a tick would make runs before the moment up to which those of the graph reach.
+fn push_redoes(sentence: &mut String, reached: Moment) -> Result<(), AllocError> {
+    let text = format!(in *sentence.allocator(); "{reached}")?;
     let start = text.strip_suffix("+00:00").unwrap_or("");
-    Ok(Some(format!(in alloc;
-        "the runs of the graph reach to {reached}, and a tick would make others before that: leave schedule, start_date and catchup as they were, or write start_date = \"{start}Z\", for trigger and @once a second later"
-    )?))
+    say(
+        sentence,
+        "the runs of the graph reach to {}, and a tick would make others before that: leave schedule, start_date and catchup as they were, or write start_date = \"{}Z\", for trigger and @once a second later",
+        &[Date(reached), Text(start)],
+    )
 }
 
 // What the schedule says beside it.
-pub fn change_rest(alloc: Global, text: &str, refusal: &Refusal) -> Result<Rest, AllocError> {
-    let Ok(spec) = read_graph(alloc, text) else {
-        return Ok(Rest::Nothing);
-    };
+pub fn change_rest(alloc: Global, graph: &Name, refusal: &Refusal) -> Result<Rest, AllocError> {
     match refusal {
-        Refusal::UnknownGraph => { Ok(Rest::Near(String::from_str(alloc, spec.dag_id.as_str())?)) }
+        Refusal::UnknownGraph => near_graph(alloc, graph.as_str()),
         Refusal::InFlight(serial) => Ok(Rest::Try(*serial)),
-        Refusal::OtherSlots(task) => {
-            let graph = spec.dag_id.copy(alloc)?;
-            let task = task.copy(alloc)?;
-            Ok(Rest::OldSlots(graph, task))
-        }
+        Refusal::OtherSlots(task) => old_slots(alloc, graph, task),
         _ => Ok(Rest::Nothing),
     }
+}
+
+fn old_slots(alloc: Global, graph: &Name, task: &Name) -> Result<Rest, AllocError> {
+    let graph = graph.copy(alloc)?;
+    Ok(Rest::OldSlots(graph, task.copy(alloc)?))
 }
 
 // Adds the number of slots that a task has by the text that its graph has.
@@ -84,10 +77,10 @@ pub fn push_old_slots(
     };
     for one in graph.dag.spec().tasks.as_slice() {
         if one.task_id == *task {
-            let slots = one.pool_slots.get();
-            return write!(
+            return say(
                 sentence,
-                ": leave pool_slots = {slots} as it is; a task of another name may have another number"
+                ": leave pool_slots = {} as it is; a task of another name may have another number",
+                &[Number(u64::from(one.pool_slots.get()))],
             );
         }
     }
@@ -104,16 +97,16 @@ pub fn push_reach(
     let Some(end) = reach.end else {
         return Ok(());
     };
-    if !sentence.is_empty() {
-        sentence.push_str("; ")?;
-    }
-    write!(sentence, "the runs of the graph reach to {end}")?;
-    if reach.has_finished {
-        sentence.push_str(
-            "; those that have finished stay so: new tasks are not done there, and what failed is not tried again, until clear sets them back",
-        )?;
-    }
-    Ok(())
+    let rest = if reach.has_finished {
+        "; those that have finished stay so: new tasks are not done there, and what failed is not tried again, until clear sets them back"
+    } else {
+        ""
+    };
+    say_more(
+        sentence,
+        "the runs of the graph reach to {}{}",
+        &[Date(end), Text(rest)],
+    )
 }
 
 // How far the runs of a graph reach.

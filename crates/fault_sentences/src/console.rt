@@ -4,6 +4,8 @@ use crate::due::runs_of;
 use crate::lines::one_line;
 use crate::loads::Loads;
 use crate::notes::{Note, Rest, note_of, unreadable_note};
+use crate::parts::Part::{Number, Text};
+use crate::parts::say;
 use crate::totals::Totals;
 use crate::tries::{Told, Untold, ended_since, lost_at_restart};
 use moment_core::Moment;
@@ -134,15 +136,23 @@ impl<R: Clock + Files + Drop, W: Write + Drop> SentenceConsole<R, W> {
         event: Option<&Event>,
         shown: Shown<'_>,
     ) -> Result<Option<Note>, AllocError> {
-        if is_unreadable(shown) {
-            let path = asked.path(self.alloc)?.unwrap_or("");
-            if let (false, Some(cause)) = (path.ends_with('\r'), self.why_unreadable(path)) {
-                return Ok(Some(unreadable_note(self.alloc, path, &cause)?));
-            }
-        }
         match shown {
+            Shown::NoCommand(CommandFault::Source(SourceFault::Unreadable)) => {
+                self.unread_note(asked, shown)
+            }
             Shown::Answer(Event::Tick(moment), answer) => self.tick_note(*moment, answer),
             _ => note_of(self.alloc, asked, event, shown),
+        }
+    }
+
+    // The same of a file that cannot be read.
+    fn unread_note(&self, asked: Asked<'_>, shown: Shown<'_>) -> Result<Option<Note>, AllocError> {
+        let path = asked.path(self.alloc)?.unwrap_or("");
+        match self.why_unreadable(path) {
+            Some(cause) if !path.ends_with('\r') => {
+                Ok(Some(unreadable_note(self.alloc, path, &cause)?))
+            }
+            _ => note_of(self.alloc, asked, None, shown),
         }
     }
 
@@ -157,7 +167,7 @@ impl<R: Clock + Files + Drop, W: Write + Drop> SentenceConsole<R, W> {
     // Whether a moment is far ahead of the system's clock.
     fn is_far(&self, moment: Moment) -> bool {
         match SystemTime::now(&self.rt) {
-            Ok(now) => seconds_of(now).is_some_and(|now| now.saturating_add(FAR) < moment.secs()),
+            Ok(now) => is_ahead(moment, now),
             Err(_) => false,
         }
     }
@@ -204,9 +214,10 @@ impl<R: Clock + Files + Drop, W: Write + Drop> SentenceConsole<R, W> {
     fn put_told(&mut self, told: Told) -> io::Result<()> {
         let Told { text, untold } = told;
         self.untold = Some(untold);
-        match text {
-            Some(text) => self.put_sentence(None, text.as_str()),
-            None => Ok(()),
+        if text.is_empty() {
+            Ok(())
+        } else {
+            self.put_sentence(None, text.as_str())
         }
     }
 
@@ -220,18 +231,23 @@ impl<R: Clock + Files + Drop, W: Write + Drop> SentenceConsole<R, W> {
 
     // Whether the program was asked to keep logs.
     fn has_logs(&self) -> bool {
-        let mut words = self.words.as_slice().iter();
-        words.any(|word| word.as_str().starts_with("--logs"))
+        for word in self.words.as_slice() {
+            if word.as_str().starts_with("--logs") {
+                return true;
+            }
+        }
+        false
     }
 }
 
 // A sentence as a line, with the number of the line that it is of.
 fn line_of(alloc: Global, number: Option<u64>, text: &str) -> Result<String, AllocError> {
-    let text = match number {
-        Some(number) => format!(in alloc; "line {number}: {text}")?,
-        None => format!(in alloc; "dagsched: {text}")?,
-    };
-    one_line(alloc, text.as_str())
+    let mut line = String::new(alloc);
+    match number {
+        Some(number) => say(&mut line, "line {}: {}", &[Number(number), Text(text)])?,
+        None => say(&mut line, "dagsched: {}", &[Text(text)])?,
+    }
+    one_line(alloc, line.as_str())
 }
 
 // What the schedule says beside a tick: which of the runs that it has made begin very many.
@@ -243,18 +259,17 @@ fn begun_rest(alloc: Global, answer: &Answer) -> Result<Rest, AllocError> {
     }
 }
 
-// The seconds of a reading of the clock since 1970.
-fn seconds_of(now: SystemTime) -> Option<u64> {
-    let since = now.duration_since(SystemTime::UNIX_EPOCH).ok()?;
-    Some(since.as_secs())
+// Whether a moment is far ahead of a reading of the clock.
+fn is_ahead(moment: Moment, now: SystemTime) -> bool {
+    match now.duration_since(SystemTime::UNIX_EPOCH) {
+        Ok(since) => since.as_secs().saturating_add(FAR) < moment.secs(),
+        Err(_) => false,
+    }
 }
 
-// Whether this says that a file cannot be read.
-fn is_unreadable(shown: Shown<'_>) -> bool {
-    matches!(
-        shown,
-        Shown::NoCommand(CommandFault::Source(SourceFault::Unreadable))
-    )
+// The number of the line at a spot.
+fn number_at(spot: Option<Spot<'_>>) -> Option<u64> {
+    Some(spot?.number)
 }
 
 impl<R: Clock + Files + Drop, W: Write + Drop> Console for SentenceConsole<R, W> {
@@ -285,7 +300,7 @@ impl<R: Clock + Files + Drop, W: Write + Drop> Console for SentenceConsole<R, W>
 
     fn put(&mut self, spot: Option<Spot<'_>>, event: Option<&Event>, shown: Shown<'_>) {
         self.note = match self.note_at(spot, event, shown) {
-            Ok(Some(note)) => Some((spot.map(|spot| spot.number), note)),
+            Ok(Some(note)) => Some((number_at(spot), note)),
             _ => None,
         };
         if let (Some(spot), Some((_, note))) = (spot, &mut self.note) {

@@ -1,7 +1,9 @@
 //! Sentences on what a graph that was taken in has, and cannot mean.
 use crate::due::has_more;
+use crate::parts::Part::Text;
+use crate::parts::say;
 use graph_file::{Argument, GraphSpec, Rule, TaskSpec};
-use std::alloc::{AllocError, Global};
+use std::alloc::AllocError;
 
 // What shows in a task that it is not meant so.
 #[derive(Clone, Copy)]
@@ -103,22 +105,22 @@ const WEEK: u64 = 604_800;
 // With so many runs at once nothing is said: there are no more minutes in a week.
 const MANY_RUNS: u32 = 10_080;
 
-// What a graph has and cannot mean: the first that is found, or nothing.
-pub fn doubt_sentence(alloc: Global, spec: &GraphSpec) -> Result<String, AllocError> {
-    match first_doubt(spec.tasks.as_slice()) {
-        Some((task, said)) => {
+// Adds what a graph has and cannot mean: the first that is found, or nothing.
+pub fn push_doubt(sentence: &mut String, spec: &GraphSpec) -> Result<(), AllocError> {
+    for task in spec.tasks.as_slice() {
+        if let Some(said) = doubt_on(task) {
             let id = task.task_id.as_str();
-            format!(in alloc; "task \"{id}\": {said}")
+            return say(sentence, "task \"{}\": {}", &[Text(id), Text(said)]);
         }
-        None => standstill_sentence(alloc, spec),
     }
+    push_standstill(sentence, spec)
 }
 
-// The first task that shows a sign, and what is said of it.
-fn first_doubt(tasks: &[TaskSpec]) -> Option<(&TaskSpec, &'static str)> {
-    for task in tasks {
-        if let Some(doubt) = DOUBTS.iter().find(|doubt| shows(task, doubt.0)) {
-            return Some((task, doubt.1));
+// What is said of the first sign that a task shows.
+fn doubt_on(task: &TaskSpec) -> Option<&'static str> {
+    for (sign, said) in DOUBTS.as_slice() {
+        if shows(task, *sign) {
+            return Some(*said);
         }
     }
     None
@@ -131,8 +133,18 @@ fn shows(task: &TaskSpec, sign: Sign) -> bool {
             task.upstream.as_slice().is_empty()
                 && !matches!(task.trigger_rule, Rule::AllSuccess | Rule::Always)
         }
-        _ => argv.iter().any(|argument| is_in(argument.as_str(), sign)) && is_not_read(argv, sign),
+        _ => has_sign(argv, sign) && is_not_read(argv, sign),
     }
+}
+
+// Whether one of these arguments shows this sign.
+fn has_sign(argv: &[Argument], sign: Sign) -> bool {
+    for argument in argv {
+        if is_in(argument.as_str(), sign) {
+            return true;
+        }
+    }
+    false
 }
 
 // Whether an argument shows this sign.
@@ -142,7 +154,7 @@ fn is_in(argument: &str, sign: Sign) -> bool {
         Sign::Variable => has_variable(argument),
         Sign::Home => argument == "~" || argument.starts_with("~/"),
         Sign::Pattern => argument.contains('*'),
-        Sign::Redirection => is_one_of(argument, REDIRECTIONS.as_slice()),
+        Sign::Redirection => REDIRECTIONS.as_slice().contains(&argument),
         Sign::Line => argument.contains(' '),
         Sign::Rule => false,
     }
@@ -154,16 +166,32 @@ fn is_not_read(argv: &[Argument], sign: Sign) -> bool {
         Sign::Template => true,
         Sign::Line => argv.len() == 1,
         Sign::Pattern => match argv.first() {
-            Some(program) => is_one_of(file_name(program.as_str()), FILE_PROGRAMS.as_slice()),
+            Some(program) => FILE_PROGRAMS
+                .as_slice()
+                .contains(&file_name(program.as_str())),
             None => false,
         },
-        _ => !argv.iter().any(|argument| is_reader(argument.as_str())),
+        _ => !has_reader(argv),
     }
+}
+
+fn has_reader(argv: &[Argument]) -> bool {
+    for argument in argv {
+        if is_reader(argument.as_str()) {
+            return true;
+        }
+    }
+    false
 }
 
 // Whether a text has `$(`, or a `$` or `${` before a name of capital letters.
 fn has_variable(text: &str) -> bool {
-    text.split('$').skip(1).any(|rest| begins_variable(rest))
+    for rest in text.split('$').skip(1) {
+        if begins_variable(rest) {
+            return true;
+        }
+    }
+    false
 }
 
 fn begins_variable(rest: &str) -> bool {
@@ -183,7 +211,7 @@ fn is_capital(byte: u8) -> bool {
 
 fn is_reader(argument: &str) -> bool {
     let name = file_name(argument);
-    name.starts_with("python") || is_one_of(name, READERS.as_slice())
+    name.starts_with("python") || READERS.as_slice().contains(&name)
 }
 
 // What stands behind the last slash.
@@ -194,30 +222,36 @@ fn file_name(path: &str) -> &str {
     }
 }
 
-fn is_one_of(word: &str, words: &[&str]) -> bool {
-    words.iter().any(|other| *other == word)
-}
-
-// That a failure may hold back all runs of a graph for ever, or nothing.
-fn standstill_sentence(alloc: Global, spec: &GraphSpec) -> Result<String, AllocError> {
+// Adds that a failure may hold back all runs of a graph for ever, or nothing.
+fn push_standstill(sentence: &mut String, spec: &GraphSpec) -> Result<(), AllocError> {
     let most = spec.max_active_runs.get();
     if may_stand_still(spec, most) {
-        format!(in alloc;
+        write!(
+            sentence,
             "depends_on_past with max_active_runs = {most}: once a task has failed and {most} later runs wait for it, a clear of it waits for these in turn: write max_active_runs = 1000000"
         )
     } else {
-        Ok(String::new(alloc))
+        Ok(())
     }
 }
 
 // Whether a failure that stands for a week holds back more runs than there may be at once.
 fn may_stand_still(spec: &GraphSpec, most: u32) -> bool {
-    let mut tasks = spec.tasks.as_slice().iter();
-    if most >= MANY_RUNS || !tasks.any(|task| task.depends_on_past) {
+    if most >= MANY_RUNS || !looks_back(spec) {
         return false;
     }
     match spec.start_date.checked_plus(WEEK) {
         Some(end) => has_more(&spec.schedule, spec.start_date, end, most),
         None => false,
     }
+}
+
+// Whether a task of a graph has `depends_on_past`.
+pub fn looks_back(spec: &GraphSpec) -> bool {
+    for task in spec.tasks.as_slice() {
+        if task.depends_on_past {
+            return true;
+        }
+    }
+    false
 }

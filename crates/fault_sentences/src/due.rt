@@ -1,4 +1,6 @@
 //! What is said of how many runs of a graph are due.
+use crate::parts::Part::{Date, Text};
+use crate::parts::say_more;
 use cron_timetable::Timetable;
 use graph_file::{GraphSpec, Name};
 use moment_core::Moment;
@@ -70,13 +72,10 @@ fn is_far(spec: &GraphSpec, now: Moment) -> bool {
 }
 
 fn push_many(sentence: &mut String, spec: &GraphSpec) -> Result<(), AllocError> {
-    if !sentence.is_empty() {
-        sentence.push_str("; ")?;
-    }
-    let (id, start) = (spec.dag_id.as_str(), spec.start_date);
-    write!(
+    say_more(
         sentence,
-        "more than 1,000 runs of {id} are due from {start} on, and each tick makes ten: catchup = false makes the latest alone"
+        "more than 1,000 runs of {} are due from {} on, and each tick makes ten: catchup = false makes the latest alone",
+        &[Text(spec.dag_id.as_str()), Date(spec.start_date)],
     )
 }
 

@@ -1,5 +1,7 @@
 //! Which field of a cron expression is faulty.
 use crate::asked::words_of_line;
+use crate::parts::Part::Text;
+use crate::parts::say;
 use cron_timetable::{Cron, CronFault};
 use std::alloc::{AllocError, Global};
 
@@ -50,37 +52,42 @@ static FIELDS: [Field; 5] = [
     },
 ];
 
-// What is said of the first field of an expression that has this fault; where none has it alone, what is said of the whole.
-pub fn fault_text(alloc: Global, cron: &str, fault: CronFault) -> Result<String, AllocError> {
-    let words = words_of_line(alloc, cron)?;
-    fault_text_of(alloc, words.as_slice(), fault)
+// Adds what is said of the first field of an expression that has this fault; where none has it alone, what is said of the whole.
+pub fn push_fault(sentence: &mut String, cron: &str, fault: CronFault) -> Result<(), AllocError> {
+    let words = words_of_line(*sentence.allocator(), cron)?;
+    push_fault_of(sentence, words.as_slice(), fault)
 }
 
 // The same of these fields.
-fn fault_text_of(alloc: Global, words: &[&str], fault: CronFault) -> Result<String, AllocError> {
+fn push_fault_of(
+    sentence: &mut String,
+    words: &[&str],
+    fault: CronFault,
+) -> Result<(), AllocError> {
     for (field, word) in FIELDS.iter().zip(words.iter()) {
-        if field.fault_of(alloc, word)? == Some(fault) {
-            return field.sentence(alloc, word, fault);
+        if field.fault_of(*sentence.allocator(), word)? == Some(fault) {
+            return field.push(sentence, word, fault);
         }
     }
-    format!(in alloc; "{fault}")
+    write!(sentence, "{fault}")
 }
 
 impl Field {
     // Why a word is none of this field.
     fn fault_of(&self, alloc: Global, word: &str) -> Result<Option<CronFault>, AllocError> {
-        let (before, after) = (self.before, self.after);
-        let text = format!(in alloc; "{before}{word}{after}")?;
-        Ok(Cron::read(text.as_str()).err())
+        let mut cron = String::from_str(alloc, self.before)?;
+        say(&mut cron, "{}{}", &[Text(word), Text(self.after)])?;
+        Ok(Cron::read(cron.as_str()).err())
     }
 
-    fn sentence(&self, alloc: Global, word: &str, fault: CronFault) -> Result<String, AllocError> {
-        let (name, low, high) = (self.name, self.low, self.high);
+    fn push(&self, sentence: &mut String, word: &str, fault: CronFault) -> Result<(), AllocError> {
+        let name = self.name;
         match self.number_outside(word) {
             Some(number) if fault == CronFault::OutOfField => {
-                format!(in alloc; "{name}: {number} is not from {low} to {high}")
+                let (low, high) = (self.low, self.high);
+                write!(sentence, "{name}: {number} is not from {low} to {high}")
             }
-            _ => format!(in alloc; "{name} \"{word}\": {fault}"),
+            _ => write!(sentence, "{name} \"{word}\": {fault}"),
         }
     }
 

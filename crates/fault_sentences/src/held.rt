@@ -1,20 +1,24 @@
 //! What is said of a backfill or a clear that was done.
+use crate::doubts::looks_back;
+use crate::idle::Work;
 use crate::notes::{push_paused, push_slots, size_of};
+use crate::parts::Part::{Date, Number};
+use crate::parts::say;
 use graph_file::{GraphSpec, Name};
 use moment_core::Moment;
 use sched_state::{Run, RunPhase};
 use script_reader::Schedule;
 use std::alloc::AllocError;
 
-/// What a command has done with the runs of a graph from one date to another.
-#[derive(Debug, Drop)]
+/// What a command was to do with the runs of a graph from one date to another.
+#[derive(Drop)]
 pub struct Done {
     pub(crate) graph: Name,
     pub(crate) from: Moment,
     pub(crate) to: Moment,
+    pub(crate) work: Work,
     // How many runs it has made.
     pub(crate) made: usize,
-    pub(crate) is_clear: bool,
 }
 
 impl Done {
@@ -24,9 +28,9 @@ impl Done {
             return Ok(());
         };
         if graph.paused {
-            return push_paused(sentence, schedule, &self.graph);
+            return push_paused(sentence, &self.graph);
         }
-        if self.is_clear {
+        if self.work.is_clear() {
             self.push_held(sentence, schedule, graph.dag.spec())?;
         } else {
             self.push_before(sentence, schedule, graph.dag.spec())?;
@@ -42,36 +46,45 @@ impl Done {
         spec: &GraphSpec,
     ) -> Result<(), AllocError> {
         let most = spec.max_active_runs.get();
-        let mut tasks = spec.tasks.as_slice().iter();
-        if schedule.active_runs(&self.graph) < most as usize
-            || !tasks.any(|task| task.depends_on_past)
-        {
+        if schedule.active_runs(&self.graph) < most as usize || !looks_back(spec) {
             return Ok(());
         }
         match self.first_held(schedule) {
-            Some(run) => push_waits(sentence, run.logical, most),
+            Some(run) => say(
+                sentence,
+                "the run of {} waits for one of the {} that are running (max_active_runs), and these may wait for it (depends_on_past): replace the graph by its text with max_active_runs = 1000000",
+                &[Date(run.logical), Number(u64::from(most))],
+            ),
             None => Ok(()),
         }
     }
 
     // The first run that it has set back and that is queued, where each run of the graph that is running is a later one.
     fn first_held<'a>(&self, schedule: &'a Schedule) -> Option<&'a Run> {
-        let run = schedule.runs().find(|run| self.holds(run))?;
-        if schedule
-            .runs()
-            .any(|other| self.is_running_before(other, run.logical))
-        {
-            None
-        } else {
-            Some(run)
+        for run in schedule.runs() {
+            if self.holds(run) {
+                return if self.is_held_up(schedule, run.logical) {
+                    None
+                } else {
+                    Some(run)
+                };
+            }
         }
+        None
+    }
+
+    // Whether a run of the graph before this date is running.
+    fn is_held_up(&self, schedule: &Schedule, logical: Moment) -> bool {
+        for run in schedule.runs() {
+            if self.is_running_before(run, logical) {
+                return true;
+            }
+        }
+        false
     }
 
     fn holds(&self, run: &Run) -> bool {
-        run.phase == RunPhase::Queued
-            && run.graph == self.graph
-            && self.from <= run.logical
-            && run.logical <= self.to
+        run.phase == RunPhase::Queued && self.covers(run)
     }
 
     fn is_running_before(&self, run: &Run, logical: Moment) -> bool {
@@ -86,24 +99,23 @@ impl Done {
         spec: &GraphSpec,
     ) -> Result<(), AllocError> {
         let lanes = schedule.lanes();
-        let mut tasks = spec.tasks.as_slice().iter();
-        if lanes == 0
-            || self.made <= lanes as usize
-            || !tasks.any(|task| lanes <= size_of(schedule, &task.pool))
-        {
+        if lanes == 0 || self.made <= lanes as usize || !takes_all(schedule, spec, lanes) {
             return Ok(());
         }
-        let made = self.made;
-        write!(
+        say(
             sentence,
-            "these {made} runs go before later ones and may take all lanes: a pool for their tasks, with fewer slots than there are lanes, leaves some to others"
+            "these {} runs go before later ones and may take all lanes: a pool for their tasks, with fewer slots than there are lanes, leaves some to others",
+            &[Number(self.made as u64)],
         )
     }
 }
 
-fn push_waits(sentence: &mut String, logical: Moment, most: u32) -> Result<(), AllocError> {
-    write!(
-        sentence,
-        "the run of {logical} waits for one of the {most} that are running (max_active_runs), and these may wait for it (depends_on_past): replace the graph by its text with max_active_runs = 1000000"
-    )
+// Whether a pool of a graph's tasks has a slot for each of so many lanes.
+fn takes_all(schedule: &Schedule, spec: &GraphSpec, lanes: u32) -> bool {
+    for task in spec.tasks.as_slice() {
+        if lanes <= size_of(schedule, &task.pool) {
+            return true;
+        }
+    }
+    false
 }

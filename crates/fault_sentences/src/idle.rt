@@ -1,7 +1,9 @@
 //! Sentences on commands that were accepted and changed nothing.
 use crate::held::Done;
 use crate::moments::DATES_HINT;
-use crate::notes::{Note, Rest, push_clock};
+use crate::notes::{Rest, push_clock};
+use crate::parts::Part::{Date, Text};
+use crate::parts::say;
 use cron_timetable::{Interval, Timetable};
 use graph_file::Name;
 use moment_core::Moment;
@@ -10,17 +12,9 @@ use sched_state::{LoadedGraph, Run};
 use script_reader::Schedule;
 use std::alloc::{AllocError, Global};
 
-/// What a command that changed nothing was to do with the runs of a graph from one date to another.
-#[derive(Debug, Drop)]
-pub struct Idle {
-    graph: Name,
-    from: Moment,
-    to: Moment,
-    work: Work,
-}
-
-#[derive(Clone, Copy, Debug)]
-enum Work {
+// What a command does with the runs of a graph.
+#[derive(Clone, Copy)]
+pub enum Work {
     // Those that are not there are made.
     Backfill,
     // Those that are not there are made, and the others are set back.
@@ -31,37 +25,40 @@ enum Work {
     ClearFailed,
 }
 
-// What is to be told of a backfill or a clear that was done: why it has changed nothing, or what holds its runs back.
-pub fn done_note(
-    alloc: Global,
-    event: &Event,
-    answer: &Answer,
-) -> Result<Option<Note>, AllocError> {
+impl Work {
+    pub fn is_clear(self) -> bool {
+        matches!(self, Work::Clear | Work::ClearFailed)
+    }
+
+    // What is to be said of the runs that are there, or of their task instances.
+    fn text(self) -> &'static str {
+        match self {
+            Work::Backfill => "; --reset sets their task instances back",
+            Work::Reset => ", and each task instance of these was in the state none",
+            Work::Clear => "each task instance named was in the state none",
+            Work::ClearFailed => "no task instance named was failed or upstream_failed",
+        }
+    }
+}
+
+// What the schedule says beside a backfill or a clear that was done: why it has changed nothing, or what holds its runs back.
+pub fn done_rest(alloc: Global, event: &Event, answer: &Answer) -> Result<Rest, AllocError> {
     let Some((graph, from, to, work)) = work_of(event) else {
-        return Ok(None);
+        return Ok(Rest::Nothing);
     };
-    let graph = graph.copy(alloc)?;
     let made = answer.made.as_slice().len();
-    let rest = if made == 0 && answer.cleared == 0 {
-        Rest::Idle(Idle {
-            graph,
-            from,
-            to,
-            work,
-        })
-    } else {
-        Rest::Done(Done {
-            graph,
-            from,
-            to,
-            made,
-            is_clear: matches!(work, Work::Clear | Work::ClearFailed),
-        })
+    let done = Done {
+        graph: graph.copy(alloc)?,
+        from,
+        to,
+        work,
+        made,
     };
-    Ok(Some(Note {
-        text: String::new(alloc),
-        rest,
-    }))
+    if made == 0 && answer.cleared == 0 {
+        Ok(Rest::Idle(done))
+    } else {
+        Ok(Rest::Done(done))
+    }
 }
 
 // What an event was to do with the runs of which graph, from which date to which.
@@ -88,58 +85,39 @@ fn work_of(event: &Event) -> Option<(&Name, Moment, Moment, Work)> {
     }
 }
 
-impl Idle {
+impl Done {
     // Adds why nothing was changed, which the schedule after it says.
     pub fn push_why(&self, sentence: &mut String, schedule: &Schedule) -> Result<(), AllocError> {
-        match self.work {
-            Work::Backfill => self.push_unfilled(
-                sentence,
-                schedule,
-                "; --reset sets their task instances back",
-            ),
-            Work::Reset => self.push_unfilled(
-                sentence,
-                schedule,
-                ", and each task instance of these was in the state none",
-            ),
-            Work::Clear => {
-                self.push_uncleared(
-                    sentence,
-                    schedule,
-                    "each task instance named was in the state none",
-                )
-            }
-            Work::ClearFailed => self.push_uncleared(
-                sentence,
-                schedule,
-                "no task instance named was failed or upstream_failed",
-            ),
+        if self.work.is_clear() {
+            return self.push_uncleared(sentence, schedule);
+        }
+        let Some(graph) = schedule.graph_of(&self.graph) else {
+            return Ok(());
+        };
+        match self.first_interval(graph) {
+            Some(first) => self.push_unfilled(sentence, schedule, first.end),
+            None => self.push_no_interval(sentence, graph),
         }
     }
 
-    // Adds why no run was made, and what is to be said of the runs where all are there.
+    // Adds why no run was made, where the first interval in the span ends at this moment.
     fn push_unfilled(
         &self,
         sentence: &mut String,
         schedule: &Schedule,
-        of_runs: &str,
+        end: Moment,
     ) -> Result<(), AllocError> {
-        let Some(graph) = schedule.graph_of(&self.graph) else {
-            return Ok(());
-        };
-        let Some(first) = self.first_interval(graph) else {
-            return self.push_no_interval(sentence, graph);
-        };
-        let end = first.end;
         if schedule.now() < end {
-            write!(
+            say(
                 sentence,
-                "no interval that starts in this span has ended: the first of them ends at {end}, and only a tick moves the clock"
+                "no interval that starts in this span has ended: the first of them ends at {}, and only a tick moves the clock",
+                &[Date(end)],
             )?;
         } else {
-            write!(
+            say(
                 sentence,
-                "each interval that starts in this span and has ended has its run already{of_runs}"
+                "each interval that starts in this span and has ended has its run already{}",
+                &[Text(self.work.text())],
             )?;
         }
         push_clock(sentence, schedule)
@@ -167,42 +145,52 @@ impl Idle {
         sentence: &mut String,
         graph: &LoadedGraph,
     ) -> Result<(), AllocError> {
-        let (from, to, id) = (self.from, self.to, self.graph.as_str());
         match graph.dag.spec().schedule {
-            Timetable::Never => write!(
+            Timetable::Never => say(
                 sentence,
-                "the graph's schedule is None, which has no intervals: trigger {id} makes a run"
+                "the graph's schedule is None, which has no intervals: trigger {} makes a run",
+                &[Text(self.graph.as_str())],
             ),
-            _ => write!(
+            _ => say(
                 sentence,
-                "no interval of the graph's schedule starts from {from} to {to}: a day alone is its first second"
+                "no interval of the graph's schedule starts from {} to {}: a day alone is its first second",
+                &[Date(self.from), Date(self.to)],
             ),
         }
     }
 
-    // Adds why no task instance was set back, and what is to be said of those that are named where there are runs.
-    fn push_uncleared(
-        &self,
-        sentence: &mut String,
-        schedule: &Schedule,
-        of_instances: &str,
-    ) -> Result<(), AllocError> {
-        let (from, to) = (self.from, self.to);
-        if schedule.runs().any(|run| self.covers(run)) {
-            write!(
-                sentence,
-                "nothing was set back: in the graph's runs from {from} to {to} {of_instances}"
+    // Adds why no task instance was set back.
+    fn push_uncleared(&self, sentence: &mut String, schedule: &Schedule) -> Result<(), AllocError> {
+        let (text, hint) = if self.covers_one(schedule) {
+            (
+                "nothing was set back: in the graph's runs from {} to {} {}",
+                self.work.text(),
             )
         } else {
-            write!(
-                sentence,
-                "no run of the graph has a date from {from} to {to}: {DATES_HINT}"
+            (
+                "no run of the graph has a date from {} to {}: {}",
+                DATES_HINT,
             )
+        };
+        say(
+            sentence,
+            text,
+            &[Date(self.from), Date(self.to), Text(hint)],
+        )
+    }
+
+    // Whether the command was about a run that is there.
+    fn covers_one(&self, schedule: &Schedule) -> bool {
+        for run in schedule.runs() {
+            if self.covers(run) {
+                return true;
+            }
         }
+        false
     }
 
     // Whether the command was about this run.
-    fn covers(&self, run: &Run) -> bool {
+    pub fn covers(&self, run: &Run) -> bool {
         run.graph == self.graph && self.from <= run.logical && run.logical <= self.to
     }
 }

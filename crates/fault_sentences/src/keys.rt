@@ -1,7 +1,9 @@
 //! Sentences on the keys of a graph's text and their values.
 use crate::airflow::airflow_text;
-use crate::fields::fault_text;
+use crate::fields::push_fault;
 use crate::moments::moment_text;
+use crate::parts::Part::Text;
+use crate::parts::{push_words, say};
 use cron_timetable::CronFault;
 use graph_file::{GraphFault, Key, Kind, Operator, Place, Role, is_name};
 use moment_core::Moment;
@@ -26,30 +28,29 @@ static SCHEDULES: [&str; 8] = [
     "None",
 ];
 
-// What is said of the first name in the table at a place that is no key there.
-pub fn unknown_sentence(
-    alloc: Global,
+// Adds what is said of a name in the table at a place that is no key there.
+pub fn push_unknown(
+    sentence: &mut String,
     place: Place,
     name: &str,
     table: &Table,
-) -> Result<String, AllocError> {
+) -> Result<(), AllocError> {
     if let Some(said) = airflow_text(name) {
-        return format!(in alloc; "unknown key \"{name}\": {said}");
+        return say(
+            sentence,
+            "unknown key \"{}\": {}",
+            &[Text(name), Text(said)],
+        );
     }
-    let hint = key_hint(alloc, place, name)?;
-    let hint = hint.as_str();
     match misplaced(place, name, table) {
-        Some(said) => format!(in alloc; "\"{name}\" {said}{hint}"),
-        None => format!(in alloc; "unknown key \"{name}\"{hint}"),
+        Some(said) => say(sentence, "\"{}\" {}", &[Text(name), Text(said)])?,
+        None => say(sentence, "unknown key \"{}\"", &[Text(name)])?,
     }
+    let keys = names_of(*sentence.allocator(), place)?;
+    push_hint(sentence, name, keys.as_slice())
 }
 
-// Which key of this place was probably meant.
-fn key_hint(alloc: Global, place: Place, name: &str) -> Result<String, AllocError> {
-    let keys = names_of(alloc, place)?;
-    hint_of(alloc, name, keys.as_slice())
-}
-
+// The names of the keys of a place.
 fn names_of(alloc: Global, place: Place) -> Result<Vec<&'static str>, AllocError> {
     let mut names = Vec::new(alloc);
     for key in place.keys() {
@@ -69,9 +70,18 @@ fn misplaced(place: Place, name: &str, table: &Table) -> Option<&'static str> {
 // Whether a value is a table or has some.
 fn has_table(value: &Value) -> bool {
     match value.as_array() {
-        Some(items) => items.as_slice().iter().any(|item| item.is_table()),
+        Some(items) => has_table_in(items.as_slice()),
         None => value.is_table(),
     }
+}
+
+fn has_table_in(items: &[Value]) -> bool {
+    for item in items {
+        if item.is_table() {
+            return true;
+        }
+    }
+    false
 }
 
 // What is said of a table that no graph file has.
@@ -101,14 +111,19 @@ fn other_place(place: Place, name: &str) -> Option<&'static str> {
 }
 
 pub fn is_key_of(place: Place, name: &str) -> bool {
-    place.keys().iter().any(|key| key.name() == name)
+    for key in place.keys() {
+        if key.name() == name {
+            return true;
+        }
+    }
+    false
 }
 
-// Which of these words was probably meant.
-pub(crate) fn hint_of(alloc: Global, word: &str, words: &[&str]) -> Result<String, AllocError> {
-    match nearest(alloc, word, words)? {
-        Some(meant) => format!(in alloc; "; did you mean \"{meant}\"?"),
-        None => Ok(String::new(alloc)),
+// Adds which of these words was probably meant.
+pub fn push_hint(sentence: &mut String, word: &str, words: &[&str]) -> Result<(), AllocError> {
+    match nearest(*sentence.allocator(), word, words)? {
+        Some(meant) => say(sentence, "; did you mean \"{}\"?", &[Text(meant)]),
+        None => Ok(()),
     }
 }
 
@@ -133,75 +148,61 @@ pub fn nearest<'a>(
     Ok(found)
 }
 
-// What is said of the value at a key, or of its lack.
-pub fn key_sentence(
-    alloc: Global,
+// Adds what is said of the value at a key, or of its lack.
+pub fn push_key(
+    sentence: &mut String,
     fault: GraphFault,
     key: Key,
     table: &Table,
-) -> Result<String, AllocError> {
+) -> Result<(), AllocError> {
     let name = key.name();
     match (fault, table.get(name)) {
-        (GraphFault::MissingKey(_), _) => missing_sentence(alloc, key),
-        (GraphFault::WrongType(_), Some(value)) => kind_sentence(alloc, key, value),
-        (GraphFault::BadName(_), Some(value)) => {
-            let word = misnamed(value);
-            format!(in alloc;
-                "{name}: \"{word}\" is no name: a name has 1 to 250 letters, digits, _, - and ., all ASCII"
-            )
-        }
-        (_, value) => value_sentence(alloc, key, value, table),
+        (GraphFault::MissingKey(_), _) => push_lack(sentence, key),
+        (GraphFault::WrongType(_), Some(value)) => push_kind(sentence, key, value),
+        (GraphFault::BadName(_), Some(value)) => say(
+            sentence,
+            "{}: \"{}\" is no name: a name has 1 to 250 letters, digits, _, - and ., all ASCII",
+            &[Text(name), Text(misnamed(value))],
+        ),
+        (_, value) => push_value(sentence, key, value, table),
     }
 }
 
-// That a key is missing, and what its value may be where that is a word.
-fn missing_sentence(alloc: Global, key: Key) -> Result<String, AllocError> {
-    let name = key.name();
+// Adds that a key is missing, and what its value may be where that is a word.
+fn push_lack(sentence: &mut String, key: Key) -> Result<(), AllocError> {
     let (words, more) = match key.role() {
         Role::Schedule => (SCHEDULES.as_slice(), ", or a cron expression, as 0 2 * * *"),
         role => (role.words(), ""),
     };
-    if words.is_empty() {
-        return format!(in alloc; "{name} is missing");
-    }
-    let list = list_of(alloc, words)?;
-    let list = list.as_str();
-    format!(in alloc; "{name} is missing: it is one of {list}{more}")
+    let rest = if words.is_empty() {
+        ""
+    } else {
+        ": it is one of "
+    };
+    say(sentence, "{} is missing{}", &[Text(key.name()), Text(rest)])?;
+    push_words(sentence, words)?;
+    sentence.push_str(more)
 }
 
-// Why a schedule is refused.
-pub fn schedule_sentence(
-    alloc: Global,
+// Adds why a schedule is refused.
+pub fn push_schedule(
+    sentence: &mut String,
     schedule: &str,
     fault: CronFault,
-) -> Result<String, AllocError> {
-    let name = Key::Schedule.name();
+) -> Result<(), AllocError> {
+    let (name, words) = (Key::Schedule.name(), SCHEDULES.as_slice());
     if fault == CronFault::UnknownPreset {
-        return word_sentence(alloc, name, schedule, SCHEDULES.as_slice());
+        return push_word(sentence, name, schedule, words);
     }
-    let hint = hint_of(alloc, schedule, SCHEDULES.as_slice())?;
-    if hint.is_empty() {
-        return faulty_sentence(alloc, name, schedule, fault);
+    say(sentence, "{} \"{}\": ", &[Text(name), Text(schedule)])?;
+    match nearest(*sentence.allocator(), schedule, words)? {
+        Some(meant) => write!(sentence, "{fault}; did you mean \"{meant}\"?"),
+        None => push_fault(sentence, schedule, fault),
     }
-    let hint = hint.as_str();
-    format!(in alloc; "{name} \"{schedule}\": {fault}{hint}")
 }
 
-// The same of a schedule that is near no word.
-fn faulty_sentence(
-    alloc: Global,
-    name: &str,
-    schedule: &str,
-    fault: CronFault,
-) -> Result<String, AllocError> {
-    let said = fault_text(alloc, schedule, fault)?;
-    let said = said.as_str();
-    format!(in alloc; "{name} \"{schedule}\": {said}")
-}
-
-// That a value is of another type than its key's.
-fn kind_sentence(alloc: Global, key: Key, value: &Value) -> Result<String, AllocError> {
-    let name = key.name();
+// Adds that a value is of another type than its key's.
+fn push_kind(sentence: &mut String, key: Key, value: &Value) -> Result<(), AllocError> {
     let wanted = match key.kind() {
         Kind::Text => "a string",
         Kind::Flag => "true or false",
@@ -209,21 +210,21 @@ fn kind_sentence(alloc: Global, key: Key, value: &Value) -> Result<String, Alloc
         Kind::Texts => "an array of strings",
         Kind::Tables => "an array of tables",
     };
-    let found = found_text(alloc, key.kind(), value)?;
-    let found = found.as_str();
-    format!(in alloc; "{name}: {wanted} is wanted{found}")
+    say(
+        sentence,
+        "{}: {} is wanted",
+        &[Text(key.name()), Text(wanted)],
+    )?;
+    push_found(sentence, key.kind(), value)
 }
 
-// What stands there in place of a value of this kind, and what was probably meant.
-fn found_text(alloc: Global, wanted: Kind, value: &Value) -> Result<String, AllocError> {
+// Adds what stands there in place of a value of this kind, and what was probably meant.
+fn push_found(sentence: &mut String, wanted: Kind, value: &Value) -> Result<(), AllocError> {
     match value {
-        Value::String(text) => {
-            let text = text.as_str();
-            format!(in alloc; ", and \"{text}\" is a string")
-        }
-        Value::Integer(number) => format!(in alloc; ", and {number} is an integer"),
-        Value::Boolean(flag) => format!(in alloc; ", and {flag} is a boolean"),
-        _ => String::from_str(alloc, other_text(wanted, value)),
+        Value::String(text) => { say(sentence, ", and \"{}\" is a string", &[Text(text.as_str())]) }
+        Value::Integer(number) => write!(sentence, ", and {number} is an integer"),
+        Value::Boolean(flag) => write!(sentence, ", and {flag} is a boolean"),
+        _ => sentence.push_str(other_text(wanted, value)),
     }
 }
 
@@ -244,48 +245,55 @@ fn other_text(wanted: Kind, value: &Value) -> &'static str {
 // The text, or the first of the texts, that is no name.
 fn misnamed(value: &Value) -> &str {
     match value.as_array() {
-        Some(items) => match items.as_slice().iter().find(|item| is_misnamed(item)) {
-            Some(item) => item.as_str().unwrap_or(""),
-            None => "",
-        },
+        Some(items) => misnamed_in(items.as_slice()),
         None => value.as_str().unwrap_or(""),
     }
 }
 
-fn is_misnamed(item: &Value) -> bool {
-    item.as_str().is_some_and(|text| !is_name(text))
+fn misnamed_in(items: &[Value]) -> &str {
+    for item in items {
+        match item.as_str() {
+            Some(text) if !is_name(text) => return text,
+            _ => {}
+        }
+    }
+    ""
 }
 
-// That a value is none of those that its key takes.
-fn value_sentence(
-    alloc: Global,
+// Adds that a value is none of those that its key takes.
+fn push_value(
+    sentence: &mut String,
     key: Key,
     value: Option<&Value>,
     table: &Table,
-) -> Result<String, AllocError> {
-    let name = key.name();
+) -> Result<(), AllocError> {
+    let (name, text) = (key.name(), text_of(value));
     match key.role() {
         Role::Range(low, high) => {
             let number = match value {
                 Some(value) => value.as_integer().unwrap_or(0),
                 None => 0,
             };
-            format!(in alloc; "{name}: {number} is not from {low} to {high}")
+            write!(sentence, "{name}: {number} is not from {low} to {high}")
         }
         Role::Moment => {
-            let text = text_of(value);
             let why = moment_text(Moment::read(text).err());
-            format!(in alloc; "{name}: \"{text}\" is no moment: {why}")
+            say(
+                sentence,
+                "{}: \"{}\" is no moment: {}",
+                &[Text(name), Text(text), Text(why)],
+            )
         }
-        Role::Arguments => {
-            let why = arguments_text(table);
-            format!(in alloc; "{name}: {why}")
-        }
-        role => word_sentence(alloc, name, text_of(value), role.words()),
+        Role::Arguments => say(
+            sentence,
+            "{}: {}",
+            &[Text(name), Text(arguments_text(table))],
+        ),
+        role => push_word(sentence, name, text, role.words()),
     }
 }
 
-fn text_of(value: Option<&Value>) -> &str {
+pub fn text_of(value: Option<&Value>) -> &str {
     match value {
         Some(value) => value.as_str().unwrap_or(""),
         None => "",
@@ -304,55 +312,44 @@ fn arguments_text(table: &Table) -> &'static str {
     }
 }
 
-// That a word is none of these, and which was probably meant; or that it does not fit the schedule.
-fn word_sentence(
-    alloc: Global,
-    name: &str,
-    word: &str,
+fn is_one_of(word: &str, words: &[&str]) -> bool {
+    for other in words {
+        if *other == word {
+            return true;
+        }
+    }
+    false
+}
+
+// Adds that a word is none of these, and which was probably meant; or that it does not fit the schedule.
+fn push_word<'a>(
+    sentence: &mut String,
+    name: &'a str,
+    word: &'a str,
     words: &[&str],
-) -> Result<String, AllocError> {
-    if words.iter().any(|other| *other == word) {
-        return format!(in alloc;
-            "{name}: \"{word}\" wants a schedule that has ticks, and None and @once have none"
+) -> Result<(), AllocError> {
+    if is_one_of(word, words) {
+        return say(
+            sentence,
+            "{}: \"{}\" wants a schedule that has ticks, and None and @once have none",
+            &[Text(name), Text(word)],
         );
     }
     if let Some(said) = airflow_text(word) {
-        return format!(in alloc; "{name} \"{word}\": {said}");
+        return say(
+            sentence,
+            "{} \"{}\": {}",
+            &[Text(name), Text(word), Text(said)],
+        );
     }
-    let list = list_of(alloc, words)?;
-    listed_sentence(alloc, name, word, words, list.as_str())
-}
-
-// That a word is none of those that the list has, and which was probably meant.
-fn listed_sentence(
-    alloc: Global,
-    name: &str,
-    word: &str,
-    words: &[&str],
-    list: &str,
-) -> Result<String, AllocError> {
-    let hint = hint_of(alloc, word, words)?;
-    let hint = hint.as_str();
-    if hint.is_empty() {
-        format!(in alloc; "{name}: \"{word}\" is none of {list}")
-    } else {
-        format!(in alloc; "{name}: \"{word}\" is unknown{hint} The words are {list}")
+    say(sentence, "{}: \"{}\" is ", &[Text(name), Text(word)])?;
+    match nearest(*sentence.allocator(), word, words)? {
+        Some(meant) => say(
+            sentence,
+            "unknown; did you mean \"{}\"? The words are ",
+            &[Text(meant)],
+        )?,
+        None => sentence.push_str("none of ")?,
     }
-}
-
-// Words, with commas between them.
-pub fn list_of(alloc: Global, words: &[&str]) -> Result<String, AllocError> {
-    let mut list = String::new(alloc);
-    push_words(&mut list, words)?;
-    Ok(list)
-}
-
-fn push_words(list: &mut String, words: &[&str]) -> Result<(), AllocError> {
-    for word in words {
-        if !list.is_empty() {
-            list.push_str(", ")?;
-        }
-        list.push_str(word)?;
-    }
-    Ok(())
+    push_words(sentence, words)
 }

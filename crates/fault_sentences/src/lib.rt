@@ -30,6 +30,7 @@ mod lines;
 mod loads;
 mod moments;
 mod notes;
+mod parts;
 mod places;
 mod pools;
 mod records;

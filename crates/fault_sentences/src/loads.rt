@@ -1,5 +1,7 @@
 //! Which graphs a script has taken in, and at which lines.
 use crate::notes::{Note, Rest};
+use crate::parts::Part::Number;
+use crate::parts::say_more;
 use graph_file::Name;
 use sched_events::Event;
 use script_reader::Shown;
@@ -82,12 +84,10 @@ impl Row {
 }
 
 fn push_place(sentence: &mut String, line: u64) -> Result<(), AllocError> {
-    if !sentence.is_empty() {
-        sentence.push_str("; ")?;
-    }
-    write!(
+    say_more(
         sentence,
-        "this took the place of the graph that line {line} took in: two graphs have two ids"
+        "this took the place of the graph that line {} took in: two graphs have two ids",
+        &[Number(line)],
     )
 }
 

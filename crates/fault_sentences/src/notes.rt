@@ -1,16 +1,19 @@
 //! What is to be told of a command.
 use crate::asked::Asked;
 use crate::changes::{push_old_slots, push_reach};
-use crate::commands::command_sentence;
+use crate::commands::push_command;
 use crate::due::{push_begun, push_due};
-use crate::graphs::taken_note;
+use crate::graphs::push_taken;
 use crate::held::Done;
-use crate::idle::{Idle, done_note};
-use crate::keys::{hint_of, list_of};
+use crate::idle::done_rest;
+use crate::keys::nearest;
+use crate::parts::Part::{Date, Number, Text};
+use crate::parts::{push_words, say, say_more};
 use crate::pools::push_resized;
-use crate::records::{clock_sentence, end_sentence, store_sentence};
-use crate::refusals::{refusal_note, unexplained_note};
+use crate::records::{clock_text, push_end, push_store};
+use crate::refusals::{push_refusal, push_unexplained};
 use graph_file::{Name, TaskSpec};
+use instance_machine::Instance;
 use moment_core::Moment;
 use sched_events::{Answer, Event, RunId};
 use script_reader::{Fault, Schedule, Shown};
@@ -18,7 +21,7 @@ use std::alloc::{AllocError, Global};
 use std::io;
 
 /// What is to be told of a command, once its answer has reached its reader.
-#[derive(Debug, Drop)]
+#[derive(Drop)]
 pub struct Note {
     // A sentence, or nothing.
     pub(crate) text: String,
@@ -26,7 +29,7 @@ pub struct Note {
 }
 
 /// What the schedule says beside a sentence.
-#[derive(Debug, Drop)]
+#[derive(Drop)]
 pub enum Rest {
     /// Nothing.
     Nothing,
@@ -45,7 +48,7 @@ pub enum Rest {
     /// Which task of the first, a graph, was probably meant by the second.
     Tasks(String, String),
     /// Why a command changed nothing.
-    Idle(Idle),
+    Idle(Done),
     /// What holds back the runs of a command that changed something, or what these hold back.
     Done(Done),
     /// That this graph is paused, where it is, or that a pool of it is too small.
@@ -63,74 +66,83 @@ pub fn note_of(
     event: Option<&Event>,
     shown: Shown<'_>,
 ) -> Result<Option<Note>, AllocError> {
+    let mut text = String::new(alloc);
+    let rest = push_shown(&mut text, asked, event, shown)?;
+    if text.is_empty() && matches!(rest, Rest::Nothing) {
+        return Ok(None);
+    }
+    Ok(Some(Note { text, rest }))
+}
+
+// Adds the sentence; what the schedule says beside it.
+fn push_shown(
+    sentence: &mut String,
+    asked: Asked<'_>,
+    event: Option<&Event>,
+    shown: Shown<'_>,
+) -> Result<Rest, AllocError> {
     match shown {
-        Shown::Answer(Event::Load(text), _) => taken_note(alloc, text.as_str(), false),
-        Shown::Answer(Event::Replace(text), _) => taken_note(alloc, text.as_str(), true),
-        Shown::Answer(Event::Trigger(graph), answer) => trigger_note(alloc, graph, answer),
-        Shown::Answer(Event::Resize(pool, _), _) => pool_note(alloc, pool),
-        Shown::Answer(done, answer) => done_note(alloc, done, answer),
-        Shown::Failure(fault) => failure_note(alloc, asked, event, fault),
-        Shown::NoCommand(fault) => alone(command_sentence(alloc, asked, fault)?),
-        Shown::NoMoment(fault) => alone(clock_sentence(alloc, fault)?),
-        Shown::EndedBy(fault) => alone(end_sentence(alloc, fault)?),
-        Shown::Unexplained(fault) => unexplained_note(alloc, asked, fault),
-        _ => Ok(None),
+        Shown::Answer(done, answer) => push_done(sentence, done, answer),
+        Shown::Failure(Fault::Refused(refusal)) => { push_refusal(sentence, asked, event, refusal) }
+        Shown::Unexplained(fault) => push_unexplained(sentence, asked, fault),
+        _ => {
+            push_fault(sentence, asked, shown)?;
+            Ok(Rest::Nothing)
+        }
     }
 }
 
-// That a run by hand has the date at which the clock of a new record stands, which is probably not meant; and that it waits where its graph is paused.
-fn trigger_note(alloc: Global, graph: &Name, answer: &Answer) -> Result<Option<Note>, AllocError> {
-    let text = match answer.made.as_slice().first() {
+// Adds the sentence of a fault that says all.
+fn push_fault(sentence: &mut String, asked: Asked<'_>, shown: Shown<'_>) -> Result<(), AllocError> {
+    match shown {
+        Shown::Failure(Fault::Store(fault)) => push_store(sentence, fault),
+        Shown::NoCommand(fault) => push_command(sentence, asked, fault),
+        Shown::NoMoment(fault) => sentence.push_str(clock_text(fault)),
+        Shown::EndedBy(fault) => push_end(sentence, fault),
+        _ => Ok(()),
+    }
+}
+
+// Adds the sentence beside an event that was done; what the schedule says beside it.
+fn push_done(sentence: &mut String, done: &Event, answer: &Answer) -> Result<Rest, AllocError> {
+    match done {
+        Event::Load(text) => push_taken(sentence, text.as_str(), false),
+        Event::Replace(text) => push_taken(sentence, text.as_str(), true),
+        Event::Trigger(graph) => {
+            sentence.push_str(trigger_text(answer))?;
+            Ok(Rest::Waiting(graph.copy(*sentence.allocator())?))
+        }
+        Event::Resize(pool, _) => Ok(Rest::Pool(pool.copy(*sentence.allocator())?)),
+        _ => done_rest(*sentence.allocator(), done, answer),
+    }
+}
+
+// That a run by hand has the date at which the clock of a new record stands, which is probably not meant.
+fn trigger_text(answer: &Answer) -> &'static str {
+    match answer.made.as_slice().first() {
         Some(made) if made.logical.secs() == 0 => {
             "the clock of this record was never moved, so the run is of 1970: say tick now before trigger"
         }
         _ => "",
-    };
-    Ok(Some(Note {
-        text: String::from_str(alloc, text)?,
-        rest: Rest::Waiting(graph.copy(alloc)?),
-    }))
-}
-
-// What comes of the size that a pool has got.
-fn pool_note(alloc: Global, pool: &Name) -> Result<Option<Note>, AllocError> {
-    Ok(Some(Note {
-        text: String::new(alloc),
-        rest: Rest::Pool(pool.copy(alloc)?),
-    }))
+    }
 }
 
 /// What is to be told of a file that the system does not give, for this cause.
 pub fn unreadable_note(alloc: Global, path: &str, cause: &io::Error) -> Result<Note, AllocError> {
-    Ok(Note {
-        text: format!(in alloc; "{path} cannot be read: {cause}")?,
-        rest: Rest::Nothing,
-    })
+    let text = format!(in alloc; "{path} cannot be read: {cause}")?;
+    let rest = Rest::Nothing;
+    Ok(Note { text, rest })
 }
 
-// The note of a sentence that says all.
-fn alone(text: Option<String>) -> Result<Option<Note>, AllocError> {
-    match text {
-        Some(text) => Ok(Some(Note {
-            text,
-            rest: Rest::Nothing,
-        })),
-        None => Ok(None),
-    }
+// Which graph was probably meant by a word.
+pub fn near_graph(alloc: Global, word: &str) -> Result<Rest, AllocError> {
+    Ok(Rest::Near(String::from_str(alloc, word)?))
 }
 
-// The note of an event that was not done, or of a record that is not opened.
-fn failure_note(
-    alloc: Global,
-    asked: Asked<'_>,
-    event: Option<&Event>,
-    fault: &Fault,
-) -> Result<Option<Note>, AllocError> {
-    match fault {
-        Fault::Refused(refusal) => refusal_note(alloc, asked, event, refusal),
-        Fault::Store(fault) => alone(store_sentence(alloc, fault)?),
-        Fault::Memory => Ok(None),
-    }
+// Which task of a graph was probably meant by a word.
+pub fn near_task(alloc: Global, graph: &str, word: &str) -> Result<Rest, AllocError> {
+    let graph = String::from_str(alloc, graph)?;
+    Ok(Rest::Tasks(graph, String::from_str(alloc, word)?))
 }
 
 impl Note {
@@ -140,31 +152,22 @@ impl Note {
         alloc: Global,
         schedule: Option<&Schedule>,
     ) -> Result<Option<String>, AllocError> {
-        let sentence = self.whole(alloc, schedule)?;
+        let mut sentence = String::from_str(alloc, self.text.as_str())?;
+        if let Some(schedule) = schedule {
+            self.rest.push(&mut sentence, schedule)?;
+        }
         if sentence.is_empty() {
             Ok(None)
         } else {
             Ok(Some(sentence))
         }
     }
+}
 
-    // The same, perhaps empty.
-    fn whole(&self, alloc: Global, schedule: Option<&Schedule>) -> Result<String, AllocError> {
-        let mut sentence = String::from_str(alloc, self.text.as_str())?;
-        if let Some(schedule) = schedule {
-            self.push_rest(alloc, &mut sentence, schedule)?;
-        }
-        Ok(sentence)
-    }
-
-    // Adds what this schedule says beside it.
-    fn push_rest(
-        &self,
-        alloc: Global,
-        sentence: &mut String,
-        schedule: &Schedule,
-    ) -> Result<(), AllocError> {
-        match &self.rest {
+impl Rest {
+    // Adds it, as this schedule says it.
+    fn push(&self, sentence: &mut String, schedule: &Schedule) -> Result<(), AllocError> {
+        match self {
             Rest::Nothing => Ok(()),
             Rest::Clock => push_clock(sentence, schedule),
             Rest::Try(serial) => push_try(sentence, schedule, *serial),
@@ -177,28 +180,23 @@ impl Note {
                 push_reach(sentence, schedule, graph)
             }
             Rest::OldSlots(graph, task) => push_old_slots(sentence, schedule, graph, task),
-            Rest::Near(word) => push_near(alloc, sentence, schedule, word.as_str()),
+            Rest::Near(word) => push_near(sentence, schedule, word.as_str()),
             Rest::Tasks(graph, word) => {
-                push_tasks(alloc, sentence, schedule, graph.as_str(), word.as_str())
+                push_tasks(sentence, schedule, graph.as_str(), word.as_str())
             }
             Rest::Idle(idle) => idle.push_why(sentence, schedule),
             Rest::Done(done) => done.push_rest(sentence, schedule),
             Rest::Waiting(graph) => push_waiting(sentence, schedule, graph),
-            Rest::Pool(pool) => push_resized(alloc, sentence, schedule, pool),
+            Rest::Pool(pool) => push_resized(sentence, schedule, pool),
             Rest::Begun(runs) => push_begun(sentence, schedule, runs.as_slice()),
         }
     }
 }
 
 // Adds which graph was probably meant by a word, or how those that there are are shown.
-fn push_near(
-    alloc: Global,
-    sentence: &mut String,
-    schedule: &Schedule,
-    word: &str,
-) -> Result<(), AllocError> {
-    let names = names_in(alloc, schedule)?;
-    push_nearest(alloc, sentence, word, names.as_slice())
+fn push_near(sentence: &mut String, schedule: &Schedule, word: &str) -> Result<(), AllocError> {
+    let names = names_in(*sentence.allocator(), schedule)?;
+    push_nearest(sentence, word, names.as_slice())
 }
 
 // The names of the graphs.
@@ -210,50 +208,32 @@ fn names_in(alloc: Global, schedule: &Schedule) -> Result<Vec<&str>, AllocError>
     Ok(names)
 }
 
-fn push_nearest(
-    alloc: Global,
-    sentence: &mut String,
-    word: &str,
-    names: &[&str],
-) -> Result<(), AllocError> {
-    let hint = hint_of(alloc, word, names)?;
-    if names.is_empty() {
-        sentence.push_str("; the record has none yet")
-    } else if hint.is_empty() {
-        sentence.push_str("; list dags shows those it has")
-    } else {
-        sentence.push_str(hint.as_str())
+fn push_nearest(sentence: &mut String, word: &str, names: &[&str]) -> Result<(), AllocError> {
+    match nearest(*sentence.allocator(), word, names)? {
+        Some(meant) => say(sentence, "; did you mean \"{}\"?", &[Text(meant)]),
+        None if names.is_empty() => sentence.push_str("; the record has none yet"),
+        None => sentence.push_str("; list dags shows those it has"),
     }
 }
 
 // Adds which task of a graph was probably meant by a word, and those that it has.
 fn push_tasks(
-    alloc: Global,
     sentence: &mut String,
     schedule: &Schedule,
     graph: &str,
     word: &str,
 ) -> Result<(), AllocError> {
-    let tasks = tasks_of(alloc, schedule, graph)?;
-    push_nearest_task(alloc, sentence, word, tasks.as_slice())?;
-    push_list(alloc, sentence, tasks.as_slice())
+    let tasks = tasks_of(*sentence.allocator(), schedule, graph)?;
+    push_nearest_task(sentence, word, tasks.as_slice())
 }
 
-fn push_nearest_task(
-    alloc: Global,
-    sentence: &mut String,
-    word: &str,
-    tasks: &[&str],
-) -> Result<(), AllocError> {
-    let hint = hint_of(alloc, word, tasks)?;
-    let before = if hint.is_empty() { "; the" } else { " The" };
-    let hint = hint.as_str();
-    write!(sentence, "{hint}{before} tasks of the graph are ")
-}
-
-fn push_list(alloc: Global, sentence: &mut String, words: &[&str]) -> Result<(), AllocError> {
-    let list = list_of(alloc, words)?;
-    sentence.push_str(list.as_str())
+fn push_nearest_task(sentence: &mut String, word: &str, tasks: &[&str]) -> Result<(), AllocError> {
+    match nearest(*sentence.allocator(), word, tasks)? {
+        Some(meant) => say(sentence, "; did you mean \"{}\"? The", &[Text(meant)])?,
+        None => sentence.push_str("; the")?,
+    }
+    sentence.push_str(" tasks of the graph are ")?;
+    push_words(sentence, tasks)
 }
 
 // The names of the tasks of a graph.
@@ -279,45 +259,34 @@ pub fn push_clock(sentence: &mut String, schedule: &Schedule) -> Result<(), Allo
     if now.secs() == 0 {
         return sentence.push_str("; the record's clock was never moved: say tick now first");
     }
-    write!(sentence, "; the record's clock stands at {now}")
+    say(sentence, "; the record's clock stands at {}", &[Date(now)])
 }
 
 // Adds that the runs of a graph wait since it is paused, where it is, or the first task that needs more slots than its pool has.
 fn push_waiting(sentence: &mut String, schedule: &Schedule, id: &Name) -> Result<(), AllocError> {
     match schedule.graph_of(id) {
-        Some(graph) if graph.paused => push_paused(sentence, schedule, id),
+        Some(graph) if graph.paused => push_paused(sentence, id),
         _ => push_slots(sentence, schedule, id),
     }
 }
 
-// Adds that the runs of a graph wait since it is paused, where it is.
-pub fn push_paused(
-    sentence: &mut String,
-    schedule: &Schedule,
-    id: &Name,
-) -> Result<(), AllocError> {
-    match schedule.graph_of(id) {
-        Some(graph) if graph.paused => {
-            if !sentence.is_empty() {
-                sentence.push_str("; ")?;
-            }
-            let id = id.as_str();
-            write!(
-                sentence,
-                "the graph is paused, so its runs wait until unpause {id}"
-            )
-        }
-        _ => Ok(()),
-    }
+// Adds that the runs of a graph wait since it is paused.
+pub fn push_paused(sentence: &mut String, id: &Name) -> Result<(), AllocError> {
+    say_more(
+        sentence,
+        "the graph is paused, so its runs wait until unpause {}",
+        &[Text(id.as_str())],
+    )
 }
 
 // Adds the task instance whose try has this serial.
 fn push_try(sentence: &mut String, schedule: &Schedule, serial: u64) -> Result<(), AllocError> {
     match place_of(schedule, serial) {
-        Some((graph, logical, task)) => {
-            let (graph, task) = (graph.as_str(), task.as_str());
-            write!(sentence, ": {graph} {logical} {task} is in flight")
-        }
+        Some((graph, logical, task)) => say(
+            sentence,
+            ": {} {} {} is in flight",
+            &[Text(graph.as_str()), Date(logical), Text(task.as_str())],
+        ),
         None => Ok(()),
     }
 }
@@ -327,12 +296,21 @@ fn place_of(schedule: &Schedule, serial: u64) -> Option<(&Name, Moment, &Name)> 
     for run in schedule.runs() {
         let graph = schedule.graph_of(&run.graph)?;
         for (place, instance) in run.instances.as_slice().iter().enumerate() {
-            if place < graph.dag.len() && instance.tries().iter().any(|one| one.serial == serial) {
+            if place < graph.dag.len() && has_try(instance, serial) {
                 return Some((&run.graph, run.logical, &graph.dag.task(place).task_id));
             }
         }
     }
     None
+}
+
+fn has_try(instance: &Instance, serial: u64) -> bool {
+    for one in instance.tries() {
+        if one.serial == serial {
+            return true;
+        }
+    }
+    false
 }
 
 // Adds the first task that needs more slots than its pool has.
@@ -361,21 +339,30 @@ fn push_need(
     needed: u32,
     size: u32,
 ) -> Result<(), AllocError> {
-    if !sentence.is_empty() {
-        sentence.push_str("; ")?;
-    }
-    let (id, pool) = (task.task_id.as_str(), task.pool.as_str());
+    let pool = task.pool.as_str();
     let slots = if needed == 1 { "slot" } else { "slots" };
-    write!(
+    let needed = u64::from(needed);
+    say_more(
         sentence,
-        "task \"{id}\" needs {needed} {slots} of the pool \"{pool}\", which has {size}: it waits until resize {pool} {needed}"
+        "task \"{}\" needs {} {} of the pool \"{}\", which has {}: it waits until resize {} {}",
+        &[
+            Text(task.task_id.as_str()),
+            Number(needed),
+            Text(slots),
+            Text(pool),
+            Number(u64::from(size)),
+            Text(pool),
+            Number(needed),
+        ],
     )
 }
 
 // How many slots a pool has.
 pub fn size_of(schedule: &Schedule, pool: &Name) -> u32 {
-    schedule
-        .pools()
-        .find(|row| row.name.as_str() == pool.as_str())
-        .map_or(0, |row| row.size)
+    for row in schedule.pools() {
+        if row.name.as_str() == pool.as_str() {
+            return row.size;
+        }
+    }
+    0
 }

@@ -1,38 +1,54 @@
 //! Where something stands in a graph's text.
 use crate::asked::Asked;
+use crate::parts::Part::{Number, Text};
+use crate::parts::say;
 use graph_file::Place;
-use std::alloc::{AllocError, Global};
+use std::alloc::AllocError;
 use toml::Table;
 
-// The beginning of a sentence on a place of a text: its file, the line of this key or of the task, and the task's id.
-pub fn place_text(
-    alloc: Global,
-    asked: Asked<'_>,
-    text: &str,
-    file: &Table,
-    place: Place,
-    key: &str,
-) -> Result<String, AllocError> {
-    let start = file_text(alloc, asked, line_of_key(text, file, place, key))?;
-    let start = start.as_str();
-    match (place, id_at(file, place)) {
-        (Place::Top, _) => String::from_str(alloc, start),
-        (Place::Task(_), Some(id)) => format!(in alloc; "{start}task \"{id}\": "),
-        (Place::Task(number), None) => format!(in alloc; "{start}task {number}, counted from 0: "),
-    }
+// A graph's text, and the command that has it.
+#[derive(Clone, Copy)]
+pub struct Source<'a> {
+    pub asked: Asked<'a>,
+    pub text: &'a str,
 }
 
-// The file of a text and perhaps a line of it.
-pub fn file_text(
-    alloc: Global,
-    asked: Asked<'_>,
-    line: Option<usize>,
-) -> Result<String, AllocError> {
-    match (asked.path(alloc)?, line) {
-        (Some(path), Some(line)) => format!(in alloc; "{path}:{line}: "),
-        (Some(path), None) => format!(in alloc; "{path}: "),
-        (None, Some(line)) => format!(in alloc; "line {line} of the graph's text: "),
-        (None, None) => Ok(String::new(alloc)),
+impl Source<'_> {
+    // Begins a sentence on a place of the text, which is this table: its file, the line of this key or of the task, and the task's id.
+    pub fn push_place(
+        self,
+        sentence: &mut String,
+        file: &Table,
+        place: Place,
+        key: &str,
+    ) -> Result<(), AllocError> {
+        self.push_line(sentence, line_of_key(self.text, file, place, key))?;
+        match (place, id_at(file, place)) {
+            (Place::Top, _) => Ok(()),
+            (Place::Task(_), Some(id)) => say(sentence, "task \"{}\": ", &[Text(id)]),
+            (Place::Task(number), None) => {
+                let number = u64::from(number);
+                say(sentence, "task {}, counted from 0: ", &[Number(number)])
+            }
+        }
+    }
+
+    // Adds the file of the text and perhaps a line of it.
+    pub fn push_line(self, sentence: &mut String, line: Option<usize>) -> Result<(), AllocError> {
+        match (self.asked.path(*sentence.allocator())?, line) {
+            (Some(path), Some(line)) => {
+                say(sentence, "{}:{}: ", &[Text(path), Number(line as u64)])
+            }
+            (Some(path), None) => say(sentence, "{}: ", &[Text(path)]),
+            (None, Some(line)) => {
+                say(
+                    sentence,
+                    "line {} of the graph's text: ",
+                    &[Number(line as u64)],
+                )
+            }
+            (None, None) => Ok(()),
+        }
     }
 }
 
@@ -43,26 +59,39 @@ fn id_at(file: &Table, place: Place) -> Option<&str> {
 
 // The line, from 1, of this key at a place, or of the task.
 fn line_of_key(text: &str, file: &Table, place: Place, key: &str) -> Option<usize> {
-    let task = match place {
-        Place::Top => 0,
-        Place::Task(number) => line_of_task(text, task_count(file), number as usize)?,
-    };
-    let found = text
-        .lines()
-        .skip(task)
-        .take_while(|line| !line.trim_start().starts_with('['))
-        .position(|line| is_of_key(line, key));
-    match found {
-        Some(at) => Some(task.saturating_add(at).saturating_add(1)),
-        None if task == 0 => line_of_table(text, key),
-        None => Some(task),
+    match place {
+        Place::Top => match key_behind(text, 0, key) {
+            Some(line) => Some(line),
+            None => line_of_table(text, key),
+        },
+        Place::Task(number) => {
+            let task = line_of_task(text, task_count(file), number as usize)?;
+            Some(key_behind(text, task, key).unwrap_or(task))
+        }
     }
+}
+
+// The line, from 1, that gives the key a value, behind so many and before the next table.
+fn key_behind(text: &str, lines: usize, key: &str) -> Option<usize> {
+    for (at, line) in text.lines().enumerate().skip(lines) {
+        if line.trim_start().starts_with('[') {
+            return None;
+        }
+        if is_of_key(line, key) {
+            return Some(at.saturating_add(1));
+        }
+    }
+    None
 }
 
 // The line, from 1, that begins the table of this name, or the first of the tables.
 fn line_of_table(text: &str, name: &str) -> Option<usize> {
-    let at = text.lines().position(|line| begins_table(line, name))?;
-    Some(at.saturating_add(1))
+    for (above, line) in text.lines().enumerate() {
+        if begins_table(line, name) {
+            return Some(above.saturating_add(1));
+        }
+    }
+    None
 }
 
 fn begins_table(line: &str, name: &str) -> bool {
@@ -81,7 +110,10 @@ fn begins_table(line: &str, name: &str) -> bool {
 
 fn task_count(file: &Table) -> usize {
     match file.get("task") {
-        Some(tasks) => tasks.as_array().map_or(0, |tasks| tasks.len()),
+        Some(tasks) => match tasks.as_array() {
+            Some(tasks) => tasks.len(),
+            None => 0,
+        },
         None => 0,
     }
 }
@@ -96,15 +128,17 @@ fn is_of_key(line: &str, key: &str) -> bool {
 
 // The line, from 1, that begins the task at this place, of so many tasks, if each of them stands below a line `[[task]]` and nothing else does.
 pub fn line_of_task(text: &str, count: usize, place: usize) -> Option<usize> {
-    if text.lines().filter(|line| begins_task(line)).count() != count {
-        return None;
+    let mut begun = 0_usize;
+    let mut found = None;
+    for (at, line) in text.lines().enumerate() {
+        if begins_task(line) {
+            if begun == place {
+                found = Some(at.saturating_add(1));
+            }
+            begun = begun.saturating_add(1);
+        }
     }
-    let (line, _) = text
-        .lines()
-        .enumerate()
-        .filter(|(_, line)| begins_task(line))
-        .nth(place)?;
-    Some(line.saturating_add(1))
+    if begun == count { found } else { None }
 }
 
 fn begins_task(line: &str) -> bool {

@@ -1,6 +1,8 @@
 //! Sentences on pools.
 use crate::keys::nearest;
 use crate::notes::size_of;
+use crate::parts::Part::{Number, Text};
+use crate::parts::say;
 use graph_file::{DEFAULT_POOL, Name, TaskSpec};
 use instance_machine::Instance;
 use sched_state::{LoadedGraph, Run, RunPhase};
@@ -13,7 +15,6 @@ const FEWEST_LETTERS: usize = 4;
 
 // Adds what comes of the size that a pool has got: how many task instances wait for one without slots, or which pool was probably meant.
 pub fn push_resized(
-    alloc: Global,
     sentence: &mut String,
     schedule: &Schedule,
     pool: &Name,
@@ -23,7 +24,7 @@ pub fn push_resized(
     } else if is_used(schedule, pool) {
         Ok(())
     } else {
-        push_meant(alloc, sentence, schedule, pool.as_str())
+        push_meant(sentence, schedule, pool.as_str())
     }
 }
 
@@ -32,9 +33,10 @@ fn push_waiting(sentence: &mut String, pool: &Name, count: usize) -> Result<(), 
         return Ok(());
     }
     let pool = pool.as_str();
-    write!(
+    say(
         sentence,
-        "the pool \"{pool}\" has no slots now, and {count} of the task instances that are not done need some: they wait until resize {pool} SLOTS"
+        "the pool \"{}\" has no slots now, and {} of the task instances that are not done need some: they wait until resize {} SLOTS",
+        &[Text(pool), Number(count as u64), Text(pool)],
     )
 }
 
@@ -72,26 +74,34 @@ fn waits(task: &TaskSpec, instance: &Instance, pool: &Name) -> bool {
 
 // Whether a pool is one that each schedule has, or a task of a graph names it.
 fn is_used(schedule: &Schedule, pool: &Name) -> bool {
-    pool.as_str() == DEFAULT_POOL || schedule.graphs().iter().any(|graph| names(graph, pool))
+    if pool.as_str() == DEFAULT_POOL {
+        return true;
+    }
+    for graph in schedule.graphs() {
+        if names(graph, pool) {
+            return true;
+        }
+    }
+    false
 }
 
 fn names(graph: &LoadedGraph, pool: &Name) -> bool {
-    let mut tasks = graph.dag.spec().tasks.as_slice().iter();
-    tasks.any(|task| task.pool == *pool)
+    for task in graph.dag.spec().tasks.as_slice() {
+        if task.pool == *pool {
+            return true;
+        }
+    }
+    false
 }
 
 // Adds which pool was probably meant by a name that no task has.
-fn push_meant(
-    alloc: Global,
-    sentence: &mut String,
-    schedule: &Schedule,
-    pool: &str,
-) -> Result<(), AllocError> {
-    let others = other_pools(alloc, schedule, pool)?;
-    match nearest(alloc, pool, others.as_slice())? {
-        Some(other) if is_slip(pool, other) => write!(
+fn push_meant(sentence: &mut String, schedule: &Schedule, pool: &str) -> Result<(), AllocError> {
+    let others = other_pools(*sentence.allocator(), schedule, pool)?;
+    match nearest(*sentence.allocator(), pool, others.as_slice())? {
+        Some(other) if is_slip(pool, other) => say(
             sentence,
-            "no task has the pool \"{pool}\"; did you mean \"{other}\"?"
+            "no task has the pool \"{}\"; did you mean \"{}\"?",
+            &[Text(pool), Text(other)],
         ),
         _ => Ok(()),
     }
@@ -114,10 +124,18 @@ fn other_pools<'a>(
 
 // Whether a name that is near another is a slip of it, and no second name beside it: letters were swapped, left out or doubled, and it has no digits.
 fn is_slip(name: &str, other: &str) -> bool {
-    let has_digits = name.bytes().any(|byte| byte.is_ascii_digit());
     name.len() > FEWEST_LETTERS
-        && !has_digits
+        && !has_digits(name)
         && (name.len() != other.len() || sum_of(name) == sum_of(other))
+}
+
+fn has_digits(name: &str) -> bool {
+    for byte in name.bytes() {
+        if byte.is_ascii_digit() {
+            return true;
+        }
+    }
+    false
 }
 
 // The sum of its bytes, which is the same where they are swapped.

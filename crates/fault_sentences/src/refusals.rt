@@ -1,126 +1,155 @@
 //! Sentences on events that are refused, and on questions without an answer.
 use crate::asked::Asked;
-use crate::changes::{change_rest, change_sentence};
-use crate::graphs::{dag_sentence, graph_sentence, pool_sentence};
+use crate::changes::{change_rest, push_change};
+use crate::graphs::{push_dag, push_graph, push_pool};
 use crate::moments::DATES_HINT;
-use crate::notes::{Note, Rest};
-use crate::records::said;
-use graph_file::Name;
+use crate::notes::{Rest, near_graph, near_task};
+use crate::parts::Part::{Date, Text};
+use crate::parts::say;
+use crate::places::Source;
+use graph_file::{GraphSpec, Name, TaskSpec, read_graph};
 use sched_events::{Event, Refusal};
 use script_reader::ExplainFault;
 use std::alloc::{AllocError, Global};
 
-// What is to be told of an event that is refused.
-pub fn refusal_note(
-    alloc: Global,
+// Adds why an event is refused; what the schedule says beside it.
+pub fn push_refusal(
+    sentence: &mut String,
     asked: Asked<'_>,
     event: Option<&Event>,
     refusal: &Refusal,
-) -> Result<Option<Note>, AllocError> {
-    match sentence_of(alloc, asked, event, refusal)? {
-        Some(text) => {
-            let rest = rest_of(alloc, event, refusal)?;
-            Ok(Some(Note { text, rest }))
+) -> Result<Rest, AllocError> {
+    match event {
+        Some(Event::Load(text)) => {
+            let text = text.as_str();
+            push_text(sentence, Source { asked, text }, refusal, false)
         }
-        None => Ok(None),
+        Some(Event::Replace(text)) => {
+            let text = text.as_str();
+            push_text(sentence, Source { asked, text }, refusal, true)
+        }
+        _ => {
+            push_of_event(sentence, event, refusal)?;
+            rest_of_event(*sentence.allocator(), event, refusal)
+        }
+    }
+}
+
+// The same of a text that is not taken in.
+fn push_text(
+    sentence: &mut String,
+    source: Source<'_>,
+    refusal: &Refusal,
+    is_change: bool,
+) -> Result<Rest, AllocError> {
+    if let Refusal::GraphFault(fault) = refusal {
+        push_graph(sentence, source, *fault)?;
+        return Ok(Rest::Nothing);
+    }
+    match read_graph(*sentence.allocator(), source.text) {
+        Ok(spec) => push_read(sentence, source, &spec, refusal, is_change),
+        Err(_) => Ok(Rest::Nothing),
+    }
+}
+
+// The same of the text of this graph.
+fn push_read(
+    sentence: &mut String,
+    source: Source<'_>,
+    spec: &GraphSpec,
+    refusal: &Refusal,
+    is_change: bool,
+) -> Result<Rest, AllocError> {
+    if is_change {
+        push_change(sentence, &spec.dag_id, refusal)?;
+    }
+    if sentence.is_empty() {
+        push_of_tasks(sentence, source, spec.tasks.as_slice(), refusal)?;
+    }
+    if is_change {
+        change_rest(*sentence.allocator(), &spec.dag_id, refusal)
+    } else {
+        Ok(Rest::Nothing)
+    }
+}
+
+// Adds why a text with these tasks is not taken in, of a graph without runs.
+fn push_of_tasks(
+    sentence: &mut String,
+    source: Source<'_>,
+    tasks: &[TaskSpec],
+    refusal: &Refusal,
+) -> Result<(), AllocError> {
+    match refusal {
+        Refusal::DagFault(fault) => push_dag(sentence, source, tasks, fault),
+        Refusal::UnknownPool(pool) => push_pool(sentence, source, tasks, pool),
+        _ => sentence.push_str(plain(refusal)),
+    }
+}
+
+// Adds why an event that has no text is refused.
+fn push_of_event(
+    sentence: &mut String,
+    event: Option<&Event>,
+    refusal: &Refusal,
+) -> Result<(), AllocError> {
+    match (refusal, event) {
+        (Refusal::ClockBack(now), _) => say(
+            sentence,
+            "the moment lies before {}, which the record's clock has reached: it never goes back",
+            &[Date(*now)],
+        ),
+        (Refusal::UnknownGraph, Some(event)) => push_missing(sentence, graph_of(event), "graph"),
+        (Refusal::UnknownTask, Some(Event::Clear(clearing))) => {
+            push_missing(sentence, clearing.task.as_ref(), "task")
+        }
+        _ => sentence.push_str(plain(refusal)),
     }
 }
 
 // What the schedule says beside it.
-fn rest_of(alloc: Global, event: Option<&Event>, refusal: &Refusal) -> Result<Rest, AllocError> {
+fn rest_of_event(
+    alloc: Global,
+    event: Option<&Event>,
+    refusal: &Refusal,
+) -> Result<Rest, AllocError> {
     match (refusal, event) {
-        (refusal, Some(Event::Replace(text))) => change_rest(alloc, text.as_str(), refusal),
         (Refusal::RunExists | Refusal::NoInterval, _) => Ok(Rest::Clock),
         (Refusal::InFlight(serial), _) => Ok(Rest::Try(*serial)),
         (Refusal::UnknownGraph, Some(event)) => match graph_of(event) {
-            Some(graph) => near(alloc, graph.as_str()),
+            Some(graph) => near_graph(alloc, graph.as_str()),
             None => Ok(Rest::Nothing),
         },
         (Refusal::UnknownTask, Some(Event::Clear(clearing))) => match &clearing.task {
-            Some(task) => tasks(alloc, clearing.graph.as_str(), task.as_str()),
+            Some(task) => near_task(alloc, clearing.graph.as_str(), task.as_str()),
             None => Ok(Rest::Nothing),
         },
         _ => Ok(Rest::Nothing),
     }
 }
 
-// Which graph was probably meant by a word.
-fn near(alloc: Global, word: &str) -> Result<Rest, AllocError> {
-    Ok(Rest::Near(String::from_str(alloc, word)?))
-}
-
-// Which task of a graph was probably meant by a word.
-fn tasks(alloc: Global, graph: &str, word: &str) -> Result<Rest, AllocError> {
-    let graph = String::from_str(alloc, graph)?;
-    Ok(Rest::Tasks(graph, String::from_str(alloc, word)?))
-}
-
-fn sentence_of(
-    alloc: Global,
-    asked: Asked<'_>,
-    event: Option<&Event>,
-    refusal: &Refusal,
-) -> Result<Option<String>, AllocError> {
-    match (refusal, event) {
-        (refusal, Some(Event::Load(text))) => text_sentence(alloc, asked, text.as_str(), refusal),
-        (refusal, Some(Event::Replace(text))) => {
-            match change_sentence(alloc, text.as_str(), refusal)? {
-                Some(sentence) => Ok(Some(sentence)),
-                None => text_sentence(alloc, asked, text.as_str(), refusal),
-            }
-        }
-        (Refusal::ClockBack(now), _) => Ok(Some(format!(in alloc;
-            "the moment lies before {now}, which the record's clock has reached: it never goes back"
-        )?)),
-        (Refusal::UnknownGraph, Some(event)) => missing(alloc, graph_of(event), "graph"),
-        (Refusal::UnknownTask, Some(Event::Clear(clearing))) => {
-            missing(alloc, clearing.task.as_ref(), "task")
-        }
-        (refusal, _) => plain_sentence(alloc, refusal),
-    }
-}
-
-// Why a text is not taken in.
-fn text_sentence(
-    alloc: Global,
-    asked: Asked<'_>,
-    text: &str,
-    refusal: &Refusal,
-) -> Result<Option<String>, AllocError> {
-    match refusal {
-        Refusal::GraphFault(fault) => graph_sentence(alloc, asked, text, *fault),
-        Refusal::DagFault(fault) => dag_sentence(alloc, asked, text, fault),
-        Refusal::UnknownPool(pool) => pool_sentence(alloc, asked, text, pool),
-        _ => plain_sentence(alloc, refusal),
-    }
-}
-
-fn plain_sentence(alloc: Global, refusal: &Refusal) -> Result<Option<String>, AllocError> {
-    said(alloc, plain(refusal))
-}
-
 // The sentence of a refusal whose cause needs no names.
-fn plain(refusal: &Refusal) -> Option<&'static str> {
+fn plain(refusal: &Refusal) -> &'static str {
     match refusal {
         Refusal::TooManyGraphs => {
-            Some("there are 256 graphs, and none is ever taken out: another record has room")
+            "there are 256 graphs, and none is ever taken out: another record has room"
         }
-        Refusal::GraphDiffers => Some(
-            "the graph has runs, and load leaves its text as it is: say replace in the place of load",
-        ),
-        Refusal::BadSpan => Some("TO lies before FROM: the order is FROM TO"),
-        Refusal::RunExists => Some(
-            "the graph has a run of this date already: a run by hand has the record's clock as its date, and only a tick moves it",
-        ),
-        Refusal::NoInterval => Some("no interval of the graph's schedule has ended yet"),
-        Refusal::InFlight(_) => Some(
-            "wait until it has ended (in a script of your own: drain): a task that runs is not set back",
-        ),
-        Refusal::PoolFault(_) => Some("there are 64 pools, and none is ever taken out"),
-        Refusal::RecordFull => Some(
-            "the record would have more than 1,000,000 runs, which is the most",
-        ),
-        _ => None,
+        Refusal::GraphDiffers => {
+            "the graph has runs, and load leaves its text as it is: say replace in the place of load"
+        }
+        Refusal::BadSpan => "TO lies before FROM: the order is FROM TO",
+        Refusal::RunExists => {
+            "the graph has a run of this date already: a run by hand has the record's clock as its date, and only a tick moves it"
+        }
+        Refusal::NoInterval => "no interval of the graph's schedule has ended yet",
+        Refusal::InFlight(_) => {
+            "wait until it has ended (in a script of your own: drain): a task that runs is not set back"
+        }
+        Refusal::PoolFault(_) => "there are 64 pools, and none is ever taken out",
+        Refusal::RecordFull => {
+            "the record would have more than 1,000,000 runs, which is the most"
+        }
+        _ => "",
     }
 }
 
@@ -134,54 +163,67 @@ fn graph_of(event: &Event) -> Option<&Name> {
     }
 }
 
-// That there is no graph or task of this name.
-fn missing(alloc: Global, name: Option<&Name>, kind: &str) -> Result<Option<String>, AllocError> {
+// Adds that there is no graph or task of this name.
+fn push_missing(sentence: &mut String, name: Option<&Name>, kind: &str) -> Result<(), AllocError> {
     match name {
         Some(name) => {
-            let name = name.as_str();
-            Ok(Some(format!(in alloc; "there is no {kind} \"{name}\"")?))
+            say(
+                sentence,
+                "there is no {} \"{}\"",
+                &[Text(kind), Text(name.as_str())],
+            )
         }
-        None => Ok(None),
+        None => Ok(()),
     }
 }
 
-// What is to be told of a question that has no answer. Its words are `explain DAG LOGICAL TASK`.
-pub fn unexplained_note(
-    alloc: Global,
+// Adds why a question has no answer; what the schedule says beside it. Its words are `explain DAG LOGICAL TASK`.
+pub fn push_unexplained(
+    sentence: &mut String,
     asked: Asked<'_>,
     fault: ExplainFault,
-) -> Result<Option<Note>, AllocError> {
-    let values = asked.values(alloc)?;
-    let [_, graph, logical, task, ..] = values.as_slice() else {
-        return Ok(None);
+) -> Result<Rest, AllocError> {
+    let values = asked.values(*sentence.allocator())?;
+    push_unexplained_of(sentence, values.as_slice(), fault)
+}
+
+// The same of these words.
+fn push_unexplained_of(
+    sentence: &mut String,
+    values: &[&str],
+    fault: ExplainFault,
+) -> Result<Rest, AllocError> {
+    let [_, graph, logical, task, ..] = values else {
+        return Ok(Rest::Nothing);
     };
+    push_unknown(sentence, fault, graph, logical, task)?;
     match fault {
-        ExplainFault::UnknownGraph => Ok(Some(unknown_graph(alloc, graph)?)),
-        ExplainFault::UnknownRun => alone(format!(in alloc;
-            "the graph \"{graph}\" has no run of the date {logical}: {DATES_HINT}"
-        )?),
-        ExplainFault::UnknownTask => Ok(Some(unknown_task(alloc, graph, task)?)),
-        ExplainFault::Memory => Ok(None),
+        ExplainFault::UnknownGraph => near_graph(*sentence.allocator(), graph),
+        ExplainFault::UnknownTask => near_task(*sentence.allocator(), graph, task),
+        ExplainFault::UnknownRun | ExplainFault::Memory => Ok(Rest::Nothing),
     }
 }
 
-// That there is no graph of this name, and which was probably meant.
-fn unknown_graph(alloc: Global, graph: &str) -> Result<Note, AllocError> {
-    let text = format!(in alloc; "there is no graph \"{graph}\"")?;
-    let rest = near(alloc, graph)?;
-    Ok(Note { text, rest })
-}
-
-// That a graph has no task of this name, and which was probably meant.
-fn unknown_task(alloc: Global, graph: &str, task: &str) -> Result<Note, AllocError> {
-    let text = format!(in alloc; "the graph \"{graph}\" has no task \"{task}\"")?;
-    let rest = tasks(alloc, graph, task)?;
-    Ok(Note { text, rest })
-}
-
-fn alone(text: String) -> Result<Option<Note>, AllocError> {
-    Ok(Some(Note {
-        text,
-        rest: Rest::Nothing,
-    }))
+// Adds what is not there of the graph, the date and the task of a question.
+fn push_unknown<'a>(
+    sentence: &mut String,
+    fault: ExplainFault,
+    graph: &'a str,
+    logical: &'a str,
+    task: &'a str,
+) -> Result<(), AllocError> {
+    match fault {
+        ExplainFault::UnknownGraph => say(sentence, "there is no graph \"{}\"", &[Text(graph)]),
+        ExplainFault::UnknownRun => say(
+            sentence,
+            "the graph \"{}\" has no run of the date {}: {}",
+            &[Text(graph), Text(logical), Text(DATES_HINT)],
+        ),
+        ExplainFault::UnknownTask => say(
+            sentence,
+            "the graph \"{}\" has no task \"{}\"",
+            &[Text(graph), Text(task)],
+        ),
+        ExplainFault::Memory => Ok(()),
+    }
 }

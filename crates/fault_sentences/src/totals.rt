@@ -4,7 +4,7 @@ use script_reader::Schedule;
 use trigger_rules::State;
 
 // How many task instances are how far.
-#[derive(Clone, Copy, Debug, PartialEq, Eq)]
+#[derive(Clone, Copy)]
 pub(crate) struct Totals {
     // With a try without an end.
     pub(crate) in_flight: usize,

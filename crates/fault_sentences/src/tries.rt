@@ -1,4 +1,6 @@
 //! Sentences on what became of tries.
+use crate::parts::Part::{Date, Number, Text};
+use crate::parts::{push_between, say, say_more};
 use graph_file::{Operator, TaskSpec};
 use instance_machine::{End, Instance, Outcome, Try};
 use moment_core::Moment;
@@ -11,7 +13,7 @@ use trigger_rules::State;
 const MOST_NAMES: usize = 3;
 
 /// Which tries had no end when a schedule was looked at, so that their ends are still to be told.
-#[derive(Debug, Drop)]
+#[derive(Drop)]
 pub struct Untold {
     // The serials of those that were handed out, as many as there are lanes at most.
     in_flight: Vec<u64>,
@@ -22,7 +24,7 @@ pub struct Untold {
 impl Untold {
     // Whether a try with this serial is one of them.
     fn has(&self, serial: u64) -> bool {
-        self.next_serial <= serial || self.in_flight.as_slice().iter().any(|it| *it == serial)
+        self.next_serial <= serial || self.in_flight.as_slice().contains(&serial)
     }
 
     // Whether all of them are without an end at this schedule too.
@@ -37,10 +39,10 @@ fn ended_of(next_serial: u64, in_flight: usize) -> u64 {
     next_serial.saturating_sub(in_flight as u64)
 }
 
-/// What is told of tries at a schedule: a sentence, if there is something to tell, and what is still to be told.
-#[derive(Debug, Drop)]
+/// What is told of tries at a schedule: a sentence or nothing, and what is still to be told.
+#[derive(Drop)]
 pub struct Told {
-    pub text: Option<String>,
+    pub text: String,
     pub untold: Untold,
 }
 
@@ -86,12 +88,19 @@ impl Which<'_> {
                     None
                 }
             }
-            Which::LostAt(second) => instance
-                .tries()
-                .iter()
-                .find(|one| is_lost(one) && ended_at(one) == Some(*second)),
+            Which::LostAt(second) => lost_at(instance.tries(), *second),
         }
     }
+}
+
+// The first of these tries that was lost in this second.
+fn lost_at(tries: &[Try], second: u64) -> Option<&Try> {
+    for one in tries {
+        if is_lost(one) && ended_at(one) == Some(second) {
+            return Some(one);
+        }
+    }
+    None
 }
 
 // The second in which a try has ended.
@@ -118,14 +127,7 @@ fn tallied(
 ) -> Result<Told, AllocError> {
     let mut tally = Tally::new(alloc);
     tally.add_runs(schedule, which)?;
-    let text = tally.sentence(alloc, has_logs)?;
-    let Tally { in_flight, .. } = tally;
-    let next_serial = schedule.next_serial();
-    let untold = Untold {
-        in_flight,
-        next_serial,
-    };
-    Ok(Told { text, untold })
+    tally.told(alloc, schedule.next_serial(), has_logs)
 }
 
 // How many task instances ended how, with the first of them by name.
@@ -222,29 +224,41 @@ impl Tally {
         }
     }
 
-    fn add_name(&mut self, run: &Run, task: &TaskSpec) -> Result<(), AllocError> {
+    fn add_name<'a>(&mut self, run: &'a Run, task: &'a TaskSpec) -> Result<(), AllocError> {
         if self.named == MOST_NAMES {
             return Ok(());
         }
         self.named = self.named.saturating_add(1);
-        let (graph, logical, task) = (run.graph.as_str(), run.logical, task.task_id.as_str());
-        if !self.names.is_empty() {
-            self.names.push_str(", ")?;
-        }
-        write!(self.names, "{graph} {logical} {task}")
+        push_between(&mut self.names, ", ")?;
+        say(
+            &mut self.names,
+            "{} {} {}",
+            &[
+                Text(run.graph.as_str()),
+                Date(run.logical),
+                Text(task.task_id.as_str()),
+            ],
+        )
     }
 
-    // `2 failed, 1 lost: DAG LOGICAL TASK, ..; 1 up for a retry, from MOMENT on`, and how a failure of a program is found out
-    fn sentence(&self, alloc: Global, has_logs: bool) -> Result<Option<String>, AllocError> {
+    // What is told of them, where this is the serial of the next try.
+    fn told(self, alloc: Global, next_serial: u64, has_logs: bool) -> Result<Told, AllocError> {
+        let text = self.text(alloc, has_logs)?;
+        let Tally { in_flight, .. } = self;
+        let untold = Untold {
+            in_flight,
+            next_serial,
+        };
+        Ok(Told { text, untold })
+    }
+
+    fn text(&self, alloc: Global, has_logs: bool) -> Result<String, AllocError> {
         let mut text = String::new(alloc);
         self.push_ends(&mut text, has_logs)?;
-        if text.is_empty() {
-            Ok(None)
-        } else {
-            Ok(Some(text))
-        }
+        Ok(text)
     }
 
+    // Adds `2 failed, 1 lost: DAG LOGICAL TASK, ..; 1 up for a retry, from MOMENT on`, and how a failure of a program is found out
     fn push_ends(&self, text: &mut String, has_logs: bool) -> Result<(), AllocError> {
         push_count(text, self.failed, "failed")?;
         push_count(
@@ -265,8 +279,7 @@ impl Tally {
         if self.names.is_empty() {
             return Ok(());
         }
-        text.push_str(": ")?;
-        text.push_str(self.names.as_str())?;
+        say(text, ": {}", &[Text(self.names.as_str())])?;
         self.push_more(text)
     }
 
@@ -279,7 +292,7 @@ impl Tally {
         if more == 0 {
             return Ok(());
         }
-        write!(text, " and {more} more")
+        say(text, " and {} more", &[Number(more as u64)])
     }
 
     // Adds how many wait for a retry, and from which moment on.
@@ -288,12 +301,9 @@ impl Tally {
         if count == 0 {
             return Ok(());
         }
-        if !text.is_empty() {
-            text.push_str("; ")?;
-        }
-        write!(text, "{count} up for a retry")?;
+        say_more(text, "{} up for a retry", &[Number(count as u64)])?;
         match moment_of(self.retry_at) {
-            Some(moment) => write!(text, ", from {moment} on"),
+            Some(moment) => say(text, ", from {} on", &[Date(moment)]),
             None => Ok(()),
         }
     }
@@ -304,10 +314,8 @@ fn push_count(text: &mut String, count: usize, what: &str) -> Result<(), AllocEr
     if count == 0 {
         return Ok(());
     }
-    if !text.is_empty() {
-        text.push_str(", ")?;
-    }
-    write!(text, "{count} {what}")
+    push_between(text, ", ")?;
+    say(text, "{} {}", &[Number(count as u64), Text(what)])
 }
 
 fn moment_of(seconds: u64) -> Option<Moment> {
