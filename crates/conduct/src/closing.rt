@@ -30,7 +30,7 @@ use work::{Gate, WorkerEnd};
 
 /// Settles what the threads did, unless a thread was refused. Where the session came to its end, `Unequal` says that something is left in a queue, or that
 /// a report was missed. Another fault is passed on.
-pub fn close<D: Ledger, S: Alter, G: Gate, O: Operator, R: Wait>(
+pub(crate) fn close<D: Ledger, S: Alter, G: Gate, O: Operator, R: Wait>(
     rt: &R,
     alloc: Global,
     lanes: Lanes,

@@ -12,7 +12,7 @@ use work::Gate;
 
 /// The lanes and the desk, with a pass and a share for each worker, and room for what comes back.
 #[derive(Drop)]
-pub struct Equipment<D: Ledger, G: Gate, O: Operator> {
+pub(crate) struct Equipment<D: Ledger, G: Gate, O: Operator> {
     pub lanes: Lanes,
     pub desk: SlotDesk<D>,
     pub pass: DirectorPass,
@@ -22,14 +22,14 @@ pub struct Equipment<D: Ledger, G: Gate, O: Operator> {
 
 /// What the workers get, and room for their threads.
 #[derive(Drop)]
-pub struct Posts<D: Ledger, G: Gate, O: Operator> {
+pub(crate) struct Posts<D: Ledger, G: Gate, O: Operator> {
     pub handles: Vec<Handle<D, G, O>>,
     pub passes: Vec<WorkerPass>,
     pub shares: Vec<Share<D>>,
 }
 
 /// Equips a run with so many lanes and so many workers.
-pub fn equip<D: Ledger, G: Gate, O: Operator>(
+pub(crate) fn equip<D: Ledger, G: Gate, O: Operator>(
     alloc: Global,
     blank: Blank,
     lane_count: u32,

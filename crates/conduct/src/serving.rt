@@ -15,7 +15,7 @@ use std::sync::Wait;
 
 /// How many workers were started, and whether these are all.
 #[derive(Clone, Copy, Debug, PartialEq, Eq)]
-pub struct Started {
+pub(crate) struct Started {
     pub workers: usize,
     pub are_all: bool,
 }
@@ -29,7 +29,7 @@ pub struct Served<S: Alter> {
 
 /// Serves a session of the director, if all workers were started, and sends each that was a stop. The session borrows the lanes, so it is made and taken apart
 /// here.
-pub fn serve<S: Alter, L: Lines<S>, C: Clock, R: Wait>(
+pub(crate) fn serve<S: Alter, L: Lines<S>, C: Clock, R: Wait>(
     rt: &R,
     alloc: Global,
     lanes: &Lanes,

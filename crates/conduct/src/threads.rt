@@ -24,7 +24,7 @@ use work::{Crew, Gate};
 
 /// What came of the threads: what is left of the session, how it ended, and what each worker that was started gave back.
 #[derive(Drop)]
-pub struct Managed<D: Ledger, S: Alter, G: Gate, O: Operator> {
+pub(crate) struct Managed<D: Ledger, S: Alter, G: Gate, O: Operator> {
     pub parted: Parted<S>,
     pub outcome: Result<(), ConductFault>,
     pub results: Vec<Worked<D, G, O>>,
@@ -41,7 +41,7 @@ struct Lent<'l, 'c, D: Ledger, S: Alter, G: Gate, O: Operator, L: Lines<S>, C: C
 }
 
 /// Starts the workers, serves the session, stops the workers and joins them.
-pub fn manage<
+pub(crate) fn manage<
     D: Ledger + Send + Sync,
     S: Alter + Drop,
     G: Gate + Send,

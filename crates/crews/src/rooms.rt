@@ -33,7 +33,7 @@ impl<L: Ledger, G: Gate, O: Operator> Model for Room<L, G, O> {
 
 /// What came back of the workers, each kind in a list of its own, in the workers' order.
 #[derive(Drop)]
-pub struct Parts<L: Ledger, G: Gate, O: Operator> {
+pub(crate) struct Parts<L: Ledger, G: Gate, O: Operator> {
     pub ends: Vec<WorkerEnd<G, O>>,
     pub passes: Vec<WorkerPass>,
     pub shares: Vec<Share<L>>,

@@ -98,6 +98,7 @@ impl Graph {
     }
 
     /// The places whose upstream a place is, rising.
+    /// Only a stored run calls this: `reach` and `is_leaf` read the same lists.
     pub fn downstreams(&self, place: usize) -> &[usize]
         requires { place < length self.now.tasks }
         ensures { result.now ≡ downs self.now place }

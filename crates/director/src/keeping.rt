@@ -13,7 +13,7 @@ use sched_events::Answer;
 use sqlite::Alter;
 
 // Writes the change to the record in one transaction, and then does it in memory, for which room was reserved before.
-pub fn keep<S: Alter>(
+pub(crate) fn keep<S: Alter>(
     store: &mut Store<S>,
     schedule: &mut Schedule,
     change: Change,

@@ -19,7 +19,7 @@ use sqlite::Alter;
 use std::alloc::Global;
 
 // Makes a record of version 1 one of version 2, loads the schedule that it holds, and steps a restart of it in the record too.
-pub fn restart<S: Alter>(
+pub(crate) fn restart<S: Alter>(
     alloc: Global,
     store: &mut Store<S>,
     lanes: u32,

@@ -18,7 +18,7 @@ use std::alloc::Global;
 
 // Plans the event, writes it to the record in one transaction, and does it in memory. Where it is not done, schedule and record are as they
 // were.
-pub fn step<S: Alter>(
+pub(crate) fn step<S: Alter>(
     alloc: Global,
     store: &mut Store<S>,
     schedule: &mut Schedule,

@@ -21,7 +21,7 @@ fn is_waiting(state: State) -> bool
     matches!(state, State::None | State::Scheduled | State::UpForRetry)
 }
 
-pub fn finished(subject: &Subject<'_>) -> Option<Reason>
+pub(crate) fn finished(subject: &Subject<'_>) -> Option<Reason>
     ensures { result ≡ spec.finished subject.now }
 {
     let state = subject.state();
@@ -32,7 +32,7 @@ pub fn finished(subject: &Subject<'_>) -> Option<Reason>
     }
 }
 
-pub fn handed_out(subject: &Subject<'_>) -> Option<Reason>
+pub(crate) fn handed_out(subject: &Subject<'_>) -> Option<Reason>
     ensures { result ≡ spec.handed_out subject.now }
 {
     if !matches!(subject.state(), State::Queued | State::Running) {
@@ -45,7 +45,7 @@ pub fn handed_out(subject: &Subject<'_>) -> Option<Reason>
     }
 }
 
-pub fn run_queued(schedule: &Schedule, subject: &Subject<'_>) -> Option<Reason>
+pub(crate) fn run_queued(schedule: &Schedule, subject: &Subject<'_>) -> Option<Reason>
     ensures { result ≡ spec.run_queued schedule.now.content subject.now }
 {
     let run = subject.run;
@@ -59,7 +59,7 @@ pub fn run_queued(schedule: &Schedule, subject: &Subject<'_>) -> Option<Reason>
     })
 }
 
-pub fn paused(subject: &Subject<'_>) -> Option<Reason>
+pub(crate) fn paused(subject: &Subject<'_>) -> Option<Reason>
     ensures { result ≡ spec.paused subject.now }
 {
     let graph = subject.graph;
@@ -70,7 +70,7 @@ pub fn paused(subject: &Subject<'_>) -> Option<Reason>
     }
 }
 
-pub fn run_finished(subject: &Subject<'_>) -> Option<Reason>
+pub(crate) fn run_finished(subject: &Subject<'_>) -> Option<Reason>
     ensures { result ≡ spec.run_finished subject.now }
 {
     let run = subject.run;
@@ -102,7 +102,7 @@ fn rule_waits(schedule: &Schedule, subject: &Subject<'_>) -> bool
 }
 
 // Adds the upstreams that are not finished, where the rule waits.
-pub fn add_upstreams(
+pub(crate) fn add_upstreams(
     alloc: Global,
     schedule: &Schedule,
     subject: &Subject<'_>,
@@ -159,7 +159,7 @@ fn past_in(subject: &Subject<'_>, before: &Run) -> Option<Reason>
     }
 }
 
-pub fn past(schedule: &Schedule, subject: &Subject<'_>) -> Option<Reason>
+pub(crate) fn past(schedule: &Schedule, subject: &Subject<'_>) -> Option<Reason>
     requires { IsSubjectOf schedule.now.content subject.now }
     ensures { result ≡ spec.past schedule.now.content subject.now }
 {

@@ -13,7 +13,7 @@ use sched_state::LAST_SERIAL;
 use std::alloc::{AllocError, Global};
 use trigger_rules::State;
 
-pub fn retry_later(schedule: &Schedule, subject: &Subject<'_>) -> Option<Reason>
+pub(crate) fn retry_later(schedule: &Schedule, subject: &Subject<'_>) -> Option<Reason>
     ensures { result ≡ spec.retry_later schedule.now.content subject.now }
 {
     let instance = subject.instance;
@@ -58,7 +58,7 @@ fn pool_of<'a>(schedule: &'a Schedule, name: &Name) -> Option<PoolRow<'a>>
     None
 }
 
-pub fn pool_full(
+pub(crate) fn pool_full(
     alloc: Global,
     schedule: &Schedule,
     subject: &Subject<'_>,
@@ -80,7 +80,7 @@ pub fn pool_full(
     }
 }
 
-pub fn graph_full(schedule: &Schedule, subject: &Subject<'_>) -> Option<Reason>
+pub(crate) fn graph_full(schedule: &Schedule, subject: &Subject<'_>) -> Option<Reason>
     ensures { result ≡ spec.graph_full schedule.now.content subject.now }
 {
     let run = subject.run;
@@ -94,7 +94,7 @@ pub fn graph_full(schedule: &Schedule, subject: &Subject<'_>) -> Option<Reason>
     }
 }
 
-pub fn lanes_full(schedule: &Schedule, subject: &Subject<'_>) -> Option<Reason>
+pub(crate) fn lanes_full(schedule: &Schedule, subject: &Subject<'_>) -> Option<Reason>
     ensures { result ≡ spec.lanes_full schedule.now.content subject.now }
 {
     let in_flight = schedule.in_flight();

@@ -15,7 +15,7 @@ use trigger_rules::State;
 
 // A task instance with its run and its graph.
 #[derive(Drop)]
-pub struct Subject<'a> {
+pub(crate) struct Subject<'a> {
     pub graph: &'a LoadedGraph,
     pub run: &'a Run,
     // Of its task in the graph.
@@ -43,7 +43,7 @@ impl<'a> Subject<'a> {
 }
 
 // The instance of a task in the run of a graph with this logical date, or what is not there.
-pub fn subject_of<'a>(
+pub(crate) fn subject_of<'a>(
     schedule: &'a Schedule,
     graph: &Name,
     logical: Moment,

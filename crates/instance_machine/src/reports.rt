@@ -16,6 +16,7 @@ pub enum ReportFault {
 
 impl Instance {
     /// Takes in what a worker reports of its open try. A refused report changes nothing.
+    /// No crate above calls this: drafts go by [`Instance::report`].
     pub fn apply_report(&mut self, stage: Stage, now: Moment) -> Result<(), ReportFault>
         ensures { reported stage now self.old self.new result }
     {
@@ -64,7 +65,7 @@ fn after_report(last: Try, stage: Stage, now: Moment) -> Option<Try>
 }
 
 // The try after a report of the one with this serial.
-pub fn reported_try(old: &Try, serial: u64, stage: Stage, now: Moment) -> Try
+pub(crate) fn reported_try(old: &Try, serial: u64, stage: Stage, now: Moment) -> Try
     ensures { result ≡ spec.reported_try serial stage now old.now }
 {
     if old.serial == serial {
@@ -76,7 +77,7 @@ pub fn reported_try(old: &Try, serial: u64, stage: Stage, now: Moment) -> Try
 }
 
 // The try after a restart at this moment.
-pub fn lost_try(old: Try, now: Moment) -> Try
+pub(crate) fn lost_try(old: Try, now: Moment) -> Try
     ensures { result ≡ spec.lost_try now old }
 {
     match old.ended {

@@ -139,22 +139,6 @@ only_migrated R a b s = survives_weaker a b (CommitsBy Migrates a) (CommitsBy (O
 abbrev pub Answered : Bool → State → State → Type 0
 Answered did a b = MatchBool did (Migrates a.now b.now) (IsTrue b.is_open → (b.now ≡ a.now) × (b.committed ≡ a.committed))
 
-pub answered_mid : (did : Bool) (a b : State) → Answered did a b → IsTrue b.is_open → (b.now ≡ a.now) ⊎ Migrates a.now b.now
-answered_mid true a b h is_open = inr h
-answered_mid false a b h is_open = inl (h is_open).0
-
--- a later call that kept what was there
-pub answered_kept : (did : Bool) (a b c : State) → Answered did a b → (did ≡ true → b.committed ≡ b.now) → IsTrue b.is_open → (c.now ≡ b.now) × (c.committed ≡ b.committed) → IsKeptOrMigrated a c
-answered_kept true a b c h settled is_open same =
-    inr (subst (λ (d : Database). Migrates a.now d) (sym same.0) h, same.1 ∙ settled refl ∙ sym same.0)
-answered_kept false a b c h settled is_open same = inl (same.0 ∙ (h is_open).0, same.1 ∙ (h is_open).1)
-
--- the record has the rows that it had, in version 2 (`which`)
-pub answered_rows : (did : Bool) (a b : State) → Answered did a b → (did ≡ false → has_limits a.now.schema ≡ true) → IsTrue b.is_open → (rows : Rows) → HasRows a.now rows → Stores b.now rows
-answered_rows true a b h which is_open rows has = rows_kept a.now b.now rows has h
-answered_rows false a b h which is_open rows (inl stored) = subst (λ (d : Database). Stores d rows) (sym (h is_open).0) stored
-answered_rows false a b h which is_open rows (inr first) = absurd (no_first a.now first.0 (which refl) first.1)
-
 -- ---- a record that is none once it is migrated was none before
 second_version : (ms : List MetaRow) → is_version (pos 1) ms ≡ true → is_version (pos 2) (map second ms) ≡ true
 second_version [] h = absurd (true≢false (sym h))
@@ -182,13 +166,3 @@ none_before old new m (inl lacks) rows stored texts =
 none_before old new m (inr none) rows stored texts =
     let it = m.stored rows stored in
     true≢false (sym (second_version rows.metas it.0) ∙ none.second (upgraded rows) it.1 (upgraded_texts rows texts))
-
-pub answered_none : (did : Bool) (a b : State) → Answered did a b → IsTrue b.is_open → IsNoRecord b.now → IsNoRecord a.now
-answered_none true a b m is_open none = inr (record {
-  second = λ rows stored texts. absurd (no_second a.now rows m.was stored);
-  first = λ rows stored texts. absurd (none_before a.now b.now m none rows stored texts);
-})
-answered_none false a b h is_open none = subst IsNoRecord (h is_open).0 none
-
-pub survives_migrates : (a b : State) → has_limits a.now.schema ≡ false → Survives a b (CommitsBy Upgrades a) → Survives a b (CommitsBy Migrates a)
-survives_migrates a b was s = survives_weaker a b (CommitsBy Upgrades a) (CommitsBy Migrates a) (λ clean db may. (may.0, (may.1.0, record { was = was; stored = may.1.1 }, may.1.2))) s

@@ -63,7 +63,7 @@ fn second_rows(
 }
 
 /// The rows of a record of version 1, as version 2 has them.
-pub fn upgrade_rows(alloc: Global, rows: Rows) -> Result<Rows, AllocError>
+pub(crate) fn upgrade_rows(alloc: Global, rows: Rows) -> Result<Rows, AllocError>
     ensures { IfOk result (λ made. made ≡ spec.upgraded rows) }
 {
     Ok(Rows {
@@ -93,7 +93,7 @@ fn add_table<S: Alter>(tx: &mut Transaction<'_, S>) -> Result<(), LoadFault>
 }
 
 /// Reads all tables of a record of version 1, inside a transaction that is then dropped: the one that it lacks is made first.
-pub fn load_old_rows<S: Alter>(
+pub(crate) fn load_old_rows<S: Alter>(
     alloc: Global,
     tx: &mut Transaction<'_, S>,
 ) -> Result<Rows, LoadFault>
@@ -170,7 +170,7 @@ fn put_second<S: Alter>(
 }
 
 /// Makes a record of version 1 one of version 2, inside a transaction that is then committed.
-pub fn upgrade<S: Alter>(alloc: Global, tx: &mut Transaction<'_, S>) -> Result<(), LoadFault>
+pub(crate) fn upgrade<S: Alter>(alloc: Global, tx: &mut Transaction<'_, S>) -> Result<(), LoadFault>
     ensures same_reference { tx.new.conn.ghost_name ≡ tx.old.conn.ghost_name }
     ensures fault { HasCleanDisk (state S.Store tx.new.conn.now)
         → IsTrue (state S.Store tx.old.conn.now).in_transaction → IfErr result (λ e.

@@ -11,7 +11,7 @@ use std::{fs, io};
 /// The folder of a try that is taken up. Contracts see its path.
 ///
 /// It is no `Drop`, and `remove` alone takes it apart: code that lets go of one without removing the folder does not compile.
-pub struct TryFolder {
+pub(crate) struct TryFolder {
     path: String,
 }
 

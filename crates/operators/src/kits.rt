@@ -43,6 +43,7 @@ impl<O: Operator> Kit<O> {
     }
 
     /// The tries that the operator of the kind performed, in order, by serial and outcome.
+    /// Nothing calls this: contracts see the same as `by_serial`.
     pub fn runs(&self, kind: Kind) -> &[(u64, Outcome)]
         ensures { result.now ≡ by_serial (O.runs_of (of_kind self.now kind)) }
     {

@@ -8,7 +8,7 @@ use std::snapshot::Snapshot;
 
 /// A job as it was. Contracts see the job.
 #[derive(Drop)]
-pub struct Remembered {
+pub(crate) struct Remembered {
     job: Snapshot<Job>,
 }
 
@@ -33,7 +33,7 @@ impl Remembered {
 
 /// A try that was performed. Contracts see its job and its outcome.
 #[derive(Drop)]
-pub struct Performed {
+pub(crate) struct Performed {
     job: Snapshot<Job>,
     outcome: Snapshot<Outcome>,
 }

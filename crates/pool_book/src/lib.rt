@@ -14,6 +14,8 @@
 //! pools.occupy(&p, two);  ready.withdraw(&a);
 //! ready.best_fitting(&pools, &rooms)                // c: b needs 2 slots, and 1 is open
 //! ```
+//!
+//! Hand-outs of the program go by [`Pools`], and not by [`Ready`] and [`Rooms`].
 #![tactic(auto)]
 
 mod keys;

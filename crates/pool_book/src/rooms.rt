@@ -1,4 +1,5 @@
 //! Which graphs have room for one more try (Airflow 2, the class `DAG`: `max_active_tasks`).
+//! No crate above uses this: hand-outs go by `sched_handout/src/rooms.rt`.
 ghost use Rattle.std.specs.Prelude.{◌≡◌, ◌<◌, ◌++◌, ◌-◌, [], false, nat_lt, length, replicate, slice_set, OnOk, OnErr};
 ghost use Rattle.pool_book.specs.Rooms.{has_room};
 

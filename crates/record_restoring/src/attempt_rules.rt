@@ -15,7 +15,7 @@ use record_rows::{AttemptRow, Rows};
 use sched_state::LoadedGraph;
 
 // The first row of `attempt` at fault, where the rows of `instance` are right. `buckets` are the tries of each of these.
-pub fn attempt_fault(
+pub(crate) fn attempt_fault(
     graphs: &[LoadedGraph],
     rows: &Rows,
     attempts: &[AttemptRow],

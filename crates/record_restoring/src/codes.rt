@@ -11,13 +11,13 @@ use moment_core::Moment;
 use sched_state::{RunKind, RunPhase};
 use trigger_rules::Verdict;
 
-pub fn flag_of(code: i64) -> bool
+pub(crate) fn flag_of(code: i64) -> bool
     ensures { result ≡ spec.flag_of (natural code) }
 {
     code > 0
 }
 
-pub fn kind_of(code: i64) -> Option<RunKind>
+pub(crate) fn kind_of(code: i64) -> Option<RunKind>
     ensures { result ≡ when (is_between 0 2 code) (spec.kind_of (natural code)) }
 {
     match code {
@@ -28,7 +28,7 @@ pub fn kind_of(code: i64) -> Option<RunKind>
     }
 }
 
-pub fn phase_of(code: i64) -> Option<RunPhase>
+pub(crate) fn phase_of(code: i64) -> Option<RunPhase>
     ensures { result ≡ when (is_between 0 3 code) (spec.phase_of (natural code)) }
 {
     match code {
@@ -41,7 +41,7 @@ pub fn phase_of(code: i64) -> Option<RunPhase>
 }
 
 // The verdict, which is itself absent where there is none yet.
-pub fn verdict_of(code: i64) -> Option<Option<Verdict>>
+pub(crate) fn verdict_of(code: i64) -> Option<Option<Verdict>>
     ensures value { result ≡ when (is_between 0 3 code) (spec.verdict_of (natural code)) }
     ensures decided { IfSome result (λ verdict. verdict ≢ Some Verdict.Wait) }
 {
@@ -54,7 +54,7 @@ pub fn verdict_of(code: i64) -> Option<Option<Verdict>>
     }
 }
 
-pub fn outcome_of(code: i64) -> Option<Outcome>
+pub(crate) fn outcome_of(code: i64) -> Option<Outcome>
     ensures { result ≡ when (is_between 0 3 code) (spec.outcome_of (natural code)) }
 {
     match code {
@@ -67,14 +67,14 @@ pub fn outcome_of(code: i64) -> Option<Outcome>
 }
 
 // The moment of a column.
-pub fn moment_of(column: i64) -> Option<Moment>
+pub(crate) fn moment_of(column: i64) -> Option<Moment>
     ensures { result ≡ when (is_moment_column column) (natural column) }
 {
     Moment::from_secs(column)
 }
 
 // The count of a column.
-pub fn count_of(column: i64) -> usize
+pub(crate) fn count_of(column: i64) -> usize
     requires { int_le (pos 0) column ≡ true }
     ensures { result ≡ natural column }
 {
@@ -82,7 +82,7 @@ pub fn count_of(column: i64) -> usize
 }
 
 // The lanes of a column, which are no more than a limit.
-pub fn lanes_of(limit: u32, column: i64) -> u32
+pub(crate) fn lanes_of(limit: u32, column: i64) -> u32
     requires { is_between 0 limit column ≡ true }
     ensures { result ≡ natural column }
 {
@@ -90,7 +90,7 @@ pub fn lanes_of(limit: u32, column: i64) -> u32
 }
 
 // The serial of a column.
-pub fn serial_of(column: i64) -> u64
+pub(crate) fn serial_of(column: i64) -> u64
     requires { int_le (pos 1) column ≡ true }
     ensures { result ≡ natural column }
 {
@@ -104,7 +104,7 @@ pub const USUAL_BOUND: u32 = 16;
 pub const OLD_BOUND: u32 = 1_000_000;
 
 // The bound of a column; where it is out of the range, the usual one.
-pub fn bound_of(column: i64) -> Bounded<1, 1_000_000>
+pub(crate) fn bound_of(column: i64) -> Bounded<1, 1_000_000>
     ensures { result ≡ spec.bound_of_column column }
 {
     if 1 <= column && column <= 1_000_000 {

@@ -27,7 +27,7 @@ use sched_state::{GraphText, Limits, LoadedGraph};
 use std::alloc::{AllocError, Global};
 
 // The graphs that the rows of `dag` say, or the first row at fault.
-pub fn read_graphs(
+pub(crate) fn read_graphs(
     alloc: Global,
     limits: Limits,
     rows: &Rows,

@@ -15,7 +15,7 @@ pub fn earlier(first: Option<usize>, second: Option<usize>) -> Option<usize>
 }
 
 // The first row past a limit, where there are so many rows.
-pub fn past_limit(limit: u32, count: usize) -> Option<usize>
+pub(crate) fn past_limit(limit: u32, count: usize) -> Option<usize>
     ensures { result ≡ when (nat_lt limit count) limit }
 {
     let limit = limit as usize;

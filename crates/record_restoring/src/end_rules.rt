@@ -16,7 +16,7 @@ use record_rows::{Rows, RunRow};
 use sched_state::{LoadedGraph, Run, RunPhase};
 
 // The first run that has ended before one of its task instances is finished. `runs` are those of the rows.
-pub fn end_fault(
+pub(crate) fn end_fault(
     graphs: &[LoadedGraph],
     rows: &Rows,
     run_rows: &[RunRow],

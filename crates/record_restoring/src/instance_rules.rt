@@ -20,7 +20,11 @@ use record_rows::{InstanceRow, Rows, RunRow};
 use sched_state::LoadedGraph;
 
 // The first row of `instance` at fault. `buckets` are the tries of each row.
-pub fn instance_fault(graphs: &[LoadedGraph], rows: &Rows, buckets: &[Bucket<'_>]) -> Option<usize>
+pub(crate) fn instance_fault(
+    graphs: &[LoadedGraph],
+    rows: &Rows,
+    buckets: &[Bucket<'_>],
+) -> Option<usize>
     requires order { rises graph_before graphs.now ≡ true }
     requires keyed { IsByKey rows.now }
     requires dealt { buckets.now ≡ map (tries_among rows.now.attempts) rows.now.instances }

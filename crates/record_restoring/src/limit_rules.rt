@@ -19,7 +19,7 @@ use record_rows::{DagLimitRow, DagRow, Rows};
 use sched_state::LoadedGraph;
 
 // The first row of `dag_limit` at fault.
-pub fn limit_fault(graphs: &[LoadedGraph], rows: &Rows) -> Option<usize>
+pub(crate) fn limit_fault(graphs: &[LoadedGraph], rows: &Rows) -> Option<usize>
     requires order { rises graph_before graphs.now ≡ true }
     requires limits { rises dag_limit_row_before rows.now.dag_limits ≡ true }
     ensures { result ≡ spec.limit_fault graphs.now rows.now }

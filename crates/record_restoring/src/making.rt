@@ -16,7 +16,7 @@ use record_rows::{AttemptRow, InstanceRow};
 use std::alloc::{AllocError, Global};
 
 // The instance of a row with the rows of its tries, which are right.
-pub fn read_instance(
+pub(crate) fn read_instance(
     alloc: Global,
     row: &InstanceRow,
     tries: &Bucket<'_>,

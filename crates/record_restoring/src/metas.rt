@@ -10,7 +10,7 @@ use record_rows::MetaRow;
 use sched_state::{LAST_SERIAL, Limits};
 
 // The first row of `meta` at fault.
-pub fn meta_fault(limits: Limits, rows: &[MetaRow]) -> Option<usize>
+pub(crate) fn meta_fault(limits: Limits, rows: &[MetaRow]) -> Option<usize>
     ensures { result ≡ spec.first_bad (spec.is_meta_row_right limits) rows.now }
 {
     for (position, row) in rows.iter().enumerate() {

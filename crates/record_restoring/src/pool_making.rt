@@ -16,7 +16,7 @@ use record_rows::PoolRow;
 use std::alloc::{AllocError, Global};
 
 // The pools of rows, which are right, of which nothing is taken.
-pub fn read_pools(alloc: Global, rows: &[PoolRow]) -> Result<Pools, AllocError>
+pub(crate) fn read_pools(alloc: Global, rows: &[PoolRow]) -> Result<Pools, AllocError>
     requires right { list_all is_pool_row_right rows.now ≡ true }
     requires order { rises pool_row_before rows.now ≡ true }
     requires few { length rows.now ≤ pool_limit }

@@ -12,7 +12,7 @@ use record_rows::{PoolRow, Rows};
 use sched_state::Limits;
 
 // The first row of `pool` at fault.
-pub fn pool_fault(limits: Limits, rows: &Rows) -> Option<usize>
+pub(crate) fn pool_fault(limits: Limits, rows: &Rows) -> Option<usize>
     ensures { result ≡ spec.pool_fault limits rows.now }
 {
     let count = rows.pools.len();
@@ -26,7 +26,7 @@ pub fn pool_fault(limits: Limits, rows: &Rows) -> Option<usize>
 }
 
 // Whether there is a row of the pool with this name.
-pub fn has_pool(rows: &[PoolRow], name: &str) -> bool
+pub(crate) fn has_pool(rows: &[PoolRow], name: &str) -> bool
     ensures { result ≡ list_any (λ (p : Row). same p.name name.now) rows.now }
 {
     rows.iter().any(|row| row.name.as_str() == name)

@@ -11,7 +11,7 @@ use sched_state::{RunKind, RunPhase};
 
 // What the columns say but the one that names the graph.
 #[derive(Drop)]
-pub struct RunColumns {
+pub(crate) struct RunColumns {
     pub logical: Moment,
     pub interval: Interval,
     pub kind: RunKind,
@@ -19,7 +19,7 @@ pub struct RunColumns {
 }
 
 // What the columns say, where each is in its range and the interval does not end before it starts.
-pub fn columns_of(row: &RunRow) -> Option<RunColumns>
+pub(crate) fn columns_of(row: &RunRow) -> Option<RunColumns>
     ensures { result ≡ when (are_columns_right row.now) (columns_in row.now) }
 {
     let logical = moment_of(row.logical)?;

@@ -21,7 +21,7 @@ use sched_state::{Limits, LoadedGraph, Run};
 use std::alloc::{AllocError, Global};
 
 // The runs of rows, which are right.
-pub fn read_runs(
+pub(crate) fn read_runs(
     alloc: Global,
     limits: Limits,
     rows: &Rows,

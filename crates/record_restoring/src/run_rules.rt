@@ -11,7 +11,7 @@ use record_rows::{Rows, RunRow};
 use sched_state::{Limits, LoadedGraph};
 
 // The first row of `run` at fault.
-pub fn run_fault(graphs: &[LoadedGraph], limits: Limits, rows: &Rows) -> Option<usize>
+pub(crate) fn run_fault(graphs: &[LoadedGraph], limits: Limits, rows: &Rows) -> Option<usize>
     requires { rises graph_before graphs.now ≡ true }
     ensures { result ≡ spec.run_fault graphs.now limits rows.now }
 {

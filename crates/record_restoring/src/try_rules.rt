@@ -12,7 +12,7 @@ use graph_file::TaskSpec;
 use record_rows::{AttemptRow, InstanceRow};
 
 // Whether the row of a try is right.
-pub fn is_try_right(
+pub(crate) fn is_try_right(
     next: i64,
     instance: &InstanceRow,
     task: &TaskSpec,

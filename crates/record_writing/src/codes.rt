@@ -8,19 +8,19 @@ use sched_state::{RunKind, RunPhase};
 use trigger_rules::Verdict;
 
 // The seconds of a moment.
-pub fn seconds(moment: Moment) -> i64
+pub(crate) fn seconds(moment: Moment) -> i64
     ensures { result ≡ pos moment }
 {
     moment.secs() as i64
 }
 
-pub fn flag_code(flag: bool) -> i64
+pub(crate) fn flag_code(flag: bool) -> i64
     ensures { result ≡ pos (flag_code flag) }
 {
     if flag { 1 } else { 0 }
 }
 
-pub fn kind_code(kind: RunKind) -> i64
+pub(crate) fn kind_code(kind: RunKind) -> i64
     ensures { result ≡ pos (kind_code kind) }
 {
     match kind {
@@ -30,7 +30,7 @@ pub fn kind_code(kind: RunKind) -> i64
     }
 }
 
-pub fn phase_code(phase: RunPhase) -> i64
+pub(crate) fn phase_code(phase: RunPhase) -> i64
     ensures { result ≡ pos (phase_code phase) }
 {
     match phase {
@@ -41,7 +41,7 @@ pub fn phase_code(phase: RunPhase) -> i64
     }
 }
 
-pub fn verdict_code(verdict: Option<Verdict>) -> i64
+pub(crate) fn verdict_code(verdict: Option<Verdict>) -> i64
     ensures { result ≡ pos (verdict_code verdict) }
 {
     match verdict {
@@ -52,7 +52,7 @@ pub fn verdict_code(verdict: Option<Verdict>) -> i64
     }
 }
 
-pub fn outcome_code(outcome: Outcome) -> i64
+pub(crate) fn outcome_code(outcome: Outcome) -> i64
     ensures { result ≡ pos (outcome_code outcome) }
 {
     match outcome {

@@ -18,7 +18,7 @@ use std::marker::Model;
 
 /// What there was for a run: the run with its key, if there was one, and the tasks of its graph.
 #[derive(Drop)]
-pub struct Earlier<'a> {
+pub(crate) struct Earlier<'a> {
     run: Option<&'a Run>,
     dag: &'a Graph,
 }
@@ -70,14 +70,14 @@ fn place_near(dag: &Graph, id: &Name, place: usize) -> Option<usize>
 
 /// A touched run of a draft, the tasks and edges of its graph, and what the schedule under the draft has for it.
 #[derive(Drop)]
-pub struct TouchedRun<'a> {
+pub(crate) struct TouchedRun<'a> {
     pub run: &'a Run,
     pub dag: &'a Graph,
     pub was: Earlier<'a>,
 }
 
 /// The draft's run at a position; none where its graph is not there. One binary search finds the graph in both, another one the run that there was.
-pub fn touched_run<'a>(
+pub(crate) fn touched_run<'a>(
     before: &'a Base<'_>,
     draft: &'a Draft<'_>,
     position: usize,

@@ -12,7 +12,7 @@ use std::alloc::{AllocError, Global};
 
 /// The row of `meta` that a draft has and a schedule lacks: none where both have seen the same moment and the same serials, and have as
 /// many lanes.
-pub fn metas_lacked(
+pub(crate) fn metas_lacked(
     alloc: Global,
     before: &Base<'_>,
     draft: &Draft<'_>,

@@ -27,7 +27,7 @@ fn is_among(pools: &Pools, name: &Name, size: Slots) -> bool
 }
 
 /// The rows of the pools `after` that the rows of the pools `before` lack, by name.
-pub fn pools_lacked(
+pub(crate) fn pools_lacked(
     alloc: Global,
     before: &Pools,
     after: &Pools,

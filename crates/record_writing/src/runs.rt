@@ -16,7 +16,7 @@ use sched_state::Run;
 use std::alloc::{AllocError, Global};
 
 /// The rows of the draft's runs that the rows of the runs under it lack, in order. Only the touched runs are looked at.
-pub fn runs_lacked(
+pub(crate) fn runs_lacked(
     alloc: Global,
     draft: &Draft<'_>,
     touched: &[usize],

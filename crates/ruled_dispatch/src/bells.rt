@@ -7,7 +7,7 @@ use std::sync::atomic::{AtomicU64, Ordering};
 
 /// A count of rings, which one thread at a time is woken by.
 #[derive(Drop)]
-pub struct Bell {
+pub(crate) struct Bell {
     rings: AtomicU64,
 }
 

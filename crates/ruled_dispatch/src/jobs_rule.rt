@@ -7,7 +7,7 @@ use crossbeam_queue::protocol::{Join, Lesson, Outcome, Protocol, Split};
 use std::collections::LinkedList;
 
 /// What a pass has done with the queue of jobs. It is seen in proofs alone: no value of it is made.
-pub struct JobActivity {
+pub(crate) struct JobActivity {
     /// Its parts of the right to know what all passes did together.
     pub parts: u64,
     /// 1 where it may send, else 0.
@@ -19,7 +19,7 @@ pub struct JobActivity {
 }
 
 /// Nothing that was sent is lost, and nothing is taken that was not sent.
-pub struct NothingIsLost;
+pub(crate) struct NothingIsLost;
 
 impl Protocol<JobOrStop, JobActivity> for NothingIsLost {
     ghost use Rattle.std.specs.Prelude.{[]};
@@ -31,7 +31,7 @@ impl Protocol<JobOrStop, JobActivity> for NothingIsLost {
 }
 
 /// A pass that only takes is made of the director's, and gets one of its parts.
-pub struct SplitPass;
+pub(crate) struct SplitPass;
 
 impl Split<JobActivity> for SplitPass {
     ghost use Rattle.std.specs.Prelude.{◌-◌, []};
@@ -43,7 +43,7 @@ impl Split<JobActivity> for SplitPass {
 }
 
 /// A pass gets the parts of another, and what it did.
-pub struct JoinPass;
+pub(crate) struct JoinPass;
 
 impl Join<JobActivity> for JoinPass {
     ghost use Rattle.std.specs.Prelude.{[]};
@@ -55,7 +55,7 @@ impl Join<JobActivity> for JoinPass {
 }
 
 /// An item goes into the queue, or the queue is found full.
-pub struct Sends;
+pub(crate) struct Sends;
 
 impl Outcome<JobOrStop, JobActivity> for Sends {
     ghost use Rattle.std.specs.Prelude.{◌≡◌, [], ◌∷◌, ◌++◌};
@@ -71,7 +71,7 @@ impl Lesson<JobOrStop, JobActivity> for Sends {
 }
 
 /// An item comes out of the queue, or the queue is found empty.
-pub struct Takes;
+pub(crate) struct Takes;
 
 impl Outcome<JobOrStop, JobActivity> for Takes {
     ghost use Rattle.std.specs.Prelude.{◌≡◌, [], ◌∷◌, ◌++◌};
@@ -87,7 +87,7 @@ impl Lesson<JobOrStop, JobActivity> for Takes {
 }
 
 /// A pass that has every part looks at how many items are left. Nothing changes.
-pub struct Counts;
+pub(crate) struct Counts;
 
 impl Lesson<JobOrStop, JobActivity> for Counts {
     ghost use Rattle.ruled_dispatch.specs.JobsRule.{AccountsFor};

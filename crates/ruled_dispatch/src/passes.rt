@@ -9,10 +9,10 @@ use crate::reports_rule::{ReportActivity, SplitTeller, StaysInOrder};
 use crossbeam_queue::{Pass, RuledArrayQueue};
 
 /// The queue of jobs under its rule.
-pub type JobQueue = RuledArrayQueue<JobOrStop, JobActivity, NothingIsLost>;
+pub(crate) type JobQueue = RuledArrayQueue<JobOrStop, JobActivity, NothingIsLost>;
 
 /// The queue of reports under its rule.
-pub type ReportQueue = RuledArrayQueue<WorkerReport, ReportActivity, StaysInOrder>;
+pub(crate) type ReportQueue = RuledArrayQueue<WorkerReport, ReportActivity, StaysInOrder>;
 
 /// The one pass that sends and hears. It is made by `Lanes::open` alone.
 #[derive(Drop)]

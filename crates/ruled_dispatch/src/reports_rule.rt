@@ -8,7 +8,7 @@ use crossbeam_queue::protocol::{Join, Lesson, Outcome, Protocol, Split};
 use std::collections::LinkedList;
 
 /// What a pass has done with the queue of reports. It is seen in proofs alone: no value of it is made.
-pub struct ReportActivity {
+pub(crate) struct ReportActivity {
     /// Whether it may hear.
     pub hears: bool,
     /// What it heard, in its order.
@@ -26,7 +26,7 @@ pub struct ReportActivity {
 }
 
 /// What was told under a number. It is seen in proofs alone: no value of it is made.
-pub struct NumberedReports {
+pub(crate) struct NumberedReports {
     /// The number.
     pub number: u64,
     /// What was told, in its order.
@@ -34,7 +34,7 @@ pub struct NumberedReports {
 }
 
 /// Reports of one worker come in the order told, none is lost, and none is heard that was not told.
-pub struct StaysInOrder;
+pub(crate) struct StaysInOrder;
 
 impl Protocol<WorkerReport, ReportActivity> for StaysInOrder {
     ghost use Rattle.std.specs.Prelude.{[]};
@@ -46,7 +46,7 @@ impl Protocol<WorkerReport, ReportActivity> for StaysInOrder {
 }
 
 /// A pass that tells is made of the one that hears, and gets the next number.
-pub struct SplitTeller;
+pub(crate) struct SplitTeller;
 
 impl Split<ReportActivity> for SplitTeller {
     ghost use Rattle.std.specs.Prelude.{◌+◌, []};
@@ -58,7 +58,7 @@ impl Split<ReportActivity> for SplitTeller {
 }
 
 /// The pass that hears takes back one that tells, and what it told.
-pub struct JoinTeller;
+pub(crate) struct JoinTeller;
 
 impl Join<ReportActivity> for JoinTeller {
     ghost use Rattle.std.specs.Prelude.{◌∷◌, ◌++◌, []};
@@ -70,7 +70,7 @@ impl Join<ReportActivity> for JoinTeller {
 }
 
 /// A report goes into the queue, or the queue is found full.
-pub struct Tells;
+pub(crate) struct Tells;
 
 impl Outcome<WorkerReport, ReportActivity> for Tells {
     ghost use Rattle.std.specs.Prelude.{◌≡◌, ◌∷◌, ◌++◌, []};
@@ -86,7 +86,7 @@ impl Lesson<WorkerReport, ReportActivity> for Tells {
 }
 
 /// A report of one of the workers comes out of the queue, or the queue is found empty.
-pub struct Hears;
+pub(crate) struct Hears;
 
 impl Outcome<WorkerReport, ReportActivity> for Hears {
     ghost use Rattle.std.specs.Prelude.{◌≡◌, ◌<◌, ◌∷◌, ◌++◌, []};
@@ -102,7 +102,7 @@ impl Lesson<WorkerReport, ReportActivity> for Hears {
 }
 
 /// The pass that hears, with all passes back, looks at how many reports are left. Nothing changes.
-pub struct Compares;
+pub(crate) struct Compares;
 
 impl Lesson<WorkerReport, ReportActivity> for Compares {
     ghost use Rattle.ruled_dispatch.specs.ReportsRule.{TellsOfAll};

@@ -17,11 +17,6 @@ by_bool {C} b f g = elim b as (λ c. b ≡ c → C) [ true ↦ λ e. f e | false
 pub rises_get : (xs : List ℕ) (i j : ℕ) (x y : ℕ) → rises nat_lt xs ≡ true → slice_get xs i ≡ Some x → slice_get xs j ≡ Some y → i < j → nat_lt x y ≡ true
 rises_get xs i j x y e f g l = rises_pair nat_lt xs i j x y e l f g
 
--- what an answer gives where it can be no error
-pub ok_only : {A B : Type 0} (P Q : Type 0) (r : Result A B) → OnOk r P → OnErr r Q → (Q → ⊥) → P
-ok_only P Q (Ok x) p q n = p
-ok_only P Q (Err y) p q n = absurd (n q)
-
 -- ---- the order
 above_with : (c d : ℕ) (ds : List ℕ) → nat_lt c d ≡ true → list_all (nat_lt c) ds ≡ true → list_all (nat_lt c) (with_position d ds) ≡ true
 above_with c d [] l h = and_from (nat_lt c d) _ l refl
@@ -93,10 +88,6 @@ position_within d ds n e = elim (slice_get ds n) as (λ o. slice_get ds n ≡ o 
   | None ↦ λ f. absurd (true≢false (sym (sym (ap (is_position d) f) ∙ e)))
   | Some x ↦ λ f. slice_get_within ds n x f
 ] refl
-
-pub some_only : {A : Type 0} (P : Type 0) (o : Option A) → OnSome o P → IsSome o → P
-some_only P (Some x) p s = p
-some_only P None p s = absurd (true≢false (sym s))
 
 pub put_at : (d : ℕ) (ds : List ℕ) → is_position d (slice_get ds (place_of d ds)) ≡ false → insert ds (place_of d ds) d ≡ with_position d ds
 put_at d [] e = refl

@@ -58,7 +58,7 @@ impl Edits {
 }
 
 // How many edits are of positions below.
-pub fn place_of(edits: &[Edit], position: usize) -> usize
+pub(crate) fn place_of(edits: &[Edit], position: usize) -> usize
     requires { AreInOrder edits.now }
     ensures below { AreBelow result position edits.now }
     ensures from { AreFrom result position edits.now }
@@ -67,7 +67,7 @@ pub fn place_of(edits: &[Edit], position: usize) -> usize
 }
 
 // Where the edit of a position is, or where it would be.
-pub fn find(edits: &[Edit], position: usize) -> Result<usize, usize>
+pub(crate) fn find(edits: &[Edit], position: usize) -> Result<usize, usize>
     requires { AreInOrder edits.now }
     ensures { IsFound position edits.now result }
 {
@@ -97,7 +97,7 @@ fn added_before(edits: &[Edit], place: usize) -> usize
 }
 
 // The edits from a place on are of positions one further on.
-pub fn move_up(edits: &mut [Edit], place: usize)
+pub(crate) fn move_up(edits: &mut [Edit], place: usize)
     requires { AreFewFrom place edits.old }
     ensures { edits.new ≡ moved_from place edits.old }
 {
@@ -108,7 +108,7 @@ pub fn move_up(edits: &mut [Edit], place: usize)
 }
 
 // Which of the runs that were there stands at a position of which no edit is; those before `place` are of positions below.
-pub fn base_position(edits: &[Edit], place: usize, position: usize) -> usize
+pub(crate) fn base_position(edits: &[Edit], place: usize, position: usize) -> usize
     requires counted { AreCounted 0 edits.now }
     requires below { AreBelow place position edits.now }
     ensures { result + added_by place edits.now ≡ position }
@@ -117,7 +117,7 @@ pub fn base_position(edits: &[Edit], place: usize, position: usize) -> usize
 }
 
 // How many runs the edits add.
-pub fn all_added(edits: &[Edit]) -> usize
+pub(crate) fn all_added(edits: &[Edit]) -> usize
     requires { AreCounted 0 edits.now }
     ensures { result ≡ added_by (length edits.now) edits.now }
 {

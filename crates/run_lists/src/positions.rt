@@ -14,7 +14,7 @@ use std::alloc::{AllocError, Global};
 
 /// Of which runs the positions are kept.
 #[derive(Clone, Copy, Debug, PartialEq, Eq)]
-pub enum Standing {
+pub(crate) enum Standing {
     /// Of those that are running.
     Running,
     /// Of those that are queued.
@@ -81,7 +81,7 @@ fn shift(positions: &mut Vec<usize>, position: usize)
 }
 
 /// A run was put in at the position, where it is new, or written over the one that stood there: whether the position is one of these now.
-pub fn place(positions: &mut Vec<usize>, is_new: bool, position: usize, holds: bool)
+pub(crate) fn place(positions: &mut Vec<usize>, is_new: bool, position: usize, holds: bool)
     requires rising { rises nat_lt positions.old.items ≡ true }
     requires small { list_all (λ n. nat_lt (n + 1) (2 ^ 64)) positions.old.items ≡ true }
     requires room { length (placed is_new holds position positions.old.items) ≤ vec_capacity positions.old }
@@ -113,7 +113,7 @@ pub fn has_open(run: &Run) -> bool
 }
 
 /// Whether the run stands so.
-pub fn stands(run: &Run, standing: Standing) -> bool
+pub(crate) fn stands(run: &Run, standing: Standing) -> bool
     ensures { result ≡ stands standing run.now }
 {
     match standing {
@@ -135,7 +135,7 @@ fn push_if(positions: &mut Vec<usize>, position: usize, holds: bool) -> Result<(
 }
 
 /// The positions of the runs that stand so, with room for that of each run. An `Err` says that memory ran out.
-pub fn positions_in(
+pub(crate) fn positions_in(
     alloc: Global,
     runs: &[Run],
     standing: Standing,
@@ -152,7 +152,7 @@ pub fn positions_in(
 }
 
 /// Makes room for so many in all. What room there was is kept, also where memory runs out, which is what an `Err` says.
-pub fn make_room(positions: &mut Vec<usize>, count: usize) -> Result<(), AllocError>
+pub(crate) fn make_room(positions: &mut Vec<usize>, count: usize) -> Result<(), AllocError>
     requires { length positions.old.items ≤ count }
     ensures items { positions.new.items ≡ positions.old.items }
     ensures room { OnOk result (count ≤ vec_capacity positions.new) }
@@ -163,7 +163,7 @@ pub fn make_room(positions: &mut Vec<usize>, count: usize) -> Result<(), AllocEr
 
 /// The run was put in or written over where the edit says, among the runs that were there: whether its position is one of these now, which
 /// are those of running runs. An `Err` says that memory ran out.
-pub fn place_edit(positions: &mut Vec<usize>, edit: &Edit) -> Result<(), AllocError>
+pub(crate) fn place_edit(positions: &mut Vec<usize>, edit: &Edit) -> Result<(), AllocError>
     requires rising { rises nat_lt positions.old.items ≡ true }
     requires small { list_all (λ n. nat_lt (n + 1) (2 ^ 64)) positions.old.items ≡ true }
     ensures { OnOk result (positions.new.items ≡ placed edit.now.is_new (stands Running edit.now.run) edit.now.from positions.old.items) }

@@ -105,13 +105,6 @@ impl Runs {
         self.standing(Standing::Running)
     }
 
-    /// The positions of the runs that are queued, in their order.
-    pub fn queued(&self) -> &[usize]
-        ensures { result.now ≡ positions_where (stands Queued) self.now.runs }
-    {
-        self.standing(Standing::Queued)
-    }
-
     /// The positions of the runs that have a try in flight, that is one without an end, in their order.
     pub fn in_flight(&self) -> &[usize]
         ensures { result.now ≡ positions_where (stands InFlight) self.now.runs }

@@ -29,7 +29,7 @@ pub use backfills::backfill;
 pub use by_hand::{PlanFault, manual};
 pub use laws::{
     a_run_by_hand_has_the_last_interval, a_span_holds_its_intervals, due_intervals_are_intervals,
-    due_intervals_rise,
+    due_intervals_rise, no_later_tick_makes_a_run_anew,
 };
 pub use planning::{Planned, due};
 pub use replanning::makes_anew;

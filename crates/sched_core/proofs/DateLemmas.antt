@@ -194,9 +194,6 @@ the_run e r = elim e.is_new as (λ b. ◌≡◌ {A = Option Run} (Some r) (when 
 abbrev pub AddsNone : List LoadedGraph → Edit → Type 0
 AddsNone gs e = (n : ℕ) (g : LoadedGraph) → slice_get gs n ≡ Some g → is_of g.dag.spec.dag_id e ≡ false
 
-pub adds_no_run : (gs : List LoadedGraph) (e : Edit) → None ≡ added_run e → AddsNone gs e
-adds_no_run gs e none n g there = ap (λ b. b && same e.run.graph g.dag.spec.dag_id) (no_run e none)
-
 -- where its graph is not there
 pub adds_unknown : (gs : List LoadedGraph) (e : Edit) (r : Run) → Some r ≡ added_run e → graph_among gs r.graph ≡ None → AddsNone gs e
 adds_unknown gs e r is none n g there =
@@ -462,8 +459,3 @@ same_dates gs rs xs ys e h = record {
       let x = map_some (λ (v : Index). v.dates) (slice_get xs n) y.dates o in
       ap (λ ds. has_date ds d) (sym x.2) ∙ h.each n g x.0 there x.1 d;
 }
-
--- ---- where a change has no rest, nothing is noted
-pub noted_long : (gs : List LoadedGraph) (o : Option Rest) (xs ys : List Index) → AreNotedWith gs o xs ys → length ys ≡ length xs
-noted_long gs None xs ys h = ap (λ (zs : List Index). length zs) h
-noted_long gs (Some n) xs ys h = h.long

@@ -178,9 +178,6 @@ occupied_alike a b t u alike pools flight book active h = record {
 
 -- ---- causes
 
-pub first_moved : (a : Schedule) (dag : Dag) (serial : ℕ) → least_moved a dag ≡ Some serial → disturbed a dag ≡ Some (refusal.InFlight serial)
-first_moved a dag serial e = ap (λ o. four o (lost_task a dag) (resized_task a dag) (redone a dag.spec)) e
-
 pub first_lost : (a : Schedule) (dag : Dag) (task : List ℕ) → least_moved a dag ≡ None → lost_task a dag ≡ Some task → disturbed a dag ≡ Some (refusal.OtherTasks task)
 first_lost a dag task moved e = ap (λ o. four o (lost_task a dag) (resized_task a dag) (redone a dag.spec)) moved ∙ ap (λ o. four None o (resized_task a dag) (redone a dag.spec)) e
 

@@ -18,7 +18,7 @@ use std::snapshot::Snapshot;
 
 // What a change does to the schedule that it was planned for: to its graphs, to its shelves, and to all else, where that does not stay.
 #[derive(Drop)]
-pub struct Effect {
+pub(crate) struct Effect {
     pub graphs: GraphChange,
     // Of the shelves, before the graphs are changed.
     pub patches: Vec<Patch>,
@@ -27,7 +27,7 @@ pub struct Effect {
 
 // What becomes of the graphs.
 #[derive(Drop)]
-pub enum GraphChange {
+pub(crate) enum GraphChange {
     // They stay.
     Same,
     // A text is taken in, which says this graph, with a shelf for it, and with no date.
@@ -40,7 +40,7 @@ pub enum GraphChange {
 
 // What an event leaves, but for the graphs.
 #[derive(Drop)]
-pub struct Rest {
+pub(crate) struct Rest {
     // What the tries without an end take, and the pools.
     pub occupied: Occupied,
     pub clock: Moment,

@@ -12,13 +12,13 @@ use std::alloc::{AllocError, Global};
 
 /// How many tries of the runs are without an end.
 #[derive(Debug, Drop)]
-pub struct OpenTries {
+pub(crate) struct OpenTries {
     pub in_all: usize,
     pub by_graph: ActiveTries,
 }
 
 /// How many tries of these runs are without an end.
-pub fn count_open(alloc: Global, runs: &[Run]) -> Result<OpenTries, AllocError>
+pub(crate) fn count_open(alloc: Global, runs: &[Run]) -> Result<OpenTries, AllocError>
     requires { sum_by open_in runs.now ≤ last_serial + 1 }
     ensures in_all { IfOk result (λ counted. counted.in_all ≡ sum_by open_in runs.now) }
     ensures by_graph { IfOk result (λ counted. (id : List ℕ)

@@ -90,7 +90,7 @@ fn room_in(
 }
 
 // The same for what a change makes of the runs.
-pub fn room_for_dates(
+pub(crate) fn room_for_dates(
     graphs: &[LoadedGraph],
     dates: &mut Vec<RunIndex>,
     rest: &Option<Rest>,
@@ -161,7 +161,7 @@ fn note_all(graphs: &[LoadedGraph], dates: &mut Vec<RunIndex>, edits: &[Edit])
 }
 
 // The dates of the runs that a change adds are added.
-pub fn note(graphs: &[LoadedGraph], dates: &mut Vec<RunIndex>, rest: &Option<Rest>)
+pub(crate) fn note(graphs: &[LoadedGraph], dates: &mut Vec<RunIndex>, rest: &Option<Rest>)
     requires order { rises graph_before graphs.now ≡ true }
     requires long { length dates.old.items ≡ length graphs.now }
     requires room { HaveRoomWith graphs.now rest.now dates.old.items }

@@ -23,7 +23,7 @@ use std::alloc::{AllocError, Global};
 
 // A try, and where it stands.
 #[derive(Clone, Copy)]
-pub struct Found {
+pub(crate) struct Found {
     // That of its run.
     pub position: usize,
     // That of its instance.

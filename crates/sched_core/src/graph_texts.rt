@@ -13,7 +13,7 @@ use sched_draft::graph_named;
 use sched_state::{GraphText, LoadedGraph};
 
 /// The bound that a file says, or the usual one (Airflow 2, the class DAG: max_active_tasks).
-pub fn bound_said(spec: &GraphSpec) -> Bounded<1, 1_000_000>
+pub(crate) fn bound_said(spec: &GraphSpec) -> Bounded<1, 1_000_000>
     ensures { result ≡ schedule.bound_said spec.now }
 {
     match spec.max_active_tasks {
@@ -23,7 +23,7 @@ pub fn bound_said(spec: &GraphSpec) -> Bounded<1, 1_000_000>
 }
 
 /// The graph that a text says, which is not paused.
-pub fn new_graph(text: GraphText, dag: Graph) -> LoadedGraph
+pub(crate) fn new_graph(text: GraphText, dag: Graph) -> LoadedGraph
     ensures { result ≡ new_graph text dag }
 {
     let max_active_tasks = bound_said(dag.spec());
@@ -36,7 +36,7 @@ pub fn new_graph(text: GraphText, dag: Graph) -> LoadedGraph
 }
 
 /// A graph takes another text in, with what it says and its bound. Its pause stays.
-pub fn take_text(graph: &mut LoadedGraph, text: GraphText, dag: Graph)
+pub(crate) fn take_text(graph: &mut LoadedGraph, text: GraphText, dag: Graph)
     ensures { graph.new ≡ taken_in text dag graph.old }
 {
     graph.max_active_tasks = bound_said(dag.spec());
@@ -45,7 +45,7 @@ pub fn take_text(graph: &mut LoadedGraph, text: GraphText, dag: Graph)
 }
 
 /// The bound of the graph that takes a text in, or of the new graph that it says: its own, where that is the text that it has already.
-pub fn bound_after(graphs: &[LoadedGraph], text: &GraphText, dag: &Graph) -> u32
+pub(crate) fn bound_after(graphs: &[LoadedGraph], text: &GraphText, dag: &Graph) -> u32
     requires { rises graph_before graphs.now ≡ true }
     ensures { result ≡ (taken_among text.now dag.now
         (graph_among graphs.now dag.now.spec.dag_id)).max_active_tasks }

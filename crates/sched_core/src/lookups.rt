@@ -9,7 +9,7 @@ use sched_draft::position_named;
 use sched_state::LoadedGraph;
 
 // The place of the graph with this id, by a binary search.
-pub fn position_of(graphs: &[LoadedGraph], id: &Name) -> Option<usize>
+pub(crate) fn position_of(graphs: &[LoadedGraph], id: &Name) -> Option<usize>
     requires { rises graph_before graphs.now ≡ true }
     ensures { IsPlaceOf id.now graphs.now result }
 {

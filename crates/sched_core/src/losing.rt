@@ -23,7 +23,7 @@ fn lose_in(draft: &mut Draft<'_>, position: usize)
 }
 
 // All tries without an end are lost.
-pub fn lose_all(alloc: Global, draft: &mut Draft<'_>) -> Result<(), AllocError>
+pub(crate) fn lose_all(alloc: Global, draft: &mut Draft<'_>) -> Result<(), AllocError>
     ensures base { OnOk result (draft.new.base ≡ draft.old.base) }
     ensures draft { OnOk result (draft.new.content
         ≡ map_all_tries (lost_try draft.old.content.now) draft.old.content) }

@@ -13,7 +13,7 @@ fn graph_before(graph: &LoadedGraph, other: &LoadedGraph) -> bool
 }
 
 // The place of the first graph that this one stands before.
-pub fn place_for_graph(graphs: &[LoadedGraph], graph: &LoadedGraph) -> usize
+pub(crate) fn place_for_graph(graphs: &[LoadedGraph], graph: &LoadedGraph) -> usize
     ensures { IsPlaceFor graph_before graph.now graphs.now result }
 {
     for (place, other) in graphs.iter().enumerate() {

@@ -15,7 +15,7 @@ fn set_paused_if(graph: &mut LoadedGraph, id: &Name, paused: bool)
 }
 
 // The graph with this id is paused, or no more.
-pub fn set_paused(graphs: &mut Vec<LoadedGraph>, id: &Name, paused: bool)
+pub(crate) fn set_paused(graphs: &mut Vec<LoadedGraph>, id: &Name, paused: bool)
     ensures { graphs.new.items ≡ map (pause_graph id.now paused) graphs.old.items }
 {
     for place in 0..graphs.len() {

@@ -42,7 +42,7 @@ use std::alloc::{AllocError, Global};
 // What a replaced graph leaves, but for the graph itself: the rest, the shelves, the tries that are handed out, and the rows that the schedule lacks
 // then.
 #[derive(Drop)]
-pub struct Aftermath {
+pub(crate) struct Aftermath {
     pub rest: Rest,
     pub shelves: Vec<Shelf>,
     // None.

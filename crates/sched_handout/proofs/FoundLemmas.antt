@@ -64,9 +64,6 @@ none_and false = refl
 pub not_running : (gs : List LoadedGraph) (h : Head) → h.running ≡ false → may_offer gs h ≡ false
 not_running gs h e = ap (λ b. b && is_going (graph_among gs h.graph)) e
 
-pub not_going : (gs : List LoadedGraph) (h : Head) → is_going (graph_among gs h.graph) ≡ false → may_offer gs h ≡ false
-not_going gs h e = ap (λ b. h.running && b) e ∙ none_and h.running
-
 -- ---- the touched runs, one after another
 in_split : (ns : List ℕ) (n m : ℕ) → is_in (ns ++ n ∷ []) m ≡ true → (is_in ns m ≡ true) ⊎ (n ≡ m)
 in_split [] n m e = by_bool {C = (false ≡ true) ⊎ (n ≡ m)} (nat_eq n m) (λ f. inr (eqb-true n m f)) (λ f. absurd (true≢false (sym e ∙ ap (λ b. b || false) f)))

@@ -37,7 +37,7 @@ fn set_aside(alloc: Global, instance: &Instance) -> Result<Instance, AllocError>
 
 /// What becomes of the instance of a task that is another one now: of its tries no more count than that may have, and where it failed for
 /// good and would be tried again, it is set aside.
-pub fn kept_as(
+pub(crate) fn kept_as(
     alloc: Global,
     old: &TaskSpec,
     new: &TaskSpec,
@@ -54,7 +54,7 @@ pub fn kept_as(
 
 /// The instance of a task that is new, in a run in this phase: skipped where the run was a success, upstream_failed where it failed, else
 /// undecided. It takes no memory.
-pub fn newcomer(alloc: Global, phase: RunPhase) -> Instance
+pub(crate) fn newcomer(alloc: Global, phase: RunPhase) -> Instance
     ensures { result ≡ model.newcomer phase }
 {
     match phase {

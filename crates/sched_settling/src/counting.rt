@@ -203,7 +203,7 @@ fn recount(
 }
 
 // A line of each graph of the draft: that of the schedule under it, and of its runs the touched ones alone are looked at.
-pub fn lines_of<'a>(alloc: Global, draft: &Draft<'a>) -> Result<Vec<Line<'a>>, AllocError>
+pub(crate) fn lines_of<'a>(alloc: Global, draft: &Draft<'a>) -> Result<Vec<Line<'a>>, AllocError>
     requires runs { rises run_before draft.now.content.runs ≡ true }
     ensures lines { IfOk result (λ lines. AreLines lines.items draft.now.content) }
     ensures all { IfOk result (λ lines. HaveLinesOfAll draft.now.content.graphs lines.items) }
@@ -216,7 +216,7 @@ pub fn lines_of<'a>(alloc: Global, draft: &Draft<'a>) -> Result<Vec<Line<'a>>, A
 
 // The lines of a draft over a schedule in which no move is possible: those of the graphs of its touched runs, if its graphs are those of that
 // schedule.
-pub fn lines_of_touched<'a>(
+pub(crate) fn lines_of_touched<'a>(
     alloc: Global,
     draft: &Draft<'a>,
     touched: &[usize],

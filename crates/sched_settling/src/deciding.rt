@@ -189,7 +189,7 @@ fn decide_places(
 }
 
 // What follows the position is marked before the marked ones, where it is the position of one of so many runs.
-pub fn mark_next(
+pub(crate) fn mark_next(
     marks: &mut VecDeque<usize>,
     count: usize,
     position: usize,
@@ -209,7 +209,7 @@ pub fn mark_next(
 
 // All instances are decided that can be, those of the marked runs and of runs that follow one in which something was decided; and
 // which runs were looked at.
-pub fn decide_marked(
+pub(crate) fn decide_marked(
     alloc: Global,
     draft: &mut Draft<'_>,
     marks: VecDeque<usize>,

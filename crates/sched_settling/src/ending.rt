@@ -82,7 +82,7 @@ fn count_one(line: &mut Line<'_>)
 }
 
 // One running run of the graph fewer, where there is a line of it.
-pub fn count_down(lines: &mut Vec<Line<'_>>, id: &Name)
+pub(crate) fn count_down(lines: &mut Vec<Line<'_>>, id: &Name)
     requires { rises id_before (ids_of lines.old.items) ≡ true }
     ensures { IsCountedDown id.now lines.old.items lines.new.items }
 {
@@ -134,7 +134,7 @@ fn end_at<'a>(
 }
 
 // Each run ends that can, where those are among the positions.
-pub fn end_marked<'a>(
+pub(crate) fn end_marked<'a>(
     alloc: Global,
     draft: &mut Draft<'a>,
     lines: &mut Vec<Line<'a>>,

@@ -12,7 +12,7 @@ use std::collections::VecDeque;
 /// those of touched runs. The kept dates are read where they are needed: they are those of the runs of the schedule under the draft at
 /// the kept positions, from a place on.
 #[derive(Drop)]
-pub struct Line<'a> {
+pub(crate) struct Line<'a> {
     pub id: &'a Name,
     pub active: usize,
     pub runs: &'a Runs,
@@ -22,7 +22,7 @@ pub struct Line<'a> {
 }
 
 // The place of the line of the graph with this id, by a binary search, or the one at which it would stand.
-pub fn place_of(lines: &[Line<'_>], id: &Name) -> Result<usize, usize>
+pub(crate) fn place_of(lines: &[Line<'_>], id: &Name) -> Result<usize, usize>
     requires { rises id_before (ids_of lines.now) ≡ true }
     ensures { MatchResult result (IsLineAt lines.now id.now) (IsGapFor lines.now id.now) }
 {
@@ -65,7 +65,7 @@ fn touched_date(line: &Line<'_>) -> Option<Moment>
 }
 
 // The first of the dates that are left, which is taken out.
-pub fn take_date(line: &mut Line<'_>) -> Option<Moment>
+pub(crate) fn take_date(line: &mut Line<'_>) -> Option<Moment>
     requires { DatesRise line.old }
     ensures id { line.new.id.now ≡ line.old.id.now }
     ensures active { line.new.active ≡ line.old.active }

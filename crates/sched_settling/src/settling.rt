@@ -51,7 +51,7 @@ fn decide_and_end_at<'a>(
 }
 
 // Moves are made until none is possible, beginning at the marked runs.
-pub fn settle_from<'a>(
+pub(crate) fn settle_from<'a>(
     alloc: Global,
     draft: &mut Draft<'a>,
     marks: VecDeque<usize>,

@@ -83,7 +83,7 @@ fn start_in(
 }
 
 // The first run that can start does, and where it stands.
-pub fn start_first(
+pub(crate) fn start_first(
     alloc: Global,
     draft: &mut Draft<'_>,
     lines: &mut Vec<Line<'_>>,

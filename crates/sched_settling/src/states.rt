@@ -9,7 +9,7 @@ use sched_state::Run;
 use trigger_rules::State;
 
 // The tasks and edges of the run's graph.
-pub fn dag_of<'a>(draft: &'a Draft<'_>, run: &Run) -> Option<&'a Graph>
+pub(crate) fn dag_of<'a>(draft: &'a Draft<'_>, run: &Run) -> Option<&'a Graph>
     ensures { MatchOption result (dag_named draft.now.content run.now.graph ≡ no_dag)
         (λ dag. dag_named draft.now.content run.now.graph ≡ dag.now) }
 {

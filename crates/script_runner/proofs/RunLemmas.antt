@@ -250,11 +250,6 @@ module _ {S G O : Type 0} (look : Held S → State) (runs : O → List (Job × O
         desk = c.desk;
       }
 
--- ---- the whole run, of the parts that come back
-ok_came : {A : Type 0} (r : Result A ConductFault) → is_ok r ≡ true → came_to_its_end r ≡ true
-ok_came (Ok v) well = refl
-ok_came (Err f) well = absurd (true≢false (sym well))
-
 ok_sound : {A : Type 0} (Q : ConductFault → Type 0) (failed : Option LineFault) (r : Result A ConductFault) → MatchResult r (λ _. failed ≡ None) Q → is_ok r ≡ true → is_some failed ≡ false
 ok_sound Q failed (Ok v) none well = ap is_some none
 ok_sound Q failed (Err f) fault well = absurd (true≢false (sym well))

@@ -17,7 +17,7 @@ use std::sync::ledger::Ledger;
 
 /// The book, whose slots are the ledger's total. Contracts see it as the book.
 #[derive(Drop)]
-pub struct LockedBook<L: Ledger> {
+pub(crate) struct LockedBook<L: Ledger> {
     book: Book,
     total: ledger::Book<L>,
 }

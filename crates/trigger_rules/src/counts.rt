@@ -84,6 +84,7 @@ impl Counts {
     }
 
     /// Counts an upstream in another state than before, in which it was counted.
+    /// No crate above calls this: counts are made anew for each decision.
     pub fn replace(&mut self, old: State, new: State)
         requires { 0 < counted_as old self.old }
         ensures counted { (s t : List StateOf) → self.old ≡ counts_of (s ++ old ∷ t)

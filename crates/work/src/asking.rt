@@ -16,7 +16,7 @@ use std::sync::Wait;
 use std::sync::ledger::Ledger;
 
 /// Makes room for one more entry in the log.
-pub fn reserve<L: Ledger, R: Wait>(rt: &R, log: &mut Log<L>)
+pub(crate) fn reserve<L: Ledger, R: Wait>(rt: &R, log: &mut Log<L>)
     ensures same { log.new.items ≡ log.old.items }
     ensures room { vec_len log.new < vec_capacity log.new }
 {
@@ -31,7 +31,7 @@ pub fn reserve<L: Ledger, R: Wait>(rt: &R, log: &mut Log<L>)
 }
 
 /// Tells a report.
-pub fn tell<R: Wait>(rt: &R, lanes: &Lanes, pass: &mut WorkerPass, report: Report)
+pub(crate) fn tell<R: Wait>(rt: &R, lanes: &Lanes, pass: &mut WorkerPass, report: Report)
     requires { IsWorkerOf lanes.now pass.old }
     ensures pass { IsWorkerOf lanes.now pass.new }
     ensures number { pass.new.number ≡ pass.old.number }
@@ -49,7 +49,7 @@ pub fn tell<R: Wait>(rt: &R, lanes: &Lanes, pass: &mut WorkerPass, report: Repor
 }
 
 /// Enters the slots that the job takes.
-pub fn enter<L: Ledger, R: Wait>(
+pub(crate) fn enter<L: Ledger, R: Wait>(
     rt: &R,
     alloc: Global,
     desk: &SlotDesk<L>,
@@ -76,7 +76,7 @@ pub fn enter<L: Ledger, R: Wait>(
 }
 
 /// Leaves the slots that were entered under the serial.
-pub fn leave<L: Ledger, R: Wait>(
+pub(crate) fn leave<L: Ledger, R: Wait>(
     rt: &R,
     desk: &SlotDesk<L>,
     share: &mut Share<L>,

@@ -25,7 +25,7 @@ pub struct Logged {
 
 /// A job that a worker did at the desk that `L` names. Contracts see it as the job that it did.
 #[derive(Drop)]
-pub struct LoggedAt<L: Ledger> {
+pub(crate) struct LoggedAt<L: Ledger> {
     pub job: Job,
     pub begun: bool,
     pub outcome: Outcome,
@@ -42,7 +42,7 @@ impl<L: Ledger> Model for LoggedAt<L> {
 
 /// The jobs that a worker did at the desk that `L` names, in order. Contracts see it as the list that it keeps.
 #[derive(Drop)]
-pub struct Log<L: Ledger> {
+pub(crate) struct Log<L: Ledger> {
     entries: Vec<Logged>,
     desk: PhantomData<L>,
 }

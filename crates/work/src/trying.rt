@@ -21,13 +21,13 @@ use std::sync::ledger::Ledger;
 
 /// What a worker has of what all share: its pass of the lanes, and its share of the desk.
 #[derive(Drop)]
-pub struct Seat<L: Ledger> {
+pub(crate) struct Seat<L: Ledger> {
     pub pass: WorkerPass,
     pub share: Share<L>,
 }
 
 /// Does a job, from the report of its start to that of its end.
-pub fn do_job<L: Ledger, G: Gate, O: Operator, R: Wait>(
+pub(crate) fn do_job<L: Ledger, G: Gate, O: Operator, R: Wait>(
     rt: &R,
     alloc: Global,
     lanes: &Lanes,
