@@ -10,6 +10,7 @@ use Rattle.operators.specs.declared.kits.Kit.{Kit}
 use Rattle.slot_desk.specs.declared.desk.Total.{Total}
 use Rattle.work.specs.declared.crews.WorkerEnd.{WorkerEnd}
 use Rattle.sched_events.specs.declared.events.Event.{Event}
+use Rattle.sched_model.specs.Schedule.{Schedule}
 use Rattle.conduct.specs.sessions.Readings.{Reading}
 use Rattle.conduct.specs.sessions.declared.faults.ConductFault.{ConductFault}
 use Rattle.script_reader.specs.Done.{FileAnswer}
@@ -33,7 +34,7 @@ module _ {O : Type 0} (kind_of : O → Kind) where
 
 -- what `run_on` promises of a script that workers with these operators ran
 -- restates: this project's own profile
-pub record IsTeamRun {S G O : Type 0} (look : Held S → State) (kind_of : O → Kind) (runs : O → List (Job × Outcome)) (refused : O → List Job) (taken : O → Option Job) (bytes : Option (List ℕ)) (sources : List FileAnswer → Type 0) (clock : List Reading → Type 0) (output : List ℕ → Type 0) (untouched : Type 0) (lanes : ℕ) (operators : List (List O)) (before : State) (store : Held S) (minutes : List Event) (ends : List (WorkerEnd G O)) (outcome : Result Total ConductFault) (status : ℕ) : Type 0 where
+pub record IsTeamRun {S G O : Type 0} (look : Held S → State) (kind_of : O → Kind) (runs : O → List (Job × Outcome)) (refused : O → List Job) (taken : O → Option Job) (bytes : Option (List ℕ)) (sources : List FileAnswer → Type 0) (clock : List (Schedule × Reading) → Type 0) (output : List ℕ → Type 0) (untouched : Type 0) (lanes : ℕ) (operators : List (List O)) (before : State) (store : Held S) (minutes : List Event) (ends : List (WorkerEnd G O)) (outcome : Result Total ConductFault) (status : ℕ) : Type 0 where
   pub kits : List (Kit O)
   pub made : AreKitsOf kind_of operators kits
   pub run : IsRun look runs refused taken bytes sources clock output untouched lanes kits before store minutes ends outcome status
