@@ -22,10 +22,11 @@ use Rattle.command_runner.specs.Writes.{IsWritten}
 pub stepped : {S : Type 0} (look : Held S → State) (before : State) (d : DirectorValue S) (e : Event) (old new : Option (List ℕ)) (store : Held S) (status : ℕ)
     → (HasCleanDisk (look d.store) → Opens ceilings 0 before.now d.schedule.content d.opened)
     → (HasCleanDisk (look d.store) → RestartsIn ceilings 0 before.now (look d.store).now)
+    → (HasCleanDisk (look d.store) → HasCleanDisk before)
     → (before.faults ≤ (look d.store).faults) × (HasCleanDisk (look d.store) → IsTrue (look d.store).is_open)
     → IsSoundAndSaid d.schedule.content
     → IsStepDone look d e old new store status → IsStepped look before e old new store status
-stepped look before d e old new store status opened restarted is_open sound done = record {
+stepped look before d e old new store status opened restarted clean_before is_open sound done = record {
   first = d.schedule.content;
   given = d.opened;
   answer = done.answer;
@@ -33,6 +34,7 @@ stepped look before d e old new store status opened restarted is_open sound done
   opened = λ clean. opened (was_clean _ _ _ _ done.followed clean);
   sound = sound;
   outcome = done.outcome;
+  was_clean = λ clean. clean_before (was_clean _ _ _ _ done.followed clean);
   stays = stays_open _ _ before _ _ is_open.0 is_open.1 done.followed;
   stored = λ clean is_open rows has.
       let first = was_clean _ _ _ _ done.followed clean in

@@ -27,8 +27,8 @@ pub record IsStepDone {S : Type 0} (look : Held S → State) (d : DirectorValue 
   pub shown : IsWritten (shown_for e answer) (status_of answer) old new status
 
 -- The record was opened without lanes, as a schedule that follows the rules of schedules, whatever the disk gave, and the event was stepped in it, or not.
--- The record is open, unless its disk failed or refused meanwhile; and where it is, and had rows, in either version, it stores the schedule after the
--- restart, and after the event where that was accepted.
+-- A disk that has given back what was written has done so all the time. The record is open, unless its disk failed or refused meanwhile; and where it is, and
+-- had rows, in either version, it stores the schedule after the restart, and after the event where that was accepted.
 pub record IsStepped {S : Type 0} (look : Held S → State) (before : State) (e : Event) (old new : Option (List ℕ)) (store : Held S) (status : ℕ) : Type 0 where
   pub first : Schedule
   pub given : Answer
@@ -37,6 +37,7 @@ pub record IsStepped {S : Type 0} (look : Held S → State) (before : State) (e 
   pub opened : HasCleanDisk (look store) → Opens ceilings 0 before.now first given
   pub sound : IsSoundAndSaid first
   pub outcome : IsOutcome first e answer after
+  pub was_clean : HasCleanDisk (look store) → HasCleanDisk before
   pub stays : StaysOpen before (look store)
   pub stored : HasCleanDisk (look store) → IsTrue (look store).is_open → (rows : Rows) → HasRows before.now rows → Keeps after (look store).now
   pub shown : IsWritten (shown_for e answer) (status_of answer) old new status
