@@ -193,7 +193,7 @@ where_well : {A : Type 0} (P : Type 0) (r : Result A ConductFault) → (came_to_
 where_well P (Ok v) h = h refl
 where_well P (Err f) h = tt
 
-still : {A : Type 0} (none untouched still' : Type 0) (r : Result A ConductFault) → (untouched → still') → IfErr r (λ f. is_unstarted f ≡ true → none × untouched) → IfErr r (λ f. is_unstarted f ≡ true → none × still')
+pub still : {A : Type 0} (none untouched still' : Type 0) (r : Result A ConductFault) → (untouched → still') → IfErr r (λ f. is_unstarted f ≡ true → none × untouched) → IfErr r (λ f. is_unstarted f ≡ true → none × still')
 still none untouched still' (Ok v) to was = tt
 still none untouched still' (Err f) to was = λ is. let both = was is in (both.0, to both.1)
 
