@@ -47,7 +47,13 @@ module _ {D : Type 0} {g : disk.Ghosts D} where
       let keeps : Keeps (empty_schedule ceilings) (file_state first).now = made.begun (clean first) (opened_empty files conn (found (clean conn)).0 (found (clean conn)).1 none) in
       inl (first, after, keeps, clean after, done)
   in_memory o c files status clean none (conn, after, found, inr unmade) =
-      inr (unmade.fault, unmade.told, elim unmade.cause [
-        | inl of_sqlite ↦ of_sqlite
-        | inr named ↦ absurd (true≢false (sym named ∙ ap has_record_table (opened_empty files conn (found (clean conn)).0 (found (clean conn)).1 none)))
-      ], unmade.same, unmade.status_is)
+      inr (
+        unmade.fault,
+        unmade.told,
+        elim unmade.cause [
+          | inl of_sqlite ↦ of_sqlite
+          | inr named ↦ absurd (true≢false (sym named ∙ ap has_record_table (opened_empty files conn (found (clean conn)).0 (found (clean conn)).1 none)))
+        ],
+        unmade.same,
+        unmade.status_is,
+      )
