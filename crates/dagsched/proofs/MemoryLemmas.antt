@@ -19,7 +19,7 @@ use Rattle.meta_store.specs.record_tables.Schema.{no_schema}
 use Rattle.director.specs.Directors.{Keeps}
 use Rattle.operators.specs.declared.operators.Operator as operator
 use Rattle.command_words.specs.declared.commands.Command.{Command}
-use Rattle.dagsched.specs.Records.{has_tables, IsDoneInFiles, IsDoneInMemory}
+use Rattle.dagsched.specs.Records.{has_tables, IsDoneInFiles, IsDoneInMemory, IsDoneOn}
 
 -- no object is listed by a schema that has none
 lists_nothing : Lists [] no_schema
@@ -39,21 +39,25 @@ module _ {D : Type 0} {g : disk.Ghosts D} where
       ap (λ (db : Database). db.schema) opened.0.clean ∙ lists_once [] (file_state conn).committed.schema no_schema lists lists_nothing
 
   -- with such a disk: the record is a new one, which stores the empty schedule
-  pub in_memory : {O : Type 0} (o : operator.Ghosts O) (c : Command) (files : Files D) (status : ℕ) → ((h : Held (FileStore D g)) → HasCleanDisk (file_state h)) → (image_of g files).db ≡ [] → IsDoneInFiles g o c files status → IsDoneInMemory g o c status
-  in_memory o c files status clean none (conn, after, found, inl (first, inl (some, same), done)) =
-      let no_tables : has_tables (file_state conn).now.schema ≡ false = ap has_tables (opened_empty files conn (found (clean conn)).0 (found (clean conn)).1 none) in
-      absurd (true≢false (sym some ∙ no_tables))
-  in_memory o c files status clean none (conn, after, found, inl (first, inr (bare, made), done)) =
-      let keeps : Keeps (empty_schedule ceilings) (file_state first).now = made.begun (clean first) (opened_empty files conn (found (clean conn)).0 (found (clean conn)).1 none) in
-      inl (first, after, keeps, clean after, done)
-  in_memory o c files status clean none (conn, after, found, inr unmade) =
+  done_in_memory : {O : Type 0} (o : operator.Ghosts O) (c : Command) (conn after : Held (FileStore D g)) (status : ℕ) → ((h : Held (FileStore D g)) → HasCleanDisk (file_state h)) → (file_state conn).now.schema ≡ no_schema
+      → IsDoneOn (file_state {g = g}) o c conn after status → IsDoneInMemory g o c status
+  done_in_memory o c conn after status clean bare (inl (first, inl (some, same), done)) = absurd (true≢false (sym some ∙ ap has_tables bare))
+  done_in_memory o c conn after status clean bare (inl (first, inr (none, made), done)) =
+      let empty : Keeps (empty_schedule ceilings) (file_state first).now = made.begun (clean first) bare in
+      inl (record { first = first; after = after; empty = empty; clean = clean after; done = done })
+  done_in_memory o c conn after status clean bare (inr unmade) =
       inr (
         unmade.fault,
         unmade.told,
         elim unmade.cause [
           | inl of_sqlite ↦ of_sqlite
-          | inr named ↦ absurd (true≢false (sym named ∙ ap has_record_table (opened_empty files conn (found (clean conn)).0 (found (clean conn)).1 none)))
+          | inr named ↦ absurd (true≢false (sym named ∙ ap has_record_table bare))
         ],
         unmade.same,
         unmade.status_is,
       )
+
+  pub in_memory : {O : Type 0} (o : operator.Ghosts O) (c : Command) (files : Files D) (status : ℕ) → ((h : Held (FileStore D g)) → HasCleanDisk (file_state h)) → (image_of g files).db ≡ [] → IsDoneInFiles g o c files status → IsDoneInMemory g o c status
+  in_memory o c files status clean none did =
+      let opened = did.opened (clean did.conn) in
+      done_in_memory o c did.conn did.after status clean (opened_empty files did.conn opened.0 opened.1 none) did.done

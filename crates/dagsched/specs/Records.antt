@@ -58,28 +58,43 @@ IsDoneOn {S} look o c conn after status = ((first : Held S) × IsRecordOf look c
 -- ---- in memory
 
 -- a command was done on the record of a connection that was opened on these files
-abbrev pub IsDoneInFiles : {D O : Type 0} → (g : disk.Ghosts D) → operator.Ghosts O → Command → Files D → ℕ → Type 0
-IsDoneInFiles {D} g o c files status =
-    (conn : Held (FileStore D g)) × (after : Held (FileStore D g)) × (HasCleanDisk (file_state conn) → IsOpened conn × Finds files conn) × IsDoneOn file_state o c conn after status
+pub record IsDoneInFiles {D O : Type 0} (g : disk.Ghosts D) (o : operator.Ghosts O) (c : Command) (files : Files D) (status : ℕ) : Type 0 where
+  pub conn : Held (FileStore D g)
+  pub after : Held (FileStore D g)
+  pub opened : HasCleanDisk (file_state conn) → IsOpened conn × Finds files conn
+  pub done : IsDoneOn (file_state {g = g}) o c conn after status
 
--- A command was done on a record that stores the schedule which has nothing but the default pool, and its disk gave back what was written to the end. Or SQLite
--- made no such record, for want of memory or by an error.
-abbrev pub IsDoneInMemory : {D O : Type 0} → (g : disk.Ghosts D) → operator.Ghosts O → Command → ℕ → Type 0
-IsDoneInMemory {D} g o c status =
-    ((first : Held (FileStore D g)) × (after : Held (FileStore D g)) × Keeps (empty_schedule ceilings) (file_state first).now × HasCleanDisk (file_state after)
-    × IsCommandDone file_state o c first after status)
-    ⊎ ((fault : StoreFault) × (told : Fault) × IsOfSqlite fault × IsOfStore fault told × (status ≡ failure_status told))
+-- a command was done on a record that stores the schedule which has nothing but the default pool, and its disk gave back what was written to the end
+pub record IsDoneOnNew {D O : Type 0} (g : disk.Ghosts D) (o : operator.Ghosts O) (c : Command) (status : ℕ) : Type 0 where
+  pub first : Held (FileStore D g)
+  pub after : Held (FileStore D g)
+  pub empty : Keeps (empty_schedule ceilings) (file_state first).now
+  pub clean : HasCleanDisk (file_state after)
+  pub done : IsCommandDone (file_state {g = g}) o c first after status
+
+-- no record was made, for want of memory or by an error of SQLite
+abbrev pub IsNotMade : ℕ → Type 0
+IsNotMade status = (fault : StoreFault) × (told : Fault) × IsOfSqlite fault × IsOfStore fault told × (status ≡ failure_status told)
+
+abbrev pub IsDoneInMemory : {D O : Type 0} → disk.Ghosts D → operator.Ghosts O → Command → ℕ → Type 0
+IsDoneInMemory g o c status = IsDoneOnNew g o c status ⊎ IsNotMade status
 
 -- ---- in a file
 
--- A command was done on the record of a connection. If its disk gave back what was written, to the end, then this connection had the database that the file and
--- its log, which held this, recover to, or an empty one if they held none.
-abbrev pub IsDoneOnFile : {D O : Type 0} → (g : disk.Ghosts D) → operator.Ghosts O → Image → Command → Held (FileStore D g) → ℕ → Type 0
-IsDoneOnFile {D} g o image c after status =
-    (found : Held (FileStore D g)) × (HasCleanDisk (file_state after) → IsOpenedOn image found) × IsDoneOn file_state o c found after status
+-- A command was done on the record of a connection, and this came back. If its disk gave back what was written, to the end, then this connection had the
+-- database that the file and its log, which held this, recover to, or an empty one if they held none.
+pub record IsDoneOnFile {D O : Type 0} (g : disk.Ghosts D) (o : operator.Ghosts O) (image : Image) (c : Command) (after : Held (FileStore D g)) (status : ℕ) : Type 0 where
+  pub found : Held (FileStore D g)
+  pub opened : HasCleanDisk (file_state after) → IsOpenedOn image found
+  pub done : IsDoneOn (file_state {g = g}) o c found after status
 
--- the file was closed then, and the status is at least 3 where that failed; or it was not opened, and the status is 3
-abbrev pub IsDoneInFile : {D O : Type 0} → (g : disk.Ghosts D) → operator.Ghosts O → Image → Command → ℕ → Type 0
-IsDoneInFile {D} g o image c status =
-    ((after : Held (FileStore D g)) × (said : ℕ) × IsDoneOnFile g o image c after said × ((status ≡ said) ⊎ (status ≡ max said 3)))
-    ⊎ (status ≡ 3)
+-- the same, and the file was closed then: the status is at least 3 where that failed
+pub record IsDoneAndClosed {D O : Type 0} (g : disk.Ghosts D) (o : operator.Ghosts O) (image : Image) (c : Command) (status : ℕ) : Type 0 where
+  pub after : Held (FileStore D g)
+  pub said : ℕ
+  pub on_file : IsDoneOnFile g o image c after said
+  pub status_is : (status ≡ said) ⊎ (status ≡ max said 3)
+
+-- or the file was not opened, and the status is 3
+abbrev pub IsDoneInFile : {D O : Type 0} → disk.Ghosts D → operator.Ghosts O → Image → Command → ℕ → Type 0
+IsDoneInFile g o image c status = IsDoneAndClosed g o image c status ⊎ (status ≡ 3)
