@@ -22,21 +22,25 @@ tells() {
 }
 
 case $1 in
-# a record that is not there is made; one worker and one lane; the status is that of the refused command
+# a record that is not there is made; one worker and one lane; the status is that of the refused command; the folders are those that are named
 opens)
     cat > script <<'END'
 load inline
 dag_id = "daily"
 schedule = "@daily"
 start_date = "2024-03-01"
-task = [{ task_id = "one", operator = "noop" }, { task_id = "two", operator = "noop" }]
+task = [
+    { task_id = "one", operator = "noop" },
+    { task_id = "two", operator = "noop" },
+    { task_id = "write", operator = "command", argv = ["echo", "@scratch"] },
+]
 .
 tick 2024-03-02
 drain
 pause nightly
 drain
 END
-    answers 1 --record new.db run --workers 1 --lanes 1 --scratch new-tries <<'END'
+    answers 1 --record new.db run --workers 1 --lanes 1 --scratch new-tries --logs new-logs <<'END'
 ok
 made daily scheduled__2024-03-01T00:00:00+00:00
 try 1 daily 2024-03-01T00:00:00+00:00 one 1
@@ -46,7 +50,7 @@ refused 6 UnknownGraph
 ok
 END
     tells 'new.db was not there, so a new record was made'
-    [ -d new-tries ]
+    [ "$(cat new-logs/dag_id=daily/run_id=scheduled__2024-03-01T00:00:00+00:00/task_id=write/attempt=1.log)" = new-tries/try-3 ]
     ;;
 # what it answered is there at the next start, and what a command does at the next but one
 goes-on)
@@ -54,6 +58,7 @@ goes-on)
     answers 0 --record new.db list tasks <<'END'
 daily scheduled__2024-03-01T00:00:00+00:00 one success 1
 daily scheduled__2024-03-01T00:00:00+00:00 two success 1
+daily scheduled__2024-03-01T00:00:00+00:00 write success 1
 ok
 END
     answers 0 --record new.db trigger daily <<'END'
@@ -84,8 +89,10 @@ END
     answers 0 --record new.db list tasks <<'END'
 daily scheduled__2024-03-01T00:00:00+00:00 one success 1
 daily scheduled__2024-03-01T00:00:00+00:00 two success 1
+daily scheduled__2024-03-01T00:00:00+00:00 write success 1
 daily manual__2024-03-02T00:00:00+00:00 one success 1
 daily manual__2024-03-02T00:00:00+00:00 two success 1
+daily manual__2024-03-02T00:00:00+00:00 write success 1
 ok
 END
     answers 0 --record new.db list pools <<'END'
