@@ -1,5 +1,5 @@
 -- What is done on a record, from what the crates below promise.
-use Rattle.std.proofs.Common.{◌≡◌, ◌⊎◌, ℕ, true≢false, List, Option, None, Some, Result, Ok, Err, MatchResult, is_some, sym, ap, subst, inl, inr, arith}
+use Rattle.std.proofs.Common.{◌≡◌, ℕ, true≢false, List, Option, None, Some, is_some, sym, ap, subst, inl, inr, arith}
 use Rattle.std.specs.Io.KnownBytes.{Appends}
 use Rattle.sqlite.specs.Held.{Held}
 use Rattle.sqlite.specs.State.{State, HasCleanDisk}
@@ -16,11 +16,6 @@ use Rattle.dagsched.specs.Scripts.{IsScriptDone, IsScriptOf}
 -- nothing is known of bytes that are not known
 no_bytes : (read : Option (List ℕ)) (bytes : List ℕ) → None ≡ Some bytes → read ≡ Some bytes
 no_bytes read bytes is = absurd (true≢false (sym (ap is_some is)))
-
--- the status of what was written out or not
-pub own_or_4 : {T E : Type 0} (flushed : Result T E) (said status : ℕ) → MatchResult flushed (λ _. status ≡ said) (λ _. status ≡ 4) → (status ≡ said) ⊎ (status ≡ 4)
-own_or_4 (Ok v) said status is = inl is
-own_or_4 (Err e) said status is = inr is
 
 -- a script that was run, where less is known of its streams
 pub script_less : {S O F W : Type 0} (look : Held S → State) (o : operator.Ghosts O) (bytes : Option (List ℕ)) (gives : F → List FileAnswer → F → Type 0) (contents : W → Option (List ℕ)) (options : ScriptOptions) (sources : F) (output : W) (before after : Held S) (status : ℕ)
