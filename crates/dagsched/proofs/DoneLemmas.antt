@@ -30,17 +30,17 @@ script_less look o bytes gives contents options sources output before after stat
 module _ {S O : Type 0} (look : Held S → State) (o : operator.Ghosts O) where
   script_clean : (options : ScriptOptions) (before after : Held S) (status : ℕ) → IsScriptDone look o options before after status → HasCleanDisk (look after) → HasCleanDisk (look before)
   script_clean options before after status (inl run) clean = run.run.run.was_clean clean
-  script_clean options before after status (inr unopened) clean = omega (arith, unopened.crash.clean, clean)
+  script_clean options before after status (inr (fault, unopened, is)) clean = omega (arith, unopened.crash.clean, clean)
 
   as_it_was : (before after : Held S) → after ≡ before → HasCleanDisk (look after) → HasCleanDisk (look before)
   as_it_was before after same clean = subst (λ (h : Held S). HasCleanDisk (look h)) same clean
 
   pub done_clean : (c : Command) (before after : Held S) (status : ℕ) → IsCommandDone look o c before after status → HasCleanDisk (look after) → HasCleanDisk (look before)
   done_clean (says.Run options) before after status done clean = script_clean options before after status done clean
-  done_clean (says.Step e) before after status (old, new, said, inl stepped, at) clean = stepped.was_clean clean
-  done_clean (says.Step e) before after status (old, new, said, inr unopened, at) clean = omega (arith, unopened.crash.clean, clean)
-  done_clean (says.List listing) before after status (old, new, said, looked, at) clean = omega (arith, looked.crash.clean, clean)
-  done_clean (says.Explain question) before after status (old, new, said, looked, at) clean = omega (arith, looked.crash.clean, clean)
+  done_clean (says.Step e) before after status (old, new, said, inl (came, a, stepped, told), at) clean = stepped.was_clean clean
+  done_clean (says.Step e) before after status (old, new, said, inr (fault, unopened, told), at) clean = omega (arith, unopened.crash.clean, clean)
+  done_clean (says.List listing) before after status (old, new, said, (read, looked, told), at) clean = omega (arith, looked.crash.clean, clean)
+  done_clean (says.Explain question) before after status (old, new, said, (read, looked, told), at) clean = omega (arith, looked.crash.clean, clean)
   done_clean (says.Take how source) before after status (old, new, said, told, at) clean = as_it_was before after told.0 clean
   done_clean (says.Tick time) before after status (old, new, said, told, at) clean = as_it_was before after told.0 clean
   done_clean says.Drain before after status (old, new, said, told, at) clean = as_it_was before after told.0 clean

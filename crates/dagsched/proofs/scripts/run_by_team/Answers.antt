@@ -20,11 +20,14 @@ returns-in-Ok g c =
     )
 
 pub returns-in-Err : goal.returns-in-Err
-returns-in-Err g c = inr (record {
-  fault = c.in-Err.unopened.fault;
-  cause = c.in-Err.ensures.fault;
-  kept = c.in-Err.ensures.kept;
-  crash = c.in-Err.ensures.crash;
-  refused_crash = c.in-Err.ensures.refused_crash;
-  shown = inl (c.in_ok-status.ensures, tt);
-})
+returns-in-Err g c =
+    inr (
+      c.in-Err.unopened.fault,
+      record {
+        cause = c.in-Err.ensures.fault;
+        kept = c.in-Err.ensures.kept;
+        crash = c.in-Err.ensures.crash;
+        refused_crash = c.in-Err.ensures.refused_crash;
+      },
+      c.in_ok-status.ensures,
+    )
