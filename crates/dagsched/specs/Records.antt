@@ -6,10 +6,12 @@ use Rattle.sqlite_disk.specs.declared.Files.{Files}
 use Rattle.sqlite_store.specs.declared.store.FileStore.{FileStore}
 use Rattle.sqlite.specs.Recovery.{Image}
 use Rattle.sqlite.specs.Schema.{Schema}
+use Rattle.sqlite.specs.Closing.{IsCopied}
 use Rattle.sqlite.specs.Files.{file_state, Finds, IsOpened}
 use Rattle.sqlite.specs.Held.{Held}
 use Rattle.sqlite.specs.State.{State, HasCleanDisk, Survives}
 use Rattle.sqlite.specs.Tree.{Trees}
+use Rattle.sqlite.specs.WalReads.{AreClean}
 use Rattle.sched_model.specs.Schedule.{empty_schedule}
 use Rattle.sched_state.specs.Limits.{ceilings}
 use Rattle.meta_store.specs.Faults.{IsOfSqlite}
@@ -81,19 +83,25 @@ IsDoneInMemory g o c status = IsDoneOnNew g o c status ⊎ IsNotMade status
 
 -- ---- in a file
 
--- A command was done on the record of a connection, and this came back. If its disk gave back what was written, to the end, then this connection had the
--- database that the file and its log, which held this, recover to, or an empty one if they held none.
+-- A command was done on the record of a connection, and this came back, outside of a transaction. If its disk gave back what was written, to the end, then this
+-- connection had the database that the file and its log, which held this, recover to, or an empty one if they held none.
 pub record IsDoneOnFile {D O : Type 0} (g : disk.Ghosts D) (o : operator.Ghosts O) (image : Image) (c : Command) (after : Held (FileStore D g)) (status : ℕ) : Type 0 where
   pub found : Held (FileStore D g)
   pub opened : HasCleanDisk (file_state after) → IsOpenedOn image found
   pub done : IsDoneOn (file_state {g = g}) o c found after status
+  pub settled : after.in_transaction ≡ false
 
--- the same, and the file was closed then: the status is at least 3 where that failed
+-- The file of a database and its log were closed, and the status is that of the command: if they gave back what was written, they hold this database, as they
+-- read and after a crash, and so does the file with no log. Or they were not, and the status is at least 3.
+abbrev pub IsClosedWith : {D : Type 0} {g : disk.Ghosts D} → Held (FileStore D g) → ℕ → ℕ → Type 0
+IsClosedWith {D} {g} conn said status = ((files : Files D) × (AreClean g files.log files.db → IsCopied conn files) × (status ≡ said)) ⊎ (status ≡ max said 3)
+
+-- the same, and the file was closed then
 pub record IsDoneAndClosed {D O : Type 0} (g : disk.Ghosts D) (o : operator.Ghosts O) (image : Image) (c : Command) (status : ℕ) : Type 0 where
   pub after : Held (FileStore D g)
   pub said : ℕ
   pub on_file : IsDoneOnFile g o image c after said
-  pub status_is : (status ≡ said) ⊎ (status ≡ max said 3)
+  pub closed : IsClosedWith after said status
 
 -- or the file was not opened, and the status is 3
 abbrev pub IsDoneInFile : {D O : Type 0} → disk.Ghosts D → operator.Ghosts O → Image → Command → ℕ → Type 0

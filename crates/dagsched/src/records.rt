@@ -6,7 +6,7 @@ ghost use Rattle.sqlite.specs.State.{HasCleanDisk};
 ghost use Rattle.sqlite.specs.WalFiles.{image_at};
 ghost use Rattle.script_reader.specs.Statuses.{failure_status};
 ghost use Rattle.dagsched.specs.Commands.{IsCommandDone, IsSingleDone};
-ghost use Rattle.dagsched.specs.Records.{IsDoneInFile, IsDoneInFiles, IsDoneInMemory, IsDoneOn, IsDoneOnFile};
+ghost use Rattle.dagsched.specs.Records.{IsClosedWith, IsDoneInFile, IsDoneInFiles, IsDoneInMemory, IsDoneOn, IsDoneOnFile};
 
 use crate::scripts::{OwnOperator, run_script};
 use crate::telling::{
@@ -100,11 +100,14 @@ fn tell_unless(rt: &HostRuntime, path: &str, was_there: bool) {
 
 // Closes the file of a database; the status, where that of the command is this one.
 fn close<D: Disk + Drop>(conn: Connection<FileStore<D>>, status: u8) -> u8
-    ensures { (result ≡ status) ⊎ (result ≡ max status 3) }
+    ensures { IsClosedWith conn status result }
 {
-    match conn.close() {
-        Ok(()) => status,
-        Err(_) => status.max(3),
+    match conn.close_files() {
+        Ok(_files) => status,
+        Err((_, store)) => {
+            drop(store.close());
+            status.max(3)
+        }
     }
 }
 

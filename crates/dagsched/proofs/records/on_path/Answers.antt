@@ -10,4 +10,5 @@ returns-in-Ok g c =
       found = c.in-Ok.conn;
       opened = λ clean. c.in-Ok.ensures.found (on_clean file_state _ c.args.command.now c.in-Ok.conn done.0 done.1 did clean);
       done = did;
+      settled = c.in_ok-done.ensures.settled;
     }
