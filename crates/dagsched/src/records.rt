@@ -1,5 +1,5 @@
 //! The record on which a command is done.
-ghost use Rattle.std.specs.Prelude.{◌≡◌, ◌⊎◌, false, max, IfOk, IfSome, IsTrue, MatchResult};
+ghost use Rattle.std.specs.Prelude.{◌≡◌, false, IfOk, IfSome, IsTrue, MatchResult};
 ghost use Rattle.sqlite.specs.Files.{file_state, Finds, IsOpened};
 ghost use Rattle.sqlite.specs.Held.{state};
 ghost use Rattle.sqlite.specs.State.{HasCleanDisk};

@@ -1,5 +1,5 @@
 -- What is promised of a run, where less is known of its streams, its sources and its clock.
-use Rattle.std.proofs.Common.{◌≡◌, ◌≢◌, ◌++◌, ℕ, true, List, length, flat_map, All, Option, Some, Result, Ok, Err, is_ok, IfErr, refl, sym, subst}
+use Rattle.std.proofs.Common.{◌≡◌, ◌≢◌, ◌++◌, ℕ, List, length, flat_map, All, Option, Some, Result, Ok, Err, IfErr, refl, sym, subst}
 use Rattle.sqlite.specs.Held.{Held}
 use Rattle.sqlite.specs.Effect.{Database}
 use Rattle.sqlite.specs.State.{State}
