@@ -6,6 +6,7 @@ use Rattle.sqlite_disk.specs.declared.Disk as disk
 use Rattle.sqlite_disk.specs.declared.Files.{Files}
 use Rattle.sqlite_store.specs.declared.store.FileStore.{FileStore}
 use Rattle.sqlite_trees.specs.Objects.{catalog_tree}
+use Rattle.sqlite_trees.specs.Sound.{is_sound_list}
 use Rattle.sqlite_trees.specs.Tree.{Trees}
 use Rattle.sqlite_value.specs.Order.{Row}
 use Rattle.sqlite.specs.Effect.{Database}
@@ -23,18 +24,19 @@ use Rattle.dagsched.specs.Records.{has_tables, IsDoneInFiles, IsDoneInMemory, Is
 
 -- no object is listed by a schema that has none
 lists_nothing : Lists [] no_schema
+unfolding is_sound_list
 lists_nothing = record { listed = record { tables = tt; indexes = tt; views = tt; owned = tt; named = tt; loads = refl }; guarded = tt }
 
-module _ {D : Type 0} {g : disk.Ghosts D} where
-  -- files that hold nothing are opened as trees in which nothing is listed
-  found_nothing : (files : Files D) (trees : Trees) → AreFound g files trees → (image_of g files).db ≡ [] → trees catalog_tree ≡ []
-  found_nothing files trees (inl (size, pages, wanted, adopts, ours, same)) none = let zero : length (image_of g files).db ≡ 0 = ap length none in absurd (omega (arith, adopts.found.present, zero))
-  found_nothing files trees (inr (nothing, empty)) none = empty.1
+-- files that hold nothing are opened as trees in which nothing is listed
+found_nothing : {D : Type 0} (g : disk.Ghosts D) (files : Files D) (trees : Trees) → AreFound g files trees → (image_of g files).db ≡ [] → trees catalog_tree ≡ []
+found_nothing g files trees (inl (size, pages, wanted, adopts, ours, same)) none = let zero : length (image_of g files).db ≡ 0 = ap length none in absurd (omega (arith, adopts.found.present, zero))
+found_nothing g files trees (inr (nothing, empty)) none = empty.1
 
+module _ {D : Type 0} {g : disk.Ghosts D} where
   opened_empty : (files : Files D) (conn : Held (FileStore D g)) → IsOpened conn → Finds files conn → (image_of g files).db ≡ [] → (file_state conn).now.schema ≡ no_schema
   opened_empty files conn opened finds none =
       let sound = (opened.1 opened.0.is_open).1 in
-      let catalog : (file_state conn).committed.trees catalog_tree ≡ [] = found_nothing files (file_state conn).committed.trees finds.reads none in
+      let catalog : (file_state conn).committed.trees catalog_tree ≡ [] = found_nothing g files (file_state conn).committed.trees finds.reads none in
       let lists : Lists [] (file_state conn).committed.schema = subst (λ (rows : List Row). Lists rows (file_state conn).committed.schema) catalog sound.lists in
       ap (λ (db : Database). db.schema) opened.0.clean ∙ lists_once [] (file_state conn).committed.schema no_schema lists lists_nothing
 
