@@ -78,8 +78,8 @@ module _ {D E : Type 0} {g : Ghosts D} {k : Ghosts E} where
       → IsCopied closed files → IsLeftOf g files left → IsOpenedOn left found → ∥ (file_state found).now ≡ (file_state closed).now ∥₁
   found_closed closed files found left is outside copied may opened =
       ∥∥₁_map (holds_last closed files left copied may) (λ holds.
-          same_now closed found left is copied.was_open opened
-          (ap (λ (d : Database). d.trees) opened.0.0.clean ∙ (opened.1.holds _ holds ∙ sym (is.settled copied.was_open outside).0)))
+      same_now closed found left is copied.was_open opened
+      (ap (λ (d : Database). d.trees) opened.0.0.clean ∙ (opened.1.holds _ holds ∙ sym (is.settled copied.was_open outside).0)))
 
   -- what a crash in a transaction may leave is the database of before, or one that it makes
   around : SeenMayStay g → (R : Database → Database → Type 0) → TellsByTrees R → (old : Held (FileStore D g)) (found : Held (FileStore E k)) (left : Image) → IsConnection old → IsTrue (file_state old).is_open → old.in_transaction ≡ false
