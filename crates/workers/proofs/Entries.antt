@@ -57,11 +57,11 @@ module _ {O : Type 0} (shows : Shows O) where
     kept = λ kind. ap (λ (k : Kit O). shows.taken (of_kind k kind)) is_now ∙ kept kind ∙ ap (λ (k : Kit O). shows.taken (of_kind k kind)) is_was;
     entries = only (IsEntry shows.taken was) e
         (record {
-        ended =
-            subst (λ (k : Kit O). MayEnd shows.taken k e.job e.begun e.outcome) is_was
-            (subst (λ (j : Job). MayEnd shows.taken before j e.begun e.outcome) (sym is_job)
-            (subst (λ b. MayEnd shows.taken before job b e.outcome) (sym is_begun) (subst (MayEnd shows.taken before job begun) (sym is_outcome) ended)));
-        left = left ∙ ap hold_of (sym is_job);
+          ended =
+              subst (λ (k : Kit O). MayEnd shows.taken k e.job e.begun e.outcome) is_was
+              (subst (λ (j : Job). MayEnd shows.taken before j e.begun e.outcome) (sym is_job)
+              (subst (λ b. MayEnd shows.taken before job b e.outcome) (sym is_begun) (subst (MayEnd shows.taken before job begun) (sym is_outcome) ended)));
+          left = left ∙ ap hold_of (sym is_job);
         });
   }
 

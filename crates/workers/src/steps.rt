@@ -145,7 +145,10 @@ impl<L: Ledger, O: Operator> Worker<L, O> {
         ensures { (result.0 ≡ self.pass) × (result.1 ≡ self.share) × (result.2 ≡ self.kit) }
     {
         let Worker {
-            pass, share, kit, ..
+            pass,
+            share,
+            kit,
+            ..
         } = self;
         (pass, share, kit)
     }
@@ -181,12 +184,7 @@ impl<L: Ledger, O: Operator> Worker<L, O> {
     }
 
     /// Second step: enters the slots that the job takes.
-    pub fn enter<R: Wait>(
-        &mut self,
-        rt: &R,
-        desk: &SlotDesk<L>,
-        started: Started,
-    ) -> Entered<L>
+    pub fn enter<R: Wait>(&mut self, rt: &R, desk: &SlotDesk<L>, started: Started) -> Entered<L>
         ensures job { result.job ≡ started.job }
         ensures entered { self.new.share ≡ self.old.share ++ hold_of started.job ∷ [] }
         ensures new { has_serial started.job.serial self.old.share ≡ false }
@@ -253,12 +251,7 @@ impl<L: Ledger, O: Operator> Worker<L, O> {
     }
 
     /// Last step: tells how the job has ended.
-    pub fn tell_end<R: Wait>(
-        &mut self,
-        rt: &R,
-        lanes: &Lanes,
-        departed: Departed<L>,
-    ) -> LoggedAt<L>
+    pub fn tell_end<R: Wait>(&mut self, rt: &R, lanes: &Lanes, departed: Departed<L>) -> LoggedAt<L>
         requires { IsWorkerOf lanes.now self.old.pass }
         ensures entry { (result.job ≡ departed.job) × (result.begun ≡ departed.begun) × (result.outcome ≡ departed.outcome) × (result.left ≡ departed.left) }
         ensures pass { IsWorkerOf lanes.now self.new.pass }

@@ -1,9 +1,10 @@
-use Rattle.std.proofs.Common.{rules, ◌≡◌, false, [], ◌∷◌, ◌++◌, List, refl, ap, ◌∙◌, subst, sym}
+use Rattle.std.proofs.Common.{◌≡◌, false, [], ◌∷◌, ◌++◌, List, refl, ap, ◌∙◌, subst, sym, append_assoc}
 use Rattle.std.specs.List.{Contains}
 use Rattle.sched_state.specs.declared.jobs.Job.{Job}
+use Rattle.ruled_dispatch.specs.Lanes.{told_of}
 use Rattle.slot_desk.specs.declared.holds.Hold.{Hold}
 use Rattle.slot_desk.specs.Holds.{has_serial, without}
-use Rattle.workers.specs.Logs.{hold_of}
+use Rattle.workers.specs.Logs.{ended, hold_of, started}
 use Rattle.workers.specs.Shows.{shows}
 use Rattle.workers.proofs.Entries.{of_one}
 use Rattle.workers.proofs.Holds.{without_last, is_last}
@@ -45,3 +46,20 @@ returns-clause-account g c =
     (enter.others.1 ∙ start.others.1) (end.others.1 ∙ leave.others.1) (end.entry.0 ∙ leave.job.0 ∙ perform.job) (end.entry.1 ∙ leave.job.1) (end.entry.2 ∙ leave.job.2)
     (end.entry.3 ∙ its ∙ ap hold_of (sym (enter.job ∙ start.job)))
     perform.runs perform.refused perform.taken perform.ended
+
+pub returns-clause-told : goal.returns-clause-told
+returns-clause-told g c =
+    let job = c.args.job in
+    let before = told_of c.args.worker.now.pass in
+    let start = c.tell_start-started.ensures in
+    let enter = c.enter-entered.ensures in
+    let perform = c.perform-performed.ensures in
+    let leave = c.leave-departed.ensures in
+    let end = c.tell_end.ensures in
+    let departed = c.leave-departed.result in
+    let is_job : c.tell_end.result.job ≡ job = end.entry.0 ∙ leave.job.0 ∙ perform.job ∙ enter.job ∙ start.job in
+    let first : told_of c.leave-departed.new.self.pass ≡ before ++ started job ∷ [] = ap told_of (leave.others.0 ∙ perform.others.0 ∙ enter.others.0) ∙ start.told in
+    end.told ∙ ap (λ l. l ++ ended departed.job departed.outcome ∷ []) first ∙ append_assoc before (started job ∷ []) (ended departed.job departed.outcome ∷ [])
+    ∙ ap (λ (j : Job). before ++ started j ∷ ended departed.job departed.outcome ∷ []) (sym is_job)
+    ∙ ap (λ (j : Job). before ++ started c.tell_end.result.job ∷ ended j departed.outcome ∷ []) (sym end.entry.0)
+    ∙ ap (λ o. before ++ started c.tell_end.result.job ∷ ended c.tell_end.result.job o ∷ []) (sym end.entry.2)

@@ -1,14 +1,37 @@
-use Rattle.std.proofs.Common.{rules, ◌≡◌, List, [], ◌∷◌, ◌++◌, vec_items, sym, ap, ◌∙◌, subst, append_assoc}
+use Rattle.std.proofs.Common.{rules, ◌≡◌, List, [], ◌∷◌, ◌++◌, vec_items, sym, ap, ◌∙◌, subst, append-nil, append_assoc}
 use Rattle.std.proofs.lemmas.List.{map-append}
 use Rattle.std.proofs.lemmas.Grind.{flat_map-append}
 use Rattle.ruled_dispatch.specs.declared.items.JobOrStop.TheVariants as items
-use Rattle.ruled_dispatch.specs.Lanes.{taken_of, told_of}
+use Rattle.operators.specs.Kits.{IsKit}
+use Rattle.operators.specs.declared.kits.Kit.{Kit}
+use Rattle.ruled_dispatch.specs.Lanes.{taken_of, told_of, IsWorkerOf}
+use Rattle.ruled_dispatch.specs.declared.passes.WorkerPass.{WorkerPass}
 use Rattle.workers.specs.declared.logs.Logged.{Logged}
 use Rattle.workers.specs.Accounts.{IsAccount}
 use Rattle.workers.specs.Logs.{jobs_of, reports_of, both_reports}
 use Rattle.workers.specs.Shows.{Shows, shows}
-use Rattle.workers.proofs.Entries.{and_then}
+use Rattle.workers.proofs.Entries.{and_then, none_yet}
 use Rattle.workers.proofs.working.work.Goals as goal
+
+pub loop-init : goal.loop-init
+loop-init g c =
+    let op = g.O.Operator in
+    let all : Shows g.row.O.Denot = shows op.kind_of op.runs_of op.refused_of op.taken in
+    let made = c.new-worker.ensures in
+    let none = c.new-log.ensures in
+    let pass = c.args.pass in
+    let kit = c.args.crew.kit in
+    record {
+      pass = subst (λ (p : WorkerPass). IsWorkerOf c.args.lanes.now p) (sym made.0) c.requires.pass;
+      number = ap (λ (p : WorkerPass). p.number) made.0;
+      taken = ap taken_of made.0 ∙ sym (append-nil (taken_of pass)) ∙ ap (λ (l : List Logged). taken_of pass ++ jobs_of l) (sym none);
+      told = ap told_of made.0 ∙ sym (append-nil (told_of pass)) ∙ ap (λ (l : List Logged). told_of pass ++ reports_of l) (sym none);
+      share = made.1;
+      kit = subst (λ (k : Kit g.row.O.Denot). IsKit op.kind_of k) (sym made.2) c.requires.kit;
+      account =
+          subst (λ (l : List Logged). IsAccount all kit c.new-worker.result.kit l) (sym none)
+          (subst (λ (k : Kit g.row.O.Denot). IsAccount all kit k []) (sym made.2) (none_yet all kit));
+    }
 
 pub loop-preserved : goal.loop-preserved
 loop-preserved g c =
@@ -41,5 +64,5 @@ loop-preserved g c =
       account =
           subst (λ (l : List Logged). IsAccount all c.args.crew.kit c.do_job.new.worker.kit l) (sym grown)
           (and_then all c.args.crew.kit c.loop.worker.kit c.do_job.new.worker.kit old last was.account
-          (subst (λ k. IsAccount all k c.do_job.new.worker.kit last) c.take.ensures.others.1 did.account));
+          (subst (λ (k : Kit g.row.O.Denot). IsAccount all k c.do_job.new.worker.kit last) c.take.ensures.others.1 did.account));
     }
