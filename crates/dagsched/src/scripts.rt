@@ -1,11 +1,17 @@
 //! A script that is run on a record.
+ghost use Rattle.std.specs.Prelude.{◌≡◌, IfOk, is_some, false, true};
+ghost use Rattle.sqlite.specs.Held.{state};
+ghost use Rattle.dagsched.specs.Commands.{logs_of};
+ghost use Rattle.dagsched.specs.Scripts.{IsScriptDone, IsScriptOf};
+
 use crate::records::put_failure;
 use crate::telling::tell;
 use command_words::{Command, FilePath, ScriptOptions};
 use fault_sentences::SentenceConsole;
 use meta_store::Store;
+use operators::{Operator, Program};
 use script_reader::{Console, Script, Sources};
-use script_runner::{FileSources, SystemClock, operators_for, run_team};
+use script_runner::{FileSources, SystemClock, TaskOperator, operators_for, run_team};
 use sqlite::Alter;
 use sqlite_disk::{Files, Unknown};
 use sqlite_std_file::{File, OpenError};
@@ -17,6 +23,9 @@ use std::thread::Threads;
 
 // How many workers there are where nobody asks for a number.
 const DEFAULT_WORKERS: u32 = 2;
+
+/// What performs the tries of a script.
+pub type OwnOperator = TaskOperator<Program<HostRuntime>>;
 
 // The script of standard input.
 type OwnScript = Script<
@@ -33,7 +42,10 @@ pub fn run_script<S: Alter + Drop, T: Threads + Wait + Sync>(
     store: Store<S>,
     options: &ScriptOptions,
     words: Vec<String>,
-) -> io::Result<(Store<S>, u8)> {
+) -> io::Result<(Store<S>, u8)>
+    ensures { IfOk result (λ r. IsScriptDone (state S.Store) ⟦<OwnOperator as Operator>⟧ options.now
+        store r.0 r.1) }
+{
     let scratch = options.scratch.as_str();
     tell_terminal(rt);
     tell_lanes(rt, options);
@@ -48,7 +60,10 @@ fn run_own<S: Alter + Drop, T: Threads + Wait + Sync>(
     store: Store<S>,
     options: &ScriptOptions,
     words: Vec<String>,
-) -> io::Result<(Store<S>, u8)> {
+) -> io::Result<(Store<S>, u8)>
+    ensures { IfOk result (λ r. IsScriptDone (state S.Store) ⟦<OwnOperator as Operator>⟧ options.now
+        store r.0 r.1) }
+{
     let script = own_script(rt, words)?;
     run_by_team(threads, rt, store, options, script)
 }
@@ -77,7 +92,11 @@ fn run_by_team<
     store: Store<S>,
     options: &ScriptOptions,
     script: Script<R, W, F, P>,
-) -> io::Result<(Store<S>, u8)> {
+) -> io::Result<(Store<S>, u8)>
+    ensures { IfOk result (λ r. IsScriptOf (state S.Store) ⟦<OwnOperator as Operator>⟧
+        (R.Read.remaining script.input) F.gives W.contents options.now script.sources script.output
+        store r.0 r.1) }
+{
     let alloc = rt.alloc();
     let scratch = options.scratch.as_str();
     let logs = options.logs.as_ref().map(FilePath::as_str);
@@ -102,7 +121,9 @@ fn run_by_team<
 
 /// Makes the folder of the logs, if the command names one that is not there; whether the command may go on. Where there is no such folder, or nothing
 /// can be made in it, that is told. An error is that memory ran out.
-pub fn make_logs(rt: &HostRuntime, command: &Command) -> io::Result<bool> {
+pub fn make_logs(rt: &HostRuntime, command: &Command) -> io::Result<bool>
+    ensures { IfOk result (λ may. may ≡ false → is_some (logs_of command.now) ≡ true) }
+{
     let Command::Run(options) = command else {
         return Ok(true);
     };

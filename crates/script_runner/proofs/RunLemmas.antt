@@ -195,7 +195,7 @@ where_well : {A : Type 0} (P : Type 0) (r : Result A ConductFault) → (came_to_
 where_well P (Ok v) h = h refl
 where_well P (Err f) h = tt
 
-still : {A : Type 0} (none untouched still' : Type 0) (r : Result A ConductFault) → (untouched → still') → IfErr r (λ f. is_unstarted f ≡ true → none × untouched) → IfErr r (λ f. is_unstarted f ≡ true → none × still')
+pub still : {A : Type 0} (none untouched still' : Type 0) (r : Result A ConductFault) → (untouched → still') → IfErr r (λ f. is_unstarted f ≡ true → none × untouched) → IfErr r (λ f. is_unstarted f ≡ true → none × still')
 still none untouched still' (Ok v) to was = tt
 still none untouched still' (Err f) to was = λ is. let both = was is in (both.0, to both.1)
 
@@ -210,11 +210,12 @@ module _ {S G O : Type 0} (look : Held S → State) (shows : Shows O) where
       → IsSoundAndSaid d.schedule.content
       → (HasCleanDisk (look d.store) → Opens ceilings 0 before.now d.schedule.content d.opened)
       → (HasCleanDisk (look d.store) → RestartsIn ceilings 0 before.now (look d.store).now)
+      → (HasCleanDisk (look d.store) → HasCleanDisk before)
       → (before.faults ≤ (look d.store).faults) × (HasCleanDisk (look d.store) → IsTrue (look d.store).is_open)
       → (HasCleanDisk (look d.store) → (trees : Trees) → (look d.store).may_leave trees → trees ≡ (look d.store).now.trees)
       → (named : AreNamed bytes gives clock output lanes d.schedule.content conducted.minutes.items conducted.outcome status) → named.history ≡ c.history
       → IsRun look shows bytes gives clock output quiet lanes kits before conducted.director.store conducted.minutes.items conducted.ends.items conducted.outcome status
-  is_run bytes gives clock output lanes kits before d conducted status are_told untouched quiet failed over c to sound opened restarted is_open only named same =
+  is_run bytes gives clock output lanes kits before d conducted status are_told untouched quiet failed over c to sound opened restarted clean_before is_open only named same =
       let a = d.schedule.content in
       let es = conducted.minutes.items in
       record {
@@ -225,6 +226,7 @@ module _ {S G O : Type 0} (look : Held S → State) (shows : Shows O) where
         accepted = c.accepted;
         begun = c.begun;
         started = λ came. (c.whole came).2;
+        was_clean = λ clean. clean_before (was_clean _ _ _ _ c.followed clean);
         stays = stays_open _ _ before _ _ is_open.0 is_open.1 c.followed;
         stored = λ clean is_open rows has.
             let first = was_clean _ _ _ _ c.followed clean in
@@ -291,12 +293,13 @@ module _ {S G O R W F P C : Type 0} (look : Held S → State) (shows : Shows O) 
       → IsSoundAndSaid d.schedule.content
       → (HasCleanDisk (look d.store) → Opens ceilings 0 before.now d.schedule.content d.opened)
       → (HasCleanDisk (look d.store) → RestartsIn ceilings 0 before.now (look d.store).now)
+      → (HasCleanDisk (look d.store) → HasCleanDisk before)
       → (before.faults ≤ (look d.store).faults) × (HasCleanDisk (look d.store) → IsTrue (look d.store).is_open)
       → (HasCleanDisk (look d.store) → (trees : Trees) → (look d.store).may_leave trees → trees ≡ (look d.store).now.trees)
       → IsFresh first
       → (store : Held S) (minutes : List Event) (ends : List (WorkerEnd G O)) (outcome : Result Total ConductFault) (status : ℕ) (sources : F) (output : W) → ComesBack conducted last store minutes ends outcome status sources output
       → IsRun look shows (remaining first.input) (λ given. gives first.sources given sources) (λ moments. ticks clock moments later) (λ shown. Appends (contents first.output) (contents output) shown) ((sources ≡ first.sources) × (later ≡ clock)) lanes kits before store minutes ends outcome status
-  ran lanes kits before d conducted first last clock later c sound opened restarted is_open only fresh store minutes ends outcome status sources output back =
+  ran lanes kits before d conducted first last clock later c sound opened restarted clean_before is_open only fresh store minutes ends outcome status sources output back =
       let es = conducted.minutes.items in
       let t = c.told in
       let bytes = remaining first.input in
@@ -308,7 +311,7 @@ module _ {S G O R W F P C : Type 0} (look : Held S → State) (shows : Shows O) 
       named first.words.names first.status bytes files times (Appends (contents first.output) (contents last.output)) text c.steps_told d.schedule.content es c.waits (remaining last.input) last.status status lanes (is_some last.failed) last.is_over first.is_over conducted.outcome
       fresh.listed fresh.status t.0.1 (writes lanes kits d conducted first last clock later output c back.output_is) (breaks_off last.failed conducted.outcome c.fault) (closing (contents first.output) (contents last.output) (contents output) last.failed last.status status conducted.outcome c.fault back.status_is back.ended_is) c.history c.last c.parts c.right c.minutes t.1 fresh.over (λ came. let end = c.whole came in (end.0, end.1)) back.status_is
       in
-      let here = is_run look shows bytes files times text lanes kits before d conducted status _ ((last ≡ first) × (later ≡ clock)) quiet last.failed last.is_over c (λ same. (ap (λ (r : ScriptReader R W F P). r.sources) same.0, same.1)) sound opened restarted is_open only named_here.0 named_here.1 in
+      let here = is_run look shows bytes files times text lanes kits before d conducted status _ ((last ≡ first) × (later ≡ clock)) quiet last.failed last.is_over c (λ same. (ap (λ (r : ScriptReader R W F P). r.sources) same.0, same.1)) sound opened restarted clean_before is_open only named_here.0 named_here.1 in
       subst (λ (f : F). IsRun look shows bytes (λ given. gives first.sources given f) times text ((f ≡ first.sources) × (later ≡ clock)) lanes kits before store minutes ends outcome status) (sym back.sources_are)
       (subst (λ (s : Held S). IsRun look shows bytes files times text quiet lanes kits before s minutes ends outcome status) (sym back.store_is)
       (subst (λ (l : List Event). IsRun look shows bytes files times text quiet lanes kits before conducted.director.store l ends outcome status) (sym back.minutes_are)

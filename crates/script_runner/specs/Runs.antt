@@ -45,6 +45,8 @@ pub record IsRun {S G O : Type 0} (look : Held S → State) (shows : Shows O) (b
   pub accepted : AreAccepted minutes first
   pub begun : BeginWithRestart lanes minutes
   pub started : came_to_its_end outcome ≡ true → 0 < length minutes
+  -- a disk that has given back what was written has done so all the time
+  pub was_clean : HasCleanDisk (look store) → HasCleanDisk before
   -- the record is open, unless its disk failed or refused meanwhile; and where it is, and had rows, in either version, it stores the schedule after the
   -- minutes
   pub stays : StaysOpen before (look store)
