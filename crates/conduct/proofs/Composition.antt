@@ -1,5 +1,5 @@
 -- What a run promises, from what its session and its threads leave.
-use Rattle.std.proofs.Common.{◌≡◌, ◌++◌, ◌+◌, ℕ, ◌<◌, ◌≤◌, ◌==◌, Bool, true, false, true≢false, not, List, [], ◌∷◌, length, map, take, replicate, Option, None, inl, inr, Result, Ok, Err, MatchResult, OnOk, IfOk, IfErr, IsOk, refl, sym, ap, ◌∙◌, subst, arith, ne_eqb}
+use Rattle.std.proofs.Common.{◌≡◌, ◌++◌, ◌+◌, ℕ, ◌<◌, ◌≤◌, ◌==◌, Bool, true, false, true≢false, not, List, All, [], ◌∷◌, length, map, take, replicate, Option, None, inl, inr, Result, Ok, Err, MatchResult, OnOk, IfOk, IfErr, IsOk, refl, sym, ap, ◌∙◌, subst, arith, ne_eqb}
 use Rattle.std.specs.Prelude.{sum_by}
 use Rattle.std.proofs.lemmas.List.{length-map}
 use Rattle.std.proofs.lemmas.List.Elements.{All-append, All-nil}

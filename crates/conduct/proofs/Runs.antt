@@ -214,7 +214,7 @@ module _ {S : Type 0} where
 -- workers that worked from what their handles say worked from what they were given
 pub worked_from : {G O : Type 0} (shows : Shows O) (ps ps' : List WorkerPass) (ss ss' : List (List Hold)) (ks ks' : List (Kit O)) (results : List (WorkerEnd G O × WorkerPass × List Hold))
     → ps ≡ ps' → ss ≡ ss' → ks ≡ ks' → HaveWorked shows ps ss ks results → HaveWorked shows ps' ss' ks' results
-worked_from {G = G} {O = O} kind_of runs refused taken ps ps' ss ss' ks ks' results a b d h =
+worked_from {G = G} {O = O} shows ps ps' ss ss' ks ks' results a b d h =
     subst (λ (p : List WorkerPass). HaveWorked shows p ss' ks' results) a
     (subst (λ (s : List (List Hold)). HaveWorked shows ps s ks' results) b
     (subst (λ (k : List (Kit O)). HaveWorked shows ps ss k results) d h))

@@ -1,50 +1,34 @@
-use Rattle.std.proofs.Common.{◌≡◌, false, [], ◌∷◌, ◌++◌, List, refl, ap, ◌∙◌, subst, sym, append_assoc}
-use Rattle.std.specs.List.{Contains}
+use Rattle.std.proofs.Common.{◌≡◌, [], ◌∷◌, ◌++◌, ap, ◌∙◌, sym, append_assoc}
 use Rattle.sched_state.specs.declared.jobs.Job.{Job}
 use Rattle.ruled_dispatch.specs.Lanes.{told_of}
-use Rattle.slot_desk.specs.declared.holds.Hold.{Hold}
-use Rattle.slot_desk.specs.Holds.{has_serial, without}
 use Rattle.workers.specs.Logs.{ended, hold_of, started}
 use Rattle.workers.specs.Shows.{shows}
 use Rattle.workers.proofs.Entries.{of_one}
-use Rattle.workers.proofs.Holds.{without_last, is_last}
+use Rattle.workers.proofs.Holds.{there_and_gone}
 use Rattle.workers.proofs.trying.do_job.Goals as goal
 
 pub returns-clause-share : goal.returns-clause-share
 returns-clause-share g c =
-    let job = c.args.job in
-    let held = c.args.worker.now.share in
     let start = c.tell_start-started.ensures in
     let enter = c.enter-entered.ensures in
     let perform = c.perform-performed.ensures in
-    let is_job : c.perform-performed.result.job ≡ job = perform.job ∙ enter.job ∙ start.job in
-    let new : has_serial job.serial held ≡ false = ap (λ (j : Job). has_serial j.serial held) (sym start.job) ∙ ap (has_serial c.tell_start-started.result.job.serial) (sym start.others.0) ∙ enter.new in
-    let entered : c.perform-performed.new.self.share ≡ held ++ hold_of job ∷ [] =
-    perform.others.1 ∙ enter.entered ∙ ap (λ (hs : List Hold). hs ++ hold_of c.tell_start-started.result.job ∷ []) start.others.0 ∙ ap (λ (j : Job). held ++ hold_of j ∷ []) start.job in
-    c.tell_end.ensures.others.0 ∙ c.leave-departed.ensures.left ∙ ap (λ (j : Job). without j.serial c.perform-performed.new.self.share) is_job ∙ ap (without job.serial) entered
-    ∙ without_last job.serial held (hold_of job) new refl
+    let leave = c.leave-departed.ensures in
+    let gone = there_and_gone start.others.0 start.job (perform.job ∙ enter.job ∙ start.job) enter.entered enter.new perform.others.1 leave.hold.0 leave.hold.1 leave.left in
+    c.tell_end.ensures.others.0 ∙ gone.0
 
 pub returns-clause-account : goal.returns-clause-account
 returns-clause-account g c =
     let op = g.O.Operator in
-    let job = c.args.job in
-    let held = c.args.worker.now.share in
     let start = c.tell_start-started.ensures in
     let enter = c.enter-entered.ensures in
     let perform = c.perform-performed.ensures in
     let leave = c.leave-departed.ensures in
     let end = c.tell_end.ensures in
-    let left = c.leave-departed.result.left in
-    let is_job : c.perform-performed.result.job ≡ job = perform.job ∙ enter.job ∙ start.job in
-    let new : has_serial job.serial held ≡ false = ap (λ (j : Job). has_serial j.serial held) (sym start.job) ∙ ap (has_serial c.tell_start-started.result.job.serial) (sym start.others.0) ∙ enter.new in
-    let entered : c.perform-performed.new.self.share ≡ held ++ hold_of job ∷ [] =
-    perform.others.1 ∙ enter.entered ∙ ap (λ (hs : List Hold). hs ++ hold_of c.tell_start-started.result.job ∷ []) start.others.0 ∙ ap (λ (j : Job). held ++ hold_of j ∷ []) start.job in
-    let there = subst (λ (hs : List Hold). Contains hs left) entered leave.hold.1 in
-    let its : left ≡ hold_of job = is_last job.serial held (hold_of job) left new there (leave.hold.0 ∙ ap (λ (j : Job). j.serial) is_job) in
+    let gone = there_and_gone start.others.0 start.job (perform.job ∙ enter.job ∙ start.job) enter.entered enter.new perform.others.1 leave.hold.0 leave.hold.1 leave.left in
     of_one (shows op.kind_of op.runs_of op.refused_of op.taken) c.args.worker.now.kit c.enter-entered.new.self.kit c.perform-performed.new.self.kit c.tell_end.new.self.kit
     c.enter-entered.result.job c.perform-performed.result.begun c.perform-performed.result.outcome c.tell_end.result
     (enter.others.1 ∙ start.others.1) (end.others.1 ∙ leave.others.1) (end.entry.0 ∙ leave.job.0 ∙ perform.job) (end.entry.1 ∙ leave.job.1) (end.entry.2 ∙ leave.job.2)
-    (end.entry.3 ∙ its ∙ ap hold_of (sym (enter.job ∙ start.job)))
+    (end.entry.3 ∙ gone.1 ∙ ap hold_of (sym (enter.job ∙ start.job)))
     perform.runs perform.refused perform.taken perform.ended
 
 pub returns-clause-told : goal.returns-clause-told
