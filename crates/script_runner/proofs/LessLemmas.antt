@@ -3,17 +3,16 @@ use Rattle.std.proofs.Common.{◌≡◌, ◌≢◌, ◌++◌, ℕ, List, length,
 use Rattle.sqlite.specs.Held.{Held}
 use Rattle.sqlite.specs.Effect.{Database}
 use Rattle.sqlite.specs.State.{State}
-use Rattle.instance_machine.specs.declared.tries.Outcome.{Outcome}
-use Rattle.sched_state.specs.declared.jobs.Job.{Job}
 use Rattle.sched_model.specs.Schedule.{Schedule}
 use Rattle.sched_events.specs.Steps.{steps}
 use Rattle.sched_events.specs.declared.events.Event.{Event}
 use Rattle.operators.specs.declared.kits.Kit.{Kit}
 use Rattle.operators.specs.declared.operators.Operator as operator
 use Rattle.slot_desk.specs.declared.desk.Total.{Total}
-use Rattle.work.specs.declared.crews.OpenGate.{OpenGate}
-use Rattle.work.specs.declared.crews.WorkerEnd.{WorkerEnd}
-use Rattle.crews.specs.Settled.{AreAmongTold}
+use Rattle.workers.specs.declared.crews.OpenGate.{OpenGate}
+use Rattle.workers.specs.declared.crews.WorkerEnd.{WorkerEnd}
+use Rattle.workers.specs.Accounted.{AreAmongTold}
+use Rattle.workers.specs.Shows.{Shows, shows}
 use Rattle.conduct.specs.sessions.director.Directors.{Keeps}
 use Rattle.conduct.specs.sessions.director.Leaves.{IsOneOf}
 use Rattle.conduct.specs.sessions.History.{heard_in, tried_at_end, Step}
@@ -67,10 +66,10 @@ module _ (read known : Option (List ℕ)) (sources files : List FileAnswer → T
   )
 
   module _ {S G O : Type 0} (look : Held S → State) (untouched quiet : Type 0) (to_quiet : untouched → quiet) (lanes : ℕ) (before : State) (store : Held S) (minutes : List Event) (ends : List (WorkerEnd G O)) (outcome : Result Total ConductFault) (status : ℕ) where
-    run_less : (runs : O → List (Job × Outcome)) (refused : O → List Job) (taken : O → Option Job) (kits : List (Kit O))
-        → IsRun look runs refused taken read sources clock output untouched lanes kits before store minutes ends outcome status
-        → IsRun look runs refused taken known files times text quiet lanes kits before store minutes ends outcome status
-    run_less runs refused taken kits r =
+    run_less : (shows : Shows O) (kits : List (Kit O))
+        → IsRun look shows read sources clock output untouched lanes kits before store minutes ends outcome status
+        → IsRun look shows known files times text quiet lanes kits before store minutes ends outcome status
+    run_less shows kits r =
         let (named, same) = named_less lanes r.first minutes outcome status r.named in
         record {
           first = r.first;
@@ -103,7 +102,7 @@ module _ (read known : Option (List ℕ)) (sources files : List FileAnswer → T
     -- what `run_team` promises of a team as `operators_for` makes it
     pub by_team : (operators : List (List O)) (minutes : List Event) (ends : List (WorkerEnd OpenGate O)) (outcome : Result Total ConductFault)
         → length operators ≡ workers → All (IsWhole o.kind_of) operators → All (All (IsFresh o.runs_of o.refused_of o.taken)) operators
-        → IsTeamRun look o.kind_of o.runs_of o.refused_of o.taken read sources clock output untouched lanes operators before store minutes ends outcome status
+        → IsTeamRun look (shows o.kind_of o.runs_of o.refused_of o.taken) read sources clock output untouched lanes operators before store minutes ends outcome status
         → IsRunByTeam look o known files times text quiet workers lanes before store status
     by_team operators minutes ends outcome count whole fresh team = record {
       operators = operators;
@@ -116,7 +115,7 @@ module _ (read known : Option (List ℕ)) (sources files : List FileAnswer → T
       run = record {
         kits = team.kits;
         made = team.made;
-        run = run_less look untouched quiet to_quiet lanes before store minutes ends outcome status o.runs_of o.refused_of o.taken team.kits team.run;
+        run = run_less look untouched quiet to_quiet lanes before store minutes ends outcome status (shows o.kind_of o.runs_of o.refused_of o.taken) team.kits team.run;
       };
     }
 
