@@ -189,7 +189,14 @@ fn put_run<R: Recorder, T: Threads + Wait + Sync, W: Write>(
             put_played(rt, host, recorder, setting, section.script, output)
         }
         Kind::Logged => put_logged(rt, host, recorder, section.script, output),
-        Kind::Told => put_told(rt, host, recorder, Setting::with_lanes(1), section.script, output),
+        Kind::Told => put_told(
+            rt,
+            host,
+            recorder,
+            Setting::with_lanes(1),
+            section.script,
+            output,
+        ),
         Kind::Stops(part) => put_stops(rt, host, recorder, part, section.script, output),
         Kind::Long(count) => put_made(
             rt,
