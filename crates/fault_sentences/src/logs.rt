@@ -93,22 +93,21 @@ impl Failure {
 
 impl Log {
     // That of the try with this number, below a folder.
-    fn of(
+    fn of<'a>(
         alloc: Global,
-        run: &Run,
-        task: &TaskSpec,
+        run: &'a Run,
+        task: &'a TaskSpec,
         number: usize,
-        logs: &str,
+        logs: &'a str,
     ) -> Result<Log, AllocError> {
         let mut folder = String::new(alloc);
         let graph = Text(run.graph.as_str());
         say(&mut folder, "{}/dag_id={}", &[Text(logs), graph])?;
-        let mut path = String::new(alloc);
+        let mut path = String::from_str(alloc, folder.as_str())?;
         say(
             &mut path,
-            "{}/run_id={}__{}/task_id={}/attempt={}.log",
+            "/run_id={}__{}/task_id={}/attempt={}.log",
             &[
-                Text(folder.as_str()),
                 Text(run.kind.name()),
                 Date(run.logical),
                 Text(task.task_id.as_str()),
@@ -120,7 +119,11 @@ impl Log {
 }
 
 /// Adds `DAG LOGICAL TASK`.
-pub fn push_name(sentence: &mut String, run: &Run, task: &TaskSpec) -> Result<(), AllocError> {
+pub fn push_name<'a>(
+    sentence: &mut String,
+    run: &'a Run,
+    task: &'a TaskSpec,
+) -> Result<(), AllocError> {
     let (graph, task) = (run.graph.as_str(), task.task_id.as_str());
     say(
         sentence,
