@@ -69,7 +69,7 @@ fn main(rt: HostRuntime) -> io::Result<()> {
     if asks_for_times(&rt)? {
         put_times(&rt)
     } else {
-        put_page_in_folder(&rt)
+        put_page_in_folder(&rt, &rt)
     }
 }
 
@@ -90,11 +90,11 @@ fn input(host: &HostRuntime) -> io::Result<Vec<u8>> {
     Ok(text)
 }
 
-fn put_page_in_folder(host: &HostRuntime) -> io::Result<()> {
+fn put_page_in_folder<T: Threads + Wait + Sync>(rt: &T, host: &HostRuntime) -> io::Result<()> {
     // the folder of the tries of `command`
     fs::create_dir(host, playing::SCRATCH)?;
     fs::write(host, playing::TOLD, b"")?;
-    put_page(host, host, &InMemory)?;
+    put_page(rt, host, &InMemory)?;
     fs::remove_file(host, playing::TOLD)?;
     fs::remove_dir(host, playing::SCRATCH)
 }
