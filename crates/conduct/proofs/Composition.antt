@@ -23,7 +23,7 @@ use Rattle.sched_model.specs.Schedule.{Schedule}
 use Rattle.sched_model.specs.States.{in_flight}
 use Rattle.minutes.specs.Minutes.{BeginWithRestart, reports_in}
 use Rattle.sessions.specs.director.Leaves.{Leaves}
-use Rattle.sessions.specs.History.{accepted, heard_in, is_reported, is_restarted, missed_in, tried_at_end, AreReported, AreRight, Restarted, Step}
+use Rattle.sessions.specs.History.{accepted, heard_in, is_reported, is_restarted, missed_in, tried_at_end, AreRight, Step}
 use Rattle.sessions.specs.Runs.{DirectorValue, Follows}
 use Rattle.sessions.proofs.HistoryLemmas.{reported_later}
 use Rattle.sessions.proofs.LawLemmas.{right_accepted, right_begun, right_heard}

@@ -1,5 +1,5 @@
 -- A session that was served, and one that was not, with the stops sent after it.
-use Rattle.std.proofs.Common.{◌≡◌, ℕ, ◌<◌, ◌≤◌, ◌||◌, Bool, true, false, true≢false, inl, inr, List, [], ◌∷◌, ◌++◌, All, length, map, replicate, is_ok, Option, None, Result, Ok, Err, MatchBool, MatchResult, OnOk, IfErr, vec_items, refl, sym, ap, ◌∙◌, subst, arith}
+use Rattle.std.proofs.Common.{◌≡◌, ℕ, ◌<◌, ◌||◌, Bool, true, false, true≢false, inl, inr, List, [], ◌∷◌, ◌++◌, length, replicate, is_ok, Option, None, Result, Ok, Err, MatchBool, MatchResult, OnOk, IfErr, vec_items, refl, sym, ap, ◌∙◌, subst, arith}
 use Rattle.std.proofs.lemmas.List.Elements.{All-nil}
 use Rattle.sqlite.specs.Held.{Held}
 use Rattle.sqlite.specs.State.{State}

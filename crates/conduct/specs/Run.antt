@@ -8,8 +8,6 @@ use Rattle.workers.specs.Accounted.{AreAmongTold}
 use Rattle.workers.specs.Shows.{Shows}
 use Rattle.sched_events.specs.SettledAndSound.{IsSoundAndSaid}
 use Rattle.sched_events.specs.Steps.{steps, handed_along, AreAccepted}
-use Rattle.sched_events.specs.declared.events.Event.{Event}
-use Rattle.sched_model.specs.Schedule.{Schedule}
 use Rattle.sched_model.specs.States.{in_flight}
 use Rattle.minutes.specs.Minutes.{BeginWithRestart}
 use Rattle.sessions.specs.director.Leaves.{Leaves}

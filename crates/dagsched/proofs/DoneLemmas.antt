@@ -24,16 +24,17 @@ script_less look o bytes gives contents options sources output before after stat
     inl
     (by_team_less bytes None (λ given. gives sources given later) (λ _. Unit {0}) (λ _. Unit {0}) (λ _. Unit {0}) (λ shown. Appends (contents output) (contents written) shown) (λ _. Unit {0})
     (no_bytes bytes) (λ _ _. tt) (λ _ _. tt) (λ _ _. tt) look o (later ≡ sources) (Unit {0}) (λ _. tt) options.workers options.lanes (look before) after status run)
-script_less look o bytes gives contents options sources output before after status (inr unopened) = inr unopened
+script_less look o bytes gives contents options sources output before after status (inr unopened) = inr (inl unopened)
 
 -- ---- a disk that is in order after a command was so before
 module _ {S O : Type 0} (look : Held S → State) (o : operator.Ghosts O) where
-  script_clean : (options : ScriptOptions) (before after : Held S) (status : ℕ) → IsScriptDone look o options before after status → HasCleanDisk (look after) → HasCleanDisk (look before)
-  script_clean options before after status (inl run) clean = run.run.run.was_clean clean
-  script_clean options before after status (inr (fault, unopened, is)) clean = omega (arith, unopened.crash.clean, clean)
-
   as_it_was : (before after : Held S) → after ≡ before → HasCleanDisk (look after) → HasCleanDisk (look before)
   as_it_was before after same clean = subst (λ (h : Held S). HasCleanDisk (look h)) same clean
+
+  script_clean : (options : ScriptOptions) (before after : Held S) (status : ℕ) → IsScriptDone look o options before after status → HasCleanDisk (look after) → HasCleanDisk (look before)
+  script_clean options before after status (inl run) clean = run.run.run.was_clean clean
+  script_clean options before after status (inr (inl (fault, unopened, is))) clean = omega (arith, unopened.crash.clean, clean)
+  script_clean options before after status (inr (inr held)) clean = as_it_was before after held.0 clean
 
   pub done_clean : (c : Command) (before after : Held S) (status : ℕ) → IsCommandDone look o c before after status → HasCleanDisk (look after) → HasCleanDisk (look before)
   done_clean (says.Run options) before after status done clean = script_clean options before after status done clean

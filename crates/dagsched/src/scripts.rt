@@ -15,6 +15,8 @@ use script_runner::{FileSources, SystemClock, TaskOperator, operators_for, run_t
 use sqlite::Alter;
 use sqlite_disk::{Files, Unknown};
 use sqlite_std_file::{File, OpenError};
+use std::alloc::AllocError;
+use std::env::{self, VarError};
 use std::fs;
 use std::io::{self, BufRead, BufReader, BufWriter, ErrorKind, IsTerminal, Write};
 use std::rt::{Stderr, Stdin, Stdout};
@@ -23,6 +25,9 @@ use std::thread::Threads;
 
 // How many workers there are where nobody asks for a number.
 const DEFAULT_WORKERS: u32 = 2;
+
+// Where the system looks for programs without a PATH.
+const DEFAULT_PATH: &str = "/bin:/usr/bin";
 
 /// What performs the tries of a script.
 pub type OwnOperator = TaskOperator<Program<HostRuntime>>;
@@ -35,7 +40,7 @@ type OwnScript = Script<
     SentenceConsole<HostRuntime, Stderr>,
 >;
 
-/// Runs the script of standard input, and gives the record back, with the status.
+/// Runs the script of standard input, and gives the record back, with the status. Where another program has its tries in the same folder, no line is read.
 pub fn run_script<S: Alter + Drop, T: Threads + Wait + Sync>(
     threads: &T,
     rt: &HostRuntime,
@@ -47,11 +52,18 @@ pub fn run_script<S: Alter + Drop, T: Threads + Wait + Sync>(
         store r.0 r.1) }
 {
     let scratch = options.scratch.as_str();
-    tell_terminal(rt);
-    tell_lanes(rt, options);
     make_scratch(rt, scratch);
-    let _held = hold(rt, scratch);
-    run_own(threads, rt, store, options, words)
+    match hold(rt, scratch) {
+        Ok(_held) => {
+            tell_terminal(rt);
+            tell_lanes(rt, options);
+            run_own(threads, rt, store, options, words)
+        }
+        Err(_) => {
+            tell_held(rt, scratch);
+            Ok((store, 4))
+        }
+    }
 }
 
 fn run_own<S: Alter + Drop, T: Threads + Wait + Sync>(
@@ -65,7 +77,19 @@ fn run_own<S: Alter + Drop, T: Threads + Wait + Sync>(
         store r.0 r.1) }
 {
     let script = own_script(rt, words)?;
-    run_by_team(threads, rt, store, options, script)
+    let scratch = whole_path(rt, options.scratch.as_str())?;
+    run_by_team(threads, rt, store, options, scratch.as_str(), script)
+}
+
+// The path of a folder from the root on, where the system says it.
+fn whole_path(rt: &HostRuntime, folder: &str) -> Result<String, AllocError> {
+    if folder.starts_with('/') {
+        return String::from_str(rt.alloc(), folder);
+    }
+    match fs::canonicalize(rt, folder) {
+        Ok(path) => Ok(path.into_string()),
+        Err(_) => String::from_str(rt.alloc(), folder),
+    }
 }
 
 fn own_script(rt: &HostRuntime, words: Vec<String>) -> io::Result<OwnScript> {
@@ -74,8 +98,18 @@ fn own_script(rt: &HostRuntime, words: Vec<String>) -> io::Result<OwnScript> {
         input: BufReader::new(alloc, rt.stdin())?,
         output: BufWriter::new(alloc, rt.stdout())?,
         sources: FileSources::new(*rt, alloc),
-        console: SentenceConsole::new(*rt, alloc, words, rt.stderr()),
+        console: SentenceConsole::new(*rt, alloc, words, search_path(rt)?, rt.stderr()),
     })
+}
+
+// The folders in which the system looks for programs; `None` where they have names that cannot be written down.
+fn search_path(rt: &HostRuntime) -> io::Result<Option<String>> {
+    match env::var(rt, "PATH") {
+        Ok(path) => Ok(Some(path)),
+        Err(VarError::NotPresent) => Ok(Some(String::from_str(rt.alloc(), DEFAULT_PATH)?)),
+        Err(VarError::NotUnicode) => Ok(None),
+        Err(VarError::OutOfMemory) => Err(io::Error::from(ErrorKind::OutOfMemory)),
+    }
 }
 
 // Runs a script, whatever its streams are, with so many workers as are asked for.
@@ -91,6 +125,7 @@ fn run_by_team<
     rt: &HostRuntime,
     store: Store<S>,
     options: &ScriptOptions,
+    scratch: &str,
     script: Script<R, W, F, P>,
 ) -> io::Result<(Store<S>, u8)>
     ensures { IfOk result (λ r. IsScriptOf (state S.Store) ⟦<OwnOperator as Operator>⟧
@@ -98,7 +133,6 @@ fn run_by_team<
         store r.0 r.1) }
 {
     let alloc = rt.alloc();
-    let scratch = options.scratch.as_str();
     let logs = options.logs.as_ref().map(FilePath::as_str);
     let team = operators_for(*rt, alloc, options.workers.get(), scratch, logs)?;
     let mut clock = SystemClock::new(*rt);
@@ -198,19 +232,24 @@ fn is_folder(rt: &HostRuntime, path: &str) -> bool {
     fs::metadata(rt, path).is_ok_and(|found| found.is_dir())
 }
 
-// Holds the folder of the tries as long as this lives. Where another program holds it, that is said, since each would read what the other's tries write.
-fn hold(rt: &HostRuntime, scratch: &str) -> Option<Files<File>> {
-    let path = format!(in rt.alloc(); "{scratch}/held").ok()?;
+// Holds the folder of the tries as long as this lives, where the system lets it; an error is that another program holds it.
+fn hold(rt: &HostRuntime, scratch: &str) -> Result<Option<Files<File>>, OpenError> {
+    let Ok(path) = format!(in rt.alloc(); "{scratch}/held") else {
+        return Ok(None);
+    };
     match sqlite_std_file::open(rt, path.as_str(), Unknown) {
-        Ok(files) => Some(files),
-        Err(OpenError::Busy) => {
-            let text = format!(in rt.alloc();
-                "dagsched: another dagsched has its tries in the folder {scratch}, and each reads what the other's write: give each a folder of its own, by --scratch DIR"
-            );
-            tell(rt, text.ok()?.as_str());
-            None
-        }
-        Err(_) => None,
+        Ok(files) => Ok(Some(files)),
+        Err(OpenError::Busy) => Err(OpenError::Busy),
+        Err(_) => Ok(None),
+    }
+}
+
+// Tells that another program holds the folder of the tries.
+fn tell_held(rt: &HostRuntime, scratch: &str) {
+    if let Ok(text) = format!(in rt.alloc();
+        "dagsched: another dagsched has its tries in the folder {scratch}, so no script is run: give each a folder of its own, by --scratch DIR"
+    ) {
+        tell(rt, text.as_str());
     }
 }
 

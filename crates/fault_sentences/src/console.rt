@@ -3,9 +3,11 @@ use crate::asked::Asked;
 use crate::due::runs_of;
 use crate::lines::one_line;
 use crate::loads::Loads;
+use crate::logs::Failure;
 use crate::notes::{Note, Rest, note_of, unreadable_note};
 use crate::parts::Part::{Number, Text};
 use crate::parts::say;
+use crate::programs::Search;
 use crate::totals::Totals;
 use crate::tries::{Told, Untold, ended_since, lost_at_restart};
 use moment_core::Moment;
@@ -37,6 +39,8 @@ pub struct SentenceConsole<R: Clock + Files + Drop, W: Write + Drop> {
     alloc: Global,
     // The program's own words.
     words: Vec<String>,
+    // The folders of PATH, where it is to be looked whether a program can be started.
+    path: Option<String>,
     output: W,
     is_terminal: bool,
     // When the line was written that stands there.
@@ -47,20 +51,29 @@ pub struct SentenceConsole<R: Clock + Files + Drop, W: Write + Drop> {
     loads: Loads,
     // The tries whose ends are still to be told; none before the first command.
     untold: Option<Untold>,
+    // The folders of which it was told that a log in them could not be opened.
+    unopened: Vec<String>,
 }
 
 impl<R: Clock + Files + Drop, W: Write + IsTerminal + Drop> SentenceConsole<R, W> {
-    /// With nothing told yet. These are the program's own words.
-    pub fn new(rt: R, alloc: Global, words: Vec<String>, output: W) -> SentenceConsole<R, W> {
+    /// With nothing told yet. These are the program's own words, and the folders of PATH, in which programs are looked for; without these it is not said
+    /// that one cannot be started.
+    pub fn new(
+        rt: R,
+        alloc: Global,
+        words: Vec<String>,
+        path: Option<String>,
+        output: W,
+    ) -> SentenceConsole<R, W> {
         let is_terminal = output.is_terminal();
-        SentenceConsole::over(rt, alloc, words, output, is_terminal)
+        SentenceConsole::over(rt, alloc, words, path, output, is_terminal)
     }
 }
 
 impl<R: Clock + Files + Drop> SentenceConsole<R, Vec<u8>> {
-    /// The same, with what is told kept in memory, and without the line on a terminal.
+    /// The same, with what is told kept in memory, without the line on a terminal, and without a look for programs.
     pub fn in_memory(rt: R, alloc: Global, words: Vec<String>) -> SentenceConsole<R, Vec<u8>> {
-        SentenceConsole::over(rt, alloc, words, Vec::new(alloc), false)
+        SentenceConsole::over(rt, alloc, words, None, Vec::new(alloc), false)
     }
 }
 
@@ -69,6 +82,7 @@ impl<R: Clock + Files + Drop, W: Write + Drop> SentenceConsole<R, W> {
         rt: R,
         alloc: Global,
         words: Vec<String>,
+        path: Option<String>,
         output: W,
         is_terminal: bool,
     ) -> SentenceConsole<R, W> {
@@ -76,12 +90,14 @@ impl<R: Clock + Files + Drop, W: Write + Drop> SentenceConsole<R, W> {
             rt,
             alloc,
             words,
+            path,
             output,
             is_terminal,
             written: None,
             note: None,
             loads: Loads::new(alloc),
             untold: None,
+            unopened: Vec::new(alloc),
         }
     }
 
@@ -191,14 +207,25 @@ impl<R: Clock + Files + Drop, W: Write + Drop> SentenceConsole<R, W> {
         note: &Note,
         schedule: Option<&Schedule>,
     ) -> io::Result<()> {
-        match note.sentence(self.alloc, schedule)? {
-            Some(text) => self.put_sentence(number, text.as_str()),
-            None => Ok(()),
+        let mut text = String::new(self.alloc);
+        note.push(&mut text, schedule)?;
+        if let Some(search) = self.search() {
+            search.push_task(&mut text, note.tasks(schedule))?;
         }
+        self.put_sentence(number, text.as_str())
     }
 
-    // Writes a sentence, with the number of the line that it is of.
+    // Where programs are looked for.
+    fn search(&self) -> Option<Search<'_, R>> {
+        let path = self.path.as_ref()?.as_str();
+        Some(Search { rt: &self.rt, path })
+    }
+
+    // Writes a sentence, if it says something, with the number of the line that it is of.
     fn put_sentence(&mut self, number: Option<u64>, text: &str) -> io::Result<()> {
+        if text.is_empty() {
+            return Ok(());
+        }
         let line = line_of(self.alloc, number, text)?;
         self.output.write_all(line.as_bytes())
     }
@@ -212,31 +239,79 @@ impl<R: Clock + Files + Drop, W: Write + Drop> SentenceConsole<R, W> {
     }
 
     fn put_told(&mut self, told: Told) -> io::Result<()> {
-        let Told { text, untold } = told;
+        let Told {
+            text,
+            failures,
+            untold,
+        } = told;
         self.untold = Some(untold);
-        if text.is_empty() {
-            Ok(())
-        } else {
-            self.put_sentence(None, text.as_str())
+        self.put_sentence(None, text.as_str())?;
+        self.put_failures(failures.as_slice())
+    }
+
+    // Says where the logs of tries are, and which programs were not started.
+    fn put_failures(&mut self, failures: &[Failure]) -> io::Result<()> {
+        for failure in failures {
+            self.put_log(failure)?;
+            self.put_program(failure)?;
         }
+        Ok(())
+    }
+
+    // Says where a log is; that it could not be opened once for all logs of a graph.
+    fn put_log(&mut self, failure: &Failure) -> io::Result<()> {
+        let fault = failure.log_fault(&self.rt);
+        if fault.is_some() && !self.is_first(failure.folder().unwrap_or(""))? {
+            return Ok(());
+        }
+        let mut text = String::new(self.alloc);
+        failure.push_log(&mut text, fault.as_ref())?;
+        self.put_sentence(None, text.as_str())
+    }
+
+    // Whether it was not told yet of this folder that a log in it could not be opened. It is from then on.
+    fn is_first(&mut self, folder: &str) -> Result<bool, AllocError> {
+        for told in self.unopened.as_slice() {
+            if told.as_str() == folder {
+                return Ok(false);
+            }
+        }
+        let folder = String::from_str(self.alloc, folder)?;
+        self.unopened.push(folder)?;
+        Ok(true)
+    }
+
+    // Says why the program of a try was not started, where that is seen.
+    fn put_program(&mut self, failure: &Failure) -> io::Result<()> {
+        let mut text = String::new(self.alloc);
+        if let Some(search) = self.search() {
+            failure.push_program(&mut text, search)?;
+        }
+        self.put_sentence(None, text.as_str())
     }
 
     // What is to be told of tries at this schedule, if some have ended.
     fn told_at(&self, schedule: &Schedule) -> Result<Option<Told>, AllocError> {
         match &self.untold {
             None => Ok(Some(lost_at_restart(self.alloc, schedule)?)),
-            Some(untold) => ended_since(self.alloc, schedule, untold, self.has_logs()),
+            Some(untold) => ended_since(self.alloc, schedule, untold, self.logs()),
         }
     }
 
-    // Whether the program was asked to keep logs.
-    fn has_logs(&self) -> bool {
+    // The folder of the logs, where the program was asked to keep some.
+    fn logs(&self) -> Option<&str> {
+        let mut is_next = false;
         for word in self.words.as_slice() {
-            if word.as_str().starts_with("--logs") {
-                return true;
+            let word = word.as_str();
+            if is_next {
+                return Some(word);
             }
+            if let Some(folder) = word.strip_prefix("--logs=") {
+                return Some(folder);
+            }
+            is_next = word == "--logs";
         }
-        false
+        None
     }
 }
 

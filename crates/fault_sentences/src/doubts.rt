@@ -116,6 +116,11 @@ pub fn push_doubt(sentence: &mut String, spec: &GraphSpec) -> Result<(), AllocEr
     push_standstill(sentence, spec)
 }
 
+// Whether a task shows one of the signs.
+pub fn has_doubt(task: &TaskSpec) -> bool {
+    doubt_on(task).is_some()
+}
+
 // What is said of the first sign that a task shows.
 fn doubt_on(task: &TaskSpec) -> Option<&'static str> {
     for (sign, said) in DOUBTS.as_slice() {

@@ -10,6 +10,14 @@ use sched_state::{Run, RunPhase};
 use script_reader::Schedule;
 use std::alloc::AllocError;
 
+// What is said of a run that was set back and is queued.
+const QUEUED: &str =
+    "the run of {} waits until others of the graph end: at most {} run at once (max_active_runs)";
+
+// The same where those that are running may wait for it.
+const HELD: &str =
+    "the run of {} waits for one of the {} that are running (max_active_runs), and these may wait for it (depends_on_past): replace the graph by its text with max_active_runs = 1000000";
+
 /// What a command was to do with the runs of a graph from one date to another.
 #[derive(Drop)]
 pub struct Done {
@@ -38,7 +46,7 @@ impl Done {
         push_slots(sentence, schedule, &self.graph)
     }
 
-    // Adds that a run that was set back waits for later ones that wait for it.
+    // Adds that a run that was set back waits: for one of those that are running, and perhaps each of these for it.
     fn push_held(
         &self,
         sentence: &mut String,
@@ -46,28 +54,25 @@ impl Done {
         spec: &GraphSpec,
     ) -> Result<(), AllocError> {
         let most = spec.max_active_runs.get();
-        if schedule.active_runs(&self.graph) < most as usize || !looks_back(spec) {
+        if schedule.active_runs(&self.graph) < most as usize {
             return Ok(());
         }
-        match self.first_held(schedule) {
-            Some(run) => say(
-                sentence,
-                "the run of {} waits for one of the {} that are running (max_active_runs), and these may wait for it (depends_on_past): replace the graph by its text with max_active_runs = 1000000",
-                &[Date(run.logical), Number(u64::from(most))],
-            ),
-            None => Ok(()),
-        }
+        let Some(logical) = self.first_queued(schedule) else {
+            return Ok(());
+        };
+        let text = if looks_back(spec) && !self.is_held_up(schedule, logical) {
+            HELD
+        } else {
+            QUEUED
+        };
+        say(sentence, text, &[Date(logical), Number(u64::from(most))])
     }
 
-    // The first run that it has set back and that is queued, where each run of the graph that is running is a later one.
-    fn first_held<'a>(&self, schedule: &'a Schedule) -> Option<&'a Run> {
+    // The date of the first run that it has set back and that is queued.
+    fn first_queued(&self, schedule: &Schedule) -> Option<Moment> {
         for run in schedule.runs() {
-            if self.holds(run) {
-                return if self.is_held_up(schedule, run.logical) {
-                    None
-                } else {
-                    Some(run)
-                };
+            if run.phase == RunPhase::Queued && self.covers(run) {
+                return Some(run.logical);
             }
         }
         None
@@ -81,10 +86,6 @@ impl Done {
             }
         }
         false
-    }
-
-    fn holds(&self, run: &Run) -> bool {
-        run.phase == RunPhase::Queued && self.covers(run)
     }
 
     fn is_running_before(&self, run: &Run, logical: Moment) -> bool {

@@ -7,15 +7,17 @@ use crate::graphs::push_taken;
 use crate::held::Done;
 use crate::idle::done_rest;
 use crate::keys::nearest;
+use crate::logs::push_name;
 use crate::parts::Part::{Date, Number, Text};
 use crate::parts::{push_words, say, say_more};
 use crate::pools::push_resized;
 use crate::records::{clock_text, push_end, push_store};
 use crate::refusals::{push_refusal, push_unexplained};
 use graph_file::{Name, TaskSpec};
-use instance_machine::Instance;
+use instance_machine::{Instance, Try};
 use moment_core::Moment;
 use sched_events::{Answer, Event, RunId};
+use sched_state::Run;
 use script_reader::{Fault, Schedule, Shown};
 use std::alloc::{AllocError, Global};
 use std::io;
@@ -152,14 +154,38 @@ impl Note {
         alloc: Global,
         schedule: Option<&Schedule>,
     ) -> Result<Option<String>, AllocError> {
-        let mut sentence = String::from_str(alloc, self.text.as_str())?;
-        if let Some(schedule) = schedule {
-            self.rest.push(&mut sentence, schedule)?;
-        }
+        let mut sentence = String::new(alloc);
+        self.push(&mut sentence, schedule)?;
         if sentence.is_empty() {
             Ok(None)
         } else {
             Ok(Some(sentence))
+        }
+    }
+
+    // Adds it.
+    pub(crate) fn push(
+        &self,
+        sentence: &mut String,
+        schedule: Option<&Schedule>,
+    ) -> Result<(), AllocError> {
+        sentence.push_str(self.text.as_str())?;
+        match schedule {
+            Some(schedule) => self.rest.push(sentence, schedule),
+            None => Ok(()),
+        }
+    }
+
+    // The tasks of the graph whose text was taken in, as this schedule has them; else none.
+    pub(crate) fn tasks<'a>(&self, schedule: Option<&'a Schedule>) -> &'a [TaskSpec] {
+        match (&self.rest, schedule) {
+            (Rest::Slots(graph) | Rest::Change(graph), Some(schedule)) => {
+                match schedule.graph_of(graph) {
+                    Some(graph) => graph.dag.spec().tasks.as_slice(),
+                    None => &[],
+                }
+            }
+            _ => &[],
         }
     }
 }
@@ -279,38 +305,51 @@ pub fn push_paused(sentence: &mut String, id: &Name) -> Result<(), AllocError> {
     )
 }
 
-// Adds the task instance whose try has this serial.
+// Adds the task instance whose try has this serial, and since when that has run.
 fn push_try(sentence: &mut String, schedule: &Schedule, serial: u64) -> Result<(), AllocError> {
-    match place_of(schedule, serial) {
-        Some((graph, logical, task)) => say(
-            sentence,
-            ": {} {} {} is in flight",
-            &[Text(graph.as_str()), Date(logical), Text(task.as_str())],
-        ),
+    let Some(found) = place_of(schedule, serial) else {
+        return Ok(());
+    };
+    sentence.push_str(": ")?;
+    push_name(sentence, found.run, found.task)?;
+    sentence.push_str(" is in flight")?;
+    match found.started {
+        Some(moment) => say(sentence, " since {}", &[Date(moment)]),
         None => Ok(()),
     }
 }
 
-// The graph, the logical date and the task of the try with this serial.
-fn place_of(schedule: &Schedule, serial: u64) -> Option<(&Name, Moment, &Name)> {
+// The run and the task of a try, and when it has begun.
+#[derive(Clone, Copy)]
+struct Placed<'a> {
+    run: &'a Run,
+    task: &'a TaskSpec,
+    started: Option<Moment>,
+}
+
+// Those of the try with this serial.
+fn place_of(schedule: &Schedule, serial: u64) -> Option<Placed<'_>> {
     for run in schedule.runs() {
         let graph = schedule.graph_of(&run.graph)?;
         for (place, instance) in run.instances.as_slice().iter().enumerate() {
-            if place < graph.dag.len() && has_try(instance, serial) {
-                return Some((&run.graph, run.logical, &graph.dag.task(place).task_id));
+            if place < graph.dag.len() {
+                if let Some(one) = try_of(instance, serial) {
+                    let (task, started) = (graph.dag.task(place), one.started);
+                    return Some(Placed { run, task, started });
+                }
             }
         }
     }
     None
 }
 
-fn has_try(instance: &Instance, serial: u64) -> bool {
+fn try_of(instance: &Instance, serial: u64) -> Option<&Try> {
     for one in instance.tries() {
         if one.serial == serial {
-            return true;
+            return Some(one);
         }
     }
-    false
+    None
 }
 
 // Adds the first task that needs more slots than its pool has.

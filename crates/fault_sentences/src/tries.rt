@@ -1,4 +1,5 @@
 //! Sentences on what became of tries.
+use crate::logs::{Failure, push_name};
 use crate::parts::Part::{Date, Number, Text};
 use crate::parts::{push_between, say, say_more};
 use graph_file::{Operator, TaskSpec};
@@ -39,32 +40,33 @@ fn ended_of(next_serial: u64, in_flight: usize) -> u64 {
     next_serial.saturating_sub(in_flight as u64)
 }
 
-/// What is told of tries at a schedule: a sentence or nothing, and what is still to be told.
+/// What is told of tries at a schedule: a sentence or nothing, the tries of programs that it names, and what is still to be told.
 #[derive(Drop)]
 pub struct Told {
     pub text: String,
+    pub failures: Vec<Failure>,
     pub untold: Untold,
 }
 
 /// Which task instances have failed, were lost or wait for a retry, of those whose last try has ended since; `None` where none has ended. Where one has, it goes
-/// over all task instances once.
+/// over all task instances once. The logs of tries lie below this folder, where they have some.
 pub fn ended_since(
     alloc: Global,
     schedule: &Schedule,
     untold: &Untold,
-    has_logs: bool,
+    logs: Option<&str>,
 ) -> Result<Option<Told>, AllocError> {
     if untold.is_unchanged(schedule) {
         return Ok(None);
     }
-    let told = tallied(alloc, schedule, &Which::EndedOf(untold), has_logs)?;
+    let told = tallied(alloc, schedule, &Which::EndedOf(untold), logs)?;
     Ok(Some(told))
 }
 
 /// Which task instances the restart has lost: those that have a try that was lost at the moment at which the clock stands, whatever became of them since. It goes
 /// over all tries once.
 pub fn lost_at_restart(alloc: Global, schedule: &Schedule) -> Result<Told, AllocError> {
-    tallied(alloc, schedule, &Which::LostAt(schedule.now().secs()), true)
+    tallied(alloc, schedule, &Which::LostAt(schedule.now().secs()), None)
 }
 
 // Which tries are told of.
@@ -123,16 +125,18 @@ fn tallied(
     alloc: Global,
     schedule: &Schedule,
     which: &Which<'_>,
-    has_logs: bool,
+    logs: Option<&str>,
 ) -> Result<Told, AllocError> {
-    let mut tally = Tally::new(alloc);
+    let mut tally = Tally::new(alloc, logs);
     tally.add_runs(schedule, which)?;
-    tally.told(alloc, schedule.next_serial(), has_logs)
+    tally.told(alloc, schedule.next_serial())
 }
 
 // How many task instances ended how, with the first of them by name.
 #[derive(Drop)]
-struct Tally {
+struct Tally<'a> {
+    // The folder below which the logs of tries lie.
+    logs: Option<&'a str>,
     failed: usize,
     lost: usize,
     retries: usize,
@@ -141,21 +145,37 @@ struct Tally {
     // The first that failed or were lost.
     names: String,
     named: usize,
+    // Those of them that have a program.
+    failures: Vec<Failure>,
     // Whether one that failed has a program.
     has_program: bool,
     // The serials of the tries without an end.
     in_flight: Vec<u64>,
 }
 
-impl Tally {
-    fn new(alloc: Global) -> Tally {
+// The number, from 1, of the try with this serial.
+fn number_of(tries: &[Try], serial: u64) -> usize {
+    let mut number = 0_usize;
+    for one in tries {
+        number = number.saturating_add(1);
+        if one.serial == serial {
+            return number;
+        }
+    }
+    number
+}
+
+impl<'a> Tally<'a> {
+    fn new(alloc: Global, logs: Option<&'a str>) -> Tally<'a> {
         Tally {
+            logs,
             failed: 0,
             lost: 0,
             retries: 0,
             retry_at: u64::MAX,
             names: String::new(alloc),
             named: 0,
+            failures: Vec::new(alloc),
             has_program: false,
             in_flight: Vec::new(alloc),
         }
@@ -206,6 +226,7 @@ impl Tally {
         let Some(told) = which.try_of(instance) else {
             return Ok(());
         };
+        let number = number_of(instance.tries(), told.serial);
         let state = instance.state(task);
         if state == State::UpForRetry {
             self.retries = self.retries.saturating_add(1);
@@ -214,52 +235,67 @@ impl Tally {
         }
         if is_lost(told) {
             self.lost = self.lost.saturating_add(1);
-            self.add_name(run, task)
+            self.add_name(run, task, number)
         } else if state == State::Failed {
             self.failed = self.failed.saturating_add(1);
-            self.has_program = self.has_program || task.action.operator() == Operator::Command;
-            self.add_name(run, task)
+            self.add_failure(run, task, number)?;
+            self.add_name(run, task, number)
         } else {
             Ok(())
         }
     }
 
-    fn add_name<'a>(&mut self, run: &'a Run, task: &'a TaskSpec) -> Result<(), AllocError> {
+    // Adds the try of a program that failed, where it is named.
+    fn add_failure(&mut self, run: &Run, task: &TaskSpec, number: usize) -> Result<(), AllocError> {
+        if task.action.operator() != Operator::Command {
+            return Ok(());
+        }
+        self.has_program = true;
+        if self.named == MOST_NAMES {
+            return Ok(());
+        }
+        let alloc = *self.names.allocator();
+        let failure = Failure::of(alloc, run, task, number, self.logs)?;
+        self.failures.push(failure)?;
+        Ok(())
+    }
+
+    fn add_name(&mut self, run: &Run, task: &TaskSpec, number: usize) -> Result<(), AllocError> {
         if self.named == MOST_NAMES {
             return Ok(());
         }
         self.named = self.named.saturating_add(1);
         push_between(&mut self.names, ", ")?;
-        say(
-            &mut self.names,
-            "{} {} {}",
-            &[
-                Text(run.graph.as_str()),
-                Date(run.logical),
-                Text(task.task_id.as_str()),
-            ],
-        )
+        push_name(&mut self.names, run, task)?;
+        if number > 1 {
+            say(&mut self.names, " (try {})", &[Number(number as u64)])
+        } else {
+            Ok(())
+        }
     }
 
     // What is told of them, where this is the serial of the next try.
-    fn told(self, alloc: Global, next_serial: u64, has_logs: bool) -> Result<Told, AllocError> {
-        let text = self.text(alloc, has_logs)?;
-        let Tally { in_flight, .. } = self;
+    fn told(self, alloc: Global, next_serial: u64) -> Result<Told, AllocError> {
+        let mut text = String::new(alloc);
+        self.push_ends(&mut text)?;
+        let Tally {
+            in_flight,
+            failures,
+            ..
+        } = self;
         let untold = Untold {
             in_flight,
             next_serial,
         };
-        Ok(Told { text, untold })
-    }
-
-    fn text(&self, alloc: Global, has_logs: bool) -> Result<String, AllocError> {
-        let mut text = String::new(alloc);
-        self.push_ends(&mut text, has_logs)?;
-        Ok(text)
+        Ok(Told {
+            text,
+            failures,
+            untold,
+        })
     }
 
     // Adds `2 failed, 1 lost: DAG LOGICAL TASK, ..; 1 up for a retry, from MOMENT on`, and how a failure of a program is found out
-    fn push_ends(&self, text: &mut String, has_logs: bool) -> Result<(), AllocError> {
+    fn push_ends(&self, text: &mut String) -> Result<(), AllocError> {
         push_count(text, self.failed, "failed")?;
         push_count(
             text,
@@ -268,7 +304,7 @@ impl Tally {
         )?;
         self.push_names(text)?;
         self.push_retries(text)?;
-        if self.has_program && !has_logs {
+        if self.has_program && self.logs.is_none() {
             text.push_str("; run --logs DIR keeps what programs print")?;
         }
         Ok(())

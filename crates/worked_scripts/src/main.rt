@@ -16,8 +16,8 @@
 //! ```
 //!
 //! WORD is the number of lanes, or says that a script is run in another way. `workers-COUNT`: with so many lanes and as many workers; all others have one worker.
-//! `logs`: with one lane, and a log for each try of a program in the folder `logs`. `told`: with one lane, and below the answers what a person is told of them, with
-//! `! ` before each line. The others are without lanes. `reads`: its reads fail after 0, 1, 2 .. that do not, until a run meets no such read; `writes`: the same of
+//! `told`: with one lane, and below the answers what a person is told of them, with `! ` before each line. `logs`: the same, with a log for each try of a program in
+//! the folder `logs`. The others are without lanes. `reads`: its reads fail after 0, 1, 2 .. that do not, until a run meets no such read; `writes`: the same of
 //! what it writes, a byte at a time. Runs with the same answers, status and clock of the record share a line. `long-COUNT`: each `~` of the script and the byte before
 //! it stand for so many of that byte. `tasks-COUNT`: the script stands below the load of a graph of so many tasks, each after the one before it. `single`: below
 //! the script and a line that is `+` alone stand commands outside of scripts, on the record that it left. `events`: a list of events, each with its answer and what
@@ -69,7 +69,7 @@ fn main(rt: HostRuntime) -> io::Result<()> {
     if asks_for_times(&rt)? {
         put_times(&rt)
     } else {
-        put_page_in_folder(&rt)
+        put_page_in_folder(&rt, &rt)
     }
 }
 
@@ -90,11 +90,11 @@ fn input(host: &HostRuntime) -> io::Result<Vec<u8>> {
     Ok(text)
 }
 
-fn put_page_in_folder(host: &HostRuntime) -> io::Result<()> {
+fn put_page_in_folder<T: Threads + Wait + Sync>(rt: &T, host: &HostRuntime) -> io::Result<()> {
     // the folder of the tries of `command`
     fs::create_dir(host, playing::SCRATCH)?;
     fs::write(host, playing::TOLD, b"")?;
-    put_page(host, host, &InMemory)?;
+    put_page(rt, host, &InMemory)?;
     fs::remove_file(host, playing::TOLD)?;
     fs::remove_dir(host, playing::SCRATCH)
 }
@@ -189,7 +189,10 @@ fn put_run<R: Recorder, T: Threads + Wait + Sync, W: Write>(
             put_played(rt, host, recorder, setting, section.script, output)
         }
         Kind::Logged => put_logged(rt, host, recorder, section.script, output),
-        Kind::Told => put_told(rt, host, recorder, section.script, output),
+        Kind::Told => {
+            let setting = Setting::with_lanes(1);
+            put_told(rt, host, recorder, setting, section.script, output)
+        }
         Kind::Stops(part) => put_stops(rt, host, recorder, part, section.script, output),
         Kind::Long(count) => put_made(
             rt,
@@ -252,7 +255,7 @@ fn put_made<R: Recorder, T: Threads + Wait + Sync, W: Write>(
     )
 }
 
-// The same of a script whose programs have logs, which are removed then.
+// The same of a script with one lane whose programs have logs, which are removed then, and what a person is told of it.
 fn put_logged<R: Recorder, T: Threads + Wait + Sync, W: Write>(
     rt: &T,
     host: &HostRuntime,
@@ -264,19 +267,23 @@ fn put_logged<R: Recorder, T: Threads + Wait + Sync, W: Write>(
         logs: Some(playing::LOGS),
         ..Setting::with_lanes(1)
     };
-    put_played(rt, host, recorder, setting, script, output)?;
+    put_told(rt, host, recorder, setting, script, output)?;
     fs::remove_dir_all(host, playing::LOGS)
 }
 
-// The same of a script with one lane, and then what a person is told of it, with `! ` before each line.
+// Writes what a script prints, its status, and then what a person is told of it, with `! ` before each line.
 fn put_told<R: Recorder, T: Threads + Wait + Sync, W: Write>(
     rt: &T,
     host: &HostRuntime,
     recorder: &R,
+    setting: Setting<'_>,
     script: &[u8],
     output: &mut W,
-) -> io::Result<()> {
-    put_played(rt, host, recorder, Setting::with_lanes(1), script, output)?;
+) -> io::Result<()>
+    requires lanes { setting.lanes ≤ 64 }
+    requires workers { setting.workers ≤ 16 }
+{
+    put_played(rt, host, recorder, setting, script, output)?;
     let told = fs::read(host, playing::TOLD)?;
     put_lines(b"! ", told.as_slice(), output)
 }

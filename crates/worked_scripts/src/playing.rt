@@ -11,7 +11,7 @@ use sched_core::Limits;
 use script_reader::{Console, Script, Sources};
 use script_runner::{FileSources, operators_for, run_team};
 use sqlite::Alter;
-use std::alloc::Global;
+use std::alloc::{AllocError, Global};
 use std::fs::{self, File};
 use std::io::{self, BufRead, BufReader, Write};
 use std::sync::Wait;
@@ -22,6 +22,9 @@ pub const SCRATCH: &str = "tries";
 
 /// Where they have their logs, where they have some.
 pub const LOGS: &str = "logs";
+
+/// The folders in which programs are looked for before a person is told of one: those of the system, and one that scripts make.
+const PATH: &str = "made:/usr/bin:/bin";
 
 /// The file that has what a person is told of the script that was run last.
 pub const TOLD: &str = "told";
@@ -97,16 +100,18 @@ pub fn play_and_keep<R: Recorder, T: Threads + Wait + Sync>(
     requires lanes { setting.lanes ≤ 64 }
     requires workers { setting.workers ≤ 16 }
 {
-    let script = worked_script(host, script, calls)?;
+    let script = worked_script(host, setting.logs, script, calls)?;
     play_on(rt, host, setting, script, recorder.create(host.alloc())?)
 }
 
 fn worked_script<'a>(
     host: &HostRuntime,
+    logs: Option<&str>,
     text: &'a [u8],
     calls: Calls,
 ) -> io::Result<WorkedScript<'a>> {
     let alloc = host.alloc();
+    let (words, path) = (words_for(alloc, logs)?, String::from_str(alloc, PATH)?);
     let source = Source {
         text,
         calls: calls.reads,
@@ -116,8 +121,18 @@ fn worked_script<'a>(
         input: BufReader::with_capacity(alloc, 1, source)?,
         output: Sink::new(alloc, calls.writes),
         sources: FileSources::new(*host, alloc),
-        console: SentenceConsole::new(*host, alloc, Vec::new(alloc), told),
+        console: SentenceConsole::new(*host, alloc, words, Some(path), told),
     })
+}
+
+// The words with which a program is asked for logs in a folder, or none.
+fn words_for(alloc: Global, logs: Option<&str>) -> Result<Vec<String>, AllocError> {
+    let mut words = Vec::new(alloc);
+    if let Some(logs) = logs {
+        words.push(String::from_str(alloc, "--logs")?)?;
+        words.push(String::from_str(alloc, logs)?)?;
+    }
+    Ok(words)
 }
 
 // Runs a script on a record, whatever this stands on.

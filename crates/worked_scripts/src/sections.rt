@@ -17,9 +17,9 @@ pub enum Kind {
     Lanes(u32),
     /// With so many lanes, of 16 at most, and as many workers.
     Workers(u32),
-    /// With one lane, and a log for each try of `command`.
+    /// With one lane, a log for each try of `command`, and what a person is told below the answers.
     Logged,
-    /// With one lane, and what a person is told below the answers.
+    /// The same without logs.
     Told,
     /// With reads or writes that fail.
     Stops(Part),

@@ -1,4 +1,4 @@
-use Rattle.std.proofs.Common.{◌≡◌, ◌≤◌, ◌∙◌, List, length, map, not, vec_items, ap, subst, sym}
+use Rattle.std.proofs.Common.{◌≡◌, ◌≤◌, ◌∙◌, IfErr, IsOk, List, MatchResult, OnOk, Result, Ok, Err, length, map, not, refl, vec_items, ap, subst, sym}
 use Rattle.ruled_dispatch.specs.Lanes.{sent_of, heard_of}
 use Rattle.ruled_dispatch.specs.declared.items.WorkerReport.{WorkerReport}
 use Rattle.sched_events.specs.Steps.{handed_along, AreAccepted}
@@ -6,12 +6,26 @@ use Rattle.sched_events.specs.declared.events.Event.{Event}
 use Rattle.sched_model.specs.Schedule.{Schedule}
 use Rattle.minutes.specs.Minutes.{reports_in}
 use Rattle.slot_desk.specs.Holds.{in_hand}
+use Rattle.sessions.specs.declared.faults.ConductFault.{ConductFault}
+use Rattle.sessions.specs.declared.faults.ConductFault.TheVariants as fault
 use Rattle.workers.specs.declared.crews.WorkerEnd.{WorkerEnd}
 use Rattle.conduct.specs.Ends.{logged, EachStandsInALog}
 use Rattle.conduct.specs.Faults.{all_started}
 use Rattle.conduct.proofs.Composition.{started_err, refused_err}
 use Rattle.conduct.proofs.Logs.{passed_on, both_passed_on, counted, jobs_stand, are_logs, told_own}
 use Rattle.conduct.proofs.closing.close.Goals as goal
+
+-- what holds anyway holds of an outcome that is well
+always : {A F P : Type 0} (r : Result A F) → P → OnOk r P
+always (Ok v) p = p
+always (Err f) p = tt
+
+pub returns-in-Ok-clause-ok : goal.returns-in-Ok-clause-ok
+returns-in-Ok-clause-ok g c = always c.unless_missed.result (subst IsOk (sym c.in-Ok.is) refl)
+
+pub returns-in-Ok-clause-fault : goal.returns-in-Ok-clause-fault
+returns-in-Ok-clause-fault g c =
+    subst (λ (o : Result (Unit {0}) ConductFault). IfErr c.unless_missed.result (λ f. MatchResult o (λ _. f ≡ fault.Unequal) (λ h. f ≡ h))) (sym c.in-Ok.is) c.unless_missed.ensures.fault
 
 pub account-ends-requires-clause-back : goal.account-ends-requires-clause-back
 account-ends-requires-clause-back g c = c.requires.back (ap all_started c.in-Ok.is)

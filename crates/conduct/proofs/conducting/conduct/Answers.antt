@@ -1,4 +1,4 @@
-use Rattle.std.proofs.Common.{rules, ◌≡◌, ◌==◌, true, [], length, map, vec_items, refl, sym, ◌∙◌, eq-eqb, subst}
+use Rattle.std.proofs.Common.{rules, ◌≡◌, ◌==◌, true, length, map, vec_items, refl, sym, ◌∙◌, eq-eqb, subst}
 use Rattle.std.proofs.lemmas.List.{length-map}
 use Rattle.sqlite.specs.Held.{state}
 use Rattle.sched_events.specs.SettledAndSound.{IsSoundAndSaid}

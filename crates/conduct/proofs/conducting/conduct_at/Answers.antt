@@ -1,4 +1,4 @@
-use Rattle.std.proofs.Common.{rules, ◌≡◌, ◌<◌, ◌≤◌, ◌==◌, inl, false, [], length, map, vec_items, vec_capacity, refl, sym, ap, ◌∙◌, subst, arith, ne_eqb}
+use Rattle.std.proofs.Common.{rules, ◌≡◌, ◌<◌, ◌≤◌, ◌==◌, inl, false, length, map, vec_items, vec_capacity, refl, sym, ap, ◌∙◌, subst, arith, ne_eqb}
 use Rattle.std.proofs.lemmas.List.{length-map}
 use Rattle.sqlite.specs.Held.{state}
 use Rattle.ruled_dispatch.specs.Lanes.{HasWorkers}
@@ -120,7 +120,7 @@ returns g c =
     (also_ok c.close.result.outcome z.own (λ each. each h c.args.director sound stop))
     (λ started.
     let did = worked (d.all started) in
-    (are_in_order all passes shares kits results did e.numbers, (are_accounts all passes shares kits results did, are_kits all passes shares kits results did)))
+    (are_in_order all passes shares kits results did e.numbers, are_accounts all passes shares kits results did, are_kits all passes shares kits results did))
     (both_ok c.close.result.outcome m.outcome z.ok (on_ok m.outcome (λ started. none_in_hand all passes shares kits results (worked (d.all started)) (e.workers.1 ∙ sym e.workers.0) e.none)) z.desk
     (λ s none p. (p.0 ∙ none, p.1)))
     z.sent z.told

@@ -1,0 +1,230 @@
+//! Sentences on programs that the system does not start.
+use crate::doubts::has_doubt;
+use crate::parts::Part::Text;
+use crate::parts::say_more;
+use graph_file::{Operator, TaskSpec};
+use std::alloc::{AllocError, Global};
+use std::io::{self, ErrorKind, Read};
+use std::os::unix::fs::PermissionsExt;
+use std::rt::Files;
+use std::{fs, str};
+
+// The system looks at so many bytes of a file for the line that names its interpreter.
+const MOST_BYTES: usize = 256;
+
+// What is said of a task of a graph, and of a try.
+const OF_TASK: &str = "task \"{}\": its program {} {}{}";
+
+const OF_TRY: &str = "{}: its program {} {}{}";
+
+// The bits of a mode of which one lets somebody run a file.
+const RUN_BITS: u32 = 0o111;
+
+// Why the system does not start a program.
+#[derive(Clone, Copy)]
+enum Lack {
+    // It has a name, and no folder of PATH has a program of this name.
+    Nowhere,
+    // There is no file.
+    File,
+    // It is a folder.
+    Folder,
+    // Nobody may run it.
+    Right,
+    // Its first line ends with a carriage return.
+    Return,
+    // There is no file that its first line names.
+    Interpreter,
+    // It is a text, and its first line names no file.
+    Line,
+}
+
+impl Lack {
+    // What is said of it behind the program's name.
+    fn text(self) -> &'static str {
+        match self {
+            Lack::Nowhere => "is no program in a folder of PATH, which is ",
+            Lack::File => "is not there",
+            Lack::Folder => "is a folder",
+            Lack::Right => "may not be run: chmod +x gives the right",
+            Lack::Return => {
+                "has a carriage return at the end of its first line: save it with plain newlines"
+            }
+            Lack::Interpreter => "names a program in its first line that is not there",
+            Lack::Line =>
+                "is a text whose first line does not name what runs it, as #!/bin/sh does",
+        }
+    }
+}
+
+/// Where programs are looked for: the system, and the folders of PATH.
+#[derive(Clone, Copy)]
+pub struct Search<'a, R: Files> {
+    pub rt: &'a R,
+    pub path: &'a str,
+}
+
+impl<R: Files> Search<'_, R> {
+    /// Adds the first of these tasks whose program the system does not start, or nothing. One whose arguments were told of is passed over.
+    pub fn push_task(&self, sentence: &mut String, tasks: &[TaskSpec]) -> Result<(), AllocError> {
+        let mut before = "";
+        for task in tasks {
+            let program = program_of(task);
+            if program != before {
+                before = program;
+                match self.lack_of(*sentence.allocator(), program)? {
+                    Some(lack) if !has_doubt(task) => {
+                        let owner = task.task_id.as_str();
+                        return self.push(sentence, OF_TASK, owner, program, lack);
+                    }
+                    _ => {}
+                }
+            }
+        }
+        Ok(())
+    }
+
+    /// Adds why the system does not start the program of this try, or nothing.
+    pub fn push_try(
+        &self,
+        sentence: &mut String,
+        name: &str,
+        program: &str,
+    ) -> Result<(), AllocError> {
+        match self.lack_of(*sentence.allocator(), program)? {
+            Some(lack) => self.push(sentence, OF_TRY, name, program, lack),
+            None => Ok(()),
+        }
+    }
+
+    fn push(
+        &self,
+        sentence: &mut String,
+        text: &str,
+        owner: &str,
+        program: &str,
+        lack: Lack,
+    ) -> Result<(), AllocError> {
+        let rest = match lack {
+            Lack::Nowhere => self.path,
+            _ => "",
+        };
+        let (program, why) = (Text(program), Text(lack.text()));
+        say_more(sentence, text, &[Text(owner), program, why, Text(rest)])
+    }
+
+    // Why the system does not start a program, as far as that is seen.
+    fn lack_of(&self, alloc: Global, program: &str) -> Result<Option<Lack>, AllocError> {
+        if program.is_empty() {
+            return Ok(None);
+        }
+        if program.contains('/') {
+            return Ok(lack_at(self.rt, program));
+        }
+        match file_of(self.rt, alloc, self.path, program)? {
+            Some(file) => Ok(lack_in(self.rt, file.as_str())),
+            None => Ok(Some(Lack::Nowhere)),
+        }
+    }
+}
+
+/// The program of a task, or nothing.
+pub fn program_of(task: &TaskSpec) -> &str {
+    match (task.action.operator(), task.action.argv().first()) {
+        (Operator::Command, Some(program)) => program.as_str(),
+        _ => "",
+    }
+}
+
+// The first file of this name that may be run, in the folders of a path.
+fn file_of<R: Files>(
+    rt: &R,
+    alloc: Global,
+    path: &str,
+    name: &str,
+) -> Result<Option<String>, AllocError> {
+    for folder in path.split(':') {
+        let file = file_in(alloc, folder, name)?;
+        if may_run(rt, file.as_str()) {
+            return Ok(Some(file));
+        }
+    }
+    Ok(None)
+}
+
+// The file of this name in a folder. The empty folder is the working folder.
+fn file_in(alloc: Global, folder: &str, name: &str) -> Result<String, AllocError> {
+    let mut file = String::from_str(alloc, folder)?;
+    if !folder.is_empty() {
+        file.push('/')?;
+    }
+    file.push_str(name)?;
+    Ok(file)
+}
+
+fn may_run<R: Files>(rt: &R, file: &str) -> bool {
+    match fs::metadata(rt, file) {
+        Ok(found) => found.is_file() && found.permissions().mode() & RUN_BITS != 0,
+        Err(_) => false,
+    }
+}
+
+fn lack_at<R: Files>(rt: &R, file: &str) -> Option<Lack> {
+    match fs::metadata(rt, file) {
+        Ok(found) if found.is_dir() => Some(Lack::Folder),
+        Ok(found) if found.permissions().mode() & RUN_BITS == 0 => Some(Lack::Right),
+        Ok(found) if found.is_file() => lack_in(rt, file),
+        Err(error) if is_gone(error.kind()) => Some(Lack::File),
+        _ => None,
+    }
+}
+
+fn is_gone(kind: ErrorKind) -> bool {
+    matches!(kind, ErrorKind::NotFound | ErrorKind::NotADirectory)
+}
+
+// What the first line of a file lacks. Nothing is known of one that cannot be read: it may be run all the same.
+fn lack_in<R: Files>(rt: &R, file: &str) -> Option<Lack> {
+    let mut bytes = [0; MOST_BYTES];
+    let count = read_head(rt, file, &mut bytes).ok()?;
+    lack_of_head(rt, bytes.get(..count)?)
+}
+
+fn read_head<R: Files>(rt: &R, file: &str, bytes: &mut [u8]) -> io::Result<usize> {
+    let mut file = fs::open(rt, file)?;
+    file.read(bytes)
+}
+
+// The same of the first bytes of a file.
+fn lack_of_head<R: Files>(rt: &R, head: &[u8]) -> Option<Lack> {
+    let line = head.split(|byte| *byte == b'\n').next().unwrap_or(head);
+    match line.strip_prefix(b"#!") {
+        Some(_) if line.len() == MOST_BYTES => None,
+        Some(rest) if rest.ends_with(b"\r") => Some(Lack::Return),
+        Some(rest) => lack_of_name(rt, str::from_utf8(rest).ok()?),
+        None if is_text(head) => Some(Lack::Line),
+        None => None,
+    }
+}
+
+// The same of what a first line has behind the `#!`.
+fn lack_of_name<R: Files>(rt: &R, rest: &str) -> Option<Lack> {
+    let name = rest.split([' ', '\t']).find(|word| !word.is_empty());
+    match name {
+        Some(name) => match fs::metadata(rt, name) {
+            Err(error) if is_gone(error.kind()) => Some(Lack::Interpreter),
+            _ => None,
+        },
+        None => Some(Lack::Line),
+    }
+}
+
+// Whether these bytes are those of a text.
+fn is_text(bytes: &[u8]) -> bool {
+    for byte in bytes {
+        if !matches!(*byte, b' '..=0x7e | 0x80..=0xff | b'\t' | b'\n' | b'\r') {
+            return false;
+        }
+    }
+    true
+}
