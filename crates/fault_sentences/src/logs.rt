@@ -1,5 +1,5 @@
 //! Sentences on the logs of tries that failed, and on programs that were not started.
-use crate::parts::Part::{Date, Number, Text};
+use crate::parts::Part::{Date, Text};
 use crate::parts::say;
 use crate::programs::{Search, program_of};
 use graph_file::TaskSpec;
@@ -104,11 +104,12 @@ impl Log {
         let graph = run.graph.as_str();
         say(&mut folder, "{}/dag_id={}", &[Text(logs), Text(graph)])?;
         let mut path = String::from_str(alloc, folder.as_str())?;
-        let day = [Text(run.kind.name()), Date(run.logical)];
-        say(&mut path, "/run_id={}__{}", &day)?;
-        let task = task.task_id.as_str();
-        let file = [Text(task), Number(number as u64)];
-        say(&mut path, "/task_id={}/attempt={}.log", &file)?;
+        path.push_str("/run_id=")?;
+        path.push_str(run.kind.name())?;
+        write!(path, "__{}", run.logical)?;
+        path.push_str("/task_id=")?;
+        path.push_str(task.task_id.as_str())?;
+        write!(path, "/attempt={number}.log")?;
         Ok(Log { folder, path })
     }
 }
