@@ -1,2 +1,0 @@
-pub mod DoneLemmas
-pub mod MemoryLemmas

@@ -1,4 +1,0 @@
-pub mod Scripts
-pub mod Commands
-pub mod Records
-pub mod Words
