@@ -1,51 +1,28 @@
-//! Lists of events, each told with its answer and with what it leaves.
-//!
-//! Each list is stepped by a director, with a new record in memory. At its end this is read back and compared with the schedule, and so is what
-//! the same events lead to in one call.
-//!
-//! A list has the lines of a script, and the words for what no script says (`lines`). They are written with `> ` before each, and after each what it answers, as a
-//! script prints it, and what it leaves (`leaving`). A line `sql STATEMENTS` changes a record that the same events have made, and says what that one is loaded
-//! as (`changing`). A line `reopen LANES` closes the record and opens it again.
-//!
-//! ```text
-//! == events a lane takes one try
-//! > restart 1
-//! ok
-//! = 1970-01-01T00:00:00+00:00, 0 of 1 in flight, next 1
-//! ```
+//! The lines of a text, one after another.
 use crate::answering::answer;
 use crate::changing::load_changed;
 use crate::lines::{Line, first_line};
-use crate::put_lines;
-use crate::recording::Recorder;
-use crate::records::{Directed, Records, Tally};
-use crate::stepping::{reopen, step};
+use crate::records::{Played, Records};
+use crate::stepping::step;
 use command_words::CommandReader;
 use sched_core::Limits;
 use script_commands::{CommandFault, ScriptCommand, SourceFault, next_command};
 use script_lines::LineReader;
-use sqlite::Alter;
+use sqlite::{Alter, MemStore};
 use std::alloc::Global;
 use std::io::{self, Write};
+use std::str;
 
-/// Does what the lines of a list say, writes what comes of each, and adds the records of the list to these.
-pub fn put_list<R: Recorder, W: Write>(
-    alloc: Global,
-    recorder: &R,
-    text: &[u8],
-    tally: Tally,
-    output: &mut W,
-) -> io::Result<Tally> {
+/// Does what the lines say, and writes what comes of each, and at the end how many records were kept.
+pub fn play<W: Write>(alloc: Global, text: &[u8], output: &mut W) -> io::Result<()> {
     let mut lines = LineReader::new(alloc)?;
-    let mut records = Records::new(alloc, recorder, tally)?;
-    put_all(alloc, recorder, &mut records, &mut lines, text, output)?;
-    records.end(alloc, recorder)
+    let mut records = Records::new(alloc)?;
+    play_lines(alloc, &mut records, &mut lines, text, output)
 }
 
-fn put_all<R: Recorder, W: Write>(
+fn play_lines<W: Write>(
     alloc: Global,
-    recorder: &R,
-    records: &mut Records<R::Pages>,
+    records: &mut Records<MemStore>,
     lines: &mut LineReader,
     text: &[u8],
     output: &mut W,
@@ -55,63 +32,66 @@ fn put_all<R: Recorder, W: Write>(
         if left.is_empty() {
             break;
         }
-        left = put_next(alloc, recorder, records, lines, left, output)?;
+        left = play_line(alloc, records, lines, left, output)?;
     }
-    Ok(())
+    records.begin(alloc, Limits::full())?;
+    let (ended, kept) = (records.ended, records.kept);
+    writeln!(
+        output,
+        "{kept} of {ended} records are read back as their schedules, to which their events in one list lead too"
+    )
 }
 
 // Does what the first line says, and answers the text after it.
-fn put_next<'a, R: Recorder, W: Write>(
+fn play_line<'a, W: Write>(
     alloc: Global,
-    recorder: &R,
-    records: &mut Records<R::Pages>,
+    records: &mut Records<MemStore>,
     lines: &mut LineReader,
     text: &'a [u8],
     output: &mut W,
 ) -> io::Result<&'a [u8]> {
     let (line, rest) = first_line(text);
     match Line::of(line) {
-        Line::Script => put_script(alloc, &mut records.directed, lines, text, output),
+        Line::Script => play_script(alloc, &mut records.played, lines, text, output),
         own => {
-            put_own(alloc, recorder, records, line, &own, output)?;
+            play_own(alloc, records, line, &own, output)?;
             Ok(rest)
         }
     }
 }
 
 // Does a line that is none of a script.
-fn put_own<R: Recorder, W: Write>(
+fn play_own<W: Write>(
     alloc: Global,
-    recorder: &R,
-    records: &mut Records<R::Pages>,
+    records: &mut Records<MemStore>,
     line: &[u8],
     own: &Line<'_>,
     output: &mut W,
 ) -> io::Result<()> {
     match own {
-        Line::Remark | Line::Title(_) | Line::Script => put_remark(line, output),
+        Line::Remark | Line::Script => put_remark(line, output),
+        Line::Title(_) => {
+            records.begin(alloc, Limits::full())?;
+            put_remark(line, output)
+        }
         told => {
-            put_lines(b"> ", line, output)?;
-            tell(alloc, recorder, records, told, output)
+            echo(line, output)?;
+            tell(alloc, records, told, output)
         }
     }
 }
 
 // Does a line that was written, and writes what comes of it.
-fn tell<R: Recorder, W: Write>(
+fn tell<W: Write>(
     alloc: Global,
-    recorder: &R,
-    records: &mut Records<R::Pages>,
+    records: &mut Records<MemStore>,
     line: &Line<'_>,
     output: &mut W,
 ) -> io::Result<()> {
     match line {
-        Line::Limits(limits) => limit(alloc, recorder, records, *limits, output),
-        Line::Event(event) => step(alloc, &mut records.directed, event, output),
-        Line::Reopen(lanes) => reopen(alloc, recorder, &mut records.directed, *lanes, output),
-        Line::Sql(statements) => {
-            load_changed(alloc, recorder, &records.directed, statements, output)
-        }
+        Line::Limits(limits) => limit(alloc, records, *limits, output),
+        Line::Event(event) => step(alloc, &mut records.played, event, output),
+        Line::Sql(statements) => load_changed(alloc, &records.played, statements, output),
         Line::Remark | Line::Title(_) | Line::Script => Ok(()),
     }
 }
@@ -122,16 +102,15 @@ fn put_remark<W: Write>(line: &[u8], output: &mut W) -> io::Result<()> {
 }
 
 // Begins a new record within the limits.
-fn limit<R: Recorder, W: Write>(
+fn limit<W: Write>(
     alloc: Global,
-    recorder: &R,
-    records: &mut Records<R::Pages>,
+    records: &mut Records<MemStore>,
     limits: Option<Limits>,
     output: &mut W,
 ) -> io::Result<()> {
     match limits {
         Some(limits) => {
-            records.begin(alloc, recorder, limits)?;
+            records.begin(alloc, limits)?;
             output.write_all(b"ok\n")
         }
         None => output.write_all(b"no limits\n"),
@@ -139,30 +118,30 @@ fn limit<R: Recorder, W: Write>(
 }
 
 // Does the next command of a script, and answers the text after it. The command is read again where memory ran out.
-fn put_script<'a, S: Alter + Drop, W: Write>(
+fn play_script<'a, S: Alter + Drop, W: Write>(
     alloc: Global,
-    directed: &mut Directed<S>,
+    played: &mut Played<S>,
     lines: &mut LineReader,
     text: &'a [u8],
     output: &mut W,
 ) -> io::Result<&'a [u8]> {
     let (request, left) = request_or_again(alloc, lines, text)?;
     let read = text.len().saturating_sub(left.len());
-    put_request(alloc, directed, &text[..read], request, output)?;
+    play_request(alloc, played, &text[..read], request, output)?;
     Ok(left)
 }
 
 // Writes the lines of a command, and does it.
-fn put_request<S: Alter + Drop, W: Write>(
+fn play_request<S: Alter + Drop, W: Write>(
     alloc: Global,
-    directed: &mut Directed<S>,
+    played: &mut Played<S>,
     text: &[u8],
     request: Option<Request>,
     output: &mut W,
 ) -> io::Result<()> {
-    let echoed = put_lines(b"> ", text, output);
+    let echoed = echo(text, output);
     match request {
-        Some(request) if echoed.is_ok() => answer(alloc, directed, request, output),
+        Some(request) if echoed.is_ok() => answer(alloc, played, request, output),
         _ => echoed,
     }
 }
@@ -209,4 +188,14 @@ pub fn next_request<'a>(
     let mut left = text;
     let request = next_command(alloc, &CommandReader::new(), lines, &mut left)?;
     Ok((request, left))
+}
+
+// Writes these lines with `> ` before each.
+fn echo<W: Write>(text: &[u8], output: &mut W) -> io::Result<()> {
+    if let Ok(text) = str::from_utf8(text) {
+        for line in text.lines() {
+            writeln!(output, "> {line}")?;
+        }
+    }
+    Ok(())
 }
