@@ -19,7 +19,7 @@ pub record Dag : Type 0 where
 abbrev pub no_task : TaskSpec
 no_task = record {
   task_id = [];
-  action = record { operator = Noop; argv = [] };
+  action = record { operator = Noop; argv = []; timeout = None };
   upstream = [];
   trigger_rule = AllSuccess;
   retries = 0;

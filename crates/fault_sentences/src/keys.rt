@@ -269,12 +269,8 @@ fn push_value(
 ) -> Result<(), AllocError> {
     let (name, text) = (key.name(), text_of(value));
     match key.role() {
-        Role::Range(low, high) => {
-            let number = match value {
-                Some(value) => value.as_integer().unwrap_or(0),
-                None => 0,
-            };
-            write!(sentence, "{name}: {number} is not from {low} to {high}")
+        Role::Range(low, high) | Role::Timeout(low, high) => {
+            push_number(sentence, name, number_of(value), low, high)
         }
         Role::Moment => {
             let why = moment_text(Moment::read(text).err());
@@ -291,6 +287,31 @@ fn push_value(
         ),
         role => push_word(sentence, name, text, role.words()),
     }
+}
+
+fn number_of(value: Option<&Value>) -> i64 {
+    match value {
+        Some(value) => value.as_integer().unwrap_or(0),
+        None => 0,
+    }
+}
+
+// Adds that a number is out of its range, or that only a program may have it.
+fn push_number(
+    sentence: &mut String,
+    name: &str,
+    number: i64,
+    low: i64,
+    high: i64,
+) -> Result<(), AllocError> {
+    if number < low || high < number {
+        return write!(sentence, "{name}: {number} is not from {low} to {high}");
+    }
+    say(
+        sentence,
+        "{}: noop and exit end at once, so only command takes it",
+        &[Text(name)],
+    )
 }
 
 pub fn text_of(value: Option<&Value>) -> &str {

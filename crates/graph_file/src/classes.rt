@@ -11,7 +11,7 @@ ghost use Rattle.graph_file.specs.Keys.{row_of};
 ghost use Rattle.graph_file.specs.Tables.{member_at};
 ghost use Rattle.graph_file.specs.Classes as spec;
 
-use crate::arguments::takes;
+use crate::arguments::{takes, takes_timeout};
 use crate::keys::{Absent, Key, Kind, Role, TASK_KEYS};
 use crate::names::is_name;
 use crate::schedules::{CronTimetable, lacks_ticks};
@@ -216,7 +216,7 @@ fn is_outside(role: Role, value: &Value) -> bool
             Some(text) => Moment::read(text).is_err(),
             None => false,
         },
-        Role::Range(low, high) => match value.as_integer() {
+        Role::Range(low, high) | Role::Timeout(low, high) => match value.as_integer() {
             Some(number) => number < low || high < number,
             None => false,
         },
@@ -240,14 +240,20 @@ fn is_outside(role: Role, value: &Value) -> bool
     }
 }
 
-// Whether arguments are wanted, and the operator beside them does not take those of the table; or a run at each tick is, and the
-// schedule of the table has no ticks.
+// Whether arguments are wanted, and the operator beside them does not take those of the table; or how long a try may take is said of an
+// operator that does not take it; or a run at each tick is wanted, and the schedule of the table has no ticks.
 fn is_unfit(role: Role, table: &Table) -> bool
     ensures { result ≡ spec.is_unfit role (table_view table.now) }
 {
     match role {
         Role::Arguments => match operator_at(table) {
             Some(operator) => !takes(operator, items_at(table, Key::Argv)),
+            None => false,
+        },
+        Role::Timeout(_, _) => match operator_at(table) {
+            Some(operator) => {
+                !takes_timeout(operator, value_at(table, Key::ExecutionTimeout).is_some())
+            }
             None => false,
         },
         Role::Timetable => lacks_ticks(
