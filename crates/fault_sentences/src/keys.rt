@@ -269,9 +269,8 @@ fn push_value(
 ) -> Result<(), AllocError> {
     let (name, text) = (key.name(), text_of(value));
     match key.role() {
-        Role::Range(low, high) | Role::Timeout(low, high) => {
-            push_number(sentence, name, number_of(value), low, high)
-        }
+        Role::Range(low, high) => push_range(sentence, name, number_of(value), low, high),
+        Role::Timeout(low, high) => push_timeout(sentence, name, number_of(value), low, high),
         Role::Moment => {
             let why = moment_text(Moment::read(text).err());
             say(
@@ -296,8 +295,19 @@ fn number_of(value: Option<&Value>) -> i64 {
     }
 }
 
-// Adds that a number is out of its range, or that only a program may have it.
-fn push_number(
+// Adds that a number is out of its range.
+fn push_range(
+    sentence: &mut String,
+    name: &str,
+    number: i64,
+    low: i64,
+    high: i64,
+) -> Result<(), AllocError> {
+    write!(sentence, "{name}: {number} is not from {low} to {high}")
+}
+
+// The same of a time for a try, or that its operator has none.
+fn push_timeout(
     sentence: &mut String,
     name: &str,
     number: i64,
@@ -305,7 +315,7 @@ fn push_number(
     high: i64,
 ) -> Result<(), AllocError> {
     if number < low || high < number {
-        return write!(sentence, "{name}: {number} is not from {low} to {high}");
+        return push_range(sentence, name, number, low, high);
     }
     say(
         sentence,

@@ -207,6 +207,16 @@ fn is_value_outside(key: Key, table: &Table) -> bool
     }
 }
 
+// Whether the value is a number that is less than the first or more than the second.
+fn is_past(low: i64, high: i64, value: &Value) -> bool
+    ensures { result ≡ spec.is_past low high (view value.now) }
+{
+    match value.as_integer() {
+        Some(number) => number < low || high < number,
+        None => false,
+    }
+}
+
 // Whether the value is none of those that the role has.
 fn is_outside(role: Role, value: &Value) -> bool
     ensures { result ≡ spec.is_outside role (view value.now) }
@@ -216,10 +226,8 @@ fn is_outside(role: Role, value: &Value) -> bool
             Some(text) => Moment::read(text).is_err(),
             None => false,
         },
-        Role::Range(low, high) | Role::Timeout(low, high) => match value.as_integer() {
-            Some(number) => number < low || high < number,
-            None => false,
-        },
+        Role::Range(low, high) => is_past(low, high, value),
+        Role::Timeout(low, high) => is_past(low, high, value),
         Role::Operator => match value.as_str() {
             Some(text) => Operator::read(text).is_none(),
             None => false,

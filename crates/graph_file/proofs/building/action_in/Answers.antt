@@ -24,8 +24,8 @@ new-requires-2-clause-taken c =
     let argv : c.new.result ≡ texts_of key.Argv t = c.new.ensures ∙ c.in_ok-argv.ensures ∙ ap (map text_of) c.items_at.ensures in
     rw (argv, ← read) (taken_there (member_at key.Operator t) None (texts_of key.Argv t) m.right m.there m.good n.fit)
 
-pub bounded_if-requires : goal.bounded_if-requires
-bounded_if-requires c =
+pub bounded_if-timeout-requires : goal.bounded_if-timeout-requires
+bounded_if-timeout-requires c =
     let m = met task_keys (table_view c.args.table.now) 12 c.requires (lit< tt) in
     (lit< tt, number_within 1 31536000 (member_at key.ExecutionTimeout (table_view c.args.table.now)) m.right m.good)
 
