@@ -85,10 +85,15 @@ fn write_end(log: File, status: &io::Result<ExitStatus>, has_timeout: bool) -> i
     }
 }
 
-// What is said beside a status of `timeout`: where it is 124, or KILL, which ends `timeout` with its process group, the time was over.
+// What is said beside a status of `timeout`: 124 where the time was over, and KILL, which ends `timeout` with its process group ten seconds
+// later, and which others can send too.
 fn ending(status: ExitStatus, has_timeout: bool) -> &'static str {
-    if has_timeout && (status.code() == Some(124) || status.signal() == Some(9)) {
+    if !has_timeout {
+        ""
+    } else if status.code() == Some(124) {
         ", since its execution_timeout was over"
+    } else if status.signal() == Some(9) {
+        ", which also ends it ten seconds after its execution_timeout"
     } else {
         ""
     }
