@@ -7,7 +7,7 @@ ghost use Rattle.operators.specs.Outcomes.{code_outcome, status_outcome};
 ghost use Rattle.operators.specs.Variables.{variable_of};
 
 use crate::variables::add_variables;
-use graph_file::Argument;
+use graph_file::{Action, Argument};
 use instance_machine::Outcome;
 use sched_state::Job;
 use std::alloc::{AllocError, Global};
@@ -26,12 +26,23 @@ pub fn command_of(alloc: Global, job: &Job, folder: &str) -> Result<Command, All
         ≡ option_map (λ v. Some v) (variable_of job.now folder.now name))) }
     ensures folder { IfOk result (λ c. command_dir c ≡ None) }
 {
-    let mut command = match job.action.timeout() {
-        Some(seconds) => timed_command(alloc, job.action.argv(), folder, seconds.get())?,
-        None => plain_command(alloc, job.action.argv(), folder)?,
-    };
+    let mut command = bare_command(alloc, &job.action, folder)?;
     add_variables(alloc, &mut command, job, folder)?;
     Ok(command)
+}
+
+// What is started for an action, in the environment of who starts it.
+fn bare_command(alloc: Global, action: &Action, folder: &str) -> Result<Command, AllocError>
+    ensures program { IfOk result (λ c. command_program c ≡ program_of folder.now action.now) }
+    ensures arguments { IfOk result (λ c. command_args c ≡ arguments_of folder.now action.now) }
+    ensures environment { IfOk result (λ c. (clears_env c ≡ false)
+        × ((name : List ℕ) → command_var c name ≡ None)) }
+    ensures folder { IfOk result (λ c. command_dir c ≡ None) }
+{
+    match action.timeout() {
+        Some(seconds) => timed_command(alloc, action.argv(), folder, seconds.get()),
+        None => plain_command(alloc, action.argv(), folder),
+    }
 }
 
 // The program with its arguments, in the environment of who starts it.
