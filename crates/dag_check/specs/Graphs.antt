@@ -1,5 +1,5 @@
 -- The graph of a file: its tasks and their edges by place.
-use Rattle.std.specs.Prelude.{◌≡◌, ℕ, zero, suc, if◌then◌else◌, ◌<◌, ◌≤◌, Bool, true, false, List, [], ◌∷◌, ◌++◌, length, map, slice_index_or}
+use Rattle.std.specs.Prelude.{◌≡◌, ℕ, zero, suc, if◌then◌else◌, ◌<◌, ◌≤◌, Bool, true, false, List, [], ◌∷◌, ◌++◌, length, map, slice_index_or, None}
 use Rattle.graph_file.specs.TaskLists.{task_limit}
 use Rattle.graph_file.specs.declared.task_specs.TaskSpec.{TaskSpec}
 use Rattle.graph_file.specs.declared.graph_specs.GraphSpec.{GraphSpec}
@@ -19,7 +19,7 @@ pub record Dag : Type 0 where
 abbrev pub no_task : TaskSpec
 no_task = record {
   task_id = [];
-  action = record { operator = Noop; argv = [] };
+  action = record { operator = Noop; argv = []; timeout = None };
   upstream = [];
   trigger_rule = AllSuccess;
   retries = 0;

@@ -23,7 +23,7 @@ const NAME: &str = "here it is dag_id above the tasks, and task_id in a task";
 
 const SHELL: &str = "dagsched has none: argv = [\"sh\", \"-c\", \"cd DIR && X=1 ./load\"] does it";
 
-const TIMEOUT: &str = "dagsched has none: argv = [\"timeout\", \"3600\", ..] ends a program";
+const TIMEOUT: &str = "here it is execution_timeout, a number of seconds";
 
 const LATE: &str = "dagsched has none: look at list runs";
 
@@ -33,7 +33,7 @@ const ALARM: &str =
     "dagsched has none: a task with trigger_rule = \"one_failed\" may tell somebody";
 
 // Pairs of a word and what stands for it here.
-static WORDS: [(&str, &str); 64] = [
+static WORDS: [(&str, &str); 63] = [
     ("schedule_interval", "here it is schedule"),
     (
         "default_args",
@@ -61,7 +61,6 @@ static WORDS: [(&str, &str); 64] = [
     ("downstream", "here each task names its upstream"),
     ("upstream_task_ids", WAITING),
     ("task_dependencies", WAITING),
-    ("execution_timeout", TIMEOUT),
     ("timeout", TIMEOUT),
     ("dagrun_timeout", LATE),
     ("sla", LATE),

@@ -269,13 +269,8 @@ fn push_value(
 ) -> Result<(), AllocError> {
     let (name, text) = (key.name(), text_of(value));
     match key.role() {
-        Role::Range(low, high) => {
-            let number = match value {
-                Some(value) => value.as_integer().unwrap_or(0),
-                None => 0,
-            };
-            write!(sentence, "{name}: {number} is not from {low} to {high}")
-        }
+        Role::Range(low, high) => push_range(sentence, name, number_of(value), low, high),
+        Role::Timeout(low, high) => push_timeout(sentence, name, number_of(value), low, high),
         Role::Moment => {
             let why = moment_text(Moment::read(text).err());
             say(
@@ -291,6 +286,42 @@ fn push_value(
         ),
         role => push_word(sentence, name, text, role.words()),
     }
+}
+
+fn number_of(value: Option<&Value>) -> i64 {
+    match value {
+        Some(value) => value.as_integer().unwrap_or(0),
+        None => 0,
+    }
+}
+
+// Adds that a number is out of its range.
+fn push_range(
+    sentence: &mut String,
+    name: &str,
+    number: i64,
+    low: i64,
+    high: i64,
+) -> Result<(), AllocError> {
+    write!(sentence, "{name}: {number} is not from {low} to {high}")
+}
+
+// The same of a time for a try, or that its operator has none.
+fn push_timeout(
+    sentence: &mut String,
+    name: &str,
+    number: i64,
+    low: i64,
+    high: i64,
+) -> Result<(), AllocError> {
+    if number < low || high < number {
+        return push_range(sentence, name, number, low, high);
+    }
+    say(
+        sentence,
+        "{}: noop and exit end at once, so only command takes it",
+        &[Text(name)],
+    )
 }
 
 pub fn text_of(value: Option<&Value>) -> &str {

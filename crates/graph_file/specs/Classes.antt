@@ -1,11 +1,11 @@
 -- The classes of faults that have a place: what each says of a table that may have the given keys.
-use Rattle.std.specs.Prelude.{ℕ, ◌&&◌, ◌||◌, not, Bool, true, false, List, [], ◌∷◌, Option, option_and_then, is_none, is_some, is_err, bytes_eq, int_lt}
+use Rattle.std.specs.Prelude.{ℕ, ℤ, ◌&&◌, ◌||◌, not, Bool, true, false, List, [], ◌∷◌, Option, option_and_then, is_none, is_some, is_err, bytes_eq, int_lt}
 use Rattle.std.specs.List.{list_all, list_any}
 use Rattle.toml.specs.Data.{Data, Members, as_str, as_bool, as_integer, as_array, as_table}
 use Rattle.moment_core.specs.Reading.{read_of}
 use Rattle.graph_file.specs.Lists.{holds_at}
 use Rattle.graph_file.specs.Names.{is_name}
-use Rattle.graph_file.specs.Operators.{operator_of, takes}
+use Rattle.graph_file.specs.Operators.{operator_of, takes, takes_timeout}
 use Rattle.graph_file.specs.Rules.{rule_of, weight_rule_of}
 use Rattle.graph_file.specs.Keys.{row_of, task_keys}
 use Rattle.graph_file.specs.Tables.{each_item, some_item, keys_in, member_at}
@@ -70,10 +70,15 @@ names_none _ d = false
 abbrev pub is_misnamed : Key → Members → Bool
 is_misnamed k t = holds_at (names_none (row_of k).role) (member_at k t)
 
+-- a number that is less than the first or more than the second
+abbrev pub is_past : ℤ → ℤ → Data → Bool
+is_past low high d = holds_at (λ z. int_lt z low || int_lt high z) (as_integer d)
+
 -- the value is none of those that the role has
 abbrev pub is_outside : Role → Data → Bool
 is_outside role.Moment d = holds_at (λ s. is_err (read_of s)) (as_str d)
-is_outside (role.Range low high) d = holds_at (λ z. int_lt z low || int_lt high z) (as_integer d)
+is_outside (role.Range low high) d = is_past low high d
+is_outside (role.Timeout low high) d = is_past low high d
 is_outside role.Operator d = holds_at (λ s. is_none (operator_of s)) (as_str d)
 is_outside role.Rule d = holds_at (λ s. is_none (rule_of s)) (as_str d)
 is_outside role.WeightRule d = holds_at (λ s. is_none (weight_rule_of s)) (as_str d)
@@ -84,10 +89,11 @@ is_outside _ d = false
 abbrev pub operator_at : Members → Option Operator
 operator_at t = option_and_then (λ d. option_and_then operator_of (as_str d)) (member_at key.Operator t)
 
--- arguments are wanted, and those of the table, which may be none, the operator beside them does not take; or a run at each tick is,
--- and the schedule of the table has no ticks
+-- arguments are wanted, and those of the table, which may be none, the operator beside them does not take; or how long a try may take is
+-- said of an operator that does not take it; or a run at each tick is wanted, and the schedule of the table has no ticks
 abbrev pub is_unfit : Role → Members → Bool
 is_unfit role.Arguments t = holds_at (λ o. not (takes o (texts_of key.Argv t))) (operator_at t)
+is_unfit (role.Timeout low high) t = holds_at (λ o. not (takes_timeout o (is_some (member_at key.ExecutionTimeout t)))) (operator_at t)
 is_unfit role.Timetable t = lacks_ticks (cron_timetable_of (text_in (value_of key.Timetable t))) (text_in (value_of key.Schedule t))
 is_unfit _ t = false
 

@@ -1,5 +1,5 @@
 -- The operators: how each is spelled, and the arguments that it takes.
-use Rattle.std.specs.Prelude.{ℕ, ◌==◌, ◌&&◌, not, nat_le, nat_lt, Bool, false, List, [], ◌∷◌, length, sum_by, Option, is_some, bytes_eq, codes}
+use Rattle.std.specs.Prelude.{ℕ, ◌==◌, ◌&&◌, not, nat_le, nat_lt, Bool, true, false, List, [], ◌∷◌, length, sum_by, Option, is_some, bytes_eq, codes}
 use Rattle.std.specs.List.{list_all}
 use Rattle.std.specs.Str.{all_ascii_digits}
 use Rattle.std.specs.Str.Parse.{digits_value}
@@ -48,8 +48,16 @@ takes Noop argv = length argv == 0
 takes Command argv = is_command argv
 takes Exit argv = are_statuses argv
 
--- an operator and its arguments
+-- it may be said how long a try of the operator takes at most, since it can be ended: of a program alone
+-- restates: Airflow 2, the class `BaseOperator`: `execution_timeout`; this project's own profile
+abbrev pub takes_timeout : Operator → Bool → Bool
+takes_timeout Noop said = not said
+takes_timeout Command said = true
+takes_timeout Exit said = not said
+
+-- an operator and its arguments, and how many seconds a try may take, if that is said
 -- what contracts see of an `Action`
 pub record Call : Type 0 where
   pub operator : Operator
   pub argv : List (List ℕ)
+  pub timeout : Option ℕ

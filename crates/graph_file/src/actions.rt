@@ -1,8 +1,8 @@
-//! An operator with its arguments.
-ghost use Rattle.std.specs.Prelude.{◌≡◌, true, IfOk};
-ghost use Rattle.graph_file.specs.Operators.{takes};
+//! An operator with its arguments, and how long a try of it may take.
+ghost use Rattle.std.specs.Prelude.{◌≡◌, true, is_some, IfOk};
+ghost use Rattle.graph_file.specs.Operators.{takes, takes_timeout};
 
-use crate::{Operator, Sequence};
+use crate::{Bounded, Operator, Sequence};
 use std::alloc::{AllocError, Global};
 use std::marker::Model;
 
@@ -44,34 +44,46 @@ impl Argument {
     }
 }
 
-/// An operator with arguments that it takes. Contracts see the two.
+/// An operator with arguments that it takes, and how many seconds a try of it may take, if that is said. Contracts see the three.
 ///
 /// `noop` takes none. `command` takes 1 to 64 of at most 65,536 bytes in all, none with a NUL byte, and the first, the
-/// program, is not empty. `exit` takes 1 to 16, each a status from 0 to 255 in one to three digits.
+/// program, is not empty. `exit` takes 1 to 16, each a status from 0 to 255 in one to three digits. Of `command` alone may be said how long
+/// its tries may take.
 #[derive(Debug, Drop)]
 pub struct Action {
     operator: Operator,
     argv: Sequence<Argument>,
+    timeout: Option<Bounded<1, 31_536_000>>,
 }
 
 impl Model for Action {
-    ghost use Rattle.std.specs.Prelude.{◌≡◌, true};
-    ghost use Rattle.graph_file.specs.Operators.{Call, takes};
+    ghost use Rattle.std.specs.Prelude.{◌≡◌, true, is_some};
+    ghost use Rattle.graph_file.specs.Operators.{Call, takes, takes_timeout};
 
     ghost Value = { Call };
 
-    ghost view = { λ a. record { operator = a.operator; argv = a.argv } };
+    ghost view = { λ a. record { operator = a.operator; argv = a.argv; timeout = a.timeout } };
 
-    ghost invariant = { λ a. takes a.operator a.argv ≡ true };
+    ghost invariant = { λ a. (takes a.operator a.argv ≡ true)
+        × (takes_timeout a.operator (is_some a.timeout) ≡ true) };
 }
 
 impl Action {
-    /// The operator with arguments that the caller knows it to take.
-    pub fn new(operator: Operator, argv: Sequence<Argument>) -> Action
-        requires { takes operator argv ≡ true }
-        ensures { result ≡ record { operator = operator; argv = argv } }
+    /// The operator with arguments, and perhaps a number of seconds, that the caller knows it to take.
+    pub fn new(
+        operator: Operator,
+        argv: Sequence<Argument>,
+        timeout: Option<Bounded<1, 31_536_000>>,
+    ) -> Action
+        requires taken { takes operator argv ≡ true }
+        requires timed { takes_timeout operator (is_some timeout) ≡ true }
+        ensures { result ≡ record { operator = operator; argv = argv; timeout = timeout } }
     {
-        Action { operator, argv }
+        Action {
+            operator,
+            argv,
+            timeout,
+        }
     }
 
     /// An equal operator with equal arguments.
@@ -82,7 +94,7 @@ impl Action {
         for argument in self.argv() {
             argv.push(argument.copy(alloc)?)?;
         }
-        Ok(Action::new(self.operator, Sequence::new(argv)))
+        Ok(Action::new(self.operator, Sequence::new(argv), self.timeout))
     }
 
     /// The operator.
@@ -90,6 +102,13 @@ impl Action {
         ensures { result ≡ self.now.operator }
     {
         self.operator
+    }
+
+    /// How many seconds a try may take, if that is said.
+    pub fn timeout(&self) -> Option<Bounded<1, 31_536_000>>
+        ensures { result ≡ self.now.timeout }
+    {
+        self.timeout
     }
 
     /// Its arguments.

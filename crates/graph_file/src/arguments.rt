@@ -20,6 +20,16 @@ pub fn takes(operator: Operator, argv: &[Value]) -> bool
     }
 }
 
+// Whether it may be said, where `said` says that it is, how long a try of the operator takes at most.
+pub fn takes_timeout(operator: Operator, said: bool) -> bool
+    ensures { result ≡ spec.takes_timeout operator said }
+{
+    match operator {
+        Operator::Noop | Operator::Exit => !said,
+        Operator::Command => true,
+    }
+}
+
 fn is_command(argv: &[Value]) -> bool
     ensures { result
         ≡ ((spec.names_program (map values.text_of (map view argv.now))

@@ -11,7 +11,7 @@ ghost use Rattle.graph_file.specs.Keys.{row_of};
 ghost use Rattle.graph_file.specs.Tables.{member_at};
 ghost use Rattle.graph_file.specs.Classes as spec;
 
-use crate::arguments::takes;
+use crate::arguments::{takes, takes_timeout};
 use crate::keys::{Absent, Key, Kind, Role, TASK_KEYS};
 use crate::names::is_name;
 use crate::schedules::{CronTimetable, lacks_ticks};
@@ -207,6 +207,16 @@ fn is_value_outside(key: Key, table: &Table) -> bool
     }
 }
 
+// Whether the value is a number that is less than the first or more than the second.
+fn is_past(low: i64, high: i64, value: &Value) -> bool
+    ensures { result ≡ spec.is_past low high (view value.now) }
+{
+    match value.as_integer() {
+        Some(number) => number < low || high < number,
+        None => false,
+    }
+}
+
 // Whether the value is none of those that the role has.
 fn is_outside(role: Role, value: &Value) -> bool
     ensures { result ≡ spec.is_outside role (view value.now) }
@@ -216,10 +226,8 @@ fn is_outside(role: Role, value: &Value) -> bool
             Some(text) => Moment::read(text).is_err(),
             None => false,
         },
-        Role::Range(low, high) => match value.as_integer() {
-            Some(number) => number < low || high < number,
-            None => false,
-        },
+        Role::Range(low, high) => is_past(low, high, value),
+        Role::Timeout(low, high) => is_past(low, high, value),
         Role::Operator => match value.as_str() {
             Some(text) => Operator::read(text).is_none(),
             None => false,
@@ -240,14 +248,20 @@ fn is_outside(role: Role, value: &Value) -> bool
     }
 }
 
-// Whether arguments are wanted, and the operator beside them does not take those of the table; or a run at each tick is, and the
-// schedule of the table has no ticks.
+// Whether arguments are wanted, and the operator beside them does not take those of the table; or how long a try may take is said of an
+// operator that does not take it; or a run at each tick is wanted, and the schedule of the table has no ticks.
 fn is_unfit(role: Role, table: &Table) -> bool
     ensures { result ≡ spec.is_unfit role (table_view table.now) }
 {
     match role {
         Role::Arguments => match operator_at(table) {
             Some(operator) => !takes(operator, items_at(table, Key::Argv)),
+            None => false,
+        },
+        Role::Timeout(_, _) => match operator_at(table) {
+            Some(operator) => {
+                !takes_timeout(operator, value_at(table, Key::ExecutionTimeout).is_some())
+            }
             None => false,
         },
         Role::Timetable => lacks_ticks(

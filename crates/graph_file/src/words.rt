@@ -43,6 +43,7 @@ impl Role {
             | Role::Names
             | Role::Moment
             | Role::Range(_, _)
+            | Role::Timeout(_, _)
             | Role::Schedule
             | Role::Arguments => &[],
         }

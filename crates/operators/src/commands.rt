@@ -2,12 +2,12 @@
 ghost use Rattle.std.specs.Prelude.{◌≡◌, ℕ, List, [], ◌∷◌, ◌++◌, map, false, None, Some, option_map, IfOk, OnOk};
 ghost use Rattle.std.specs.Process.{command_program, command_args, command_dir, command_var, clears_env};
 ghost use Rattle.std.specs.Process.{SameEnv, SameDir};
-ghost use Rattle.operators.specs.Commands.{with_folder, program_of, arguments_of};
+ghost use Rattle.operators.specs.Commands.{with_folder, texts_in, timed, first_text, later_texts, program_of, arguments_of};
 ghost use Rattle.operators.specs.Outcomes.{code_outcome, status_outcome};
 ghost use Rattle.operators.specs.Variables.{variable_of};
 
 use crate::variables::add_variables;
-use graph_file::Argument;
+use graph_file::{Action, Argument};
 use instance_machine::Outcome;
 use sched_state::Job;
 use std::alloc::{AllocError, Global};
@@ -15,25 +15,40 @@ use std::process::Command;
 
 /// The program that the first argument of a job names, with the others as its arguments: for each that is `@scratch` it gets the path of
 /// the try's folder. It gets the environment of who starts it, with the variables that say which try it is, and its working folder.
-/// Where there is no argument the program's name is empty, and nothing can be started.
+/// Where the job says how long it may take, `timeout` starts it, and ends its process group then. Where there is no argument the program's name
+/// is empty, and nothing can be started.
 pub fn command_of(alloc: Global, job: &Job, folder: &str) -> Result<Command, AllocError>
-    ensures program { IfOk result (λ c. command_program c ≡ program_of job.now.action.argv) }
+    ensures program { IfOk result (λ c. command_program c ≡ program_of folder.now job.now.action) }
     ensures arguments { IfOk result (λ c. command_args c
-        ≡ arguments_of folder.now job.now.action.argv) }
+        ≡ arguments_of folder.now job.now.action) }
     ensures environment { IfOk result (λ c. (clears_env c ≡ false)
         × ((name : List ℕ) → command_var c name
         ≡ option_map (λ v. Some v) (variable_of job.now folder.now name))) }
     ensures folder { IfOk result (λ c. command_dir c ≡ None) }
 {
-    let mut command = plain_command(alloc, job.action.argv(), folder)?;
+    let mut command = bare_command(alloc, &job.action, folder)?;
     add_variables(alloc, &mut command, job, folder)?;
     Ok(command)
 }
 
+// What is started for an action, in the environment of who starts it.
+fn bare_command(alloc: Global, action: &Action, folder: &str) -> Result<Command, AllocError>
+    ensures program { IfOk result (λ c. command_program c ≡ program_of folder.now action.now) }
+    ensures arguments { IfOk result (λ c. command_args c ≡ arguments_of folder.now action.now) }
+    ensures environment { IfOk result (λ c. (clears_env c ≡ false)
+        × ((name : List ℕ) → command_var c name ≡ None)) }
+    ensures folder { IfOk result (λ c. command_dir c ≡ None) }
+{
+    match action.timeout() {
+        Some(seconds) => timed_command(alloc, action.argv(), folder, seconds.get()),
+        None => plain_command(alloc, action.argv(), folder),
+    }
+}
+
 // The program with its arguments, in the environment of who starts it.
 fn plain_command(alloc: Global, argv: &[Argument], folder: &str) -> Result<Command, AllocError>
-    ensures program { IfOk result (λ c. command_program c ≡ program_of argv.now) }
-    ensures arguments { IfOk result (λ c. command_args c ≡ arguments_of folder.now argv.now) }
+    ensures program { IfOk result (λ c. command_program c ≡ first_text (texts_in folder.now argv.now)) }
+    ensures arguments { IfOk result (λ c. command_args c ≡ later_texts (texts_in folder.now argv.now)) }
     ensures environment { IfOk result (λ c. (clears_env c ≡ false)
         × ((name : List ℕ) → command_var c name ≡ None)) }
     ensures folder { IfOk result (λ c. command_dir c ≡ None) }
@@ -44,6 +59,42 @@ fn plain_command(alloc: Global, argv: &[Argument], folder: &str) -> Result<Comma
     let mut command = Command::new(alloc, program.as_str())?;
     push_arguments(&mut command, arguments, folder)?;
     Ok(command)
+}
+
+// The same, started by `timeout`, which ends its process group after so many seconds.
+fn timed_command(
+    alloc: Global,
+    argv: &[Argument],
+    folder: &str,
+    seconds: u32,
+) -> Result<Command, AllocError>
+    ensures program { IfOk result (λ c. command_program c ≡ first_text (timed (Some seconds) (texts_in folder.now argv.now))) }
+    ensures arguments { IfOk result (λ c. command_args c ≡ later_texts (timed (Some seconds) (texts_in folder.now argv.now))) }
+    ensures environment { IfOk result (λ c. (clears_env c ≡ false)
+        × ((name : List ℕ) → command_var c name ≡ None)) }
+    ensures folder { IfOk result (λ c. command_dir c ≡ None) }
+{
+    let mut command = Command::new(alloc, "timeout")?;
+    command.arg("-k")?;
+    command.arg("10")?;
+    command.arg(seconds.to_string(alloc)?.as_str())?;
+    push_texts(&mut command, argv, folder)?;
+    Ok(command)
+}
+
+// Adds a program's name and its arguments.
+fn push_texts(command: &mut Command, argv: &[Argument], folder: &str) -> Result<(), AllocError>
+    ensures arguments { OnOk result (command_args command.new
+        ≡ command_args command.old ++ texts_in folder.now argv.now) }
+    ensures program { OnOk result (command_program command.new ≡ command_program command.old) }
+    ensures environment { OnOk result (SameEnv command.old command.new) }
+    ensures folder { OnOk result (SameDir command.old command.new) }
+{
+    let [program, arguments @ ..] = argv else {
+        return Ok(());
+    };
+    command.arg(program.as_str())?;
+    push_arguments(command, arguments, folder)
 }
 
 // Adds each argument, or the folder's path for `@scratch`.

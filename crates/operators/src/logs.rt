@@ -7,6 +7,7 @@ use sched_state::Job;
 use std::alloc::{AllocError, Global};
 use std::fs::{self, File};
 use std::io::{self, Read, Seek, SeekFrom, Write};
+use std::os::unix::process::ExitStatusExt;
 use std::path::Path;
 use std::process::{Command, ExitStatus, Processes};
 use std::rt::Files;
@@ -53,32 +54,48 @@ pub(crate) fn open_log<R: Files<File = File>>(
 }
 
 /// Starts the program and waits for it to end. What it writes goes to the end of the log, in the order in which it is written. Where it
-/// does not end with the status 0, the log then says how it ended, or that it could not be started.
+/// does not end with the status 0, the log then says how it ended, and whether its time was over, or that it could not be started.
 pub(crate) fn logged_status<R: Processes>(
     rt: &R,
     command: &mut Command,
     log: File,
+    has_timeout: bool,
 ) -> io::Result<ExitStatus> {
     command.stdout(log.try_clone()?);
     command.stderr(log.try_clone()?);
     let status = command.status(rt);
-    let _ = write_end(log, &status);
+    let _ = write_end(log, &status, has_timeout);
     status
 }
 
 // Writes how a program ended that did not end well, on a line of its own.
-fn write_end(log: File, status: &io::Result<ExitStatus>) -> io::Result<()> {
+fn write_end(log: File, status: &io::Result<ExitStatus>, has_timeout: bool) -> io::Result<()> {
     let mut log = log;
     match status {
         Ok(status) if status.success() => Ok(()),
         Ok(status) => {
             end_line(&mut log)?;
-            writeln!(log, "dagsched: {status}")
+            let ending = ending(*status, has_timeout);
+            writeln!(log, "dagsched: {status}{ending}")
         }
         Err(error) => {
             end_line(&mut log)?;
             writeln!(log, "dagsched: the program cannot be started: {error}")
         }
+    }
+}
+
+// What is said beside a status of `timeout`: 124 where the time was over, and KILL, which ends `timeout` with its process group ten seconds
+// later, and which others can send too.
+fn ending(status: ExitStatus, has_timeout: bool) -> &'static str {
+    if !has_timeout {
+        ""
+    } else if status.code() == Some(124) {
+        ", since its execution_timeout was over"
+    } else if status.signal() == Some(9) {
+        ", which also ends it ten seconds after its execution_timeout"
+    } else {
+        ""
     }
 }
 

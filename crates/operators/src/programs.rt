@@ -23,7 +23,7 @@ use std::rt::Files;
 /// remove it with all that is in it, as far as the system lets them. The program's standard input is empty. What it writes goes to the log
 /// of the try ([`log_path_of`](crate::log_path_of)), where a line is added if it does not end with the status 0, or is lost if there is no
 /// folder for logs. Status 0 is success, 99 asks to be skipped; another one, a signal, a log that cannot be opened and a program that cannot
-/// be started are failures.
+/// be started are failures. So is one whose time is over: `timeout` then ends its process group, by TERM and ten seconds later by KILL.
 pub struct Program<R: Files<File = File> + Processes + Drop> {
     progress: Progress,
     rt: R,
@@ -161,7 +161,10 @@ fn code_of<R: Files<File = File> + Processes>(
     let mut command = command_of(alloc, job, folder)?;
     command.stdin(Stdio::null());
     let status = match logs {
-        Some(base) => logged_status(rt, &mut command, open_log(rt, alloc, base, job)?)?,
+        Some(base) => {
+            let log = open_log(rt, alloc, base, job)?;
+            logged_status(rt, &mut command, log, job.action.timeout().is_some())?
+        },
         None => unheard_status(rt, &mut command)?,
     };
     Ok(status.code())

@@ -22,7 +22,7 @@ fn write_task(rt: &HostRuntime, task: &TaskSpec) -> io::Result<()> {
     write_ranks(rt, task)
 }
 
-// The operator and its arguments, of a copy.
+// The operator and its arguments, and how long a try may take if that is said, of a copy.
 fn write_action(rt: &HostRuntime, action: &Action) -> io::Result<()> {
     let operator = action.operator();
     print!(rt; ", {operator:?}")?;
@@ -30,7 +30,13 @@ fn write_action(rt: &HostRuntime, action: &Action) -> io::Result<()> {
         let text = argument.as_str();
         print!(rt; " {text:?}")?;
     }
-    Ok(())
+    match action.timeout() {
+        Some(seconds) => {
+            let seconds = seconds.get();
+            print!(rt; ", execution_timeout {seconds}")
+        }
+        None => Ok(()),
+    }
 }
 
 /// Writes each name after a blank.

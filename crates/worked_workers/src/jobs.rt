@@ -11,7 +11,7 @@ use std::alloc::{AllocError, Global};
 pub fn numbered_job(alloc: Global, serial: u64) -> Result<Job, AllocError>
     ensures { IfOk result (λ job. job.serial ≡ serial) }
 {
-    let action = Action::new(Operator::Noop, Sequence::new(Vec::new(alloc)));
+    let action = Action::new(Operator::Noop, Sequence::new(Vec::new(alloc)), None);
     job_of(alloc, serial, 1, &action)
 }
 

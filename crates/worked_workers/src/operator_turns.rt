@@ -1,6 +1,7 @@
 //! One word after another with one operator: `begin:SERIAL` and `begin:SERIAL:TRY` begin a job of the line's task, `perform` performs it,
 //! `finish` gives it up, `runs` shows what was performed, and other words change what stands at the base folder. At the end the operator
-//! is dropped. The operator `logged` is `command` with the logs of its tries under `logs` in the base folder.
+//! is dropped. The operator `logged` is `command` with the logs of its tries under `logs` in the base folder; behind its arguments may stand how
+//! long a try may take, `within SECONDS`.
 use crate::actions::read_action;
 use crate::folders;
 use crate::hands::Hand;
@@ -25,7 +26,8 @@ pub fn write_answer<R: Files<File = File> + Processes + Print + Alloc + Copy + D
     let (argv, words) = rest.rsplit_once(" : ").unwrap_or(("[]", rest));
     let logs = logs_of(alloc, base, operator)?;
     let operator = if logs.is_some() { "command" } else { operator };
-    let Some(action) = read_action(alloc, operator, argv)? else {
+    let keys = keys_of(alloc, argv)?;
+    let Some(action) = read_action(alloc, operator, keys.as_str())? else {
         return rt.print(" no such action");
     };
     write_acted(rt, alloc, base, logs, &action, words)
@@ -48,6 +50,14 @@ fn write_acted<R: Files<File = File> + Processes + Print + Alloc + Copy + Drop>(
             write_turns(rt, alloc, base, program, action, words)?;
             write_left(rt, alloc, base)
         }
+    }
+}
+
+// The array of the arguments, with the line below it that says how long a try may take, for `ARGV within SECONDS`.
+fn keys_of(alloc: Global, argv: &str) -> Result<String, AllocError> {
+    match argv.rsplit_once(" within ") {
+        Some((argv, seconds)) => format!(in alloc; "{argv}\nexecution_timeout = {seconds}"),
+        None => String::from_str(alloc, argv),
     }
 }
 
