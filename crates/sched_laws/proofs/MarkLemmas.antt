@@ -1,5 +1,5 @@
 -- A task of one run that is passed over, and what failed after it.
-use Rattle.std.proofs.Common.{◌≡◌, ◌∙◌, refl, sym, ap, ℕ, ◌+◌, List, [], ◌∷◌, Bool, true, false, cond, not, ◌&&◌, ◌||◌, filter, flat_map, is_none, is_some, map, Option, Some, None, option_and_then, slice_get, true≢false}
+use Rattle.std.proofs.Common.{◌≡◌, ◌∙◌, refl, sym, ap, ℕ, ◌+◌, List, [], ◌∷◌, Bool, true, false, cond, ◌&&◌, filter, flat_map, is_none, is_some, map, Option, Some, None, option_and_then, slice_get, true≢false}
 use Rattle.std.specs.List.{list_all, zip, enumerate_from}
 use Rattle.std.proofs.lemmas.Bool.{and_from}
 use Rattle.graph_file.specs.declared.task_specs.TaskSpec.{TaskSpec}
@@ -25,7 +25,6 @@ use Rattle.sched_model.specs.Marking.{failed_after, mark, one_of, pass_over, pas
 use Rattle.sched_model.specs.Sound.{IsSound, has_end, is_sound_in, is_sound_instance, is_sound_run}
 use Rattle.sched_laws.specs.Repairs.{instance_at}
 use Rattle.sched_laws.specs.Runs.{runs_named}
-use Rattle.sched_laws.proofs.ListLemmas.{all_flat}
 use Rattle.sched_laws.proofs.InstanceLemmas.{finished_ended}
 use Rattle.sched_laws.proofs.RunLemmas.{pairs_of_run}
 use Rattle.sched_laws.proofs.RuleLemmas.{flat_all}
