@@ -13,7 +13,7 @@ use Rattle.sched_model.specs.Marking.{failed_after, mark, one_of}
 use Rattle.sched_model.specs.Schedule.{Schedule, has_run_at, is_at}
 use Rattle.sched_model.specs.Sound.{IsSound}
 use Rattle.sched_laws.proofs.ClearLemmas.{set_named_sound}
-use Rattle.sched_clearing.specs.Marks.{IsMarkedAs, IsPassedOver, fault_of, mark_fault}
+use Rattle.sched_clearing.specs.Marking.{IsMarkedAs, IsPassedOver, fault_of, mark_fault}
 use Rattle.sched_clearing.specs.Selections.{SelectionParts, IsClear, selection_of}
 use Rattle.sched_clearing.specs.declared.marking.MarkFault.{MarkFault}
 use Rattle.sched_clearing.specs.declared.marking.MarkFault.TheVariants as fault

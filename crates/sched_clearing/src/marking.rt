@@ -4,7 +4,7 @@ ghost use Rattle.sched_model.specs.Clearing as clears;
 ghost use Rattle.sched_model.specs.Clearing.{cleared_by};
 ghost use Rattle.sched_model.specs.Marking as model;
 ghost use Rattle.sched_model.specs.Sound.{IsSound};
-ghost use Rattle.sched_clearing.specs.Marks.{IsMarkedAs, IsPassedOver, fault_of};
+ghost use Rattle.sched_clearing.specs.Marking.{IsMarkedAs, IsPassedOver, fault_of};
 ghost use Rattle.sched_clearing.specs.declared.marking.MarkFault.TheVariants.{Memory};
 
 use crate::clearing::{clear, set};

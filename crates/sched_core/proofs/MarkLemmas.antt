@@ -5,7 +5,7 @@ use Rattle.sched_model.specs.Causes.{is_unknown_graph, is_unknown_task, least_in
 use Rattle.sched_model.specs.Clearing.{cleared_by}
 use Rattle.sched_model.specs.Marking.{mark, one_of}
 use Rattle.sched_model.specs.Schedule.{Schedule, has_run_at}
-use Rattle.sched_clearing.specs.Marks.{IsMarkedAs, mark_fault}
+use Rattle.sched_clearing.specs.Marking.{IsMarkedAs, mark_fault}
 use Rattle.sched_clearing.specs.declared.marking.MarkFault.{MarkFault}
 use Rattle.sched_clearing.specs.declared.marking.MarkFault.TheVariants as fault
 use Rattle.sched_events.specs.Causes.{refused}
