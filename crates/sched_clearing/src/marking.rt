@@ -82,9 +82,9 @@ fn pass_over(alloc: Global, draft: &mut Draft<'_>, one: &Clearing) -> Result<(),
     if let Some(serial) = least_in_flight(draft, &selection) {
         return Err(MarkFault::InFlight(serial));
     }
-    if draft.find(&one.graph, one.from).is_none() {
+    let Some(_position) = draft.find(&one.graph, one.from) else {
         return Err(MarkFault::UnknownRun);
-    }
+    };
     let _count = set(alloc, draft, &selection, Some(Verdict::Skip))?;
     Ok(())
 }
