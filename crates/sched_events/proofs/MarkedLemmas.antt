@@ -1,6 +1,6 @@
 -- What is marked is skipped, by its graph, its date and its task, and stays so.
-use Rattle.std.proofs.Common.{◌≡◌, ◌∙◌, refl, sym, ap, subst, inl, inr, ℕ, zero, suc, ◌+◌, List, [], ◌∷◌, Bool, true, false, not, cond, ◌&&◌, ◌||◌, find, map, Option, None, Some, option_map, option_and_then, is_none, slice_get, true≢false, arith}
-use Rattle.std.specs.List.{list_all, list_any, position_from, zip}
+use Rattle.std.proofs.Common.{◌≡◌, ◌∙◌, refl, sym, ap, inl, inr, ℕ, zero, suc, ◌+◌, List, [], ◌∷◌, Bool, true, false, not, cond, ◌||◌, find, map, Option, None, Some, option_map, option_and_then, is_none, slice_get, true≢false, arith}
+use Rattle.std.specs.List.{list_any, position_from, zip}
 use Rattle.std.proofs.lemmas.Bool.{and_from, eq-eqb, eqb-true, le-leb}
 use Rattle.graph_file.specs.declared.task_specs.TaskSpec.{TaskSpec}
 use Rattle.instance_machine.specs.Instances.{InstanceValue}
@@ -22,7 +22,6 @@ use Rattle.sched_laws.specs.sched_model.Replacing.{pair_of}
 use Rattle.sched_laws.specs.sched_model.Schedule.{Schedule, dag_named, has_run_at, is_at, tasks_of}
 use Rattle.sched_laws.specs.sched_model.Sound.{IsSound, is_sound_in, is_sound_run}
 use Rattle.sched_laws.specs.Instances.{instance_of, state_of_task, IsStillFinished}
-use Rattle.sched_laws.specs.Repairs.{instance_at}
 use Rattle.sched_laws.specs.Tries.{run_at}
 use Rattle.sched_laws.proofs.FinishedLemmas.{advance_still}
 use Rattle.sched_laws.proofs.ListLemmas.{all_get}
@@ -36,7 +35,7 @@ use Rattle.sched_events.specs.Steps.{step}
 use Rattle.sched_events.specs.declared.events.Event.TheVariants.{Mark}
 use Rattle.sched_events.specs.declared.refusals.Refusal.TheVariants as refusal
 use Rattle.sched_events.proofs.AcceptLemmas.{change_kept}
-use Rattle.sched_events.proofs.CauseLemmas.{no_map, no_when, within}
+use Rattle.sched_events.proofs.CauseLemmas.{no_map, no_when}
 
 -- ---- what is found
 find_map : {X : Type 0} (p : X → Bool) (f : X → X) → ((x : X) → p (f x) ≡ p x) → (xs : List X) → find p (map f xs) ≡ option_map f (find p xs)

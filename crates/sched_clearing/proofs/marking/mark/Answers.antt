@@ -1,4 +1,4 @@
-use Rattle.std.proofs.Common.{◌≡◌, ◌∙◌, sym, ap, subst, refl, tt, Ok, Err}
+use Rattle.std.proofs.Common.{◌≡◌, ◌∙◌, sym, ap, subst, refl, Ok, Err}
 use Rattle.sched_model.specs.Schedule.{Schedule}
 use Rattle.sched_clearing.specs.Marking.{IsPassedOver}
 use Rattle.sched_clearing.proofs.MarkingLemmas.{marked_as, passed_sound, refused_as}

@@ -21,13 +21,13 @@ returns-in-Some-clause-passed c =
     let h : IsClear a x (Ok n) = subst (IsClear a x) c.in-Ok.is c.named_by_clear.ensures in
     still_open a a x n c.in-Some.serial h (sym c.in-Some.is ∙ c.least_in_flight.ensures)
 
-pub returns-in_default-clause-passed : goal.returns-in_default-clause-passed
-returns-in_default-clause-passed c =
+pub returns-in_default-find-clause-passed : goal.returns-in_default-find-clause-passed
+returns-in_default-find-clause-passed c =
     let a : Schedule = c.args.draft.now.content in
     let x : Clearing = c.args.one.now in
     let n : SelectionParts = c.in-Ok.selection in
     let h : IsClear a x (Ok n) = subst (IsClear a x) c.in-Ok.is c.named_by_clear.ensures in
-    no_run a a x n h (sym c.if-Some.is ∙ c.least_in_flight.ensures) c.in_default.ensures
+    no_run a a x n h (sym c.in_default.is ∙ c.least_in_flight.ensures) c.in_default-find.ensures
 
 pub returns-clause-passed : goal.returns-clause-passed
 returns-clause-passed c =
@@ -35,4 +35,4 @@ returns-clause-passed c =
     let x : Clearing = c.args.one.now in
     let n : SelectionParts = c.in-Ok.selection in
     let h : IsClear a x (Ok n) = subst (IsClear a x) c.in-Ok.is c.named_by_clear.ensures in
-    passed a c.set.new.draft.content x n h (sym c.if-Some.is ∙ c.least_in_flight.ensures) (run_there a x.graph x.from c.in-Some-2.position c.in-Some-2.ensures) (c.in_ok-count.ensures.draft c.requires)
+    passed a c.set.new.draft.content x n h (sym c.in_default.is ∙ c.least_in_flight.ensures) (run_there a x.graph x.from c.in-Some-find._position c.in-Some-find.ensures) (c.in_ok-count.ensures.draft c.requires)
