@@ -1,5 +1,5 @@
 -- Passing one instance over, and setting back what failed after it.
-use Rattle.std.proofs.Common.{◌≡◌, ◌∙◌, refl, sym, ap, subst, inl, inr, ℕ, zero, suc, List, [], ◌∷◌, Bool, true, false, not, Option, None, Some, option_map, Result, Ok, Err, slice_get}
+use Rattle.std.proofs.Common.{◌≡◌, ◌∙◌, refl, sym, ap, subst, inl, inr, ℕ, zero, suc, List, [], ◌∷◌, Bool, true, false, not, Option, None, Some, option_map, Ok, Err, slice_get}
 use Rattle.std.specs.List.{list_any}
 use Rattle.std.proofs.lemmas.Bool.{or_right}
 use Rattle.graph_file.specs.Lists.{first_some, when}
@@ -9,7 +9,7 @@ use Rattle.sched_state.specs.declared.clearings.Clearing.{Clearing}
 use Rattle.sched_state.specs.declared.runs.Run.{Run}
 use Rattle.sched_model.specs.Causes.{is_unknown_graph, is_unknown_task, least_in_flight}
 use Rattle.sched_model.specs.Clearing.{Selection, clear, cleared_by, set_named}
-use Rattle.sched_model.specs.Marking.{failed_after, mark, one_of}
+use Rattle.sched_model.specs.Marking.{failed_after, one_of}
 use Rattle.sched_model.specs.Schedule.{Schedule, has_run_at, is_at}
 use Rattle.sched_model.specs.Sound.{IsSound}
 use Rattle.sched_laws.proofs.ClearLemmas.{set_named_sound}

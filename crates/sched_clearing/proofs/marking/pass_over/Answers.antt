@@ -1,4 +1,4 @@
-use Rattle.std.proofs.Common.{◌≡◌, ◌∙◌, sym, ap, subst, inl, Ok, Err}
+use Rattle.std.proofs.Common.{◌∙◌, sym, subst, Ok, Err}
 use Rattle.sched_state.specs.declared.clearings.Clearing.{Clearing}
 use Rattle.sched_model.specs.Schedule.{Schedule}
 use Rattle.sched_clearing.specs.Selections.{SelectionParts, IsClear}
@@ -35,4 +35,4 @@ returns-clause-passed c =
     let x : Clearing = c.args.one.now in
     let n : SelectionParts = c.in-Ok.selection in
     let h : IsClear a x (Ok n) = subst (IsClear a x) c.in-Ok.is c.named_by_clear.ensures in
-    passed a c.set.new.draft.content x n h (sym c.in_default.is ∙ c.least_in_flight.ensures) (run_there a x.graph x.from c.in-Some-find._position c.in-Some-find.ensures) (c.in_ok-count.ensures.draft c.requires)
+    passed a c.set.new.draft.content x n h (sym c.in_default.is ∙ c.least_in_flight.ensures) (run_there a x.graph x.from c.in-Some-find._position c.in-Some-find.ensures) (c.in_ok-_count.ensures.draft c.requires)
