@@ -3,7 +3,8 @@
 A script is taken by renaming it from `inbox` to `doing`, and its name there says how many of its commands are answered: `2,NAME`. A command whose answer
 a kill cut off is given again by the next service before anything else, and above all before a tick. A second `trigger` is refused then (`RunExists`), and
 one of `load`, `replace`, `pause`, `unpause`, `resize` and `backfill` changes nothing. A scheduler whose serve was killed may have done tries meanwhile. So
-a `clear` and a `backfill --reset` are not given again where the record has more tries set back than before them.
+a `clear`, a `backfill --reset` and a `mark` are not given again where the record has more tries set back than before them. A second `mark` of a task without
+tries passes it over once more, and sets back what failed after it since.
 """
 import contextlib
 import fcntl
@@ -185,7 +186,7 @@ class Inbox:
 
     def note(self, command, taken):
         """Notes how many tries are set back so far, before a command that may set back more: by that the next service knows whether it was done."""
-        if command[0].split()[0] not in (b"clear", b"backfill"):
+        if command[0].split()[0] not in (b"clear", b"backfill", b"mark"):
             return
         try:
             with open(self.folder.at("doing", NOTE), "w", errors="surrogateescape") as it:

@@ -260,6 +260,21 @@ class Schedule:
         named = [(run, it) for run in self.runs_of(name) if first <= run.logical <= last for it in dag.tasks if it in names]
         return [], self.set_back(dag, [(run, it) for run, it in named if not is_failed or run.state(dag, it) in BAD])
 
+    def mark(self, name, logical, task):
+        dag = self.graph(name)
+        if task not in dag.tasks:
+            raise Refused("7 UnknownTask")
+        run = self.runs.get((name, logical))
+        in_flight = [it.serial for it in run.instances[task].tries if it.ended is None] if run else []
+        if in_flight:
+            raise Refused(f"12 InFlight {min(in_flight)}")
+        if not run:
+            raise Refused("21 UnknownRun")
+        run.instances[task].verdict, run.instances[task].since = "skip", len(run.instances[task].tries)
+        run.phase = "running" if run.phase == "running" else "queued"
+        self.set_back(dag, [(run, it) for it in dag.tasks if it in dag.reach(task, False) and run.state(dag, it) in BAD])
+        return [], []
+
     def set_back(self, dag, named):
         in_flight = [it.serial for run, name in named for it in run.instances[name].tries if it.ended is None]
         if in_flight:

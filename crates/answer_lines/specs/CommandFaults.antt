@@ -4,7 +4,7 @@ use Rattle.std.specs.Prelude.{ℕ, List, ◌++◌, codes}
 use Rattle.moment_core.specs.declared.reading.MomentFault.{MomentFault}
 use Rattle.moment_core.specs.declared.reading.MomentFault.TheVariants.{Shape, NoSuchDate, OutOfRange}
 use Rattle.command_words.specs.declared.commands.UsageFault.{UsageFault}
-use Rattle.command_words.specs.declared.commands.UsageFault.TheVariants.{Words, BadName, BadMoment, NotHere, BadLine, Memory}
+use Rattle.command_words.specs.declared.commands.UsageFault.TheVariants.{Words, BadName, BadMoment, NotHere, BadLine, BadState, Memory}
 use Rattle.script_commands.specs.declared.commands.SourceFault.{SourceFault}
 use Rattle.script_commands.specs.declared.commands.SourceFault.TheVariants as source
 use Rattle.script_commands.specs.declared.commands.CommandFault.{CommandFault}
@@ -23,6 +23,7 @@ usage_text BadName = codes "usage 2 BadName\n"
 usage_text (BadMoment fault) = codes "usage 3 BadMoment " ++ moment_fault_text fault ++ codes "\n"
 usage_text NotHere = codes "usage 4 NotHere\n"
 usage_text BadLine = codes "usage 5 BadLine\n"
+usage_text BadState = codes "usage 6 BadState\n"
 usage_text Memory = codes "memory\n"
 
 -- the line of a text that could not be had

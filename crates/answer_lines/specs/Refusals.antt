@@ -6,7 +6,7 @@ use Rattle.moment_core.specs.Printing.{text_of}
 use Rattle.pool_book.specs.declared.pools.PoolFault.{PoolFault as FaultOfPool}
 use Rattle.pool_book.specs.declared.pools.PoolFault.TheVariants as pool
 use Rattle.sched_events.specs.declared.refusals.Refusal.{Refusal}
-use Rattle.sched_events.specs.declared.refusals.Refusal.TheVariants.{GraphFault, DagFault, UnknownPool, TooManyGraphs, GraphDiffers, UnknownGraph, UnknownTask, ClockBack, BadSpan, RunExists, NoInterval, InFlight, NotInFlight, OutOfTurn, PoolFault, LanesTooMany, RecordFull, OtherTasks, OtherSlots, Redoes, Memory}
+use Rattle.sched_events.specs.declared.refusals.Refusal.TheVariants.{GraphFault, DagFault, UnknownPool, TooManyGraphs, GraphDiffers, UnknownGraph, UnknownTask, ClockBack, BadSpan, RunExists, NoInterval, InFlight, NotInFlight, OutOfTurn, PoolFault, LanesTooMany, RecordFull, OtherTasks, OtherSlots, Redoes, UnknownRun, Memory}
 use Rattle.answer_lines.specs.GraphFaults.{graph_fault_text}
 use Rattle.answer_lines.specs.DagFaults.{dag_fault_text}
 
@@ -37,4 +37,5 @@ refusal_text RecordFull = codes "refused 17 RecordFull\n"
 refusal_text (OtherTasks task) = codes "refused 18 OtherTasks " ++ task ++ codes "\n"
 refusal_text (OtherSlots task) = codes "refused 19 OtherSlots " ++ task ++ codes "\n"
 refusal_text (Redoes moment) = codes "refused 20 Redoes " ++ text_of moment ++ codes "\n"
+refusal_text UnknownRun = codes "refused 21 UnknownRun\n"
 refusal_text Memory = codes "memory\n"

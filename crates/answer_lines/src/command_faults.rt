@@ -32,6 +32,7 @@ fn put_usage_fault<W: Write>(output: &mut W, fault: UsageFault) -> io::Result<()
         }
         UsageFault::NotHere => output.write_all(b"usage 4 NotHere\n"),
         UsageFault::BadLine => output.write_all(b"usage 5 BadLine\n"),
+        UsageFault::BadState => output.write_all(b"usage 6 BadState\n"),
         UsageFault::Memory => output.write_all(b"memory\n"),
     }
 }

@@ -52,6 +52,7 @@ pub(crate) fn put_refusal<W: Write>(output: &mut W, refusal: &Refusal) -> io::Re
             writeln!(output, "refused 19 OtherSlots {task}")
         }
         Refusal::Redoes(moment) => writeln!(output, "refused 20 Redoes {moment}"),
+        Refusal::UnknownRun => output.write_all(b"refused 21 UnknownRun\n"),
         Refusal::Memory => output.write_all(b"memory\n"),
     }
 }

@@ -6,15 +6,16 @@ use Rattle.graph_file.specs.Names.{is_name}
 use Rattle.moment_core.specs.Reading.{read_of}
 use Rattle.moment_core.specs.declared.reading.MomentFault.{MomentFault}
 use Rattle.sched_events.specs.declared.events.Event.TheVariants as event
-use Rattle.command_words.specs.Values.{after, text_at, flag_at, number_at, name_of, moment_from, moment_of, name_at, moment_at, some_name}
-use Rattle.command_words.specs.Commands.{command_in, cleared, is_of_words, time_of}
+use Rattle.command_words.specs.Values.{after, text_at, flag_at, number_at, name_of, moment_from, moment_of, name_at, moment_at, skipped_of, some_name}
+use Rattle.command_words.specs.Commands.{command_in, cleared, is_of_words, question_in, time_of}
 use Rattle.command_words.specs.declared.commands.Command.{Command}
 use Rattle.command_words.specs.declared.commands.Command.TheVariants as command
+use Rattle.command_words.specs.declared.commands.Question.{Question}
 use Rattle.command_words.specs.declared.commands.TickTime.TheVariants.{At, Now}
 use Rattle.command_words.specs.declared.kinds.CommandKind.{CommandKind}
 use Rattle.command_words.specs.declared.kinds.CommandKind.TheVariants as kind
 use Rattle.command_words.specs.declared.commands.UsageFault.{UsageFault}
-use Rattle.command_words.specs.declared.commands.UsageFault.TheVariants.{Words, BadName}
+use Rattle.command_words.specs.declared.commands.UsageFault.TheVariants.{Words, BadName, BadState}
 
 pub after_not : {A B : Type 0} (r : Result A UsageFault) (f : A → Result B UsageFault) → r ≢ Err Words → ((a : A) → f a ≢ Err Words) → after r f ≢ Err Words
 after_not (Ok a) f first rest = rest a
@@ -30,6 +31,13 @@ name_not : (t : Text) → name_of t ≢ Err Words
 name_not t = go (is_name t)
   where
     go : (b : Bool) → (if b then Ok t else Err BadName) ≢ Err Words
+    go true h = cc
+    go false h = cc
+
+state_not : (t : Text) → skipped_of t ≢ Err Words
+state_not t = go (bytes_eq t (codes "skipped"))
+  where
+    go : (b : Bool) → (if b then Ok tt else Err BadState) ≢ Err Words
     go true h = cc
     go false h = cc
 
@@ -72,22 +80,34 @@ span_fine : (rows : List Row) (g : Text → ℕ → ℕ → Result Command Usage
 span_fine rows g fine = name_fine (codes "dag") rows (λ d. after (moment_at (codes "from") rows) (λ f. after (moment_at (codes "to") rows) (g d f)))
     (λ d. moment_fine (codes "from") rows (λ f. after (moment_at (codes "to") rows) (g d f)) (λ f. moment_fine (codes "to") rows (g d f) (fine d f)))
 
+question_not : (rows : List Row) → question_in rows ≢ Err Words
+question_not rows =
+    after_not (name_at (codes "dag") rows) (λ d. after (moment_at (codes "logical") rows) (λ l. after (name_at (codes "task") rows) (λ t. Ok (asked d l t)))) (name_not (text_at (codes "dag") rows))
+    (λ d. after_not (moment_at (codes "logical") rows) (λ l. after (name_at (codes "task") rows) (λ t. Ok (asked d l t))) (moment_not (read_of (text_at (codes "logical") rows)))
+    (λ l. after_not (name_at (codes "task") rows) (λ t. Ok (asked d l t)) (name_not (text_at (codes "task") rows)) (λ t. ok_not (asked d l t))))
+  where
+    asked : Text → ℕ → Text → Question
+    asked d l t = record { graph = d; logical = l; task = t }
+
 pub command_fine : (k : CommandKind) (rows : List Row) → IsFine (command_in k rows)
 command_fine kind.Run rows = refl
 command_fine kind.List rows = refl
-command_fine kind.Explain rows =
-    name_fine (codes "dag") rows (λ d. after (moment_at (codes "logical") rows) (λ l. after (name_at (codes "task") rows) (λ t. Ok (asked d l t))))
-    (λ d. moment_fine (codes "logical") rows (λ l. after (name_at (codes "task") rows) (λ t. Ok (asked d l t)))
-    (λ l. name_fine (codes "task") rows (λ t. Ok (asked d l t)) (λ t. refl)))
-  where
-    asked : Text → ℕ → Text → Command
-    asked d l t = command.Explain (record { graph = d; logical = l; task = t })
+command_fine kind.Explain rows = after_fine (question_in rows) (λ q. Ok (command.Explain q)) (question_not rows) (λ q. refl)
 command_fine kind.Trigger rows = name_fine (codes "dag") rows (λ d. Ok (command.Step (event.Trigger d))) (λ d. refl)
 command_fine kind.Pause rows = name_fine (codes "dag") rows (λ d. Ok (command.Step (event.Pause d))) (λ d. refl)
 command_fine kind.Unpause rows = name_fine (codes "dag") rows (λ d. Ok (command.Step (event.Unpause d))) (λ d. refl)
 command_fine kind.Backfill rows = span_fine rows (λ d f t. Ok (command.Step (event.Backfill d f t (flag_at (codes "reset") rows)))) (λ d f t. refl)
 command_fine kind.Clear rows = span_fine rows (λ d f t. after (some_name (first_of (codes "task") rows)) (λ k. Ok (cleared rows d f t k)))
     (λ d f t. after_fine (some_name (first_of (codes "task") rows)) (λ k. Ok (cleared rows d f t k)) (some_not (first_of (codes "task") rows)) (λ k. refl))
+command_fine kind.Mark rows =
+    after_fine (question_in rows) (λ q. after (skipped_of state) (λ s. Ok (marked q))) (question_not rows)
+    (λ q. after_fine (skipped_of state) (λ s. Ok (marked q)) (state_not state) (λ s. refl))
+  where
+    state : Text
+    state = text_at (codes "state") rows
+
+    marked : Question → Command
+    marked q = command.Step (event.Mark q.graph q.logical q.task)
 command_fine kind.Resize rows =
     name_fine (codes "pool") rows (λ p. Ok (command.Step (event.Resize p (number_at 0 1000000 (codes "size") rows)))) (λ p. refl)
 command_fine kind.Load rows = refl

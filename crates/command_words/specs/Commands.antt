@@ -4,6 +4,7 @@ use Rattle.std.specs.Prelude.{ℕ, Bool, true, false, if◌then◌else◌, List,
 use Rattle.clap.specs.Words.{Row, Text, first_of}
 use Rattle.sched_events.specs.declared.events.Event.{Event}
 use Rattle.sched_events.specs.declared.events.Event.TheVariants as event
+use Rattle.command_words.specs.declared.commands.Question.{Question}
 use Rattle.command_words.specs.declared.commands.UsageFault.{UsageFault}
 use Rattle.command_words.specs.declared.commands.Listing.{Listing}
 use Rattle.command_words.specs.declared.commands.Listing.TheVariants as listing
@@ -17,7 +18,7 @@ use Rattle.command_words.specs.declared.kinds.CommandKind.{CommandKind}
 use Rattle.command_words.specs.declared.kinds.CommandKind.TheVariants as kind
 use Rattle.command_words.specs.declared.takings.Taking.{Taking}
 use Rattle.command_words.specs.declared.takings.Taking.TheVariants as taking
-use Rattle.command_words.specs.Values.{after, text_at, flag_at, number_at, name_at, moment_at, moment_of, some_name}
+use Rattle.command_words.specs.Values.{after, text_at, flag_at, number_at, name_at, moment_at, moment_of, some_name, skipped_of}
 
 -- `list ROWS`
 abbrev pub listing_of : Text → Listing
@@ -53,11 +54,15 @@ run_in rows = command.Run (record {
   logs = first_of (codes "logs") rows;
 })
 
+-- the task instance of `DAG LOGICAL TASK`
+abbrev pub question_in : List Row → Result Question UsageFault
+question_in rows =
+    after (name_at (codes "dag") rows) (λ dag. after (moment_at (codes "logical") rows) (λ logical. after (name_at (codes "task") rows)
+    (λ task. Ok (record { graph = dag; logical = logical; task = task }))))
+
 -- `explain DAG LOGICAL TASK`
 abbrev pub explain_in : List Row → Result Command UsageFault
-explain_in rows =
-    after (name_at (codes "dag") rows) (λ dag. after (moment_at (codes "logical") rows) (λ logical. after (name_at (codes "task") rows)
-    (λ task. Ok (command.Explain (record { graph = dag; logical = logical; task = task })))))
+explain_in rows = after (question_in rows) (λ question. Ok (command.Explain question))
 
 -- `trigger DAG`, `pause DAG`, `unpause DAG`
 abbrev pub of_dag : (Text → Event) → List Row → Result Command UsageFault
@@ -86,6 +91,12 @@ clear_in rows =
     after (name_at (codes "dag") rows) (λ dag. after (moment_at (codes "from") rows) (λ from. after (moment_at (codes "to") rows)
     (λ to. after (some_name (first_of (codes "task") rows)) (λ task. Ok (cleared rows dag from to task)))))
 
+-- `mark DAG LOGICAL TASK skipped`: no other state can be given to a task instance by hand
+abbrev pub mark_in : List Row → Result Command UsageFault
+mark_in rows =
+    after (question_in rows) (λ marked. after (skipped_of (text_at (codes "state") rows))
+    (λ state. Ok (command.Step (event.Mark marked.graph marked.logical marked.task))))
+
 -- `resize POOL SIZE`
 abbrev pub resize_in : List Row → Result Command UsageFault
 resize_in rows = after (name_at (codes "pool") rows) (λ pool. Ok (command.Step (event.Resize pool (number_at 0 1000000 (codes "size") rows))))
@@ -95,11 +106,12 @@ abbrev pub later_kind : Text → Option CommandKind
 later_kind name =
     if bytes_eq name (codes "backfill") then Some kind.Backfill
     else (if bytes_eq name (codes "clear") then Some kind.Clear
+    else (if bytes_eq name (codes "mark") then Some kind.Mark
     else (if bytes_eq name (codes "resize") then Some kind.Resize
     else (if bytes_eq name (codes "load") then Some kind.Load
     else (if bytes_eq name (codes "replace") then Some kind.Replace
     else (if bytes_eq name (codes "tick") then Some kind.Tick
-    else (if bytes_eq name (codes "drain") then Some kind.Drain else None))))))
+    else (if bytes_eq name (codes "drain") then Some kind.Drain else None)))))))
 
 abbrev pub kind_named : Text → Option CommandKind
 kind_named name =
@@ -121,6 +133,7 @@ command_in kind.Pause rows = of_dag event.Pause rows
 command_in kind.Unpause rows = of_dag event.Unpause rows
 command_in kind.Backfill rows = backfill_in rows
 command_in kind.Clear rows = clear_in rows
+command_in kind.Mark rows = mark_in rows
 command_in kind.Resize rows = resize_in rows
 command_in kind.Load rows = Ok (take_in taking.Load rows)
 command_in kind.Replace rows = Ok (take_in taking.Replace rows)
@@ -135,6 +148,7 @@ is_given (event.Clear clearing) = true
 is_given (event.Pause id) = true
 is_given (event.Unpause id) = true
 is_given (event.Resize pool size) = true
+is_given (event.Mark dag logical task) = true
 is_given _ = false
 
 -- a command whose event, if it is one, is one that words give

@@ -8,7 +8,7 @@ use Rattle.graph_file.specs.Names.{is_name}
 use Rattle.moment_core.specs.Reading.{read_of}
 use Rattle.moment_core.specs.declared.reading.MomentFault.{MomentFault}
 use Rattle.command_words.specs.declared.commands.UsageFault.{UsageFault}
-use Rattle.command_words.specs.declared.commands.UsageFault.TheVariants.{BadName, BadMoment}
+use Rattle.command_words.specs.declared.commands.UsageFault.TheVariants.{BadName, BadMoment, BadState}
 
 -- a word, where one that is not there is the empty text: clap lets no such words through
 -- restates: clap 4: `ArgMatches`
@@ -62,6 +62,11 @@ moment_of text = moment_from (read_of text)
 -- restates: this project's own profile
 abbrev pub moment_at : Text → List Row → Result ℕ UsageFault
 moment_at id rows = moment_of (text_at id rows)
+
+-- the text is `skipped`
+-- restates: this project's own profile
+abbrev pub skipped_of : Text → Result (Unit {0}) UsageFault
+skipped_of text = if bytes_eq text (codes "skipped") then Ok tt else Err BadState
 
 -- what is read next, where what was read before has no fault
 abbrev pub after : {A B : Type 0} → Result A UsageFault → (A → Result B UsageFault) → Result B UsageFault

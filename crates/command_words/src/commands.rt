@@ -25,6 +25,9 @@ pub enum UsageFault {
     /// The line is longer than 65,536 bytes or is not UTF-8.
     #[error("the line is too long or no text")]
     BadLine,
+    /// The word that should be the state of a mark is not `skipped`.
+    #[error("a task instance cannot be marked so")]
+    BadState,
     /// Memory ran out.
     #[error("out of memory")]
     Memory,
@@ -74,7 +77,7 @@ pub struct ScriptOptions {
     pub logs: Option<FilePath>,
 }
 
-/// The task instance that is to be explained.
+/// A task instance, as the words `DAG LOGICAL TASK` name it.
 #[derive(Debug, Drop)]
 pub struct Question {
     /// The graph's id.

@@ -13,6 +13,7 @@ pub(crate) enum CommandKind {
     Unpause,
     Backfill,
     Clear,
+    Mark,
     Resize,
     Load,
     Replace,
@@ -44,6 +45,7 @@ fn later_kind(name: &str) -> Option<CommandKind>
     match name {
         "backfill" => Some(CommandKind::Backfill),
         "clear" => Some(CommandKind::Clear),
+        "mark" => Some(CommandKind::Mark),
         "resize" => Some(CommandKind::Resize),
         "load" => Some(CommandKind::Load),
         "replace" => Some(CommandKind::Replace),

@@ -9,8 +9,8 @@ use crate::commands::{
 use crate::kinds::CommandKind;
 use crate::takings::Taking;
 use crate::values::{
-    flag_at, moment_at, moment_of, name_at, number_at, path_of, some_name, some_path, text_at,
-    value_at,
+    flag_at, moment_at, moment_of, name_at, number_at, path_of, skipped_at, some_name, some_path,
+    text_at, value_at,
 };
 use clap::ArgMatches;
 use graph_file::Bounded;
@@ -77,18 +77,26 @@ fn run_in(alloc: Global, matches: &ArgMatches<'_>) -> Result<Command, UsageFault
     }))
 }
 
-fn explain_in(alloc: Global, matches: &ArgMatches<'_>) -> Result<Command, UsageFault>
-    ensures ok { IfOk result (λ c. spec.explain_in (rows_of (found_of matches.now)) ≡ Ok c) }
-    ensures refused { IfErr result (λ e. e ≢ UsageFault.Memory → spec.explain_in (rows_of (found_of matches.now)) ≡ Err e) }
+fn question_in(alloc: Global, matches: &ArgMatches<'_>) -> Result<Question, UsageFault>
+    ensures ok { IfOk result (λ q. spec.question_in (rows_of (found_of matches.now)) ≡ Ok q) }
+    ensures refused { IfErr result (λ e. e ≢ UsageFault.Memory → spec.question_in (rows_of (found_of matches.now)) ≡ Err e) }
 {
     let graph = name_at(alloc, matches, "dag")?;
     let logical = moment_at(matches, "logical")?;
     let task = name_at(alloc, matches, "task")?;
-    Ok(Command::Explain(Question {
+    Ok(Question {
         graph,
         logical,
         task,
-    }))
+    })
+}
+
+fn explain_in(alloc: Global, matches: &ArgMatches<'_>) -> Result<Command, UsageFault>
+    ensures ok { IfOk result (λ c. spec.explain_in (rows_of (found_of matches.now)) ≡ Ok c) }
+    ensures refused { IfErr result (λ e. e ≢ UsageFault.Memory → spec.explain_in (rows_of (found_of matches.now)) ≡ Err e) }
+{
+    let question = question_in(alloc, matches)?;
+    Ok(Command::Explain(question))
 }
 
 fn backfill_in(alloc: Global, matches: &ArgMatches<'_>) -> Result<Command, UsageFault>
@@ -129,6 +137,19 @@ fn clear_in(alloc: Global, matches: &ArgMatches<'_>) -> Result<Command, UsageFau
     })))
 }
 
+fn mark_in(alloc: Global, matches: &ArgMatches<'_>) -> Result<Command, UsageFault>
+    ensures ok { IfOk result (λ c. spec.mark_in (rows_of (found_of matches.now)) ≡ Ok c) }
+    ensures refused { IfErr result (λ e. e ≢ UsageFault.Memory → spec.mark_in (rows_of (found_of matches.now)) ≡ Err e) }
+{
+    let marked = question_in(alloc, matches)?;
+    skipped_at(matches, "state")?;
+    Ok(Command::Step(Event::Mark {
+        graph: marked.graph,
+        logical: marked.logical,
+        task: marked.task,
+    }))
+}
+
 fn resize_in(alloc: Global, matches: &ArgMatches<'_>) -> Result<Command, UsageFault>
     ensures ok { IfOk result (λ c. spec.resize_in (rows_of (found_of matches.now)) ≡ Ok c) }
     ensures refused { IfErr result (λ e. e ≢ UsageFault.Memory → spec.resize_in (rows_of (found_of matches.now)) ≡ Err e) }
@@ -156,6 +177,7 @@ pub(crate) fn command_in(
         CommandKind::Unpause => Ok(Command::Step(Event::Unpause(name_at(alloc, matches, "dag")?))),
         CommandKind::Backfill => backfill_in(alloc, matches),
         CommandKind::Clear => clear_in(alloc, matches),
+        CommandKind::Mark => mark_in(alloc, matches),
         CommandKind::Resize => resize_in(alloc, matches),
         CommandKind::Load => take_in(alloc, matches, Taking::Load),
         CommandKind::Replace => take_in(alloc, matches, Taking::Replace),

@@ -37,6 +37,17 @@ pub(crate) fn flag_at(matches: &ArgMatches<'_>, id: &str) -> bool
     text_at(matches, id) == "true"
 }
 
+/// Whether an argument is `skipped`, the one state with which a task instance is marked.
+pub(crate) fn skipped_at(matches: &ArgMatches<'_>, id: &str) -> Result<(), UsageFault>
+    ensures { result ≡ spec.skipped_of (spec.text_at id.now (rows_of (found_of matches.now))) }
+{
+    if text_at(matches, id) == "skipped" {
+        Ok(())
+    } else {
+        Err(UsageFault::BadState)
+    }
+}
+
 /// The number of an argument, the least in the range where it has none.
 pub(crate) fn number_at(matches: &ArgMatches<'_>, id: &str, low: u32, high: u32) -> u32
     requires { low ≤ high }

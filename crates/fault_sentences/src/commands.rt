@@ -70,6 +70,9 @@ fn push_usage(
         UsageFault::BadLine => sentence.push_str(
             "the line, or one of the graph's text, is longer than 65,536 bytes or is not UTF-8",
         ),
+        UsageFault::BadState => sentence.push_str(
+            "the last word is skipped, and no other: a success is a try of a worker. What waits for a task that is skipped runs with trigger_rule none_failed, all_done or always",
+        ),
         UsageFault::Memory => Ok(()),
     }
 }
@@ -120,7 +123,7 @@ fn push_parts(sentence: &mut String, asked: Asked<'_>, words: &[&str]) -> Result
     }
     if let ["help" | "?" | "quit" | "exit", ..] = words {
         return sentence.push_str(
-            "the commands are load, replace, tick, drain, list, explain, trigger, backfill, clear, pause, unpause and resize; a script ends where its input does, on a terminal by Ctrl-D",
+            "the commands are load, replace, tick, drain, list, explain, trigger, backfill, clear, mark, pause, unpause and resize; a script ends where its input does, on a terminal by Ctrl-D",
         );
     }
     let words = owned(*sentence.allocator(), words)?;

@@ -103,6 +103,14 @@ fn push_of_event(
         (Refusal::UnknownTask, Some(Event::Clear(clearing))) => {
             push_missing(sentence, clearing.task.as_ref(), "task")
         }
+        (Refusal::UnknownTask, Some(Event::Mark { task, .. })) => {
+            push_missing(sentence, Some(task), "task")
+        }
+        (Refusal::UnknownRun, Some(Event::Mark { graph, logical, .. })) => say(
+            sentence,
+            "{} has no run of {}: list runs prints the dates of those that it has",
+            &[Text(graph.as_str()), Date(*logical)],
+        ),
         _ => sentence.push_str(plain(refusal)),
     }
 }
@@ -124,6 +132,9 @@ fn rest_of_event(
             Some(task) => near_task(alloc, clearing.graph.as_str(), task.as_str()),
             None => Ok(Rest::Nothing),
         },
+        (Refusal::UnknownTask, Some(Event::Mark { graph, task, .. })) => {
+            near_task(alloc, graph.as_str(), task.as_str())
+        }
         _ => Ok(Rest::Nothing),
     }
 }
@@ -157,7 +168,7 @@ fn plain(refusal: &Refusal) -> &'static str {
 fn graph_of(event: &Event) -> Option<&Name> {
     match event {
         Event::Trigger(graph) | Event::Pause(graph) | Event::Unpause(graph) => Some(graph),
-        Event::Backfill { graph, .. } => Some(graph),
+        Event::Backfill { graph, .. } | Event::Mark { graph, .. } => Some(graph),
         Event::Clear(clearing) => Some(&clearing.graph),
         _ => None,
     }

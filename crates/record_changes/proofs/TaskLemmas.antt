@@ -31,7 +31,7 @@ use Rattle.sched_events.specs.Causes.{refused, refused_change, refused_text}
 use Rattle.sched_events.specs.Events.{change_by, load_result, replace_result, set_back, set_back_by}
 use Rattle.sched_events.specs.SettledAndSound.{IsSoundAndSaid}
 use Rattle.sched_events.specs.declared.events.Event.{Event}
-use Rattle.sched_events.specs.declared.events.Event.TheVariants.{Load, Tick, Trigger, Backfill, Clear, Pause, Unpause, Resize, Report, Restart, Replace}
+use Rattle.sched_events.specs.declared.events.Event.TheVariants.{Load, Tick, Trigger, Backfill, Clear, Pause, Unpause, Resize, Report, Restart, Replace, Mark}
 use Rattle.sched_events.proofs.AcceptLemmas.{AsLoad, AsNothing, Changed, IsReplaced, fit_says, replace_is, replaced, replacement, taken, text_again}
 use Rattle.record_changes.proofs.KeyLemmas.{found_by}
 
@@ -186,3 +186,4 @@ tasks_there (Resize name size) a accepted kept id runs = still_there a (change_b
 tasks_there (Report serial stage) a accepted kept id runs = still_there a (change_by (Report serial stage) a) id refl
 tasks_there (Restart lanes) a accepted kept id runs = still_there a (change_by (Restart lanes) a) id refl
 tasks_there (Replace text) a accepted kept id runs = replace_there a text (graph_of text) refl accepted kept id runs
+tasks_there (Mark name date task) a accepted kept id runs = still_there a (change_by (Mark name date task) a) id refl

@@ -18,6 +18,7 @@ pub mod EffectLemmas
 pub mod ResizeLemmas
 pub mod TriggerLemmas
 pub mod RepairLemmas
+pub mod MarkLemmas
 pub mod DagRowLemmas
 pub mod ChangedRowLemmas
 pub mod LoseLemmas

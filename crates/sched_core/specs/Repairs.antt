@@ -1,11 +1,17 @@
 -- What the core's own functions say of repairs.
 use Rattle.std.specs.Prelude.{◌≡◌, ℕ, Bool, true, false, List, Option, Some, None, option_map, option_and_then, Result, Ok, Err, ◌⊎◌}
+use Rattle.sched_clearing.specs.declared.marking.MarkFault.{MarkFault}
+use Rattle.sched_clearing.specs.declared.marking.MarkFault.TheVariants as marks
 use Rattle.sched_clearing.specs.declared.selections.ClearFault.{ClearFault}
 use Rattle.sched_clearing.specs.declared.selections.ClearFault.TheVariants as fault
 use Rattle.sched_model.specs.Causes.{least_in_flight}
 use Rattle.sched_model.specs.Clearing.{Selection, reset_by}
+use Rattle.sched_model.specs.Marking.{mark}
 use Rattle.sched_model.specs.Schedule.{Schedule}
+use Rattle.sched_events.specs.Causes.{refused}
 use Rattle.sched_events.specs.Events.{set_back, count_in}
+use Rattle.sched_events.specs.Outcomes.{IsRefusal}
+use Rattle.sched_events.specs.declared.events.Event.TheVariants.{Mark}
 use Rattle.sched_events.specs.declared.refusals.Refusal.{Refusal}
 use Rattle.sched_events.specs.declared.refusals.Refusal.TheVariants as refusal
 
@@ -14,6 +20,19 @@ abbrev pub clear_refusal : ClearFault → Refusal
 clear_refusal fault.UnknownGraph = refusal.UnknownGraph
 clear_refusal fault.UnknownTask = refusal.UnknownTask
 clear_refusal fault.Memory = refusal.Memory
+
+-- the refusal for a fault of a mark
+abbrev pub mark_refusal : MarkFault → Refusal
+mark_refusal marks.UnknownGraph = refusal.UnknownGraph
+mark_refusal marks.UnknownTask = refusal.UnknownTask
+mark_refusal (marks.InFlight serial) = refusal.InFlight serial
+mark_refusal marks.UnknownRun = refusal.UnknownRun
+mark_refusal marks.Memory = refusal.Memory
+
+-- nothing stands against the mark, and it is made; or it is refused
+abbrev pub IsMark : Schedule → List ℕ → ℕ → List ℕ → Schedule → Result (Unit {0}) Refusal → Type 0
+IsMark a id date task b (Ok done) = (refused a (Mark id date task) ≡ None) × (b ≡ mark id date task a)
+IsMark a id date task b (Err r) = IsRefusal a (Mark id date task) r
 
 -- what a backfill resets: all instances of a graph's runs with some dates, or nothing
 abbrev pub reset_of : Bool → List ℕ → List ℕ → Option Selection

@@ -19,6 +19,7 @@ mod graph_texts;
 mod loading;
 mod lookups;
 mod losing;
+mod marking;
 mod ordering;
 mod pausing;
 mod planning;

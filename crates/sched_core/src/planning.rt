@@ -61,6 +61,11 @@ impl Schedule {
             Event::Report(serial, stage) => self.plan_report(alloc, *serial, *stage),
             Event::Restart(lanes) => self.plan_restart(alloc, *lanes),
             Event::Replace(text) => self.plan_replace(alloc, text),
+            Event::Mark {
+                graph,
+                logical,
+                task,
+            } => self.plan_mark(alloc, graph, *logical, task),
         }
     }
 

@@ -15,7 +15,7 @@ ghost use Rattle.run_lists.specs.Touched.{touched_with};
 ghost use Rattle.run_lists.specs.declared.positions.Standing.TheVariants.{Running};
 ghost use Rattle.sched_state.specs.Lists.{insert_by};
 ghost use Rattle.sched_state.specs.declared.runs.Run.{Run};
-ghost use Rattle.run_lists.specs.sched_model.Clearing.{cleared};
+ghost use Rattle.run_lists.specs.sched_model.Clearing.{set_to};
 ghost use Rattle.run_lists.specs.sched_model.Lists.{at, rises};
 ghost use Rattle.run_lists.specs.sched_model.Schedule.{is_at, run_before};
 ghost use Rattle.run_lists.specs.sched_model.Changes.{set_now};
@@ -82,6 +82,17 @@ impl<'a> Model for Draft<'a> {
     } };
 
     ghost invariant = { λ d. (rises graph_before d.graphs.now ≡ true) × (d.graphs.now ≡ d.base.graphs) };
+}
+
+// The instance has this verdict, or none, and none of its tries counts.
+fn set(instance: &mut Instance, verdict: Option<Verdict>)
+    requires { verdict ≢ Some Wait }
+    ensures { instance.new ≡ set_to verdict instance.old }
+{
+    instance.clear();
+    if let Some(verdict) = verdict {
+        instance.decide(verdict);
+    }
 }
 
 impl<'a> Draft<'a> {
@@ -321,16 +332,17 @@ impl<'a> Draft<'a> {
         self.runs.instance_mut(position, place).decide(verdict);
     }
 
-    /// The instance at a place of a run is set back: it has no verdict, and its tries so far count for nothing.
-    pub fn clear(&mut self, position: usize, place: usize)
+    /// The instance at a place of a run has this verdict, or none, from now on, and its tries so far count for nothing.
+    pub fn set(&mut self, position: usize, place: usize, verdict: Option<Verdict>)
         requires own { IsOwn position self.old }
         requires instance { place < instances_at position self.old.content }
+        requires verdict { verdict ≢ Some Wait }
         ensures { self.new ≡ record self.old {
           content = record self.old.content
-              { runs = at (in_instance cleared place) position self.old.content.runs };
+              { runs = at (in_instance (set_to verdict) place) position self.old.content.runs };
         } }
     {
-        self.runs.instance_mut(position, place).clear();
+        set(self.runs.instance_mut(position, place), verdict);
     }
 
     /// The instance at a place of a run gets a try with the next serial.

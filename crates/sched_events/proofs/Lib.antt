@@ -3,3 +3,4 @@ pub mod PromiseLemmas
 pub mod AcceptLemmas
 pub mod CauseLemmas
 pub mod RepairLemmas
+pub mod MarkedLemmas

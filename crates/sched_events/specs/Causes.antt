@@ -14,12 +14,14 @@ use Rattle.sched_state.specs.Limits.{Bounds}
 use Rattle.sched_state.specs.Lists.{same}
 use Rattle.sched_state.specs.declared.graphs.LoadedGraph.{LoadedGraph}
 use Rattle.sched_laws.specs.sched_model.Schedule.{Schedule, graph_named, has_pool, has_runs, has_run_at}
+use Rattle.sched_laws.specs.sched_model.Clearing.{cleared_by}
+use Rattle.sched_laws.specs.sched_model.Marking.{one_of}
 use Rattle.sched_laws.specs.sched_model.NamedRuns.{named_by_tick, named_by_hand, named_by_backfill}
 use Rattle.sched_laws.specs.sched_model.Sound.{is_empty}
 use Rattle.sched_laws.specs.sched_model.Causes.{is_not_in_flight, is_out_of_turn, is_unknown_graph, is_unknown_task, is_bad_span, least_in_flight, has_too_many_graphs, has_too_many_pools, has_too_many_lanes, is_full_with, least_moved, lost_task, resized_task, redone}
 use Rattle.sched_events.specs.Events.{set_back_by}
 use Rattle.sched_events.specs.declared.events.Event.{Event}
-use Rattle.sched_events.specs.declared.events.Event.TheVariants.{Load, Tick, Trigger, Backfill, Clear, Pause, Unpause, Resize, Report, Restart, Replace}
+use Rattle.sched_events.specs.declared.events.Event.TheVariants.{Load, Tick, Trigger, Backfill, Clear, Pause, Unpause, Resize, Report, Restart, Replace, Mark}
 use Rattle.sched_events.specs.declared.refusals.Refusal.{Refusal}
 use Rattle.sched_events.specs.declared.refusals.Refusal.TheVariants as refusal
 
@@ -111,3 +113,9 @@ refused a (Resize name size) = when (has_too_many_pools a name) (refusal.PoolFau
 refused a (Report serial stage) = first_some (when (is_not_in_flight a serial) (refusal.NotInFlight serial) ∷ when (is_out_of_turn a serial stage) (refusal.OutOfTurn serial) ∷ [])
 refused a (Restart lanes) = when (has_too_many_lanes a lanes) refusal.LanesTooMany
 refused a (Replace text) = refused_change a text (graph_of text)
+refused a (Mark id date task) = first_some (
+    when (is_unknown_graph a id) refusal.UnknownGraph
+    ∷ when (is_unknown_task a (one_of id date task)) refusal.UnknownTask
+    ∷ option_map refusal.InFlight (least_in_flight a (cleared_by a (one_of id date task)))
+    ∷ when (not (has_run_at a id date)) refusal.UnknownRun
+    ∷ [])

@@ -9,10 +9,11 @@ use Rattle.sched_laws.specs.sched_model.Schedule.{Schedule}
 use Rattle.sched_laws.specs.sched_model.NamedRuns.{NamedRun, named_by_tick, named_by_hand, named_by_backfill, present_in, leaves_more}
 use Rattle.sched_laws.specs.sched_model.Clearing.{Selection, cleared_by, reset_by, clear, count_cleared}
 use Rattle.sched_laws.specs.sched_model.Changes.{load_graph, set_now, set_paused, new_pool, resize, report, restart}
+use Rattle.sched_laws.specs.sched_model.Marking.{mark}
 use Rattle.sched_laws.specs.sched_model.Replacing.{replace_graph}
 use Rattle.sched_laws.specs.sched_model.Sound.{is_moment, is_sound_pool}
 use Rattle.sched_events.specs.declared.events.Event.{Event}
-use Rattle.sched_events.specs.declared.events.Event.TheVariants.{Load, Tick, Trigger, Backfill, Clear, Pause, Unpause, Resize, Report, Restart, Replace}
+use Rattle.sched_events.specs.declared.events.Event.TheVariants.{Load, Tick, Trigger, Backfill, Clear, Pause, Unpause, Resize, Report, Restart, Replace, Mark}
 
 -- the runs that an event names
 abbrev pub named_by : Event → Schedule → List NamedRun
@@ -27,6 +28,7 @@ named_by (Resize name size) a = []
 named_by (Report serial stage) a = []
 named_by (Restart lanes) a = []
 named_by (Replace text) a = []
+named_by (Mark id date task) a = []
 
 -- whether it leaves some for the next event of its kind
 abbrev pub leaves_more_by : Event → Schedule → Bool
@@ -75,6 +77,7 @@ change_by (Resize name size) a = resize name size a
 change_by (Report serial stage) a = report serial stage a
 change_by (Restart lanes) a = restart lanes a
 change_by (Replace text) a = replace_result text (graph_of text) a
+change_by (Mark id date task) a = mark id date task a
 
 -- the moment of a tick is one, and the pool of a resize: it has a name, and no more slots than a pool may have
 abbrev pub IsInRange : Event → Type 0
@@ -89,3 +92,4 @@ IsInRange (Resize name size) = IsTrue (is_sound_pool (new_pool name size))
 IsInRange (Report serial stage) = Unit {0}
 IsInRange (Restart lanes) = Unit {0}
 IsInRange (Replace text) = Unit {0}
+IsInRange (Mark id date task) = Unit {0}

@@ -66,6 +66,7 @@ unnamed refusal.RecordFull = refusal.RecordFull
 unnamed (refusal.OtherTasks task) = refusal.OtherTasks task
 unnamed (refusal.OtherSlots task) = refusal.OtherSlots task
 unnamed (refusal.Redoes moment) = refusal.Redoes moment
+unnamed refusal.UnknownRun = refusal.UnknownRun
 unnamed refusal.Memory = refusal.Memory
 
 -- the fault of a graph stands in the file that the text says, with the cycle that it shows

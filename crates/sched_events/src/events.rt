@@ -46,6 +46,16 @@ pub enum Event {
     /// The graph that is there with the id of this text takes the text, whether it has runs or not, and its runs go on by it: what has
     /// finished stays finished, and a task instance that has not goes by the new task of its id (Airflow 2, "DAGs").
     Replace(GraphText),
+    /// The task of one run is passed over: it is skipped, and what failed after it is set back and goes on (Airflow 2, where a task
+    /// instance's state is set to skipped).
+    Mark {
+        /// The graph's id.
+        graph: Name,
+        /// The run's logical date.
+        logical: Moment,
+        /// The task's id.
+        task: Name,
+    },
 }
 
 impl Event {
@@ -75,6 +85,15 @@ impl Event {
             Event::Report(serial, stage) => Ok(Event::Report(*serial, *stage)),
             Event::Restart(lanes) => Ok(Event::Restart(*lanes)),
             Event::Replace(text) => Ok(Event::Replace(text.copy(alloc)?)),
+            Event::Mark {
+                graph,
+                logical,
+                task,
+            } => Ok(Event::Mark {
+                graph: graph.copy(alloc)?,
+                logical: *logical,
+                task: task.copy(alloc)?,
+            }),
         }
     }
 }

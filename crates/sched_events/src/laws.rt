@@ -9,6 +9,7 @@ ghost use Rattle.run_planner.specs.Spans.{starts};
 ghost use Rattle.instance_machine.specs.declared.tries.Try.{Try};
 ghost use Rattle.trigger_rules.specs.States.{is_finished};
 ghost use Rattle.trigger_rules.specs.declared.states.State.{State};
+ghost use Rattle.trigger_rules.specs.declared.states.State.TheVariants as state;
 ghost use Rattle.sched_state.specs.declared.clearings.Clearing.{Clearing};
 ghost use Rattle.sched_state.specs.Limits.{Bounds};
 ghost use Rattle.sched_state.specs.Lists.{same};
@@ -29,7 +30,7 @@ ghost use Rattle.sched_events.specs.Promises.{serials_in, AreDistinct, IsReached
 ghost use Rattle.sched_events.specs.Steps.{step, steps, named_along, handed_along, AreAccepted};
 ghost use Rattle.sched_events.specs.SettledAndSound.{IsSoundAndSaid, IsSettledAndSound};
 ghost use Rattle.sched_events.specs.declared.events.Event.{Event};
-ghost use Rattle.sched_events.specs.declared.events.Event.TheVariants.{Load, Backfill, Clear, Pause, Unpause, Resize, Replace};
+ghost use Rattle.sched_events.specs.declared.events.Event.TheVariants.{Load, Backfill, Clear, Pause, Unpause, Resize, Replace, Mark};
 
 /// After each step neither a move nor a hand-out is possible, and the step of an accepted event keeps a schedule: it stays sound, and
 /// each graph is what its text says. Nothing more is asked of the schedule before it, so one that was read from a record may be unsettled.
@@ -137,6 +138,13 @@ pub fn another_text_leaves_what_has_finished()
         → refused a (Replace text) ≡ None → IsSoundAndSaid a
         → state_of_task a id date task ≡ Some s → is_finished s ≡ true
         → IsStillFinished s (state_of_task (step (Replace text) a) id date task) }
+{}
+
+/// A task that is marked is skipped in its run, also after all that follows the mark.
+pub fn a_marked_task_is_skipped()
+    ensures { (id : List ℕ) (date : ℕ) (task : List ℕ) (a : Schedule)
+        → refused a (Mark id date task) ≡ None → IsSoundAndSaid a
+        → state_of_task (step (Mark id date task) a) id date task ≡ Some state.Skipped }
 {}
 
 /// The next serial never falls, and the serials of the tries that accepted events hand out are those that were next, one after another. So a

@@ -17,11 +17,12 @@ mod rows;
 pub use answers::{Answer, RunId};
 pub use events::Event;
 pub use laws::{
-    accepted_events_keep_the_promises, another_text_leaves_what_has_finished,
-    backfills_fill_their_span, each_serial_is_handed_out_once, lists_of_steps_add_their_runs,
-    lists_of_steps_go_in_parts, lists_of_steps_keep_the_schedule, pauses_change_one_graph,
-    repairs_of_nothing_change_nothing, resizes_change_one_pool, steps_add_the_named_runs,
-    steps_end_in_hand_outs, steps_keep_the_schedule, the_same_text_changes_nothing, tries_go_on,
+    a_marked_task_is_skipped, accepted_events_keep_the_promises,
+    another_text_leaves_what_has_finished, backfills_fill_their_span,
+    each_serial_is_handed_out_once, lists_of_steps_add_their_runs, lists_of_steps_go_in_parts,
+    lists_of_steps_keep_the_schedule, pauses_change_one_graph, repairs_of_nothing_change_nothing,
+    resizes_change_one_pool, steps_add_the_named_runs, steps_end_in_hand_outs,
+    steps_keep_the_schedule, the_same_text_changes_nothing, tries_go_on,
 };
 pub use refusals::Refusal;
 pub use rows::{InstanceRow, PoolRow};

@@ -51,6 +51,8 @@ pub enum Refusal {
     /// The runs of the graph reach up to this moment, and by the text a tick would make one before it that it would not make by the text
     /// that the graph has.
     Redoes(Moment),
+    /// The graph has no run with this logical date.
+    UnknownRun,
     /// Memory ran out. This comes at any point before.
     Memory,
 }

@@ -14,7 +14,8 @@ use Rattle.sched_model.specs.sched_state.Lists.{same}
 use Rattle.sched_model.specs.sched_state.declared.runs.Run.{Run}
 use Rattle.sched_model.proofs.sched_state.OrderLemmas.{and_left}
 use Rattle.sched_model.specs.Changes.{advance, map_tries_of, map_all_tries}
-use Rattle.sched_model.specs.Clearing.{Selection, clear, clear_run, place_of}
+use Rattle.sched_model.specs.trigger_rules.declared.verdicts.Verdict.{Verdict}
+use Rattle.sched_model.specs.Clearing.{Selection, clear, set_run, set_named, place_of}
 use Rattle.sched_model.specs.Handout.{new_try, with_try, in_instance, hand, hand_one, best_offer, serials_left}
 use Rattle.sched_model.specs.Lists.{at}
 use Rattle.sched_model.specs.NamedRuns.{NamedRun, add_runs}
@@ -154,6 +155,9 @@ run_onward = record { still = run_still; further = run_further; named = λ r q g
 pub all_still : (rs : List Run) → AllGoOn rs rs
 all_still rs = by_still RunGoesOn run_onward rs
 
+pub all_further : (rs qs ws : List Run) → AllGoOn rs qs → AllGoOn qs ws → AllGoOn rs ws
+all_further rs qs ws f g = by_further RunGoesOn run_onward rs qs ws f g
+
 -- one run after another
 first_goes : (r q : Run) (rs qs : List Run) → RunGoesOn r q → AllGoOn rs qs → AllGoOn (r ∷ rs) (q ∷ qs)
 first_goes r q rs qs g h = by_first RunGoesOn run_onward r q rs qs g h
@@ -178,8 +182,11 @@ each_goes f h (r ∷ rs) = first_goes r (f r) rs (map f rs) (h r) (each_goes f h
 pub tries_go : (f : Try → Try) → ((t : Try) → GoesOn t (f t)) → (a : Schedule) → AllGoOn a.runs (map_all_tries f a).runs
 tries_go f h a = each_goes (map_tries_of f) (changed_tries f h) a.runs
 
+pub set_goes : (v : Option Verdict) (named : Selection) (a : Schedule) → IsSound a → AllGoOn a.runs (set_named v named a).runs
+set_goes v named a s = lists_go a.runs (map (set_run v a named) a.runs) (all_keys v a named a.runs) (all_tries v a named a.runs s.runs)
+
 pub clear_goes : (named : Selection) (a : Schedule) → IsSound a → AllGoOn a.runs (clear named a).runs
-clear_goes named a s = lists_go a.runs (map (clear_run a named) a.runs) (all_keys a named a.runs) (all_tries a named a.runs s.runs)
+clear_goes named a s = set_goes None named a s
 
 -- ---- moves and hand-outs
 -- nothing more is said of the schedules between

@@ -1,8 +1,8 @@
--- A sound instance stays so: when it is decided, handed out, reported of, lost or cleared.
+-- A sound instance stays so: when it is decided, handed out, reported of, lost or set.
 use Rattle.std.proofs.Common.{◌≡◌, refl, sym, ap, subst, ◌∙◌, ℕ, ◌+◌, ◌≤◌, List, [], ◌∷◌, ◌++◌, Bool, true, false, cond, not, ◌||◌, inl, inr, map, length, drop, Option, Some, None, arith, true≢false, leb-true, is_some, nat_le}
 use Rattle.std.specs.List.{list_all}
 use Rattle.std.proofs.lemmas.Bool.{le-leb, eq-eqb, and_from, or_left, or_right}
-use Rattle.std.proofs.lemmas.List.{length-append, length-map, take-append-le, drop-append-le, take-map, drop-map}
+use Rattle.std.proofs.lemmas.List.{length-append, length-map, take-append-drop, take-append-le, drop-append-le, take-map, drop-map}
 use Rattle.std.proofs.Math.Seq.{take-length, drop-length}
 use Rattle.graph_file.specs.declared.task_specs.TaskSpec.{TaskSpec}
 use Rattle.sched_model.specs.trigger_rules.States.{is_finished}
@@ -19,7 +19,7 @@ use Rattle.sched_model.proofs.sched_state.OrderLemmas.{and_left, and_right}
 use Rattle.sched_model.specs.Lists.{but_last}
 use Rattle.sched_model.specs.Handout.{is_ready, is_scheduled, new_try, with_try}
 use Rattle.sched_model.specs.instance_machine.Instances.{map_tries}
-use Rattle.sched_model.specs.Clearing.{cleared}
+use Rattle.sched_model.specs.Clearing.{set_to}
 use Rattle.sched_model.specs.Sound.{is_sound_try, is_sound_instance, has_end, has_failed, is_failure, is_failure_if, is_run, is_wait, is_empty, earlier}
 use Rattle.sched_laws.proofs.ListLemmas.{all_impl, all_under, all_join, but_last_snoc, but_last_map, last_split, last_none}
 use Rattle.sched_laws.proofs.HandLemmas.{ready_cases}
@@ -239,12 +239,18 @@ finished_over t i p e = elim (last_of (recent i)) as (λ o. last_of (recent i) �
       ∙ all_join has_end (but_last (recent i)) (u ∷ []) (all_impl has_failed has_end failed_end (but_last (recent i)) p.failed) (and_from _ _ g refl)
 ] refl e
 
+-- nor has one of its tries before the last clearing
+pub finished_ended : (t : TaskSpec) (i : InstanceValue) → is_sound_instance t i ≡ true → is_finished (state_of t i) ≡ true → list_all has_end i.tries ≡ true
+finished_ended t i e f =
+    let p = parts_of t i e in
+    ap (list_all has_end) (sym (take-append-drop i.since i.tries)) ∙ all_join has_end (earlier i) (recent i) p.over (finished_over t i p f)
+
 pub changed_finished : (f : Try → Try) → IsQuiet f → (t : TaskSpec) (i : InstanceValue) → is_sound_instance t i ≡ true → is_finished (state_of t i) ≡ true → is_finished (state_of t (map_tries f i)) ≡ true
 changed_finished f q t i s e =
     let r : recent (map_tries f i) ≡ recent i = drop-map f i.since i.tries ∙ map_over f q (recent i) (finished_over t i (parts_of t i s) e) in
     ap (λ (ts : List Try). is_finished (state_by i.verdict (nat_le (length ts) t.retries) (last_of ts))) r ∙ e
 
--- ---- cleared
+-- ---- set
 -- all tries have an end, and none of them counts
 pub over_sound : (t : TaskSpec) (v : Option Verdict) (ts : List Try) → not (is_wait v) ≡ true → list_all (is_sound_try t.pool_slots) ts ≡ true → list_all has_end ts ≡ true
     → is_sound_instance t (record { verdict = v; since = length ts; tries = ts }) ≡ true
@@ -261,5 +267,5 @@ over_sound t v ts decided sound o =
       failed = ap (λ us. list_all has_failed (but_last us)) r;
     })
 
-pub cleared_sound : (t : TaskSpec) (i : InstanceValue) → is_sound_instance t i ≡ true → list_all has_end i.tries ≡ true → is_sound_instance t (cleared i) ≡ true
-cleared_sound t i e o = let p = parts_of t i e in over_sound t None i.tries refl p.tries o
+pub set_sound : (v : Option Verdict) → not (is_wait v) ≡ true → (t : TaskSpec) (i : InstanceValue) → is_sound_instance t i ≡ true → list_all has_end i.tries ≡ true → is_sound_instance t (set_to v i) ≡ true
+set_sound v w t i e o = let p = parts_of t i e in over_sound t v i.tries w p.tries o

@@ -2,7 +2,7 @@
 use Rattle.std.proofs.Common.{◌≡◌, refl, sym, ap, ◌∙◌, ℕ, zero, suc, ◌+◌, ◌-◌, ◌<◌, ◌≤◌, List, [], ◌∷◌, ◌++◌, Bool, true, false, cond, not, ◌&&◌, ◌||◌, length, take, drop, max, Option, Some, None, arith, true≢false, leb-true, leb-false, nat_le}
 use Rattle.std.specs.List.{list_all}
 use Rattle.std.proofs.lemmas.Bool.{and_from, or_right}
-use Rattle.std.proofs.lemmas.List.{length-drop, drop-drop, take-append-drop}
+use Rattle.std.proofs.lemmas.List.{length-drop, drop-drop}
 use Rattle.std.proofs.Common.{take-add}
 use Rattle.std.proofs.Math.Nat.{max-eq_left, max-eq_right}
 use Rattle.std.proofs.Math.Seq.{drop-length, drop-nil}
@@ -26,7 +26,7 @@ use Rattle.sched_model.specs.Replacing.{bounded_to, set_aside, would_wake, kept_
 use Rattle.sched_model.specs.Schedule.{is_ended}
 use Rattle.sched_model.specs.Sound.{is_sound_try, is_sound_instance, is_sound_in, has_end, has_failed, is_run, is_empty, earlier}
 use Rattle.sched_laws.proofs.ListLemmas.{all_impl, all_join, last_more}
-use Rattle.sched_laws.proofs.InstanceLemmas.{parts_of, of_parts, failed_end, finished_over, over_sound}
+use Rattle.sched_laws.proofs.InstanceLemmas.{parts_of, of_parts, failed_end, finished_ended, over_sound}
 use Rattle.sched_laws.proofs.RunLemmas.{goes_on}
 use Rattle.sched_laws.proofs.SoundLemmas.{or_under}
 
@@ -173,10 +173,7 @@ bounded_sound old new i e sound = by_bound (max i.since (length i.tries - (1 + n
 -- what failed has no try without an end
 aside_sound : (old new : TaskSpec) (i : InstanceValue) → is_failed (state_of old i) ≡ true → is_sound_instance old i ≡ true → list_all (is_sound_try new.pool_slots) i.tries ≡ true → is_sound_instance new (set_aside i) ≡ true
 aside_sound old new i failed e sound =
-    let p = parts_of old i e in
-    let late : list_all has_end (recent i) ≡ true = finished_over old i p (ap is_finished (failed_is (state_of old i) failed)) in
-    over_sound new (Some verdict.UpstreamFailed) i.tries refl sound
-    (ap (list_all has_end) (sym (take-append-drop i.since i.tries)) ∙ all_join has_end (earlier i) (recent i) p.over late)
+    over_sound new (Some verdict.UpstreamFailed) i.tries refl sound (finished_ended old i e (ap is_finished (failed_is (state_of old i) failed)))
 
 kept_sound : (old new : TaskSpec) (i : InstanceValue) → is_sound_instance old i ≡ true → list_all (is_sound_try new.pool_slots) i.tries ≡ true → is_sound_instance new (kept_as old new i) ≡ true
 kept_sound old new i e sound = elim (would_wake old new i) as (λ b. would_wake old new i ≡ b → is_sound_instance new (cond b (set_aside i) (bounded_to new.retries i)) ≡ true) [

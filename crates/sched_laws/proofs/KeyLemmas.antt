@@ -18,7 +18,8 @@ use Rattle.sched_model.specs.Settle.{move, move_runs, with_runs, settle, moves_l
 use Rattle.sched_model.specs.Handout.{hand, hand_one, best_offer, serials_left, in_instance, with_try, new_try}
 use Rattle.sched_model.specs.NamedRuns.{NamedRun, is_for, add_runs}
 use Rattle.sched_model.specs.Changes.{advance, map_tries_of, map_all_tries}
-use Rattle.sched_model.specs.Clearing.{Selection, clear}
+use Rattle.sched_model.specs.trigger_rules.declared.verdicts.Verdict.{Verdict}
+use Rattle.sched_model.specs.Clearing.{Selection, set_named, clear}
 use Rattle.sched_model.specs.Sound.{IsSound, serials_of, is_used}
 use Rattle.sched_laws.specs.Runs.{runs_named}
 use Rattle.sched_laws.proofs.ListLemmas.{all_get}
@@ -73,14 +74,17 @@ advance_names ns a = subst (IsPermutation (ns ++ runs_named a)) (sym (advance_ke
 pub tries_names : (f : Try → Try) (a : Schedule) → runs_named (map_all_tries f a) ≡ runs_named a
 tries_names f a = map_keeps key (map_tries_of f) (λ r. refl) a.runs
 
+pub set_names : (v : Option Verdict) (named : Selection) (a : Schedule) → runs_named (set_named v named a) ≡ runs_named a
+set_names v named a = all_keys v a named a.runs
+
 pub clear_names : (named : Selection) (a : Schedule) → runs_named (clear named a) ≡ runs_named a
-clear_names named a = all_keys a named a.runs
+clear_names named a = set_names None named a
 
 pub tries_keys : (f : Try → Try) (a : Schedule) (id : List ℕ) (date : ℕ) → has_run_at (map_all_tries f a) id date ≡ has_run_at a id date
 tries_keys f a id date = by_keys a (map_all_tries f a) (map_keeps key (map_tries_of f) (λ r. refl) a.runs) id date
 
 pub clear_keys : (named : Selection) (a : Schedule) (id : List ℕ) (date : ℕ) → has_run_at (clear named a) id date ≡ has_run_at a id date
-clear_keys named a id date = by_keys a (clear named a) (all_keys a named a.runs) id date
+clear_keys named a id date = by_keys a (clear named a) (clear_names named a) id date
 
 -- ---- each key and each serial once
 in_at : (xs : List ℕ) (j s : ℕ) → slice_get xs j ≡ Some s → is_in xs s ≡ true

@@ -32,6 +32,7 @@ pub mod OccupyingLemmas
 pub mod SlotLemmas
 pub mod ResizeLemmas
 pub mod SetBackLemmas
+pub mod MarkLemmas
 pub mod BackfillLemmas
 pub mod ByHandLemmas
 pub mod OnwardLemmas

@@ -1,17 +1,17 @@
--- What a clear makes of one run, and of one instance of it.
+-- What is made of one run, and of one instance of it, where instances are set.
 use Rattle.std.proofs.Common.{◌≡◌, ◌∙◌, refl, sym, ap, subst, ℕ, zero, suc, ◌+◌, List, [], ◌∷◌, Bool, true, false, cond, filter, map, length, drop, nat_le, slice_get, Option, Some, None, option_map, option_and_then, arith, true≢false}
 use Rattle.std.specs.List.{zip, enumerate_from}
 use Rattle.std.proofs.lemmas.Bool.{le-leb}
 use Rattle.std.proofs.lemmas.Option.{slice_get-map}
 use Rattle.graph_file.specs.declared.task_specs.TaskSpec.{TaskSpec}
 use Rattle.sched_model.specs.instance_machine.Instances.{InstanceValue, recent, last_of}
-use Rattle.sched_model.specs.instance_machine.States.{state_of, state_by, has_retry}
-use Rattle.sched_model.specs.trigger_rules.declared.states.State.TheVariants as state
+use Rattle.sched_model.specs.instance_machine.States.{state_of, state_by, state_of_verdict, has_retry}
+use Rattle.sched_model.specs.trigger_rules.declared.verdicts.Verdict.{Verdict}
 use Rattle.sched_model.specs.instance_machine.declared.tries.Try.{Try}
 use Rattle.sched_model.specs.sched_state.declared.runs.Run.{Run}
 use Rattle.sched_model.specs.Lists.{map_places}
 use Rattle.sched_model.specs.Schedule.{Schedule, tasks_of}
-use Rattle.sched_model.specs.Clearing.{Selection, cleared, clear_pair, pairs_of, named_in, requeued, with_cleared, clear_if, clear_run, clear}
+use Rattle.sched_model.specs.Clearing.{Selection, set_to, set_pair, pairs_of, named_in, requeued, with_set, set_if, set_run, set_named}
 use Rattle.sched_laws.specs.Repairs.{instance_at}
 use Rattle.indexmap.proofs.ReorderLemmas.{slice_get-zip_some}
 
@@ -61,57 +61,57 @@ pair_at : (a : Schedule) (r : Run) (p : ℕ) (t : TaskSpec) (i : InstanceValue) 
 pair_at a r p t i e f = slice_get-zip_some (tasks_of a r) r.instances p t i e f
 
 -- where one is named some are
-some_named : (a : Schedule) (named : Selection) (r : Run) (p : ℕ) (t : TaskSpec) (i : InstanceValue) → slice_get (tasks_of a r) p ≡ Some t → slice_get r.instances p ≡ Some i → named r p (t, i) ≡ true
-    → clear_run a named r ≡ with_cleared a named r
-some_named a named r p t i e f g = elim (named_in a named r) as (λ es. named_in a named r ≡ es → clear_if a named r es ≡ with_cleared a named r) [
+some_named : (v : Option Verdict) (a : Schedule) (named : Selection) (r : Run) (p : ℕ) (t : TaskSpec) (i : InstanceValue) → slice_get (tasks_of a r) p ≡ Some t → slice_get r.instances p ≡ Some i → named r p (t, i) ≡ true
+    → set_run v a named r ≡ with_set v a named r
+some_named v a named r p t i e f g = elim (named_in a named r) as (λ es. named_in a named r ≡ es → set_if v a named r es ≡ with_set v a named r) [
   | [] ↦ λ h. absurd (true≢false (sym g ∙ none_first (λ (x : ℕ × (TaskSpec × InstanceValue)). named r x.0 x.1) (pairs_of a r) p (t, i) (empty_map (λ (x : ℕ × (TaskSpec × InstanceValue)). x.1) _ h) (pair_at a r p t i e f)))
   | x ∷ xs ↦ λ h. refl
 ] refl
 
-cleared_at : (a : Schedule) (named : Selection) (r : Run) (p : ℕ) (t : TaskSpec) (i : InstanceValue) (b : Bool) → slice_get (tasks_of a r) p ≡ Some t → slice_get r.instances p ≡ Some i → named r p (t, i) ≡ b
-    → slice_get (with_cleared a named r).instances p ≡ Some (cond b (cleared i) i)
-cleared_at a named r p t i b e f g =
+set_at : (v : Option Verdict) (a : Schedule) (named : Selection) (r : Run) (p : ℕ) (t : TaskSpec) (i : InstanceValue) (b : Bool) → slice_get (tasks_of a r) p ≡ Some t → slice_get r.instances p ≡ Some i → named r p (t, i) ≡ b
+    → slice_get (with_set v a named r).instances p ≡ Some (cond b (set_to v i) i)
+set_at v a named r p t i b e f g =
     let z : 0 + p ≡ p = omega arith in
-    places_at (clear_pair (named r)) 0 (pairs_of a r) p (t, i) (pair_at a r p t i e f) ∙ (ap (λ k. Some (clear_pair (named r) k (t, i))) z ∙ ap (λ c. Some (cond c (cleared i) i)) g)
+    places_at (set_pair v (named r)) 0 (pairs_of a r) p (t, i) (pair_at a r p t i e f) ∙ (ap (λ k. Some (set_pair v (named r) k (t, i))) z ∙ ap (λ c. Some (cond c (set_to v i) i)) g)
 
-run_at : (a : Schedule) (named : Selection) (n : ℕ) (r : Run) → slice_get a.runs n ≡ Some r → slice_get (clear named a).runs n ≡ Some (clear_run a named r)
-run_at a named n r e = slice_get-map (clear_run a named) a.runs n ∙ ap (option_map (clear_run a named)) e
+pub run_at : (v : Option Verdict) (a : Schedule) (named : Selection) (n : ℕ) (r : Run) → slice_get a.runs n ≡ Some r → slice_get (set_named v named a).runs n ≡ Some (set_run v a named r)
+run_at v a named n r e = slice_get-map (set_run v a named) a.runs n ∙ ap (option_map (set_run v a named)) e
 
-pub set_back : (named : Selection) (a : Schedule) (n p : ℕ) (r : Run) (t : TaskSpec) (i : InstanceValue) → slice_get a.runs n ≡ Some r → slice_get (tasks_of a r) p ≡ Some t → slice_get r.instances p ≡ Some i
-    → named r p (t, i) ≡ true → instance_at (clear named a) n p ≡ Some (cleared i)
-set_back named a n p r t i e f g h =
-    ap (option_and_then (λ (q : Run). slice_get q.instances p)) (run_at a named n r e ∙ ap (λ q. Some q) (some_named a named r p t i f g h)) ∙ cleared_at a named r p t i true f g h
+pub set_there : (v : Option Verdict) (named : Selection) (a : Schedule) (n p : ℕ) (r : Run) (t : TaskSpec) (i : InstanceValue) → slice_get a.runs n ≡ Some r → slice_get (tasks_of a r) p ≡ Some t → slice_get r.instances p ≡ Some i
+    → named r p (t, i) ≡ true → instance_at (set_named v named a) n p ≡ Some (set_to v i)
+set_there v named a n p r t i e f g h =
+    ap (option_and_then (λ (q : Run). slice_get q.instances p)) (run_at v a named n r e ∙ ap (λ q. Some q) (some_named v a named r p t i f g h)) ∙ set_at v a named r p t i true f g h
 
-pub left_alone : (named : Selection) (a : Schedule) (n p : ℕ) (r : Run) (t : TaskSpec) (i : InstanceValue) → slice_get a.runs n ≡ Some r → slice_get (tasks_of a r) p ≡ Some t → slice_get r.instances p ≡ Some i
-    → named r p (t, i) ≡ false → instance_at (clear named a) n p ≡ Some i
-left_alone named a n p r t i e f g h =
-    ap (option_and_then (λ (q : Run). slice_get q.instances p)) (run_at a named n r e)
-    ∙ elim (named_in a named r) as (λ es. slice_get (clear_if a named r es).instances p ≡ Some i) [
+pub left_alone : (v : Option Verdict) (named : Selection) (a : Schedule) (n p : ℕ) (r : Run) (t : TaskSpec) (i : InstanceValue) → slice_get a.runs n ≡ Some r → slice_get (tasks_of a r) p ≡ Some t → slice_get r.instances p ≡ Some i
+    → named r p (t, i) ≡ false → instance_at (set_named v named a) n p ≡ Some i
+left_alone v named a n p r t i e f g h =
+    ap (option_and_then (λ (q : Run). slice_get q.instances p)) (run_at v a named n r e)
+    ∙ elim (named_in a named r) as (λ es. slice_get (set_if v a named r es).instances p ≡ Some i) [
       | [] ↦ g
-      | x ∷ xs ↦ cleared_at a named r p t i false f g h
+      | x ∷ xs ↦ set_at v a named r p t i false f g h
     ]
 
-pub queued_again : (named : Selection) (a : Schedule) (n p : ℕ) (r : Run) (t : TaskSpec) (i : InstanceValue) → slice_get a.runs n ≡ Some r → slice_get (tasks_of a r) p ≡ Some t → slice_get r.instances p ≡ Some i
-    → named r p (t, i) ≡ true → option_map (λ (q : Run). q.phase) (slice_get (clear named a).runs n) ≡ Some (requeued r.phase)
-queued_again named a n p r t i e f g h = ap (option_map (λ (q : Run). q.phase)) (run_at a named n r e ∙ ap (λ q. Some q) (some_named a named r p t i f g h))
+pub queued_again : (v : Option Verdict) (named : Selection) (a : Schedule) (n p : ℕ) (r : Run) (t : TaskSpec) (i : InstanceValue) → slice_get a.runs n ≡ Some r → slice_get (tasks_of a r) p ≡ Some t → slice_get r.instances p ≡ Some i
+    → named r p (t, i) ≡ true → option_map (λ (q : Run). q.phase) (slice_get (set_named v named a).runs n) ≡ Some (requeued r.phase)
+queued_again v named a n p r t i e f g h = ap (option_map (λ (q : Run). q.phase)) (run_at v a named n r e ∙ ap (λ q. Some q) (some_named v a named r p t i f g h))
 
-pub untouched_run : (named : Selection) (a : Schedule) (n : ℕ) (r : Run) → slice_get a.runs n ≡ Some r
-    → ((p : ℕ) (t : TaskSpec) (i : InstanceValue) → slice_get (tasks_of a r) p ≡ Some t → slice_get r.instances p ≡ Some i → named r p (t, i) ≡ false) → slice_get (clear named a).runs n ≡ Some r
-untouched_run named a n r e none =
+pub untouched_run : (v : Option Verdict) (named : Selection) (a : Schedule) (n : ℕ) (r : Run) → slice_get a.runs n ≡ Some r
+    → ((p : ℕ) (t : TaskSpec) (i : InstanceValue) → slice_get (tasks_of a r) p ≡ Some t → slice_get r.instances p ≡ Some i → named r p (t, i) ≡ false) → slice_get (set_named v named a).runs n ≡ Some r
+untouched_run v named a n r e none =
     let q : ℕ × (TaskSpec × InstanceValue) → Bool = λ x. named r x.0 x.1 in
     let empty : named_in a named r ≡ [] = ap (map (λ (x : ℕ × (TaskSpec × InstanceValue)). x.1)) (all_passed q 0 (pairs_of a r) (λ p x f. let s = pair_back (tasks_of a r) r.instances p x.0 x.1 f in let z : p ≡ 0 + p = omega arith in subst (λ n. named r n x ≡ false) z (none p x.0 x.1 s.0 s.1))) in
-    run_at a named n r e ∙ ap (λ es. Some (clear_if a named r es)) empty
+    run_at v a named n r e ∙ ap (λ es. Some (set_if v a named r es)) empty
 
 -- ---- an instance
 drop_whole : {X : Type 0} (xs : List X) → drop (length xs) xs ≡ []
 drop_whole [] = refl
 drop_whole (x ∷ xs) = drop_whole xs
 
-pub none_recent : (i : InstanceValue) → recent (cleared i) ≡ []
-none_recent i = drop_whole i.tries
+pub none_recent : (v : Option Verdict) (i : InstanceValue) → recent (set_to v i) ≡ []
+none_recent v i = drop_whole i.tries
 
-pub state_none : (t : TaskSpec) (i : InstanceValue) → state_of t (cleared i) ≡ state.None
-state_none t i = ap (λ (ts : List Try). state_by None (nat_le (length ts) t.retries) (last_of ts)) (none_recent i)
+pub set_state : (v : Option Verdict) (t : TaskSpec) (i : InstanceValue) → state_of t (set_to v i) ≡ state_of_verdict v
+set_state v t i = ap (λ (ts : List Try). state_by v (nat_le (length ts) t.retries) (last_of ts)) (none_recent v i)
 
-pub allowed_anew : (t : TaskSpec) (i : InstanceValue) → has_retry t (cleared i) ≡ true
-allowed_anew t i = ap (λ (ts : List Try). nat_le (length ts) t.retries) (none_recent i) ∙ le-leb 0 t.retries (omega arith)
+pub allowed_anew : (v : Option Verdict) (t : TaskSpec) (i : InstanceValue) → has_retry t (set_to v i) ≡ true
+allowed_anew v t i = ap (λ (ts : List Try). nat_le (length ts) t.retries) (none_recent v i) ∙ le-leb 0 t.retries (omega arith)

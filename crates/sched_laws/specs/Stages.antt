@@ -12,7 +12,7 @@ pub use Rattle.sched_model.specs.Schedule.{in_phase}
 use Rattle.sched_model.specs.sched_state.declared.runs.Run.{Run}
 use Rattle.sched_model.specs.sched_state.declared.graphs.LoadedGraph.{LoadedGraph}
 use Rattle.sched_model.specs.Settle.{settle, finish_run, start_run, with_runs}
-use Rattle.sched_laws.specs.Sweep.{decide_one, Covers}
+use Rattle.sched_laws.specs.Sweep.{decide_one}
 
 -- the first end, or the first start, alone
 abbrev pub finish_one : Schedule → Option Schedule

@@ -10,6 +10,7 @@ use Rattle.run_planner.specs.Index.{has_date}
 use Rattle.sched_state.specs.trigger_rules.States.{is_bad}
 use Rattle.sched_state.specs.trigger_rules.declared.states.State.{State}
 use Rattle.sched_state.specs.trigger_rules.declared.states.State.TheVariants as state
+use Rattle.sched_state.specs.trigger_rules.declared.verdicts.Verdict.{Verdict}
 use Rattle.sched_state.specs.instance_machine.Instances.{InstanceValue}
 use Rattle.sched_state.specs.instance_machine.States.{state_of}
 use Rattle.sched_state.specs.Lists.{same}
@@ -54,13 +55,13 @@ cleared_by a c r p e =
 abbrev pub reset_by : List ℕ → List ℕ → Selection
 reset_by id dates r p e = same r.graph id && has_date dates r.logical
 
--- ---- clearing
--- an instance set back: it has no verdict, and none of its tries counts
-abbrev pub cleared : InstanceValue → InstanceValue
-cleared i = record { verdict = None; since = length i.tries; tries = i.tries }
+-- ---- setting: named instances get a verdict, or none
+-- an instance with this verdict, or with none, of whose tries none counts
+abbrev pub set_to : Option Verdict → InstanceValue → InstanceValue
+set_to v i = record { verdict = v; since = length i.tries; tries = i.tries }
 
-abbrev pub clear_pair : (ℕ → TaskSpec × InstanceValue → Bool) → ℕ → TaskSpec × InstanceValue → InstanceValue
-clear_pair named p e = cond (named p e) (cleared e.1) e.1
+abbrev pub set_pair : Option Verdict → (ℕ → TaskSpec × InstanceValue → Bool) → ℕ → TaskSpec × InstanceValue → InstanceValue
+set_pair v named p e = cond (named p e) (set_to v e.1) e.1
 
 -- the pairs of a run, each of a task and its instance, and those that are named
 abbrev pub pairs_of : Schedule → Run → List (TaskSpec × InstanceValue)
@@ -76,20 +77,29 @@ requeued phase.Running = phase.Running
 requeued phase.Success = phase.Queued
 requeued phase.Failed = phase.Queued
 
-abbrev pub with_cleared : Schedule → Selection → Run → Run
-with_cleared a named r = record r { phase = requeued r.phase; instances = map_places (clear_pair (named r)) 0 (pairs_of a r) }
+abbrev pub with_set : Option Verdict → Schedule → Selection → Run → Run
+with_set v a named r = record r { phase = requeued r.phase; instances = map_places (set_pair v (named r)) 0 (pairs_of a r) }
 
 -- a run in which no instance is named stays as it is
-abbrev pub clear_if : Schedule → Selection → Run → List (TaskSpec × InstanceValue) → Run
-clear_if a named r [] = r
-clear_if a named r (e ∷ es) = with_cleared a named r
+abbrev pub set_if : Option Verdict → Schedule → Selection → Run → List (TaskSpec × InstanceValue) → Run
+set_if v a named r [] = r
+set_if v a named r (e ∷ es) = with_set v a named r
 
-abbrev pub clear_run : Schedule → Selection → Run → Run
-clear_run a named r = clear_if a named r (named_in a named r)
+abbrev pub set_run : Option Verdict → Schedule → Selection → Run → Run
+set_run v a named r = set_if v a named r (named_in a named r)
+
+-- named instances are set
+abbrev pub set_named : Option Verdict → Selection → Schedule → Schedule
+set_named v named a = record a { runs = map (set_run v a named) a.runs }
+
+-- ---- clearing
+-- an instance set back: it has no verdict, and none of its tries counts
+abbrev pub cleared : InstanceValue → InstanceValue
+cleared i = set_to None i
 
 -- named instances are set back
 abbrev pub clear : Selection → Schedule → Schedule
-clear named a = record a { runs = map (clear_run a named) a.runs }
+clear named a = set_named None named a
 
 -- ---- what a clear answers
 -- the named instances, each beside its task

@@ -6,6 +6,7 @@ pub mod Handout
 pub mod NamedRuns
 pub mod Changes
 pub mod Clearing
+pub mod Marking
 pub mod Replacing
 pub mod Causes
 pub mod Jobs

@@ -15,7 +15,7 @@ use Rattle.sched_state.specs.declared.runs.RunPhase.{RunPhase}
 use Rattle.sched_state.specs.declared.runs.RunPhase.TheVariants as phase
 use Rattle.sched_model.specs.Schedule.{Schedule}
 use Rattle.sched_model.specs.Changes.{with_graph}
-use Rattle.sched_model.specs.Clearing.{pairs_of}
+use Rattle.sched_model.specs.Clearing.{pairs_of, set_to}
 
 -- ---- an instance
 -- no more of its tries count than a task with so many retries may have: those before them count as those before a clearing
@@ -24,7 +24,7 @@ bounded_to retries i = record i { since = max i.since (length i.tries - (1 + ret
 
 -- none of its tries counts, and it is not tried again unless it is cleared
 abbrev pub set_aside : InstanceValue → InstanceValue
-set_aside i = record { verdict = Some verdict.UpstreamFailed; since = length i.tries; tries = i.tries }
+set_aside i = set_to (Some verdict.UpstreamFailed) i
 
 -- it failed for good by its task as it was, and would be tried again by its task as it is now
 abbrev pub would_wake : TaskSpec → TaskSpec → InstanceValue → Bool

@@ -1,4 +1,4 @@
--- The command line of the program, as clap reads it: one command with thirteen commands under it.
+-- The command line of the program, as clap reads it: one command with fourteen commands under it.
 use Rattle.std.specs.Prelude.{codes, true, List, []}
 use Rattle.std.specs.Borrow.{Bor}
 use Rattle.clap.specs.Words.{App, Shape, Text, new_app, with_rule, with_subcommand}
@@ -32,9 +32,14 @@ run = with_rule unlogged_run logs
 abbrev pub list : Texts → App
 list names = with_rule (new_app (codes "list")) (checked_word (codes "rows") (parser.Names names))
 
+-- `NAME DAG LOGICAL TASK`
+-- restates: this project's own profile
+abbrev pub of_instance : Text → App
+of_instance name = with_rule (with_rule (of_dag name) (word (codes "logical"))) (word (codes "task"))
+
 -- restates: this project's own profile
 abbrev pub explain : App
-explain = with_rule (with_rule (of_dag (codes "explain")) (word (codes "logical"))) (word (codes "task"))
+explain = of_instance (codes "explain")
 
 -- restates: this project's own profile
 abbrev pub backfill : App
@@ -47,6 +52,10 @@ clear_span = with_rule (with_rule (spanned (codes "clear")) (option (codes "task
 -- restates: this project's own profile
 abbrev pub clear : App
 clear = with_rule (with_rule clear_span (flag (codes "downstream"))) (flag (codes "only-failed"))
+
+-- restates: this project's own profile
+abbrev pub mark : App
+mark = with_rule (of_instance (codes "mark")) (word (codes "state"))
 
 -- restates: this project's own profile
 abbrev pub resize : App
@@ -91,7 +100,7 @@ with_dags app = with_dag (with_dag (with_dag app (codes "trigger")) (codes "paus
 -- with the commands that repair, and that of pools
 -- restates: clap 4: `Command`
 abbrev pub with_repairs : App → App
-with_repairs app = with_subcommand (with_subcommand (with_subcommand app backfill.top) clear.top) resize.top
+with_repairs app = with_subcommand (with_subcommand (with_subcommand (with_subcommand app backfill.top) clear.top) mark.top) resize.top
 
 -- with a command of a graph file
 -- restates: clap 4: `Command`

@@ -64,16 +64,16 @@ pub(crate) fn of_dag<'a>(
     Ok(command)
 }
 
-/// `explain DAG LOGICAL TASK`.
-pub(crate) fn explain_command<'a>(alloc: Global) -> Result<Command<'a>, AllocError>
-    ensures app { IfOk result (λ c. app_of c ≡ spec.explain) }
+/// `NAME DAG LOGICAL TASK`.
+pub(crate) fn of_instance<'a>(
+    alloc: Global,
+    name: &'a str,
+    about: &'a str,
+) -> Result<Command<'a>, AllocError>
+    ensures app { IfOk result (λ c. app_of c ≡ spec.of_instance name.entry.now) }
     ensures globals { IfOk result (λ c. (fields_of c).has_globals ≡ false) }
 {
-    let command = of_dag(
-        alloc,
-        "explain",
-        "Says why a task instance stands where it does, a reason a line",
-    );
+    let command = of_dag(alloc, name, about);
     let logical = word(alloc, "logical", "LOGICAL", "The run's logical date");
     let command = with_argument(command, logical);
     let task = word(
@@ -83,6 +83,18 @@ pub(crate) fn explain_command<'a>(alloc: Global) -> Result<Command<'a>, AllocErr
         "The task's id, as `task_id` in the graph's file",
     );
     with_argument(command, task)
+}
+
+/// `explain DAG LOGICAL TASK`.
+pub(crate) fn explain_command<'a>(alloc: Global) -> Result<Command<'a>, AllocError>
+    ensures app { IfOk result (λ c. app_of c ≡ spec.explain) }
+    ensures globals { IfOk result (λ c. (fields_of c).has_globals ≡ false) }
+{
+    of_instance(
+        alloc,
+        "explain",
+        "Says why a task instance stands where it does, a reason a line",
+    )
 }
 
 /// `resize POOL SIZE`.

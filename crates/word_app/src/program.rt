@@ -9,7 +9,7 @@ use crate::commands::{
     drain_command, explain_command, list_command, of_dag, of_path, resize_command, run_command,
     tick_command,
 };
-use crate::repairs::{backfill_command, clear_command};
+use crate::repairs::{backfill_command, clear_command, mark_command};
 use crate::rules::option;
 use clap::Command;
 use std::alloc::{AllocError, Global};
@@ -82,6 +82,7 @@ fn with_repairs<'a>(alloc: Global, command: Command<'a>) -> Result<Command<'a>, 
 {
     let command = with_command(Ok(command), backfill_command(alloc));
     let command = with_command(command, clear_command(alloc));
+    let command = with_command(command, mark_command(alloc));
     with_command(command, resize_command(alloc))
 }
 

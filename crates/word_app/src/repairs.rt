@@ -5,7 +5,7 @@ ghost use Rattle.clap.specs.declared.builder.command.Command.TheViews.{out-Comma
 ghost use Rattle.word_app.specs.App as spec;
 
 use crate::adding::with_argument;
-use crate::commands::of_dag;
+use crate::commands::{of_dag, of_instance};
 use crate::rules::{flag, option, word};
 use clap::Command;
 use std::alloc::{AllocError, Global};
@@ -88,4 +88,18 @@ pub(crate) fn clear_command<'a>(alloc: Global) -> Result<Command<'a>, AllocError
         "Of these the failed and upstream_failed alone",
     );
     with_argument(command, only_failed)
+}
+
+/// `mark DAG LOGICAL TASK STATE`.
+pub(crate) fn mark_command<'a>(alloc: Global) -> Result<Command<'a>, AllocError>
+    ensures app { IfOk result (λ c. app_of c ≡ spec.mark) }
+    ensures globals { IfOk result (λ c. (fields_of c).has_globals ≡ false) }
+{
+    let command = of_instance(
+        alloc,
+        "mark",
+        "Passes a task of one run over, and sets back what failed after it",
+    );
+    let state = word(alloc, "state", "STATE", "`skipped`");
+    with_argument(command, state)
 }

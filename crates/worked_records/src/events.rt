@@ -79,6 +79,7 @@ pub fn name_of(event: &Event) -> &'static str {
         Event::Report(_, _) => "report",
         Event::Restart(_) => "restart",
         Event::Replace(_) => "replace",
+        Event::Mark { .. } => "mark",
     }
 }
 

@@ -21,6 +21,14 @@ pub fn write_event(rt: &HostRuntime, event: &Event) -> io::Result<()> {
             write_flag(rt, " reset", *reset)
         }
         Event::Clear(clearing) => write_clearing(rt, clearing),
+        Event::Mark {
+            graph,
+            logical,
+            task,
+        } => {
+            let (graph, task) = (graph.as_str(), task.as_str());
+            print!(rt; "mark {graph} {logical} {task} skipped")
+        }
         Event::Resize(pool, size) => {
             let pool = pool.as_str();
             let size = size.get();

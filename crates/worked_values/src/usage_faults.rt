@@ -11,6 +11,7 @@ pub fn write_fault(rt: &HostRuntime, fault: UsageFault) -> io::Result<()> {
         UsageFault::BadMoment(fault) => write_moment_fault(rt, fault),
         UsageFault::NotHere => rt.print("usage 4 NotHere"),
         UsageFault::BadLine => rt.print("usage 5 BadLine"),
+        UsageFault::BadState => rt.print("usage 6 BadState"),
         UsageFault::Memory => rt.print("memory"),
     }
 }

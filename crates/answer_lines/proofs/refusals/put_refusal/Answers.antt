@@ -57,3 +57,6 @@ returns-in-OtherSlots g c = rw c.in-OtherSlots.is (rw c.as_str-task-in-OtherSlot
 
 pub returns-in-Redoes : goal.returns-in-Redoes
 returns-in-Redoes g c = rw c.in-Redoes.is (simp append_assoc (let h = simp append_assoc at c.writeln-in-Redoes.ensures.bytes in h))
+
+pub returns-in-UnknownRun : goal.returns-in-UnknownRun
+returns-in-UnknownRun g c = rw c.in-UnknownRun.is c.write_all-in-UnknownRun.ensures.bytes

@@ -1,5 +1,5 @@
 use Rattle.sched_laws.proofs.SetBackLemmas.{queued_again, untouched_run}
-use Rattle.sched_laws.proofs.clearing.clears_queue_finished_runs.Goals as goal
+use Rattle.sched_laws.proofs.clearing.finished_runs_are_queued.Goals as goal
 
 pub returns-clause-queued : goal.returns-clause-queued
 returns-clause-queued c = queued_again
