@@ -10,7 +10,7 @@ use crate::{Operator, read_status};
 use toml::Value;
 
 // Whether the operator takes these arguments.
-pub fn takes(operator: Operator, argv: &[Value]) -> bool
+pub(crate) fn takes(operator: Operator, argv: &[Value]) -> bool
     ensures { result ≡ spec.takes operator (map values.text_of (map view argv.now)) }
 {
     match operator {
@@ -21,7 +21,7 @@ pub fn takes(operator: Operator, argv: &[Value]) -> bool
 }
 
 // Whether it may be said, where `said` says that it is, how long a try of the operator takes at most.
-pub fn takes_timeout(operator: Operator, said: bool) -> bool
+pub(crate) fn takes_timeout(operator: Operator, said: bool) -> bool
     ensures { result ≡ spec.takes_timeout operator said }
 {
     match operator {

@@ -40,7 +40,7 @@ pub const CLASSES: [Class; 5] = [
 ];
 
 // Whether the table, which may have these keys, has a fault of the class.
-pub fn has_fault(class: Class, keys: &[Key], table: &Table) -> bool
+pub(crate) fn has_fault(class: Class, keys: &[Key], table: &Table) -> bool
     ensures { result ≡ spec.has_fault class keys.now (table_view table.now) }
 {
     has_unknown(class, keys, table) || has_faulty(class, keys, table)
@@ -54,7 +54,7 @@ fn has_faulty(class: Class, keys: &[Key], table: &Table) -> bool
 }
 
 // Whether a fault of the class stands at the key. An unknown key is none of these.
-pub fn is_faulty(class: Class, key: Key, table: &Table) -> bool
+pub(crate) fn is_faulty(class: Class, key: Key, table: &Table) -> bool
     ensures { result ≡ spec.is_faulty class key (table_view table.now) }
 {
     match class {
@@ -77,7 +77,7 @@ fn has_unknown(class: Class, keys: &[Key], table: &Table) -> bool
 }
 
 // Whether the task is a table with a fault of the class.
-pub fn task_has_fault(class: Class, task: &Value) -> bool
+pub(crate) fn task_has_fault(class: Class, task: &Value) -> bool
     ensures { result ≡ spec.task_has_fault class (view task.now) }
 {
     match task.as_table() {
@@ -100,7 +100,7 @@ fn has_other_name(keys: &[Key], table: &Table) -> bool
 }
 
 // Whether the name is one of these keys.
-pub fn is_key(keys: &[Key], name: &str) -> bool
+pub(crate) fn is_key(keys: &[Key], name: &str) -> bool
     ensures { result ≡ spec.is_key keys.now name.now }
 {
     keys.iter().any(|key| key.name() == name)

@@ -24,7 +24,7 @@ const UPSTREAM_LIMIT: usize = 4_096;
 const PLACE_LIMIT: usize = 4_294_967_295;
 
 // The fault of a table, if it has one.
-pub fn fault_of(table: &Table) -> Option<GraphFault>
+pub(crate) fn fault_of(table: &Table) -> Option<GraphFault>
     ensures { result ≡ spec.fault_of (table_view table.now) }
 {
     let count = tasks(table).len();

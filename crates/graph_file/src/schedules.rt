@@ -45,7 +45,7 @@ impl CronTimetable {
 }
 
 // Whether a run at each tick is wanted of a schedule that has none.
-pub fn lacks_ticks(timetable: Option<CronTimetable>, schedule: &str) -> bool
+pub(crate) fn lacks_ticks(timetable: Option<CronTimetable>, schedule: &str) -> bool
     ensures { result ≡ spec.lacks_ticks timetable schedule.now }
 {
     matches!(timetable, Some(CronTimetable::Trigger)) && is_without_ticks(schedule)
@@ -58,7 +58,7 @@ fn is_without_ticks(schedule: &str) -> bool
 }
 
 // The timetable of a text: `None`, `@once`, or a cron text.
-pub fn read_timetable(text: &str) -> Result<Timetable, CronFault>
+pub(crate) fn read_timetable(text: &str) -> Result<Timetable, CronFault>
     ensures { result ≡ timetable_of text.now }
 {
     match text {
@@ -78,7 +78,7 @@ fn read_cron(text: &str) -> Result<Timetable, CronFault>
 }
 
 // Why the first schedule at these keys that is refused is refused.
-pub fn cron_fault(keys: &[Key], table: &Table) -> Option<CronFault>
+pub(crate) fn cron_fault(keys: &[Key], table: &Table) -> Option<CronFault>
     ensures { result ≡ spec.cron_fault keys.now (table_view table.now) }
 {
     for key in keys {

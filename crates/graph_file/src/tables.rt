@@ -11,7 +11,7 @@ use toml::value::Array;
 use toml::{Table, Value};
 
 // What the table has at the key.
-pub fn value_at<'a>(table: &'a Table, key: Key) -> Option<&'a Value>
+pub(crate) fn value_at<'a>(table: &'a Table, key: Key) -> Option<&'a Value>
     ensures { option_map (λ v. view v.now) result ≡ member_at key (table_view table.now) }
 {
     table.get(key.name())
@@ -29,7 +29,7 @@ fn array_at<'a>(table: &'a Table, key: Key) -> Option<&'a Array>
 }
 
 // The items of the array at the key.
-pub fn items_at(table: &Table, key: Key) -> &[Value]
+pub(crate) fn items_at(table: &Table, key: Key) -> &[Value]
     ensures { map view result.now ≡ items_of key (table_view table.now) }
 {
     match array_at(table, key) {
@@ -39,14 +39,14 @@ pub fn items_at(table: &Table, key: Key) -> &[Value]
 }
 
 // The tasks, in the order of the file.
-pub fn tasks(table: &Table) -> &[Value]
+pub(crate) fn tasks(table: &Table) -> &[Value]
     ensures { map view result.now ≡ tasks_of (table_view table.now) }
 {
     items_at(table, Key::Task)
 }
 
 // The text at a key, or the one that stands where it is absent.
-pub fn text_at(table: &Table, key: Key) -> &str
+pub(crate) fn text_at(table: &Table, key: Key) -> &str
     ensures { result.now ≡ text_in (value_of key (table_view table.now)) }
 {
     match value_at(table, key) {
@@ -59,7 +59,7 @@ pub fn text_at(table: &Table, key: Key) -> &str
 }
 
 // The text of a value.
-pub fn text_of(value: &Value) -> &str
+pub(crate) fn text_of(value: &Value) -> &str
     ensures { result.now ≡ spec.text_of (view value.now) }
 {
     match value.as_str() {

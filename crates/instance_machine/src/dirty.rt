@@ -1,4 +1,4 @@
-//! A set of keys that rise. No crate above uses this yet.
+//! A set of keys that rise, of which those that go are taken out later: what waits and what is ready is kept in such sets.
 ghost use Rattle.std.specs.Prelude.{◌≡◌, ◌+◌, ◌<◌, ◌≤◌, [], ◌∷◌, filter, length, not, slice_get, IfOk, MatchOption, OnOk};
 ghost use Rattle.std.specs.Ordering.{eq_by_cmp};
 ghost use Rattle.std.specs.BTreeSet.{insert_key};
