@@ -6,7 +6,7 @@ ghost use Rattle.sqlite.specs.State.{HasCleanDisk};
 ghost use Rattle.sqlite.specs.WalFiles.{image_at};
 ghost use Rattle.script_reader.specs.Statuses.{failure_status};
 ghost use Rattle.dagsched.specs.Commands.{IsCommandDone, IsSingleDone};
-ghost use Rattle.dagsched.specs.Records.{IsClosedWith, IsDoneInFile, IsDoneInFiles, IsDoneInMemory, IsDoneOn, IsDoneOnFile};
+ghost use Rattle.dagsched.specs.Records.{has_tables, IsClosedWith, IsDoneInFile, IsDoneInFiles, IsDoneInMemory, IsDoneOn, IsDoneOnFile};
 
 use crate::scripts::{OwnOperator, run_script};
 use crate::telling::{
@@ -198,7 +198,7 @@ fn on_connection<S: Alter + Drop, T: Threads + Wait + Sync>(
         command.now conn r.0 r.1) }
     ensures settled { IfOk result (λ r. r.0.in_transaction ≡ false) }
 {
-    if !conn.schema().tables.as_slice().is_empty() {
+    if has_tables(&conn) {
         return on_store(threads, rt, Store::adopt(conn), path, command, words);
     }
     match Store::create(rt.alloc(), conn) {
@@ -208,6 +208,13 @@ fn on_connection<S: Alter + Drop, T: Threads + Wait + Sync>(
             Ok((conn, status))
         }
     }
+}
+
+// Whether the database has tables.
+fn has_tables<S: Alter>(conn: &Connection<S>) -> bool
+    ensures { result ≡ has_tables (state S.Store conn.now).now.schema }
+{
+    !conn.schema().tables.as_slice().is_empty()
 }
 
 // Does the command on a record, and tells where it was of version 1 and is of version 2 now.

@@ -128,8 +128,10 @@ fn run_by_team<
     scratch: &str,
     script: Script<R, W, F, P>,
 ) -> io::Result<(Store<S>, u8)>
-    ensures { IfOk result (λ r. IsScriptOf (state S.Store) ⟦<OwnOperator as Operator>⟧
+    ensures known { IfOk result (λ r. IsScriptOf (state S.Store) ⟦<OwnOperator as Operator>⟧
         (R.Read.remaining script.input) F.gives W.contents options.now script.sources script.output
+        store r.0 r.1) }
+    ensures done { IfOk result (λ r. IsScriptDone (state S.Store) ⟦<OwnOperator as Operator>⟧ options.now
         store r.0 r.1) }
 {
     let alloc = rt.alloc();
