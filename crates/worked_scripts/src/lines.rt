@@ -49,7 +49,10 @@ fn of_text(text: &str) -> Line<'_> {
     match text.split_once(' ') {
         Some(("limits", rest)) => Line::Limits(limits_of(rest)),
         Some(("sql", rest)) => Line::Sql(rest),
-        Some(("reopen", rest)) => number(Some(rest)).map_or(Line::Script, Line::Reopen),
+        Some(("reopen", rest)) => match number(Some(rest)) {
+            Some(lanes) => Line::Reopen(lanes),
+            None => Line::Script,
+        },
         Some((name, rest)) => match event_of(name, rest) {
             Some(event) => Line::Event(event),
             None => Line::Script,

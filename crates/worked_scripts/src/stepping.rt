@@ -55,9 +55,15 @@ pub fn reopen<R: Recorder, W: Write>(
     let other = Directed::new(alloc, recorder, directed.limits())?;
     let last = mem::replace(directed, other);
     *directed = last.reopened(alloc, lanes)?;
-    put(
-        output,
-        Shown::Answer(&Event::Restart(lanes), directed.opened()),
-    )?;
+    put_opened(&Event::Restart(lanes), directed.opened(), output)?;
     put_left(directed.schedule(), output)
+}
+
+// Writes the answer to the event by which a record was opened.
+fn put_opened<'a, W: Write>(
+    event: &'a Event,
+    answer: &'a Answer,
+    output: &mut W,
+) -> io::Result<()> {
+    put(output, Shown::Answer(event, answer))
 }
