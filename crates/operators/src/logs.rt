@@ -62,12 +62,12 @@ pub(crate) fn logged_status<R: Processes>(
     command.stdout(log.try_clone()?);
     command.stderr(log.try_clone()?);
     let status = command.status(rt);
-    let _ = write_end(log, &status);
+    let _ = write_end(log, command.get_program(), &status);
     status
 }
 
-// Writes how a program ended that did not end well, on a line of its own.
-fn write_end(log: File, status: &io::Result<ExitStatus>) -> io::Result<()> {
+// Writes how a program ended that did not end well, or that it was not started, on a line of its own.
+fn write_end(log: File, program: &str, status: &io::Result<ExitStatus>) -> io::Result<()> {
     let mut log = log;
     match status {
         Ok(status) if status.success() => Ok(()),
@@ -77,7 +77,7 @@ fn write_end(log: File, status: &io::Result<ExitStatus>) -> io::Result<()> {
         }
         Err(error) => {
             end_line(&mut log)?;
-            writeln!(log, "dagsched: the program cannot be started: {error}")
+            writeln!(log, "dagsched: {program} cannot be started: {error}")
         }
     }
 }
