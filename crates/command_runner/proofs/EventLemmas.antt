@@ -36,13 +36,14 @@ pub stepped : {S : Type 0} (look : Held S → State) (before : State) (d left : 
     → (HasCleanDisk (look d.store) → Opens ceilings 0 before.now d.schedule.content d.opened)
     → (HasCleanDisk (look d.store) → RestartsIn ceilings 0 before.now (look d.store).now)
     → (HasCleanDisk (look d.store) → (trees : Trees) → (look d.store).may_leave trees → trees ≡ (look d.store).now.trees)
+    → (HasCleanDisk (look d.store) → HasCleanDisk before)
     → (before.faults ≤ (look d.store).faults) × (HasCleanDisk (look d.store) → IsTrue (look d.store).is_open)
     → IsSoundAndSaid d.schedule.content
     → IsOutcome d.schedule.content e came left.schedule.content
     → Follows d.schedule.content (look d.store) left.schedule.content (look left.store)
     → Leaves (accepted_in e came) (tried_in e came) d.schedule.content (look d.store) (look left.store)
     → IsStepped look before e came left.schedule.content left.store
-stepped look before d left e came opened restarted only is_open sound outcome followed leaves =
+stepped look before d left e came opened restarted only clean_before is_open sound outcome followed leaves =
     let a = d.schedule.content in
     let keeps : HasCleanDisk (look d.store) → (rows : Rows) → HasRows before.now rows → Keeps a (look d.store).now =
     λ clean rows has. subst (λ (x : Schedule). Keeps x (look d.store).now) (sym (opened clean rows has).stepped.after) (restarted clean rows has) in
@@ -52,6 +53,7 @@ stepped look before d left e came opened restarted only is_open sound outcome fo
       opened = λ clean. opened (was_clean _ _ _ _ followed clean);
       sound = sound;
       outcome = outcome;
+      was_clean = λ clean. clean_before (was_clean _ _ _ _ followed clean);
       stays = stays_open _ _ before _ _ is_open.0 is_open.1 followed;
       stored = λ clean is_open rows has. followed.stored clean is_open (keeps (was_clean _ _ _ _ followed clean) rows has);
       left = λ clean rows has.

@@ -26,15 +26,16 @@ use Rattle.command_runner.specs.declared.doing.Came.TheVariants.{Stepped, Unopen
 use Rattle.command_runner.specs.Writes.{IsWritten}
 
 -- The record was opened without lanes, as a schedule that follows the rules of schedules, whatever the disk gave, and this came of the event, with this schedule
--- after it. The record is open, unless its disk failed or refused meanwhile; and where it is, and had rows, in either version, it stores that schedule.
--- Whatever shut it: where it had rows, a crash leaves of it the schedule after the restart, with the event if that was accepted, and with or without it if the
--- store or want of memory stood against it.
+-- after it. A disk that has given back what was written has done so all the time. The record is open, unless its disk failed or refused meanwhile; and where it
+-- is, and had rows, in either version, it stores that schedule. Whatever shut it: where it had rows, a crash leaves of it the schedule after the restart, with
+-- the event if that was accepted, and with or without it if the store or want of memory stood against it.
 pub record IsStepped {S : Type 0} (look : Held S → State) (before : State) (e : Event) (came : Result Answer Fault) (after : Schedule) (store : Held S) : Type 0 where
   pub first : Schedule
   pub given : Answer
   pub opened : HasCleanDisk (look store) → Opens ceilings 0 before.now first given
   pub sound : IsSoundAndSaid first
   pub outcome : IsOutcome first e came after
+  pub was_clean : HasCleanDisk (look store) → HasCleanDisk before
   pub stays : StaysOpen before (look store)
   pub stored : HasCleanDisk (look store) → IsTrue (look store).is_open → (rows : Rows) → HasRows before.now rows → Keeps after (look store).now
   pub left : HasCleanDisk (look store) → (rows : Rows) → HasRows before.now rows → (trees : Trees) → (look store).may_leave trees

@@ -1,13 +1,13 @@
 -- What a run promises, from what its session and its threads leave.
-use Rattle.std.proofs.Common.{◌≡◌, ◌++◌, ◌+◌, ℕ, ◌<◌, ◌≤◌, ◌==◌, Bool, true, false, true≢false, not, List, [], ◌∷◌, length, map, take, replicate, Option, None, inl, inr, Result, Ok, Err, MatchResult, OnOk, IfOk, IfErr, IsOk, refl, sym, ap, ◌∙◌, subst, arith, ne_eqb}
+use Rattle.std.proofs.Common.{◌≡◌, ◌++◌, ◌+◌, ℕ, ◌<◌, ◌≤◌, ◌==◌, Bool, true, false, true≢false, not, List, All, [], ◌∷◌, length, map, take, replicate, Option, None, inl, inr, Result, Ok, Err, MatchResult, OnOk, IfOk, IfErr, IsOk, refl, sym, ap, ◌∙◌, subst, arith, ne_eqb}
 use Rattle.std.specs.Prelude.{sum_by}
 use Rattle.std.proofs.lemmas.List.{length-map}
 use Rattle.std.proofs.lemmas.List.Elements.{All-append, All-nil}
 use Rattle.std.proofs.Math.Seq.{take-length}
 use Rattle.sqlite.specs.Held.{Held}
 use Rattle.sqlite.specs.State.{State}
-use Rattle.instance_machine.specs.declared.tries.Outcome.{Outcome}
 use Rattle.sched_state.specs.declared.jobs.Job.{Job}
+use Rattle.operators.specs.Kits.{IsKit}
 use Rattle.operators.specs.declared.kits.Kit.{Kit}
 use Rattle.ruled_dispatch.specs.Lanes.{sent_of, heard_of}
 use Rattle.ruled_dispatch.specs.declared.items.JobOrStop.{JobOrStop}
@@ -23,7 +23,7 @@ use Rattle.sched_model.specs.Schedule.{Schedule}
 use Rattle.sched_model.specs.States.{in_flight}
 use Rattle.minutes.specs.Minutes.{BeginWithRestart, reports_in}
 use Rattle.sessions.specs.director.Leaves.{Leaves}
-use Rattle.sessions.specs.History.{accepted, heard_in, is_reported, is_restarted, missed_in, tried_at_end, AreReported, AreRight, Restarted, Step}
+use Rattle.sessions.specs.History.{accepted, heard_in, is_reported, is_restarted, missed_in, tried_at_end, AreRight, Step}
 use Rattle.sessions.specs.Runs.{DirectorValue, Follows}
 use Rattle.sessions.proofs.HistoryLemmas.{reported_later}
 use Rattle.sessions.proofs.LawLemmas.{right_accepted, right_begun, right_heard}
@@ -34,9 +34,11 @@ use Rattle.sessions.specs.declared.faults.ConductFault.TheVariants as fault
 use Rattle.sessions.specs.declared.line_reading.Line.{Line}
 use Rattle.sessions.specs.declared.line_reading.LineFault.{LineFault}
 use Rattle.sessions.specs.declared.state.Parted.{Parted}
-use Rattle.work.specs.declared.crews.WorkerEnd.{WorkerEnd}
-use Rattle.work.specs.Logs.{reports_of}
-use Rattle.crews.specs.Settled.{AreAccounts, AreAmongSent, AreAmongTold}
+use Rattle.workers.specs.declared.crews.WorkerEnd.{WorkerEnd}
+use Rattle.workers.specs.Accounted.{AreAccounts, AreAmongSent, AreAmongTold}
+use Rattle.workers.specs.Ends.{AreInOrder}
+use Rattle.workers.specs.Logs.{reports_of}
+use Rattle.workers.specs.Shows.{Shows}
 use Rattle.conduct.specs.declared.conducting.Conducted.{Conducted}
 use Rattle.conduct.specs.Ends.{logged, EachStandsInALog, EachToldItsOwn, HaveWorkedFor}
 use Rattle.conduct.specs.Faults.{EndsInside, EndsRun, all_started, came_to_its_end, is_no_worker, is_unstarted}
@@ -140,29 +142,37 @@ started_or : {A P Q : Type 0} (q : Result A ConductFault) → IfErr q (λ f. is_
 started_or (Ok v) refused started none = started refl
 started_or (Err f) refused started none = by_cases (is_unstarted f) (λ is. none (ap not is) (refused is)) (λ is. started (ap not is))
 
-module _ {G O : Type 0} (runs : O → List (Job × Outcome)) (refused : O → List Job) (taken : O → Option Job) (kits : List (Kit O)) where
+module _ {G O : Type 0} (shows : Shows O) (kits : List (Kit O)) where
+  -- each end is its worker's own: it stands at its number, its log is an account of its kit, and the kit is whole
+  abbrev pub AreOwn : List (WorkerEnd G O) → Type 0
+  AreOwn ends = AreInOrder ends × AreAccounts shows kits ends × All (λ e. IsKit shows.kind_of e.kit) ends
+
   -- no worker reported
-  nobody_worked : (minutes : List Event) (a : Schedule) → minutes ≡ [] → HaveWorkedFor {G = G} runs refused taken kits [] minutes a
+  nobody_worked : (minutes : List Event) (a : Schedule) → minutes ≡ [] → HaveWorkedFor {G = G} shows kits [] minutes a
   nobody_worked minutes a none = record {
     back = inr (refl, none);
+    numbered = λ k e below. absurd (omega arith);
     accounts = λ k kit e below. absurd (omega arith);
+    whole = λ k e below. absurd (omega arith);
     handed = λ weight. omega arith;
     told = λ weight. subst (λ (l : List Event). sum_by weight (reports_in l) ≤ sum_by (λ (e : WorkerEnd G O). sum_by weight (reports_of e.log.items)) []) (sym none) (omega arith);
   }
 
-  none_worked : (ends : List (WorkerEnd G O)) (minutes : List Event) (a : Schedule) → ends ≡ [] → minutes ≡ [] → HaveWorkedFor runs refused taken kits ends minutes a
+  none_worked : (ends : List (WorkerEnd G O)) (minutes : List Event) (a : Schedule) → ends ≡ [] → minutes ≡ [] → HaveWorkedFor shows kits ends minutes a
   none_worked ends minutes a nobody none =
-      subst (λ (es : List (WorkerEnd G O)). HaveWorkedFor runs refused taken kits es minutes a) (sym nobody) (nobody_worked minutes a none)
+      subst (λ (es : List (WorkerEnd G O)). HaveWorkedFor shows kits es minutes a) (sym nobody) (nobody_worked minutes a none)
 
   -- each log is back
   all_worked : (ends : List (WorkerEnd G O)) (minutes now : List Event) (a : Schedule) (sent : List JobOrStop) (heard : List WorkerReport) (stops : ℕ)
-      → minutes ≡ now → length ends ≡ length kits → AreAccounts runs refused taken kits ends
+      → minutes ≡ now → length ends ≡ length kits → AreOwn ends
       → sent ≡ map (λ j. items.Job j) (handed_along now a) ++ replicate stops items.Stop → AreAmongSent sent ends
       → ((weight : Report → ℕ) → sum_by weight (reports_in now) ≤ sum_by weight (map (λ t. t.report) heard)) → AreAmongTold heard ends
-      → HaveWorkedFor runs refused taken kits ends minutes a
-  all_worked ends minutes now a sent heard stops same all accounts is among each told = record {
+      → HaveWorkedFor shows kits ends minutes a
+  all_worked ends minutes now a sent heard stops same all own is among each told = record {
     back = inl all;
-    accounts = accounts;
+    numbered = own.0;
+    accounts = own.1;
+    whole = own.2;
     handed = subst (λ (l : List Event). (weight : Job → ℕ) → sum_by (λ (e : WorkerEnd G O). sum_by weight (logged e.log.items)) ends ≤ sum_by weight (handed_along l a)) (sym same)
         (jobs_among ends sent (handed_along now a) stops is among);
     told = λ weight.
@@ -193,11 +203,11 @@ each_heard h a heard right is weight =
 
 module _ {S G O : Type 0} where
   -- nothing was stepped, and no thread was started
-  pub unstarted_run : (look : Held S → State) (runs : O → List (Job × Outcome)) (refused : O → List Job) (taken : O → Option Job) (lane_count : ℕ) (kits : List (Kit O)) (old : DirectorValue S) (run : Conducted S G O) (are_told : List Step → Option Line → Type 0) (untouched : Type 0) (failed : Option LineFault) (is_over : Bool) (f : ConductFault)
+  pub unstarted_run : (look : Held S → State) (shows : Shows O) (lane_count : ℕ) (kits : List (Kit O)) (old : DirectorValue S) (run : Conducted S G O) (are_told : List Step → Option Line → Type 0) (untouched : Type 0) (failed : Option LineFault) (is_over : Bool) (f : ConductFault)
       → IsSoundAndSaid old.schedule.content → run.director ≡ old → run.minutes.items ≡ [] → run.ends.items ≡ [] → run.outcome ≡ Err f → are_told [] None → untouched
       → came_to_its_end run.outcome ≡ false → EndsRun f failed → is_no_worker f ≡ (length kits == 0)
-      → IsConducted look runs refused taken lane_count kits old run are_told untouched failed is_over
-  unstarted_run look runs refused taken lane_count kits old run are_told untouched failed is_over f sound d e nobody o nothing same short ends none =
+      → IsConducted look shows lane_count kits old run are_told untouched failed is_over
+  unstarted_run look shows lane_count kits old run are_told untouched failed is_over f sound d e nobody o nothing same short ends none =
       let a = old.schedule.content in
       record {
         sound = sound;
@@ -221,15 +231,15 @@ module _ {S G O : Type 0} where
         fault = subst (λ r. MatchResult r (λ _. failed ≡ None) (λ g. EndsRun g failed)) (sym o) ends;
         workers = subst (λ r. MatchResult r (λ _. 0 < length kits) (λ g. is_no_worker g ≡ (length kits == 0))) (sym o) none;
         unstarted = subst (λ r. IfErr r (λ g. is_unstarted g ≡ true → (◌≡◌ {A = List Step} [] []) × untouched)) (sym o) (λ _. (refl, same));
-        worked = none_worked runs refused taken kits run.ends.items run.minutes.items a nobody e;
+        worked = none_worked shows kits run.ends.items run.minutes.items a nobody e;
         heard = λ weight. omega arith;
         once = subst (λ r. OnOk r (EachStandsInALog (handed_along run.minutes.items a) run.ends.items)) (sym o) tt;
         own = subst (λ r. OnOk r (EachToldItsOwn run.minutes.items run.ends.items)) (sym o) tt;
         desk = subst (λ r. IfOk r (λ d. (d.slots ≡ 0) × (d.holds.items ≡ []))) (sym o) tt;
       }
 
-  -- a session was served while the workers ran, and what the workers did was settled
-  pub conducted : {W R : Type 0} (look : Held S → State) (runs : O → List (Job × Outcome)) (refused : O → List Job) (taken : O → Option Job) (lanes : Lanes) (lane_count stops : ℕ) (kits : List (Kit O)) (old : DirectorValue S) (before : DirectorPass) (now : Parted S) (outcome : Result W ConductFault)
+  -- a session was served while the workers ran, and what the workers did was counted
+  pub conducted : {W R : Type 0} (look : Held S → State) (shows : Shows O) (lanes : Lanes) (lane_count stops : ℕ) (kits : List (Kit O)) (old : DirectorValue S) (before : DirectorPass) (now : Parted S) (outcome : Result W ConductFault)
       (results : List R) (end_of : R → WorkerEnd G O) (run : Conducted S G O) (are_told : List Step → Option Line → Type 0) (untouched : Type 0) (failed : Option LineFault) (is_over : Bool)
       → IsSoundAndSaid old.schedule.content
       → 0 < length kits
@@ -241,12 +251,12 @@ module _ {S G O : Type 0} where
       → (all_started outcome ≡ false → run.ends.items ≡ [])
       → OnOk run.outcome (EachStandsInALog (handed_along now.minutes.items old.schedule.content) run.ends.items)
       → OnOk run.outcome (EachToldItsOwn now.minutes.items run.ends.items)
-      → (all_started outcome ≡ true → AreAccounts runs refused taken kits (map end_of results))
+      → (all_started outcome ≡ true → AreOwn shows kits (map end_of results))
       → IfOk run.outcome (λ d. (d.slots ≡ 0) × (length d.holds.items ≤ d.slots))
       → (all_started outcome ≡ true → AreAmongSent (sent_of now.pass) run.ends.items)
       → (all_started outcome ≡ true → AreAmongTold (heard_of now.pass) run.ends.items)
-      → IsConducted look runs refused taken lane_count kits old run are_told untouched failed is_over
-  conducted {W} {R} look runs refused taken lanes lane_count stops kits old before now outcome results end_of run are_told untouched failed is_over sound some served dir min ok pass all ends nobody once own accounts desk sent told =
+      → IsConducted look shows lane_count kits old run are_told untouched failed is_over
+  conducted {W} {R} look shows lanes lane_count stops kits old before now outcome results end_of run are_told untouched failed is_over sound some served dir min ok pass all ends nobody once own owned desk sent told =
       let a = old.schedule.content in
       let stop = served.run in
       let h = served.history in
@@ -282,10 +292,10 @@ module _ {S G O : Type 0} where
         worked =
             started_or outcome served.unstarted
             (λ is.
-            all_worked runs refused taken kits run.ends.items run.minutes.items (accepted h) a (sent_of now.pass) (heard_of now.pass) stops
-            same (ap length (ends is) ∙ length-map results end_of ∙ all is) (subst (λ (l : List (WorkerEnd G O)). AreAccounts runs refused taken kits l) (sym (ends is)) (accounts is))
+            all_worked shows kits run.ends.items run.minutes.items (accepted h) a (sent_of now.pass) (heard_of now.pass) stops
+            same (ap length (ends is) ∙ length-map results end_of ∙ all is) (subst (λ (l : List (WorkerEnd G O)). AreOwn shows kits l) (sym (ends is)) (owned is))
             stop.sent (sent is) (each_heard h a (heard_of now.pass) stop.right stop.heard) (told is))
-            (λ is none. none_worked runs refused taken kits run.ends.items run.minutes.items a (nobody is) (same ∙ ap accepted none.0));
+            (λ is none. none_worked shows kits run.ends.items run.minutes.items a (nobody is) (same ∙ ap accepted none.0));
         heard =
             started_or outcome served.unstarted (λ is. subst (λ (l : List WorkerReport). AreAmongTold l run.ends.items) stop.heard (told is))
             (λ is none. subst (λ (k : List Step). AreAmongTold (heard_in k) run.ends.items) (sym none.0) (λ weight. omega arith));

@@ -14,10 +14,10 @@ use Rattle.ruled_dispatch.specs.declared.items.JobOrStop.TheVariants as items
 use Rattle.ruled_dispatch.specs.declared.items.Report.{Report}
 use Rattle.ruled_dispatch.specs.declared.items.WorkerReport.{WorkerReport}
 use Rattle.ruled_dispatch.specs.ReportsRule.{told_by}
-use Rattle.work.specs.declared.crews.WorkerEnd.{WorkerEnd}
-use Rattle.work.specs.declared.logs.Logged.{Logged}
-use Rattle.work.specs.Logs.{jobs_of, reports_of, both_reports}
-use Rattle.crews.specs.Settled.{StandInLogs, AreAmongSent, AreHeard}
+use Rattle.workers.specs.declared.crews.WorkerEnd.{WorkerEnd}
+use Rattle.workers.specs.declared.logs.Logged.{Logged}
+use Rattle.workers.specs.Logs.{jobs_of, reports_of, both_reports}
+use Rattle.workers.specs.Accounted.{StandInLogs, AreAmongSent, AreHeard}
 use Rattle.minutes.specs.Minutes.{of_worker, reports_in}
 use Rattle.minutes.specs.Logs.{AreLogs, are_of}
 use Rattle.minutes.proofs.LogLemmas.{log_is_own}

@@ -1,5 +1,5 @@
 -- A session that was served, and one that was not, with the stops sent after it.
-use Rattle.std.proofs.Common.{◌≡◌, ℕ, ◌<◌, ◌≤◌, ◌||◌, Bool, true, false, true≢false, inl, inr, List, [], ◌∷◌, ◌++◌, All, length, map, replicate, is_ok, Option, None, Result, Ok, Err, MatchBool, MatchResult, OnOk, IfErr, vec_items, refl, sym, ap, ◌∙◌, subst, arith}
+use Rattle.std.proofs.Common.{◌≡◌, ℕ, ◌<◌, ◌||◌, Bool, true, false, true≢false, inl, inr, List, [], ◌∷◌, ◌++◌, length, replicate, is_ok, Option, None, Result, Ok, Err, MatchBool, MatchResult, OnOk, IfErr, vec_items, refl, sym, ap, ◌∙◌, subst, arith}
 use Rattle.std.proofs.lemmas.List.Elements.{All-nil}
 use Rattle.sqlite.specs.Held.{Held}
 use Rattle.sqlite.specs.State.{State}
@@ -27,13 +27,11 @@ use Rattle.sessions.specs.declared.state.Parted.{Parted}
 use Rattle.sessions.specs.declared.state.Session.{Session}
 use Rattle.sessions.specs.declared.steppers.Stepper.{Stepper}
 use Rattle.sessions.proofs.GoesLemmas.{goes_nowhere}
-use Rattle.graph_file.specs.declared.operators.Operator.{Operator as Kind}
-use Rattle.instance_machine.specs.declared.tries.Outcome.{Outcome}
-use Rattle.sched_state.specs.declared.jobs.Job.{Job}
 use Rattle.slot_desk.specs.declared.holds.Hold.{Hold}
 use Rattle.operators.specs.declared.kits.Kit.{Kit}
-use Rattle.work.specs.declared.crews.WorkerEnd.{WorkerEnd}
-use Rattle.crews.specs.Threads.{HaveWorked}
+use Rattle.workers.specs.declared.crews.WorkerEnd.{WorkerEnd}
+use Rattle.workers.specs.Shows.{Shows}
+use Rattle.workers.specs.Threads.{HaveWorked}
 use Rattle.conduct.specs.Faults.{EndsInside, all_started, is_unstarted}
 use Rattle.conduct.specs.Served.{IsFollowed, IsStopped, IsServed}
 
@@ -214,12 +212,12 @@ module _ {S : Type 0} where
       subst (λ k. IsServed look lanes lane_count k old pass now outcome are_told untouched failed is_over) same
 
 -- workers that worked from what their handles say worked from what they were given
-pub worked_from : {G O : Type 0} (kind_of : O → Kind) (runs : O → List (Job × Outcome)) (refused : O → List Job) (taken : O → Option Job) (ps ps' : List WorkerPass) (ss ss' : List (List Hold)) (ks ks' : List (Kit O)) (results : List (WorkerEnd G O × WorkerPass × List Hold))
-    → ps ≡ ps' → ss ≡ ss' → ks ≡ ks' → HaveWorked kind_of runs refused taken ps ss ks results → HaveWorked kind_of runs refused taken ps' ss' ks' results
-worked_from {G = G} {O = O} kind_of runs refused taken ps ps' ss ss' ks ks' results a b d h =
-    subst (λ (p : List WorkerPass). HaveWorked kind_of runs refused taken p ss' ks' results) a
-    (subst (λ (s : List (List Hold)). HaveWorked kind_of runs refused taken ps s ks' results) b
-    (subst (λ (k : List (Kit O)). HaveWorked kind_of runs refused taken ps ss k results) d h))
+pub worked_from : {G O : Type 0} (shows : Shows O) (ps ps' : List WorkerPass) (ss ss' : List (List Hold)) (ks ks' : List (Kit O)) (results : List (WorkerEnd G O × WorkerPass × List Hold))
+    → ps ≡ ps' → ss ≡ ss' → ks ≡ ks' → HaveWorked shows ps ss ks results → HaveWorked shows ps' ss' ks' results
+worked_from {G = G} {O = O} shows ps ps' ss ss' ks ks' results a b d h =
+    subst (λ (p : List WorkerPass). HaveWorked shows p ss' ks' results) a
+    (subst (λ (s : List (List Hold)). HaveWorked shows ps s ks' results) b
+    (subst (λ (k : List (Kit O)). HaveWorked shows ps ss k results) d h))
 
 -- each was started
 pub each_started : {W : Type 0} (r : Result W ConductFault) (b : Bool) (n m k : ℕ) → (all_started r ≡ true → b ≡ true) → MatchBool b (n ≡ m) (n < m) → k ≡ n → all_started r ≡ true → k ≡ m

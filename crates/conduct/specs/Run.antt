@@ -3,14 +3,11 @@
 use Rattle.std.specs.Prelude.{◌≡◌, ◌==◌, ℕ, ◌<◌, Bool, true, List, [], length, Option, None, MatchResult, IfOk, IfErr, OnOk}
 use Rattle.sqlite.specs.Held.{Held}
 use Rattle.sqlite.specs.State.{State}
-use Rattle.instance_machine.specs.declared.tries.Outcome.{Outcome}
-use Rattle.sched_state.specs.declared.jobs.Job.{Job}
 use Rattle.operators.specs.declared.kits.Kit.{Kit}
-use Rattle.crews.specs.Settled.{AreAmongTold}
+use Rattle.workers.specs.Accounted.{AreAmongTold}
+use Rattle.workers.specs.Shows.{Shows}
 use Rattle.sched_events.specs.SettledAndSound.{IsSoundAndSaid}
 use Rattle.sched_events.specs.Steps.{steps, handed_along, AreAccepted}
-use Rattle.sched_events.specs.declared.events.Event.{Event}
-use Rattle.sched_model.specs.Schedule.{Schedule}
 use Rattle.sched_model.specs.States.{in_flight}
 use Rattle.minutes.specs.Minutes.{BeginWithRestart}
 use Rattle.sessions.specs.director.Leaves.{Leaves}
@@ -26,7 +23,7 @@ use Rattle.conduct.specs.Served.{IsHistory}
 -- What came of a run: from a director, with so many lanes, and with these kits, one of each crew. Of the lines and the clock: how they came from their
 -- first states to their last ones while the lines were told these steps, and which line waits then (are_told), or that they are as they were (untouched); what
 -- the lines failed in, and whether they are over.
-pub record IsConducted {S G O : Type 0} (look : Held S → State) (runs : O → List (Job × Outcome)) (refused : O → List Job) (taken : O → Option Job) (lane_count : ℕ) (kits : List (Kit O)) (old : DirectorValue S) (run : Conducted S G O) (are_told : List Step → Option Line → Type 0) (untouched : Type 0) (failed : Option LineFault) (is_over : Bool) : Type 0 where
+pub record IsConducted {S G O : Type 0} (look : Held S → State) (shows : Shows O) (lane_count : ℕ) (kits : List (Kit O)) (old : DirectorValue S) (run : Conducted S G O) (are_told : List Step → Option Line → Type 0) (untouched : Type 0) (failed : Option LineFault) (is_over : Bool) : Type 0 where
   -- the schedule at entry is sound: so of the tries that the minutes hand out no serial stands twice, and none goes past a pool or a bound
   pub sound : IsSoundAndSaid old.schedule.content
   -- with a fault too: what the run did, step by step, each right at the schedule that it came to. The lines were told the first of these steps, in their order,
@@ -58,7 +55,7 @@ pub record IsConducted {S G O : Type 0} (look : Held S → State) (runs : O → 
   pub unstarted : IfErr run.outcome (λ f. is_unstarted f ≡ true → (history ≡ []) × untouched)
   -- with a fault too: each worker that came back told what its operators did, which did no job that was not handed out; and the minutes report nothing that
   -- none of them told
-  pub worked : HaveWorkedFor runs refused taken kits run.ends.items run.minutes.items old.schedule.content
+  pub worked : HaveWorkedFor shows kits run.ends.items run.minutes.items old.schedule.content
   -- with a fault too: no report of the history, missed or not, was heard more often than the workers told it
   pub heard : AreAmongTold (heard_in history) run.ends.items
   -- where it ended well: each try that was handed out stands in the log of one worker, as often as it was handed out, and no other does

@@ -23,14 +23,13 @@ use Rattle.sessions.specs.declared.line_reading.LineFault.{LineFault}
 use Rattle.sessions.specs.declared.state.Parted.{Parted}
 use Rattle.sessions.specs.declared.state.Session.{Session}
 use Rattle.graph_file.specs.declared.operators.Operator.{Operator as Kind}
-use Rattle.instance_machine.specs.declared.tries.Outcome.{Outcome}
-use Rattle.sched_state.specs.declared.jobs.Job.{Job}
 use Rattle.slot_desk.specs.declared.holds.Hold.{Hold}
 use Rattle.operators.specs.Kits.{IsKit}
-use Rattle.work.specs.declared.crews.Crew.{Crew}
-use Rattle.work.specs.declared.crews.WorkerEnd.{WorkerEnd}
-use Rattle.crews.specs.Threads.{HaveWorked}
-use Rattle.conduct.specs.declared.equipment.Posts.{Posts}
+use Rattle.workers.specs.declared.crews.Crew.{Crew}
+use Rattle.workers.specs.declared.crews.WorkerEnd.{WorkerEnd}
+use Rattle.workers.specs.Shows.{Shows}
+use Rattle.workers.specs.Threads.{HaveWorked}
+use Rattle.conduct.specs.declared.equipment.Workers.{Workers}
 use Rattle.conduct.specs.Faults.{EndsInside, all_started, is_unstarted}
 
 -- no step took place
@@ -94,23 +93,23 @@ pub record IsServed {S W : Type 0} (look : Held S → State) (lanes : Lanes) (la
 
 -- A run may start: the pass is the director's, and nothing was sent or heard by it; the lines did not fail; and there is a pass, a share and room for a thread for each
 -- crew, whose kits are whole.
-pub record IsReady {S D G O : Type 0} (kind_of : O → Kind) (lanes : Lanes) (lane_count : ℕ) (director : DirectorValue S) (pass : DirectorPass) (posts : Posts D G O) (crews : List (Crew G O)) (failed : Option LineFault) : Type 0 where
+pub record IsReady {S D G O : Type 0} (kind_of : O → Kind) (lanes : Lanes) (lane_count : ℕ) (director : DirectorValue S) (pass : DirectorPass) (workers : Workers D G O) (crews : List (Crew G O)) (failed : Option LineFault) : Type 0 where
   pub first : IsDirectorOf lanes pass
   pub unused : (sent_of pass ≡ []) × (heard_of pass ≡ [])
   pub within : lane_count ≤ director.schedule.content.limits.lanes
   pub sound : failed ≡ None
-  pub passes : All (IsWorkerOf lanes) posts.passes.items
+  pub passes : All (IsWorkerOf lanes) workers.passes.items
   pub kits : All (λ c. IsKit kind_of c.kit) crews
-  pub pass_each : length posts.passes.items ≡ length crews
-  pub share_each : length posts.shares.items ≡ length crews
-  pub none : posts.handles.items ≡ []
-  pub room : length crews ≤ vec_capacity posts.handles
+  pub pass_each : length workers.passes.items ≡ length crews
+  pub share_each : length workers.shares.items ≡ length crews
+  pub none : workers.handles.items ≡ []
+  pub room : length crews ≤ vec_capacity workers.handles
 
 -- What came of the threads: a session was served, each worker that was started worked from what it was given, and these are all unless a thread was
 -- refused.
-pub record IsManaged {S D G O W : Type 0} (look : Held S → State) (kind_of : O → Kind) (runs : O → List (Job × Outcome)) (refused : O → List Job) (taken : O → Option Job) (lanes : Lanes) (lane_count : ℕ)
-    (old : DirectorValue S) (before : DirectorPass) (posts : Posts D G O) (crews : List (Crew G O)) (new : Parted S) (outcome : Result W ConductFault) (results : List (WorkerEnd G O × WorkerPass × List Hold))
+pub record IsManaged {S D G O W : Type 0} (look : Held S → State) (shows : Shows O) (lanes : Lanes) (lane_count : ℕ)
+    (old : DirectorValue S) (before : DirectorPass) (workers : Workers D G O) (crews : List (Crew G O)) (new : Parted S) (outcome : Result W ConductFault) (results : List (WorkerEnd G O × WorkerPass × List Hold))
     (are_told : List Step → Option Line → Type 0) (untouched : Type 0) (failed : Option LineFault) (is_over : Bool) : Type 0 where
   pub served : IsServed look lanes lane_count (length results) old before new outcome are_told untouched failed is_over
-  pub worked : HaveWorked kind_of runs refused taken (take (length results) posts.passes.items) (take (length results) posts.shares.items) (take (length results) (map (λ c. c.kit) crews)) results
+  pub worked : HaveWorked shows (take (length results) workers.passes.items) (take (length results) workers.shares.items) (take (length results) (map (λ c. c.kit) crews)) results
   pub all : all_started outcome ≡ true → length results ≡ length crews

@@ -1,9 +1,9 @@
-//! The end of a run: what was handed out and heard is settled, and from that and the queues' rules it follows what the workers' logs hold.
+//! The end of a run: what was handed out and heard is counted, and from that and the queues' rules it follows what the workers' logs hold.
 ghost use Rattle.std.specs.Prelude.{List, ◌≡◌, ◌<◌, ◌≤◌, [], IfOk, IfErr, MatchResult, OnOk, IsOk, Ok, length, map, true, false};
 ghost use Rattle.sqlite.specs.Held.{state};
 ghost use Rattle.ruled_dispatch.specs.Lanes.{sent_of, heard_of, IsDirectorOf, HasWorkers};
 ghost use Rattle.slot_desk.specs.Holds.{in_hand};
-ghost use Rattle.crews.specs.Settled.{AreBack, AreAmongSent, AreAmongTold};
+ghost use Rattle.workers.specs.Accounted.{AreBack, AreAmongSent, AreAmongTold};
 ghost use Rattle.sched_events.specs.SettledAndSound.{IsSoundAndSaid};
 ghost use Rattle.sched_events.specs.Steps.{handed_along};
 ghost use Rattle.sessions.specs.History.{Step};
@@ -16,7 +16,6 @@ ghost use Rattle.sessions.specs.declared.faults.ConductFault.TheVariants as faul
 
 use crate::conducting::Conducted;
 use crate::threads::Managed;
-use crews::{Room, Settled, Worked, settle};
 use minutes::each_report_is_its_workers_own;
 use operators::Operator;
 use ruled_dispatch::{DirectorPass, Lanes, Tally};
@@ -26,16 +25,16 @@ use sqlite::Alter;
 use std::alloc::Global;
 use std::sync::Wait;
 use std::sync::ledger::Ledger;
-use work::{Gate, WorkerEnd};
+use workers::{Accounted, Gate, ResultRoom, Worked, WorkerEnd, account};
 
-/// Settles what the threads did, unless a thread was refused. Where the session came to its end, `Unequal` says that something is left in a queue, or that
+/// Counts what the threads did, unless a thread was refused. Where the session came to its end, `Unequal` says that something is left in a queue, or that
 /// a report was missed. Another fault is passed on.
 pub(crate) fn close<D: Ledger, S: Alter, G: Gate, O: Operator, R: Wait>(
     rt: &R,
     alloc: Global,
     lanes: Lanes,
     desk: SlotDesk<D>,
-    room: Room<D, G, O>,
+    room: ResultRoom<D, G, O>,
     managed: Managed<D, S, G, O>,
 ) -> Conducted<S, G, O>
     requires pass { IsDirectorOf lanes managed.parted.pass }
@@ -79,7 +78,7 @@ pub(crate) fn close<D: Ledger, S: Alter, G: Gate, O: Operator, R: Wait>(
     } = parted;
     match outcome {
         Ok(()) => {
-            let Settled { ends, desk } = settle(rt, lanes, desk, pass, results, room);
+            let Accounted { ends, desk } = account(rt, lanes, desk, pass, results, room);
             Conducted {
                 director,
                 minutes,
@@ -88,7 +87,7 @@ pub(crate) fn close<D: Ledger, S: Alter, G: Gate, O: Operator, R: Wait>(
             }
         }
         Err(fault) => {
-            let ends = settle_after(rt, alloc, lanes, desk, room, pass, results, &fault);
+            let ends = account_after(rt, alloc, lanes, desk, room, pass, results, &fault);
             Conducted {
                 director,
                 minutes,
@@ -125,12 +124,12 @@ fn is_unstarted(fault: &ConductFault) -> bool
 }
 
 // The ends of the crews after a fault: all of them, or, where a thread was refused, none.
-fn settle_after<D: Ledger, G: Gate, O: Operator, R: Wait>(
+fn account_after<D: Ledger, G: Gate, O: Operator, R: Wait>(
     rt: &R,
     alloc: Global,
     lanes: Lanes,
     desk: SlotDesk<D>,
-    room: Room<D, G, O>,
+    room: ResultRoom<D, G, O>,
     pass: DirectorPass,
     results: Vec<Worked<D, G, O>>,
     fault: &ConductFault,
@@ -152,6 +151,6 @@ fn settle_after<D: Ledger, G: Gate, O: Operator, R: Wait>(
     if is_unstarted(fault) {
         return Vec::new(alloc);
     }
-    let Settled { ends, .. } = settle(rt, lanes, desk, pass, results, room);
+    let Accounted { ends, .. } = account(rt, lanes, desk, pass, results, room);
     ends
 }

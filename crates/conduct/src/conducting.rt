@@ -3,6 +3,7 @@ ghost use Rattle.std.specs.Prelude.{◌≡◌, ◌<◌, ◌≤◌, All, None, fa
 ghost use Rattle.sqlite.specs.Held.{state};
 ghost use Rattle.operators.specs.Kits.{IsKit};
 ghost use Rattle.sessions.specs.History.{readings_in};
+ghost use Rattle.workers.specs.Shows.{shows};
 ghost use Rattle.conduct.specs.Run.{IsConducted};
 
 use crate::closing::close;
@@ -18,7 +19,7 @@ use std::marker::Brand;
 use std::sync::Wait;
 use std::sync::ledger::{Blank, Ledger};
 use std::thread::Threads;
-use work::{Crew, Gate, WorkerEnd};
+use workers::{Crew, Gate, WorkerEnd};
 
 /// What came of a run.
 #[derive(Drop)]
@@ -58,7 +59,7 @@ pub fn conduct<
     requires crews { length crews.items ≤ 16 }
     requires kits { All (λ c. IsKit O.kind_of c.kit) crews.items }
     requires sound { L.failed lines.old ≡ None }
-    ensures { IsConducted (state S.Store) O.runs_of O.refused_of O.taken lane_count (map (λ c. c.kit) crews.items) director result
+    ensures { IsConducted (state S.Store) (shows O.kind_of O.runs_of O.refused_of O.taken) lane_count (map (λ c. c.kit) crews.items) director result
         (λ told waits. L.tells lines.old told waits lines.new × C.gives clock.old (readings_in told) clock.new) ((lines.new ≡ lines.old) × (clock.new ≡ clock.old)) (L.failed lines.new) (L.over lines.new) }
 {
     // what is known of the schedule that is run
@@ -109,13 +110,13 @@ fn conduct_at<
     requires crews { (0 < length crews.items) × (length crews.items ≤ 16) }
     requires kits { All (λ c. IsKit O.kind_of c.kit) crews.items }
     requires sound { L.failed lines.old ≡ None }
-    ensures { IsConducted (state S.Store) O.runs_of O.refused_of O.taken lane_count (map (λ c. c.kit) crews.items) director result
+    ensures { IsConducted (state S.Store) (shows O.kind_of O.runs_of O.refused_of O.taken) lane_count (map (λ c. c.kit) crews.items) director result
         (λ told waits. L.tells lines.old told waits lines.new × C.gives clock.old (readings_in told) clock.new) ((lines.new ≡ lines.old) × (clock.new ≡ clock.old)) (L.failed lines.new) (L.over lines.new) }
 {
     // what is known of the schedule that is run
     let _ = director.schedule().runs();
-    let workers = crews.len();
-    let Ok(equipment) = equip::<D, G, O>(alloc, blank, lane_count, workers) else {
+    let count = crews.len();
+    let Ok(equipment) = equip::<D, G, O>(alloc, blank, lane_count, count) else {
         return Conducted {
             director,
             minutes: Vec::new(alloc),
@@ -127,11 +128,11 @@ fn conduct_at<
         lanes,
         desk,
         pass,
-        posts,
+        workers,
         room,
     } = equipment;
     let managed = manage(
-        rt, alloc, &lanes, &desk, lane_count, director, pass, posts, crews, lines, clock,
+        rt, alloc, &lanes, &desk, lane_count, director, pass, workers, crews, lines, clock,
     );
     close(rt, alloc, lanes, desk, room, managed)
 }

@@ -2,13 +2,12 @@
 ghost use Rattle.std.specs.Prelude.{◌≡◌, ◌+◌, ◌*◌, ◌<◌, ◌≤◌, max, [], All, IfOk, length, vec_capacity};
 ghost use Rattle.ruled_dispatch.specs.Lanes.{sent_of, heard_of, taken_of, told_of, job_capacity_of, report_capacity_of, AreAllOf, AreNumbered};
 
-use crews::{Handle, Room};
 use operators::Operator;
 use ruled_dispatch::{DirectorPass, Lanes, WorkerPass};
 use slot_desk::{Share, SlotDesk};
 use std::alloc::{AllocError, Global};
 use std::sync::ledger::{Blank, Ledger};
-use work::Gate;
+use workers::{Gate, Handle, ResultRoom};
 
 /// The lanes and the desk, with a pass and a share for each worker, and room for what comes back.
 #[derive(Drop)]
@@ -16,13 +15,13 @@ pub(crate) struct Equipment<D: Ledger, G: Gate, O: Operator> {
     pub lanes: Lanes,
     pub desk: SlotDesk<D>,
     pub pass: DirectorPass,
-    pub posts: Posts<D, G, O>,
-    pub room: Room<D, G, O>,
+    pub workers: Workers<D, G, O>,
+    pub room: ResultRoom<D, G, O>,
 }
 
 /// What the workers get, and room for their threads.
 #[derive(Drop)]
-pub(crate) struct Posts<D: Ledger, G: Gate, O: Operator> {
+pub(crate) struct Workers<D: Ledger, G: Gate, O: Operator> {
     pub handles: Vec<Handle<D, G, O>>,
     pub passes: Vec<WorkerPass>,
     pub shares: Vec<Share<D>>,
@@ -33,26 +32,26 @@ pub(crate) fn equip<D: Ledger, G: Gate, O: Operator>(
     alloc: Global,
     blank: Blank,
     lane_count: u32,
-    workers: usize,
+    count: usize,
 ) -> Result<Equipment<D, G, O>, AllocError>
     requires lanes { lane_count ≤ 64 }
-    requires workers { (0 < workers) × (workers ≤ 16) }
+    requires workers { (0 < count) × (count ≤ 16) }
     requires name { blank.name ≡ D.name }
-    requires parts { (blank.parts ≡ D.parts) × (blank.parts ≡ workers) }
-    ensures queues { IfOk result (λ q. (job_capacity_of q.lanes ≡ lane_count + workers) × (report_capacity_of q.lanes ≡ max 1 (2 * lane_count))) }
-    ensures all { IfOk result (λ q. AreAllOf q.lanes q.pass q.posts.passes.items) }
-    ensures numbers { IfOk result (λ q. AreNumbered q.posts.passes.items) }
-    ensures workers { IfOk result (λ q. (length q.posts.passes.items ≡ workers) × (length q.posts.shares.items ≡ workers)) }
+    requires parts { (blank.parts ≡ D.parts) × (blank.parts ≡ count) }
+    ensures queues { IfOk result (λ q. (job_capacity_of q.lanes ≡ lane_count + count) × (report_capacity_of q.lanes ≡ max 1 (2 * lane_count))) }
+    ensures all { IfOk result (λ q. AreAllOf q.lanes q.pass q.workers.passes.items) }
+    ensures numbers { IfOk result (λ q. AreNumbered q.workers.passes.items) }
+    ensures workers { IfOk result (λ q. (length q.workers.passes.items ≡ count) × (length q.workers.shares.items ≡ count)) }
     ensures unused { IfOk result (λ q. (sent_of q.pass ≡ []) × (heard_of q.pass ≡ [])) }
-    ensures new { IfOk result (λ q. All (λ w. taken_of w ≡ []) q.posts.passes.items × All (λ w. told_of w ≡ []) q.posts.passes.items) }
-    ensures none { IfOk result (λ q. All (λ share. share ≡ []) q.posts.shares.items) }
-    ensures room { IfOk result (λ q. (q.posts.handles.items ≡ []) × (workers ≤ vec_capacity q.posts.handles) × (q.room ≡ workers)) }
+    ensures new { IfOk result (λ q. All (λ w. taken_of w ≡ []) q.workers.passes.items × All (λ w. told_of w ≡ []) q.workers.passes.items) }
+    ensures none { IfOk result (λ q. All (λ share. share ≡ []) q.workers.shares.items) }
+    ensures room { IfOk result (λ q. (q.workers.handles.items ≡ []) × (count ≤ vec_capacity q.workers.handles) × (q.room ≡ count)) }
 {
-    let handles = Vec::with_capacity(alloc, workers)?;
-    let room = Room::new(alloc, workers)?;
-    let (desk, shares) = SlotDesk::open(alloc, blank, workers)?;
-    let (lanes, pass, passes) = Lanes::open(alloc, lane_count as usize, workers)?;
-    let posts = Posts {
+    let handles = Vec::with_capacity(alloc, count)?;
+    let room = ResultRoom::new(alloc, count)?;
+    let (desk, shares) = SlotDesk::open(alloc, blank, count)?;
+    let (lanes, pass, passes) = Lanes::open(alloc, lane_count as usize, count)?;
+    let workers = Workers {
         handles,
         passes,
         shares,
@@ -61,7 +60,7 @@ pub(crate) fn equip<D: Ledger, G: Gate, O: Operator>(
         lanes,
         desk,
         pass,
-        posts,
+        workers,
         room,
     })
 }

@@ -5,11 +5,11 @@
 ghost use Rattle.std.specs.Prelude.{◌≡◌};
 ghost use Rattle.sqlite.specs.Held.{state};
 ghost use Rattle.sessions.specs.History.{readings_in};
+ghost use Rattle.workers.specs.Shows.{shows};
 ghost use Rattle.conduct.specs.Served.{IsReady, IsManaged};
 
-use crate::equipment::Posts;
+use crate::equipment::Workers;
 use crate::serving::{Served, Started, serve};
-use crews::{Worked, join_all, start_all};
 use operators::Operator;
 use ruled_dispatch::{DirectorPass, Lanes};
 use sessions::{Clock, ConductFault, Director, Lines, Parted};
@@ -20,7 +20,7 @@ use std::sync::Wait;
 use std::sync::ledger::Ledger;
 use std::thread;
 use std::thread::{Scope, Threads};
-use work::{Crew, Gate};
+use workers::{Crew, Gate, Worked, join_all, start_all};
 
 /// What came of the threads: what is left of the session, how it ended, and what each worker that was started gave back.
 #[derive(Drop)]
@@ -57,14 +57,14 @@ pub(crate) fn manage<
     lane_count: u32,
     director: Director<S>,
     pass: DirectorPass,
-    posts: Posts<D, G, O>,
+    workers: Workers<D, G, O>,
     crews: Vec<Crew<G, O>>,
     lines: &mut L,
     clock: &mut C,
 ) -> Managed<D, S, G, O>
-    requires { IsReady O.kind_of lanes.now lane_count director pass posts crews.items
+    requires { IsReady O.kind_of lanes.now lane_count director pass workers crews.items
         (L.failed lines.old) }
-    ensures managed { IsManaged (state S.Store) O.kind_of O.runs_of O.refused_of O.taken lanes.now lane_count director pass posts crews.items result.parted result.outcome result.results.items
+    ensures managed { IsManaged (state S.Store) (shows O.kind_of O.runs_of O.refused_of O.taken) lanes.now lane_count director pass workers crews.items result.parted result.outcome result.results.items
         (λ told waits. L.tells lines.old told waits lines.new × C.gives clock.old (readings_in told) clock.new) ((lines.new ≡ lines.old) × (clock.new ≡ clock.old)) (L.failed lines.new) (L.over lines.new) }
 {
     let Lent {
@@ -74,7 +74,7 @@ pub(crate) fn manage<
         lines: lent_lines,
         clock: lent_clock,
     } = in_scope(
-        rt, alloc, lanes, desk, lane_count, director, pass, posts, crews, lines, clock,
+        rt, alloc, lanes, desk, lane_count, director, pass, workers, crews, lines, clock,
     );
     release(lent_lines, lent_clock);
     Managed {
@@ -108,29 +108,29 @@ fn in_scope<
     lane_count: u32,
     director: Director<S>,
     pass: DirectorPass,
-    posts: Posts<D, G, O>,
+    workers: Workers<D, G, O>,
     crews: Vec<Crew<G, O>>,
     lines: &'l mut L,
     clock: &'c mut C,
 ) -> Lent<'l, 'c, D, S, G, O, L, C>
-    requires { IsReady O.kind_of lanes.now lane_count director pass posts crews.items
+    requires { IsReady O.kind_of lanes.now lane_count director pass workers crews.items
         (L.failed lines.old) }
     ensures lent { (result.lines.ghost_name ≡ lines.entry.ghost_name) × (result.clock.ghost_name ≡ clock.entry.ghost_name) }
-    ensures managed { IsManaged (state S.Store) O.kind_of O.runs_of O.refused_of O.taken lanes.now lane_count director pass posts crews.items result.parted result.outcome result.results.items
+    ensures managed { IsManaged (state S.Store) (shows O.kind_of O.runs_of O.refused_of O.taken) lanes.now lane_count director pass workers crews.items result.parted result.outcome result.results.items
         (λ told waits. L.tells lines.old told waits result.lines.now × C.gives clock.old (readings_in told) result.clock.now) ((result.lines.now ≡ lines.old) × (result.clock.now ≡ clock.old)) (L.failed result.lines.now) (L.over result.lines.now) }
 {
     thread::scope(
         thread::scope_env(),
         rt,
         move |scope| -> Lent<'_, '_, D, S, G, O, L, C>
-            requires { IsReady O.kind_of lanes.now lane_count director pass posts crews.items
+            requires { IsReady O.kind_of lanes.now lane_count director pass workers crews.items
                 (L.failed lines.now) }
             ensures lent { (result.lines.ghost_name ≡ lines.entry.ghost_name) × (result.clock.ghost_name ≡ clock.entry.ghost_name) }
-            ensures managed { IsManaged (state S.Store) O.kind_of O.runs_of O.refused_of O.taken lanes.entry.now lane_count director pass posts crews.items result.parted result.outcome result.results.items
+            ensures managed { IsManaged (state S.Store) (shows O.kind_of O.runs_of O.refused_of O.taken) lanes.entry.now lane_count director pass workers crews.items result.parted result.outcome result.results.items
                 (λ told waits. L.tells lines.entry.now told waits result.lines.now × C.gives clock.entry.now (readings_in told) result.clock.now) ((result.lines.now ≡ lines.entry.now) × (result.clock.now ≡ clock.entry.now)) (L.failed result.lines.now) (L.over result.lines.now) }
         {
             run(
-                scope, rt, alloc, lanes, desk, lane_count, director, pass, posts, crews, lines,
+                scope, rt, alloc, lanes, desk, lane_count, director, pass, workers, crews, lines,
                 clock,
             )
         },
@@ -159,22 +159,22 @@ fn run<
     lane_count: u32,
     director: Director<S>,
     pass: DirectorPass,
-    posts: Posts<D, G, O>,
+    workers: Workers<D, G, O>,
     crews: Vec<Crew<G, O>>,
     lines: &'l mut L,
     clock: &'c mut C,
 ) -> Lent<'l, 'c, D, S, G, O, L, C>
-    requires { IsReady O.kind_of lanes.now lane_count director pass posts crews.items
+    requires { IsReady O.kind_of lanes.now lane_count director pass workers crews.items
         (L.failed lines.old) }
     ensures lent { (result.lines.ghost_name ≡ lines.entry.ghost_name) × (result.clock.ghost_name ≡ clock.entry.ghost_name) }
-    ensures managed { IsManaged (state S.Store) O.kind_of O.runs_of O.refused_of O.taken lanes.now lane_count director pass posts crews.items result.parted result.outcome result.results.items
+    ensures managed { IsManaged (state S.Store) (shows O.kind_of O.runs_of O.refused_of O.taken) lanes.now lane_count director pass workers crews.items result.parted result.outcome result.results.items
         (λ told waits. L.tells lines.old told waits result.lines.now × C.gives clock.old (readings_in told) result.clock.now) ((result.lines.now ≡ lines.old) × (result.clock.now ≡ clock.old)) (L.failed result.lines.now) (L.over result.lines.now) }
 {
-    let Posts {
+    let Workers {
         mut handles,
         passes,
         shares,
-    } = posts;
+    } = workers;
     let are_all = start_all(
         scope,
         rt,

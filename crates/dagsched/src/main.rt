@@ -11,6 +11,11 @@
 //! person.
 #![tactic(auto)]
 
+ghost use Rattle.std.specs.Prelude.{◌≡◌, IfOk, map, string_bytes};
+ghost use Rattle.sqlite.specs.WalFiles.{image_at};
+ghost use Rattle.dagsched.specs.Commands.{is_of_scripts};
+ghost use Rattle.dagsched.specs.Words.{AreWordsDone, IsLineDone};
+
 mod records;
 mod scripts;
 mod telling;
@@ -18,9 +23,13 @@ mod usage;
 mod volatile;
 
 use crate::records::{in_file, in_memory};
-use crate::scripts::make_logs;
-use crate::usage::{put_refusal, put_unreadable, put_usage};
+use crate::scripts::{OwnOperator, make_logs};
+use crate::usage::{put_fault, put_unreadable, put_usage};
+use crate::volatile::Volatile;
 use command_words::{Command, CommandLine, UsageFault, read_command};
+use operators::Operator;
+use sqlite_disk::{Disk, Start, Unknown};
+use sqlite_std_file::File;
 use std::alloc::{AllocError, Global};
 use std::env;
 use std::io::{self, ErrorKind};
@@ -47,16 +56,10 @@ fn out_of_memory(rt: &HostRuntime) -> u8 {
 }
 
 fn run_words<T: Threads + Wait + Sync>(threads: &T, rt: &HostRuntime) -> io::Result<u8> {
-    let words = match own_words(rt) {
-        Ok(words) => words,
-        Err(error) if error.kind() == ErrorKind::InvalidData => return put_unreadable(rt),
-        Err(error) => return Err(error),
-    };
-    match read_command(rt.alloc(), words.as_slice()) {
-        Ok(line) => do_line(threads, rt, line, words),
-        Err(UsageFault::Memory) => Err(io::Error::from(ErrorKind::OutOfMemory)),
-        Err(UsageFault::Words) => put_refusal(rt, words.as_slice()),
-        Err(fault) => put_usage(rt, fault, words.as_slice()),
+    match own_words(rt) {
+        Ok(words) => do_words(threads, rt, words),
+        Err(error) if error.kind() == ErrorKind::InvalidData => put_unreadable(rt),
+        Err(error) => Err(error),
     }
 }
 
@@ -82,13 +85,32 @@ fn help_of(alloc: Global, words: &[String]) -> Result<Vec<String>, AllocError> {
     Ok(asked)
 }
 
+// Does what these words ask for, which stand without the program's name.
+fn do_words<T: Threads + Wait + Sync>(
+    threads: &T,
+    rt: &HostRuntime,
+    words: Vec<String>,
+) -> io::Result<u8>
+    ensures { IfOk result (λ status. AreWordsDone ⟦<Volatile as Disk>⟧ ⟦<File as Disk>⟧
+        (image_at ⟦<Unknown as Start>⟧) ⟦<OwnOperator as Operator>⟧
+        (map string_bytes words.items) status) }
+{
+    match read_command(rt.alloc(), words.as_slice()) {
+        Ok(line) => do_line(threads, rt, line, words),
+        Err(fault) => put_fault(rt, fault, words.as_slice()),
+    }
+}
+
 // Does the command, if it has its place here.
 fn do_line<T: Threads + Wait + Sync>(
     threads: &T,
     rt: &HostRuntime,
     line: CommandLine,
     words: Vec<String>,
-) -> io::Result<u8> {
+) -> io::Result<u8>
+    ensures { IfOk result (λ status. IsLineDone ⟦<Volatile as Disk>⟧ ⟦<File as Disk>⟧
+        (image_at ⟦<Unknown as Start>⟧) ⟦<OwnOperator as Operator>⟧ line status) }
+{
     let CommandLine {
         record_path,
         command,
@@ -107,7 +129,9 @@ fn do_line<T: Threads + Wait + Sync>(
 }
 
 // Whether the command is for scripts alone.
-fn is_of_scripts(command: &Command) -> bool {
+fn is_of_scripts(command: &Command) -> bool
+    ensures { result ≡ is_of_scripts command.now }
+{
     matches!(
         command,
         Command::Take(_, _) | Command::Tick(_) | Command::Drain

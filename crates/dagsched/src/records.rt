@@ -1,7 +1,14 @@
 //! The record on which a command is done.
-ghost use Rattle.std.specs.Prelude.{◌≡◌, false, IfOk, IsTrue};
+ghost use Rattle.std.specs.Prelude.{◌≡◌, false, IfOk, IfSome, IsTrue, MatchResult};
+ghost use Rattle.sqlite.specs.Files.{file_state, Finds, IsOpened};
+ghost use Rattle.sqlite.specs.Held.{state};
+ghost use Rattle.sqlite.specs.State.{HasCleanDisk};
+ghost use Rattle.sqlite.specs.WalFiles.{image_at};
+ghost use Rattle.script_reader.specs.Statuses.{failure_status};
+ghost use Rattle.dagsched.specs.Commands.{IsCommandDone, IsSingleDone};
+ghost use Rattle.dagsched.specs.Records.{IsClosedWith, IsDoneInFile, IsDoneInFiles, IsDoneInMemory, IsDoneOn, IsDoneOnFile};
 
-use crate::scripts::run_script;
+use crate::scripts::{OwnOperator, run_script};
 use crate::telling::{
     tell_fault, tell_made, tell_migrated, tell_unanswered, tell_unkept, tell_unopened,
 };
@@ -12,9 +19,12 @@ use command_words::Command;
 use director::Fault;
 use fault_sentences::SentenceConsole;
 use meta_store::Store;
+use operators::Operator;
 use record_files::open_database;
 use script_reader::failure_status;
-use sqlite::{Alter, Connection, Error, ErrorCode, FileStore, Files, Options, Start, Unknown};
+use sqlite::{
+    Alter, Connection, Error, ErrorCode, FileFrom, FileStore, Files, Options, Start, Unknown,
+};
 use sqlite_disk::Disk;
 use std::alloc::Global;
 use std::fs;
@@ -29,11 +39,33 @@ pub fn in_file<T: Threads + Wait + Sync>(
     path: &str,
     command: &Command,
     words: Vec<String>,
-) -> io::Result<u8> {
-    on_path(threads, rt, path, Unknown, command, words)
+) -> io::Result<u8>
+    ensures { IfOk result (λ status. IsDoneInFile ⟦<FileFrom<Unknown> as Disk>⟧
+        ⟦<OwnOperator as Operator>⟧ (image_at ⟦<Unknown as Start>⟧) command.now status) }
+{
+    in_file_from(threads, rt, path, Unknown, command, words)
 }
 
 // The same, whatever the file and its log hold at first, for which `start` stands: no code can read it.
+fn in_file_from<F: Start, T: Threads + Wait + Sync>(
+    threads: &T,
+    rt: &HostRuntime,
+    path: &str,
+    start: F,
+    command: &Command,
+    words: Vec<String>,
+) -> io::Result<u8>
+    ensures { IfOk result (λ status. IsDoneInFile ⟦<FileFrom<F> as Disk>⟧
+        ⟦<OwnOperator as Operator>⟧ (image_at F.Start) command.now status) }
+{
+    match on_path(threads, rt, path, start, command, words)? {
+        Some((conn, status)) => Ok(close(conn, status)),
+        None => Ok(3),
+    }
+}
+
+// Does the command on the record in this file, and gives its database back, with the status. Where the file is not opened, that is told, with the status 3,
+// and there is none.
 fn on_path<F: Start, T: Threads + Wait + Sync>(
     threads: &T,
     rt: &HostRuntime,
@@ -41,39 +73,46 @@ fn on_path<F: Start, T: Threads + Wait + Sync>(
     start: F,
     command: &Command,
     words: Vec<String>,
-) -> io::Result<u8> {
+) -> io::Result<Option<(Connection<FileStore<FileFrom<F>>>, u8)>>
+    ensures { IfOk result (λ done. IfSome done (λ d. IsDoneOnFile ⟦<FileFrom<F> as Disk>⟧
+        ⟦<OwnOperator as Operator>⟧ (image_at F.Start) command.now d.0 d.1)) }
+{
     let was_there = fs::metadata(rt, path).is_ok();
     match open_database(rt, path, start) {
         Ok(conn) => {
-            if !was_there {
-                tell_made(rt, path);
-            }
-            on_file(threads, rt, conn, path, command, words)
+            tell_unless(rt, path, was_there);
+            let done = on_connection(threads, rt, conn, Some(path), command, words)?;
+            Ok(Some(done))
         }
-        Err(error) => put_unopened(rt, path, error),
+        Err(error) => {
+            put_unopened(rt, path, error)?;
+            Ok(None)
+        }
     }
 }
 
-// Does the command on the database of a file, and closes the file.
-fn on_file<D: Disk + Drop, T: Threads + Wait + Sync>(
-    threads: &T,
-    rt: &HostRuntime,
-    conn: Connection<FileStore<D>>,
-    path: &str,
-    command: &Command,
-    words: Vec<String>,
-) -> io::Result<u8>
-    requires { conn.in_transaction ≡ false }
+// Tells that the file was made, unless it was there.
+fn tell_unless(rt: &HostRuntime, path: &str, was_there: bool) {
+    if !was_there {
+        tell_made(rt, path);
+    }
+}
+
+// Closes the file of a database; the status, where that of the command is this one.
+fn close<D: Disk + Drop>(conn: Connection<FileStore<D>>, status: u8) -> u8
+    ensures { IsClosedWith conn status result }
 {
-    let (conn, status) = on_connection(threads, rt, conn, Some(path), command, words)?;
-    match conn.close() {
-        Ok(()) => Ok(status),
-        Err(_) => Ok(status.max(3)),
+    match conn.close_files() {
+        Ok(_files) => status,
+        Err((_, store)) => {
+            drop(store.close());
+            status.max(3)
+        }
     }
 }
 
-// Prints that SQLite does not open the file, and tells why; the status.
-fn put_unopened(rt: &HostRuntime, path: &str, error: Error) -> io::Result<u8> {
+// Prints that SQLite does not open the file, and tells why.
+fn put_unopened(rt: &HostRuntime, path: &str, error: Error) -> io::Result<()> {
     match error {
         Error::SqliteFailure(ErrorCode::OutOfMemory) => {
             Err(io::Error::from(ErrorKind::OutOfMemory))
@@ -81,7 +120,7 @@ fn put_unopened(rt: &HostRuntime, path: &str, error: Error) -> io::Result<u8> {
         error => {
             put(&mut rt.stdout(), Shown::Unopened)?;
             tell_unopened(rt, path, error);
-            Ok(3)
+            Ok(())
         }
     }
 }
@@ -92,7 +131,10 @@ pub fn in_memory<T: Threads + Wait + Sync>(
     rt: &HostRuntime,
     command: &Command,
     words: Vec<String>,
-) -> io::Result<u8> {
+) -> io::Result<u8>
+    ensures { IfOk result (λ status. IsDoneInMemory ⟦<Volatile as Disk>⟧
+        ⟦<OwnOperator as Operator>⟧ command.now status) }
+{
     let alloc = rt.alloc();
     // gone with the program
     let files = Files {
@@ -114,6 +156,8 @@ fn in_files<D: Disk + Drop, T: Threads + Wait + Sync>(
 ) -> io::Result<u8>
     requires log { IsTrue (D.Disk.is_usable files.log) }
     requires db { IsTrue (D.Disk.is_usable files.db) }
+    ensures { IfOk result (λ status. IsDoneInFiles D.Disk ⟦<OwnOperator as Operator>⟧
+        command.now files status) }
 {
     let conn = new_database(rt.alloc(), files)?;
     let (_conn, status) = on_connection(threads, rt, conn, None, command, words)?;
@@ -126,7 +170,9 @@ fn new_database<D: Disk + Drop>(
 ) -> io::Result<Connection<FileStore<D>>>
     requires log { IsTrue (D.Disk.is_usable files.log) }
     requires db { IsTrue (D.Disk.is_usable files.db) }
-    ensures { IfOk result (λ conn. conn.in_transaction ≡ false) }
+    ensures settled { IfOk result (λ conn. conn.in_transaction ≡ false) }
+    ensures found { IfOk result (λ conn. HasCleanDisk (file_state conn)
+        → IsOpened conn × Finds files conn) }
 {
     match Connection::open_files(alloc, files, Options::new(1)) {
         Ok(conn) => Ok(conn),
@@ -148,6 +194,9 @@ fn on_connection<S: Alter + Drop, T: Threads + Wait + Sync>(
     words: Vec<String>,
 ) -> io::Result<(Connection<S>, u8)>
     requires { conn.in_transaction ≡ false }
+    ensures done { IfOk result (λ r. IsDoneOn (state S.Store) ⟦<OwnOperator as Operator>⟧
+        command.now conn r.0 r.1) }
+    ensures settled { IfOk result (λ r. r.0.in_transaction ≡ false) }
 {
     if !conn.schema().tables.as_slice().is_empty() {
         return on_store(threads, rt, Store::adopt(conn), path, command, words);
@@ -169,15 +218,24 @@ fn on_store<S: Alter + Drop, T: Threads + Wait + Sync>(
     path: Option<&str>,
     command: &Command,
     words: Vec<String>,
-) -> io::Result<(Connection<S>, u8)> {
+) -> io::Result<(Connection<S>, u8)>
+    ensures done { IfOk result (λ r. IsCommandDone (state S.Store) ⟦<OwnOperator as Operator>⟧
+        command.now store r.0 r.1) }
+    ensures settled { IfOk result (λ r. r.0.in_transaction ≡ false) }
+{
     let had_limits = store.has_limits();
     let (store, status) = run(threads, rt, store, command, words)?;
+    tell_version(rt, path, had_limits, store.has_limits());
+    Ok((store.release(), status))
+}
+
+// Tells that the record in this file, if it is in one, had no limits and has some now, so that it is of version 2.
+fn tell_version(rt: &HostRuntime, path: Option<&str>, had_limits: bool, has_limits: bool) {
     if let Some(path) = path {
-        if !had_limits && store.has_limits() {
+        if !had_limits && has_limits {
             tell_migrated(rt, path);
         }
     }
-    Ok((store.release(), status))
 }
 
 fn run<S: Alter + Drop, T: Threads + Wait + Sync>(
@@ -186,10 +244,18 @@ fn run<S: Alter + Drop, T: Threads + Wait + Sync>(
     store: Store<S>,
     command: &Command,
     words: Vec<String>,
-) -> io::Result<(Store<S>, u8)> {
+) -> io::Result<(Store<S>, u8)>
+    ensures { IfOk result (λ r. IsCommandDone (state S.Store) ⟦<OwnOperator as Operator>⟧
+        command.now store r.0 r.1) }
+{
     match command {
         Command::Run(options) => run_script(threads, rt, store, options, words),
-        _ => run_single(rt, store, command, words),
+        Command::List(_)
+        | Command::Explain(_)
+        | Command::Step(_)
+        | Command::Take(_, _)
+        | Command::Tick(_)
+        | Command::Drain => run_single(rt, store, command, words),
     }
 }
 
@@ -199,7 +265,9 @@ fn run_single<S: Alter + Drop>(
     store: Store<S>,
     command: &Command,
     words: Vec<String>,
-) -> io::Result<(Store<S>, u8)> {
+) -> io::Result<(Store<S>, u8)>
+    ensures { IfOk result (λ r. IsSingleDone (state S.Store) command.now store r.0 r.1) }
+{
     let alloc = rt.alloc();
     let mut output = BufWriter::new(alloc, rt.stdout())?;
     let mut console = SentenceConsole::in_memory(*rt, alloc, words);
@@ -211,7 +279,9 @@ fn run_single<S: Alter + Drop>(
 }
 
 // The status of a command whose answer was written out so.
-fn status_of(rt: &HostRuntime, status: u8, flushed: io::Result<()>) -> u8 {
+fn status_of(rt: &HostRuntime, status: u8, flushed: io::Result<()>) -> u8
+    ensures { MatchResult flushed (λ _. result ≡ status) (λ _. result ≡ 4) }
+{
     match flushed {
         Ok(()) => status,
         Err(error) => {
@@ -222,7 +292,9 @@ fn status_of(rt: &HostRuntime, status: u8, flushed: io::Result<()>) -> u8 {
 }
 
 /// Prints why a record is not opened, and tells it; the status.
-pub fn put_failure(rt: &HostRuntime, fault: &Fault) -> io::Result<u8> {
+pub fn put_failure(rt: &HostRuntime, fault: &Fault) -> io::Result<u8>
+    ensures { IfOk result (λ status. status ≡ failure_status fault.now) }
+{
     put(&mut rt.stdout(), Shown::Failure(fault))?;
     tell_fault(rt, &[], Shown::Failure(fault));
     Ok(failure_status(fault))

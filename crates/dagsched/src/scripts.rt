@@ -1,11 +1,17 @@
 //! A script that is run on a record.
+ghost use Rattle.std.specs.Prelude.{◌≡◌, IfOk, is_some, false, true};
+ghost use Rattle.sqlite.specs.Held.{state};
+ghost use Rattle.dagsched.specs.Commands.{logs_of};
+ghost use Rattle.dagsched.specs.Scripts.{IsScriptDone, IsScriptOf};
+
 use crate::records::put_failure;
 use crate::telling::tell;
 use command_words::{Command, FilePath, ScriptOptions};
 use fault_sentences::SentenceConsole;
 use meta_store::Store;
+use operators::{Operator, Program};
 use script_reader::{Console, Script, Sources};
-use script_runner::{FileSources, SystemClock, operators_for, run_team};
+use script_runner::{FileSources, SystemClock, TaskOperator, operators_for, run_team};
 use sqlite::Alter;
 use sqlite_disk::{Files, Unknown};
 use sqlite_std_file::{File, OpenError};
@@ -23,6 +29,9 @@ const DEFAULT_WORKERS: u32 = 2;
 // Where the system looks for programs without a PATH.
 const DEFAULT_PATH: &str = "/bin:/usr/bin";
 
+/// What performs the tries of a script.
+pub type OwnOperator = TaskOperator<Program<HostRuntime>>;
+
 // The script of standard input.
 type OwnScript = Script<
     BufReader<Stdin>,
@@ -38,7 +47,10 @@ pub fn run_script<S: Alter + Drop, T: Threads + Wait + Sync>(
     store: Store<S>,
     options: &ScriptOptions,
     words: Vec<String>,
-) -> io::Result<(Store<S>, u8)> {
+) -> io::Result<(Store<S>, u8)>
+    ensures { IfOk result (λ r. IsScriptDone (state S.Store) ⟦<OwnOperator as Operator>⟧ options.now
+        store r.0 r.1) }
+{
     let scratch = options.scratch.as_str();
     make_scratch(rt, scratch);
     match hold(rt, scratch) {
@@ -60,7 +72,10 @@ fn run_own<S: Alter + Drop, T: Threads + Wait + Sync>(
     store: Store<S>,
     options: &ScriptOptions,
     words: Vec<String>,
-) -> io::Result<(Store<S>, u8)> {
+) -> io::Result<(Store<S>, u8)>
+    ensures { IfOk result (λ r. IsScriptDone (state S.Store) ⟦<OwnOperator as Operator>⟧ options.now
+        store r.0 r.1) }
+{
     let script = own_script(rt, words)?;
     let scratch = whole_path(rt, options.scratch.as_str())?;
     run_by_team(threads, rt, store, options, scratch.as_str(), script)
@@ -112,7 +127,11 @@ fn run_by_team<
     options: &ScriptOptions,
     scratch: &str,
     script: Script<R, W, F, P>,
-) -> io::Result<(Store<S>, u8)> {
+) -> io::Result<(Store<S>, u8)>
+    ensures { IfOk result (λ r. IsScriptOf (state S.Store) ⟦<OwnOperator as Operator>⟧
+        (R.Read.remaining script.input) F.gives W.contents options.now script.sources script.output
+        store r.0 r.1) }
+{
     let alloc = rt.alloc();
     let logs = options.logs.as_ref().map(FilePath::as_str);
     let team = operators_for(*rt, alloc, options.workers.get(), scratch, logs)?;
@@ -136,7 +155,9 @@ fn run_by_team<
 
 /// Makes the folder of the logs, if the command names one that is not there; whether the command may go on. Where there is no such folder, or nothing
 /// can be made in it, that is told. An error is that memory ran out.
-pub fn make_logs(rt: &HostRuntime, command: &Command) -> io::Result<bool> {
+pub fn make_logs(rt: &HostRuntime, command: &Command) -> io::Result<bool>
+    ensures { IfOk result (λ may. may ≡ false → is_some (logs_of command.now) ≡ true) }
+{
     let Command::Run(options) = command else {
         return Ok(true);
     };

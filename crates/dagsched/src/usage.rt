@@ -1,13 +1,35 @@
 //! What is said of words that are no command.
+ghost use Rattle.std.specs.Prelude.{◌≡◌, ◌≢◌, IfOk, map, string_bytes};
+ghost use Rattle.dagsched.specs.Words.{IsToldOf};
+
 use crate::telling::{tell, tell_fault};
 use answer_lines::{Shown, put};
 use command_words::{UsageFault, help_text, refusal_text};
 use script_commands::CommandFault;
 use std::alloc::AllocError;
-use std::{fs, io};
+use std::fs;
+use std::io::{self, ErrorKind};
 
-/// Prints the help where the words ask for it, and else says why clap refuses them; the status.
-pub fn put_refusal(rt: &HostRuntime, words: &[String]) -> io::Result<u8> {
+/// Says why the words are no command, which is printed as help where they ask for it; the status. An error is that nothing could be said, or that memory
+/// ran out.
+pub fn put_fault(rt: &HostRuntime, fault: UsageFault, words: &[String]) -> io::Result<u8>
+    ensures { IfOk result (λ s. (fault ≢ UsageFault.Memory)
+        × IsToldOf fault (map string_bytes words.now) s) }
+{
+    match fault {
+        UsageFault::Memory => Err(io::Error::from(ErrorKind::OutOfMemory)),
+        UsageFault::Words => put_refusal(rt, words),
+        UsageFault::BadName
+        | UsageFault::BadMoment(_)
+        | UsageFault::NotHere
+        | UsageFault::BadLine => put_usage(rt, fault, words),
+    }
+}
+
+// Prints the help where the words ask for it, and else says why clap refuses them; the status.
+fn put_refusal(rt: &HostRuntime, words: &[String]) -> io::Result<u8>
+    ensures { IfOk result (λ s. IsToldOf UsageFault.Words (map string_bytes words.now) s) }
+{
     match help_text(rt.alloc(), words)? {
         Some(text) => {
             print!(rt; "{text}")?;
@@ -26,7 +48,9 @@ pub fn put_unreadable(rt: &HostRuntime) -> io::Result<u8> {
 }
 
 /// Says on standard error why the words are no command, and how to use the program where clap refuses them; the status.
-pub fn put_usage(rt: &HostRuntime, fault: UsageFault, words: &[String]) -> io::Result<u8> {
+pub fn put_usage(rt: &HostRuntime, fault: UsageFault, words: &[String]) -> io::Result<u8>
+    ensures { IfOk result (λ s. s ≡ 2) }
+{
     let fault_line = CommandFault::Usage(fault);
     put(&mut rt.stderr(), Shown::NoCommand(fault_line))?;
     if fault == UsageFault::Words {

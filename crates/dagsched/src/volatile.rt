@@ -1,5 +1,5 @@
 //! A file in memory, which is gone with the program.
-ghost use Rattle.std.specs.Prelude.{◌≡◌, length, true, false, refl, is_ok, OnOk};
+ghost use Rattle.std.specs.Prelude.{◌≡◌, [], length, true, false, refl, is_ok, OnOk};
 ghost use Rattle.sqlite_disk.specs.Disk.{Cut, CountsFault, Holds, Torn};
 ghost use Rattle.sqlite_disk.specs.Refusal.{finds_no_room};
 ghost use Rattle.sqlite.specs.Files.{file_state};
@@ -21,7 +21,9 @@ pub struct Volatile {
 
 impl Volatile {
     /// An empty file.
-    pub fn new(alloc: Global) -> Volatile {
+    pub fn new(alloc: Global) -> Volatile
+        ensures { result.bytes.items ≡ [] }
+    {
         Volatile {
             bytes: Vec::new(alloc),
             faults: 0,

@@ -15,7 +15,8 @@ const QUEUED: &str =
     "the run of {} waits until others of the graph end: at most {} run at once (max_active_runs)";
 
 // The same where those that are running may wait for it.
-const HELD: &str = "the run of {} waits for one of the {} that are running (max_active_runs), and these may wait for it (depends_on_past): replace the graph by its text with max_active_runs = 1000000";
+const HELD: &str =
+    "the run of {} waits for one of the {} that are running (max_active_runs), and these may wait for it (depends_on_past): replace the graph by its text with max_active_runs = 1000000";
 
 /// What a command was to do with the runs of a graph from one date to another.
 #[derive(Drop)]

@@ -1,5 +1,5 @@
 //! Sentences on the logs of tries that failed, and on programs that were not started.
-use crate::parts::Part::{Date, Number, Text};
+use crate::parts::Part::{Date, Text};
 use crate::parts::say;
 use crate::programs::{Search, program_of};
 use graph_file::TaskSpec;
@@ -93,34 +93,33 @@ impl Failure {
 
 impl Log {
     // That of the try with this number, below a folder.
-    fn of(
+    fn of<'a>(
         alloc: Global,
-        run: &Run,
+        run: &'a Run,
         task: &TaskSpec,
         number: usize,
-        logs: &str,
+        logs: &'a str,
     ) -> Result<Log, AllocError> {
         let mut folder = String::new(alloc);
-        let graph = Text(run.graph.as_str());
-        say(&mut folder, "{}/dag_id={}", &[Text(logs), graph])?;
-        let mut path = String::new(alloc);
-        say(
-            &mut path,
-            "{}/run_id={}__{}/task_id={}/attempt={}.log",
-            &[
-                Text(folder.as_str()),
-                Text(run.kind.name()),
-                Date(run.logical),
-                Text(task.task_id.as_str()),
-                Number(number as u64),
-            ],
-        )?;
+        let graph = run.graph.as_str();
+        say(&mut folder, "{}/dag_id={}", &[Text(logs), Text(graph)])?;
+        let mut path = String::from_str(alloc, folder.as_str())?;
+        path.push_str("/run_id=")?;
+        path.push_str(run.kind.name())?;
+        write!(path, "__{}", run.logical)?;
+        path.push_str("/task_id=")?;
+        path.push_str(task.task_id.as_str())?;
+        write!(path, "/attempt={number}.log")?;
         Ok(Log { folder, path })
     }
 }
 
 /// Adds `DAG LOGICAL TASK`.
-pub fn push_name(sentence: &mut String, run: &Run, task: &TaskSpec) -> Result<(), AllocError> {
+pub fn push_name<'a>(
+    sentence: &mut String,
+    run: &'a Run,
+    task: &'a TaskSpec,
+) -> Result<(), AllocError> {
     let (graph, task) = (run.graph.as_str(), task.task_id.as_str());
     say(
         sentence,

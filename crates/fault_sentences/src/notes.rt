@@ -332,13 +332,11 @@ fn place_of(schedule: &Schedule, serial: u64) -> Option<Placed<'_>> {
     for run in schedule.runs() {
         let graph = schedule.graph_of(&run.graph)?;
         for (place, instance) in run.instances.as_slice().iter().enumerate() {
-            match try_of(instance, serial) {
-                Some(one) if place < graph.dag.len() => {
-                    let task = graph.dag.task(place);
-                    let started = one.started;
+            if place < graph.dag.len() {
+                if let Some(one) = try_of(instance, serial) {
+                    let (task, started) = (graph.dag.task(place), one.started);
                     return Some(Placed { run, task, started });
                 }
-                _ => {}
             }
         }
     }

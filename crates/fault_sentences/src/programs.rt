@@ -51,7 +51,8 @@ impl Lack {
                 "has a carriage return at the end of its first line: save it with plain newlines"
             }
             Lack::Interpreter => "names a program in its first line that is not there",
-            Lack::Line => "is a text whose first line does not name what runs it, as #!/bin/sh does",
+            Lack::Line =>
+                "is a text whose first line does not name what runs it, as #!/bin/sh does",
         }
     }
 }

@@ -4,6 +4,7 @@ use Rattle.std.proofs.Math.Logic.{∥∥₁_map}
 use Rattle.sqlite_catalog.specs.Listing.{Lists}
 use Rattle.sqlite_catalog.proofs.ReadLemmas.{lists_once}
 use Rattle.sqlite_disk.specs.declared.Disk.{Ghosts}
+use Rattle.sqlite_disk.specs.declared.Files.{Files}
 use Rattle.sqlite_store.specs.declared.store.FileStore.{FileStore}
 use Rattle.sqlite_store.specs.FileStore.{recovers}
 use Rattle.sqlite_store.specs.Laws.{settled_at}
@@ -11,15 +12,16 @@ use Rattle.sqlite_trees.specs.Objects.{catalog_tree}
 use Rattle.sqlite_trees.specs.Tree.{Trees}
 use Rattle.sqlite_wal.specs.Recovery.{Image}
 use Rattle.sqlite_wal.proofs.LogLemmas.{SeenMayStay}
+use Rattle.sqlite.specs.Closing.{IsCopied}
 use Rattle.sqlite.specs.Effect.{Database, IsDatabase}
-use Rattle.sqlite.specs.Files.{file_state}
+use Rattle.sqlite.specs.Files.{file_state, HoldsDatabase}
 use Rattle.sqlite.specs.Held.{Held}
 use Rattle.sqlite.specs.Schema.{Schema}
 use Rattle.sqlite.specs.State.{HasCleanDisk, Survives}
 use Rattle.sqlite.proofs.Theorems.{next_run}
 use Rattle.director.specs.meta_store.record_tables.Holds.{Stores}
 use Rattle.director.specs.meta_store.Stores.{CommitsBy, Migrates, OpensBy}
-use Rattle.record_files.specs.Crashes.{IsConnection, IsFoundAround, IsOpenedOn, MayBeLeft}
+use Rattle.record_files.specs.Crashes.{IsConnection, IsFoundAround, IsLeftOf, IsOpenedOn, MayBeLeft}
 
 pub one_database : (a b : Database) → IsDatabase a → IsDatabase b → a.trees ≡ b.trees → a ≡ b
 one_database a b p q same =
@@ -50,6 +52,11 @@ leaves_itself : {D : Type 0} {g : Ghosts D} → SeenMayStay g → (h : Held (Fil
     → trees ≡ (file_state h).now.trees
 leaves_itself stays h is is_open outside trees may = settled_at h.store stays trees is_open may ∙ sym (is.settled is_open outside).0
 
+-- files that a close left so hold the last commit
+holds_last : {D : Type 0} {g : Ghosts D} (closed : Held (FileStore D g)) (files : Files D) (left : Image) → IsCopied closed files → IsLeftOf g files left → ∥ HoldsDatabase left (file_state closed).committed.trees ∥₁
+holds_last closed files left copied (inl may) = (copied.left left may).both
+holds_last closed files left copied (inr (image, may, same)) = subst (λ (i : Image). ∥ HoldsDatabase i (file_state closed).committed.trees ∥₁) (sym same) (copied.left image may).alone
+
 module _ {D E : Type 0} {g : Ghosts D} {k : Ghosts E} where
   -- the trees that are found are among those that may be left
   found_trees : (before : Held (FileStore D g)) (found : Held (FileStore E k)) (left : Image) → IsConnection before → HasCleanDisk (file_state before) → MayBeLeft before left → IsOpenedOn left found
@@ -66,6 +73,13 @@ module _ {D E : Type 0} {g : Ghosts D} {k : Ghosts E} where
       → IsTrue (file_state before).is_open → before.in_transaction ≡ false → MayBeLeft before left → IsOpenedOn left found → ∥ (file_state found).now ≡ (file_state before).now ∥₁
   found_itself stays before found left is clean is_open outside may opened =
       ∥∥₁_map (found_trees before found left is clean may opened) (λ r. same_now before found left is is_open opened (leaves_itself stays before is is_open outside _ r))
+
+  pub found_closed : (closed : Held (FileStore D g)) (files : Files D) (found : Held (FileStore E k)) (left : Image) → IsConnection closed → closed.in_transaction ≡ false
+      → IsCopied closed files → IsLeftOf g files left → IsOpenedOn left found → ∥ (file_state found).now ≡ (file_state closed).now ∥₁
+  found_closed closed files found left is outside copied may opened =
+      ∥∥₁_map (holds_last closed files left copied may) (λ holds.
+          same_now closed found left is copied.was_open opened
+          (ap (λ (d : Database). d.trees) opened.0.0.clean ∙ (opened.1.holds _ holds ∙ sym (is.settled copied.was_open outside).0)))
 
   -- what a crash in a transaction may leave is the database of before, or one that it makes
   around : SeenMayStay g → (R : Database → Database → Type 0) → TellsByTrees R → (old : Held (FileStore D g)) (found : Held (FileStore E k)) (left : Image) → IsConnection old → IsTrue (file_state old).is_open → old.in_transaction ≡ false

@@ -1,8 +1,10 @@
 -- What a crash may leave of the files of a record, and what the next start finds there.
-use Rattle.std.specs.Prelude.{◌≡◌, ◌⊎◌}
+use Rattle.std.specs.Prelude.{◌≡◌, ◌⊎◌, []}
 use Rattle.sqlite_disk.specs.declared.Disk.{Ghosts}
+use Rattle.sqlite_disk.specs.declared.Files.{Files}
 use Rattle.sqlite_store.specs.declared.store.FileStore.{FileStore}
 use Rattle.sqlite_store.specs.FileStore.{recovers, state, view}
+use Rattle.sqlite_wal.specs.Files.{outcomes}
 use Rattle.sqlite_wal.specs.Recovery.{Image}
 use Rattle.sqlite.specs.Effect.{Database}
 use Rattle.sqlite.specs.Files.{file_state, IsOpened}
@@ -26,3 +28,7 @@ module _ {D : Type 0} {g : Ghosts D} where
 -- a database is found as it was before a transaction that changes it by this relation, or as one that the transaction makes of it
 abbrev pub IsFoundAround : (Database → Database → Type 0) → Database → Database → Type 0
 IsFoundAround R before found = (found ≡ before) ⊎ R before found
+
+-- what a program or a crash may leave of two files that were closed: so, or the database file so, with nothing in the log
+abbrev pub IsLeftOf : {D : Type 0} → Ghosts D → Files D → Image → Type 0
+IsLeftOf g files left = outcomes g files.log files.db left ⊎ ((image : Image) × outcomes g files.log files.db image × (left ≡ record image { log = [] }))

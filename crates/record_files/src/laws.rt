@@ -1,6 +1,7 @@
 //! What the next start finds.
 ghost use Rattle.std.specs.Prelude.{◌≡◌, ℕ, false, IsTrue};
 ghost use Rattle.sqlite_wal.specs.Recovery.{Image};
+ghost use Rattle.sqlite.specs.Closing.{IsCopied};
 ghost use Rattle.sqlite.specs.Effect.{Database, IsDatabase};
 ghost use Rattle.sqlite.specs.Files.{file_state};
 ghost use Rattle.sqlite.specs.State.{HasCleanDisk, Survives};
@@ -9,10 +10,10 @@ ghost use Rattle.sched_state.specs.Limits.{Bounds};
 ghost use Rattle.sched_events.specs.declared.events.Event.{Event};
 ghost use Rattle.director.specs.meta_store.Stores.{Begins, CommitsBy, Migrates, OpensBy};
 ghost use Rattle.director.specs.Directors.{RestartsIn, StepsIn};
-ghost use Rattle.record_files.specs.Crashes.{IsConnection, IsFoundAround, IsOpenedOn, MayBeLeft};
+ghost use Rattle.record_files.specs.Crashes.{IsConnection, IsFoundAround, IsLeftOf, IsOpenedOn, MayBeLeft};
 
 use sqlite::{Connection, FileStore};
-use sqlite_disk::Disk;
+use sqlite_disk::{Disk, Files};
 
 /// Databases with the same trees are one: the trees say the schema.
 pub fn a_database_is_its_trees()
@@ -28,6 +29,19 @@ pub fn the_next_start_finds_what_is_there<D: Disk, E: Disk>(
         → IsTrue (file_state before.now).is_open → before.now.in_transaction ≡ false
         → MayBeLeft before.now left → IsOpenedOn left found.now
         → ∥ (file_state found.now).now ≡ (file_state before.now).now ∥₁ }
+{}
+
+/// Where the files of a database were closed in order while no transaction was open (`IsCopied`), the next start finds just the database that was there, also
+/// after a crash, and from the database file alone.
+pub fn the_next_start_finds_what_was_closed<D: Disk, E: Disk>(
+    closed: &Connection<FileStore<D>>,
+    files: &Files<D>,
+    found: &Connection<FileStore<E>>,
+)
+    ensures { (left : Image) → IsConnection closed.now → closed.now.in_transaction ≡ false
+        → IsCopied closed.now files.now → IsLeftOf D.Disk files.now left
+        → IsOpenedOn left found.now
+        → ∥ (file_state found.now).now ≡ (file_state closed.now).now ∥₁ }
 {}
 
 /// After a crash in an event, in an opening, in a migration or in the making of a record (`crash` of `Director::step`, of `open`, of `Store::migrate` and of

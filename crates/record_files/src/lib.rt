@@ -14,6 +14,6 @@ mod opening;
 
 pub use laws::{
     a_database_is_its_trees, the_next_start_finds_before_or_after,
-    the_next_start_finds_what_is_there,
+    the_next_start_finds_what_is_there, the_next_start_finds_what_was_closed,
 };
 pub use opening::open_database;

@@ -7,8 +7,6 @@ use Rattle.sqlite.specs.Held.{Held}
 use Rattle.sqlite.specs.Effect.{Database}
 use Rattle.sqlite.specs.State.{State, HasCleanDisk}
 use Rattle.sqlite.specs.Tree.{Trees}
-use Rattle.instance_machine.specs.declared.tries.Outcome.{Outcome}
-use Rattle.sched_state.specs.declared.jobs.Job.{Job}
 use Rattle.operators.specs.declared.kits.Kit.{Kit}
 use Rattle.sched_state.specs.Limits.{ceilings}
 use Rattle.sched_model.specs.Schedule.{Schedule}
@@ -23,7 +21,7 @@ use Rattle.conduct.specs.sessions.director.Directors.{DirectorValue, Keeps, Open
 use Rattle.conduct.proofs.sessions.director.ListLemmas.{stays_open, was_clean}
 use Rattle.minutes.specs.Minutes.{answered}
 use Rattle.conduct.specs.sessions.director.Leaves.{IsOneOf, Leaves, LeavesBy}
-use Rattle.crews.specs.Settled.{AreAmongTold}
+use Rattle.workers.specs.Accounted.{AreAmongTold}
 use Rattle.conduct.specs.sessions.History.{accepted, heard_in, is_reported, readings_in, told_by, told_in, tried_at_end, AreReported, AreRight, Asked, Looked, NoneThere, Reported, Restarted, Step, Told}
 use Rattle.conduct.specs.sessions.Readings.{Reading}
 use Rattle.conduct.proofs.sessions.LawLemmas.{right_answered}
@@ -41,7 +39,8 @@ use Rattle.script_reader.proofs.DoneLemmas.{kept_open}
 use Rattle.script_reader.proofs.ShownLemmas.{appends_then}
 use Rattle.script_reader.proofs.StatusLemmas.{all_whole}
 use Rattle.slot_desk.specs.declared.desk.Total.{Total}
-use Rattle.work.specs.declared.crews.WorkerEnd.{WorkerEnd}
+use Rattle.workers.specs.declared.crews.WorkerEnd.{WorkerEnd}
+use Rattle.workers.specs.Shows.{Shows}
 use Rattle.script_reader.specs.Readers.{Tells}
 use Rattle.script_reader.specs.declared.reader.ScriptReader.{ScriptReader}
 use Rattle.script_runner.specs.Named.{AreNamed, may_break_off}
@@ -196,7 +195,7 @@ where_well : {A : Type 0} (P : Type 0) (r : Result A ConductFault) → (came_to_
 where_well P (Ok v) h = h refl
 where_well P (Err f) h = tt
 
-still : {A : Type 0} (none untouched still' : Type 0) (r : Result A ConductFault) → (untouched → still') → IfErr r (λ f. is_unstarted f ≡ true → none × untouched) → IfErr r (λ f. is_unstarted f ≡ true → none × still')
+pub still : {A : Type 0} (none untouched still' : Type 0) (r : Result A ConductFault) → (untouched → still') → IfErr r (λ f. is_unstarted f ≡ true → none × untouched) → IfErr r (λ f. is_unstarted f ≡ true → none × still')
 still none untouched still' (Ok v) to was = tt
 still none untouched still' (Err f) to was = λ is. let both = was is in (both.0, to both.1)
 
@@ -204,18 +203,19 @@ none_made : {A : Type 0} (none made untouched : Type 0) (r : Result A ConductFau
 none_made none made untouched (Ok v) to was = tt
 none_made none made untouched (Err f) to was = λ is. let both = was is in (to both.0, both.1)
 
-module _ {S G O : Type 0} (look : Held S → State) (runs : O → List (Job × Outcome)) (refused : O → List Job) (taken : O → Option Job) where
+module _ {S G O : Type 0} (look : Held S → State) (shows : Shows O) where
   pub is_run : (bytes : Option (List ℕ)) (gives : List FileAnswer → Type 0) (clock : List (Schedule × Reading) → Type 0) (output : List ℕ → Type 0) (lanes : ℕ) (kits : List (Kit O)) (before : State) (d : DirectorValue S) (conducted : Conducted S G O) (status : ℕ)
       (are_told : List Step → Option Line → Type 0) (untouched quiet : Type 0) (failed : Option LineFault) (over : Bool)
-      → (c : IsConducted look runs refused taken lanes kits d conducted are_told untouched failed over) → (untouched → quiet)
+      → (c : IsConducted look shows lanes kits d conducted are_told untouched failed over) → (untouched → quiet)
       → IsSoundAndSaid d.schedule.content
       → (HasCleanDisk (look d.store) → Opens ceilings 0 before.now d.schedule.content d.opened)
       → (HasCleanDisk (look d.store) → RestartsIn ceilings 0 before.now (look d.store).now)
+      → (HasCleanDisk (look d.store) → HasCleanDisk before)
       → (before.faults ≤ (look d.store).faults) × (HasCleanDisk (look d.store) → IsTrue (look d.store).is_open)
       → (HasCleanDisk (look d.store) → (trees : Trees) → (look d.store).may_leave trees → trees ≡ (look d.store).now.trees)
       → (named : AreNamed bytes gives clock output lanes d.schedule.content conducted.minutes.items conducted.outcome status) → named.history ≡ c.history
-      → IsRun look runs refused taken bytes gives clock output quiet lanes kits before conducted.director.store conducted.minutes.items conducted.ends.items conducted.outcome status
-  is_run bytes gives clock output lanes kits before d conducted status are_told untouched quiet failed over c to sound opened restarted is_open only named same =
+      → IsRun look shows bytes gives clock output quiet lanes kits before conducted.director.store conducted.minutes.items conducted.ends.items conducted.outcome status
+  is_run bytes gives clock output lanes kits before d conducted status are_told untouched quiet failed over c to sound opened restarted clean_before is_open only named same =
       let a = d.schedule.content in
       let es = conducted.minutes.items in
       record {
@@ -226,6 +226,7 @@ module _ {S G O : Type 0} (look : Held S → State) (runs : O → List (Job × O
         accepted = c.accepted;
         begun = c.begun;
         started = λ came. (c.whole came).2;
+        was_clean = λ clean. clean_before (was_clean _ _ _ _ c.followed clean);
         stays = stays_open _ _ before _ _ is_open.0 is_open.1 c.followed;
         stored = λ clean is_open rows has.
             let first = was_clean _ _ _ _ c.followed clean in
@@ -264,7 +265,7 @@ pub record IsFresh {R W F P : Type 0} (first : ScriptReader R W F P) : Type 0 wh
   pub status : first.status ≡ 0
   pub listed : IsListed first.words.names
 
-module _ {S G O R W F P C : Type 0} (look : Held S → State) (runs : O → List (Job × Outcome)) (refused : O → List Job) (taken : O → Option Job) (remaining : R → Option (List ℕ)) (contents : W → Option (List ℕ)) (gives : F → List FileAnswer → F → Type 0) (ticks : C → List (Schedule × Reading) → C → Type 0) where
+module _ {S G O R W F P C : Type 0} (look : Held S → State) (shows : Shows O) (remaining : R → Option (List ℕ)) (contents : W → Option (List ℕ)) (gives : F → List FileAnswer → F → Type 0) (ticks : C → List (Schedule × Reading) → C → Type 0) where
   -- what comes back of what was conducted, with the last state of the reader
   pub record ComesBack (conducted : Conducted S G O) (last : ScriptReader R W F P) (store : Held S) (minutes : List Event) (ends : List (WorkerEnd G O)) (outcome : Result Total ConductFault) (status : ℕ) (sources : F) (output : W) : Type 0 where
     pub store_is : store ≡ conducted.director.store
@@ -278,7 +279,7 @@ module _ {S G O R W F P C : Type 0} (look : Held S → State) (runs : O → List
 
   -- what was written, where the run ended well
   writes : (lanes : ℕ) (kits : List (Kit O)) (d : DirectorValue S) (conducted : Conducted S G O) (first last : ScriptReader R W F P) (clock later : C) (output : W)
-      → IsConducted look runs refused taken lanes kits d conducted (λ told waits. Tells remaining contents gives first told waits last × ticks clock (readings_in told) later) ((last ≡ first) × (later ≡ clock)) last.failed last.is_over
+      → IsConducted look shows lanes kits d conducted (λ told waits. Tells remaining contents gives first told waits last × ticks clock (readings_in told) later) ((last ≡ first) × (later ≡ clock)) last.failed last.is_over
       → OnOk conducted.outcome (output ≡ last.output) → is_ok conducted.outcome ≡ true
       → (is_some last.failed ≡ false) × ((xs : List ℕ) → Appends (contents first.output) (contents last.output) xs → Appends (contents first.output) (contents output) xs)
   writes lanes kits d conducted first last clock later output c at well =
@@ -288,16 +289,17 @@ module _ {S G O R W F P C : Type 0} (look : Held S → State) (runs : O → List
       )
 
   pub ran : (lanes : ℕ) (kits : List (Kit O)) (before : State) (d : DirectorValue S) (conducted : Conducted S G O) (first last : ScriptReader R W F P) (clock later : C)
-      → IsConducted look runs refused taken lanes kits d conducted (λ told waits. Tells remaining contents gives first told waits last × ticks clock (readings_in told) later) ((last ≡ first) × (later ≡ clock)) last.failed last.is_over
+      → IsConducted look shows lanes kits d conducted (λ told waits. Tells remaining contents gives first told waits last × ticks clock (readings_in told) later) ((last ≡ first) × (later ≡ clock)) last.failed last.is_over
       → IsSoundAndSaid d.schedule.content
       → (HasCleanDisk (look d.store) → Opens ceilings 0 before.now d.schedule.content d.opened)
       → (HasCleanDisk (look d.store) → RestartsIn ceilings 0 before.now (look d.store).now)
+      → (HasCleanDisk (look d.store) → HasCleanDisk before)
       → (before.faults ≤ (look d.store).faults) × (HasCleanDisk (look d.store) → IsTrue (look d.store).is_open)
       → (HasCleanDisk (look d.store) → (trees : Trees) → (look d.store).may_leave trees → trees ≡ (look d.store).now.trees)
       → IsFresh first
       → (store : Held S) (minutes : List Event) (ends : List (WorkerEnd G O)) (outcome : Result Total ConductFault) (status : ℕ) (sources : F) (output : W) → ComesBack conducted last store minutes ends outcome status sources output
-      → IsRun look runs refused taken (remaining first.input) (λ given. gives first.sources given sources) (λ moments. ticks clock moments later) (λ shown. Appends (contents first.output) (contents output) shown) ((sources ≡ first.sources) × (later ≡ clock)) lanes kits before store minutes ends outcome status
-  ran lanes kits before d conducted first last clock later c sound opened restarted is_open only fresh store minutes ends outcome status sources output back =
+      → IsRun look shows (remaining first.input) (λ given. gives first.sources given sources) (λ moments. ticks clock moments later) (λ shown. Appends (contents first.output) (contents output) shown) ((sources ≡ first.sources) × (later ≡ clock)) lanes kits before store minutes ends outcome status
+  ran lanes kits before d conducted first last clock later c sound opened restarted clean_before is_open only fresh store minutes ends outcome status sources output back =
       let es = conducted.minutes.items in
       let t = c.told in
       let bytes = remaining first.input in
@@ -309,9 +311,9 @@ module _ {S G O R W F P C : Type 0} (look : Held S → State) (runs : O → List
       named first.words.names first.status bytes files times (Appends (contents first.output) (contents last.output)) text c.steps_told d.schedule.content es c.waits (remaining last.input) last.status status lanes (is_some last.failed) last.is_over first.is_over conducted.outcome
       fresh.listed fresh.status t.0.1 (writes lanes kits d conducted first last clock later output c back.output_is) (breaks_off last.failed conducted.outcome c.fault) (closing (contents first.output) (contents last.output) (contents output) last.failed last.status status conducted.outcome c.fault back.status_is back.ended_is) c.history c.last c.parts c.right c.minutes t.1 fresh.over (λ came. let end = c.whole came in (end.0, end.1)) back.status_is
       in
-      let here = is_run look runs refused taken bytes files times text lanes kits before d conducted status _ ((last ≡ first) × (later ≡ clock)) quiet last.failed last.is_over c (λ same. (ap (λ (r : ScriptReader R W F P). r.sources) same.0, same.1)) sound opened restarted is_open only named_here.0 named_here.1 in
-      subst (λ (f : F). IsRun look runs refused taken bytes (λ given. gives first.sources given f) times text ((f ≡ first.sources) × (later ≡ clock)) lanes kits before store minutes ends outcome status) (sym back.sources_are)
-      (subst (λ (s : Held S). IsRun look runs refused taken bytes files times text quiet lanes kits before s minutes ends outcome status) (sym back.store_is)
-      (subst (λ (l : List Event). IsRun look runs refused taken bytes files times text quiet lanes kits before conducted.director.store l ends outcome status) (sym back.minutes_are)
-      (subst (λ (l : List (WorkerEnd G O)). IsRun look runs refused taken bytes files times text quiet lanes kits before conducted.director.store es l outcome status) (sym back.ends_are)
-      (subst (λ (o : Result Total ConductFault). IsRun look runs refused taken bytes files times text quiet lanes kits before conducted.director.store es conducted.ends.items o status) (sym back.outcome_is) here))))
+      let here = is_run look shows bytes files times text lanes kits before d conducted status _ ((last ≡ first) × (later ≡ clock)) quiet last.failed last.is_over c (λ same. (ap (λ (r : ScriptReader R W F P). r.sources) same.0, same.1)) sound opened restarted clean_before is_open only named_here.0 named_here.1 in
+      subst (λ (f : F). IsRun look shows bytes (λ given. gives first.sources given f) times text ((f ≡ first.sources) × (later ≡ clock)) lanes kits before store minutes ends outcome status) (sym back.sources_are)
+      (subst (λ (s : Held S). IsRun look shows bytes files times text quiet lanes kits before s minutes ends outcome status) (sym back.store_is)
+      (subst (λ (l : List Event). IsRun look shows bytes files times text quiet lanes kits before conducted.director.store l ends outcome status) (sym back.minutes_are)
+      (subst (λ (l : List (WorkerEnd G O)). IsRun look shows bytes files times text quiet lanes kits before conducted.director.store es l outcome status) (sym back.ends_are)
+      (subst (λ (o : Result Total ConductFault). IsRun look shows bytes files times text quiet lanes kits before conducted.director.store es conducted.ends.items o status) (sym back.outcome_is) here))))

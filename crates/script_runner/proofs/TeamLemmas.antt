@@ -1,7 +1,7 @@
 -- The kits of crews that are made one after another.
 use Rattle.std.proofs.Common.{◌≡◌, refl, ap, arith, ◌+◌, List, [], ◌∷◌, ◌++◌, length, map}
 use Rattle.operators.specs.declared.kits.Kit.{Kit}
-use Rattle.work.specs.declared.crews.Crew.{Crew}
+use Rattle.workers.specs.declared.crews.Crew.{Crew}
 
 -- the kit of the last crew stands before what follows
 pub kits_grow : {G O : Type 0} (cs : List (Crew G O)) (c : Crew G O) (more : List (Kit O))

@@ -4,8 +4,6 @@ use Rattle.sqlite.specs.Held.{Held}
 use Rattle.sqlite.specs.Effect.{Database}
 use Rattle.sqlite.specs.State.{State, HasCleanDisk}
 use Rattle.sqlite.specs.Tree.{Trees}
-use Rattle.instance_machine.specs.declared.tries.Outcome.{Outcome}
-use Rattle.sched_state.specs.declared.jobs.Job.{Job}
 use Rattle.operators.specs.declared.kits.Kit.{Kit}
 use Rattle.record_rows.specs.Rows.{Rows}
 use Rattle.sched_state.specs.Limits.{ceilings}
@@ -24,8 +22,9 @@ use Rattle.conduct.specs.sessions.Readings.{Reading}
 use Rattle.conduct.specs.sessions.declared.faults.ConductFault.{ConductFault}
 use Rattle.conduct.specs.sessions.declared.line_reading.LineFault.{LineFault}
 use Rattle.slot_desk.specs.declared.desk.Total.{Total}
-use Rattle.work.specs.declared.crews.WorkerEnd.{WorkerEnd}
-use Rattle.crews.specs.Settled.{AreAmongTold}
+use Rattle.workers.specs.declared.crews.WorkerEnd.{WorkerEnd}
+use Rattle.workers.specs.Accounted.{AreAmongTold}
+use Rattle.workers.specs.Shows.{Shows}
 use Rattle.conduct.specs.Ends.{EachStandsInALog, EachToldItsOwn, HaveWorkedFor}
 use Rattle.conduct.specs.Faults.{EndsRun, came_to_its_end, is_no_worker, is_unstarted}
 use Rattle.script_reader.specs.Done.{FileAnswer}
@@ -35,7 +34,7 @@ use Rattle.script_runner.specs.Named.{AreNamed}
 -- crews, and the status. The sources and the clock gave what their relations say, or were asked nothing (untouched); the output has grown as its relation
 -- says.
 -- restates: this project's own profile
-pub record IsRun {S G O : Type 0} (look : Held S → State) (runs : O → List (Job × Outcome)) (refused : O → List Job) (taken : O → Option Job) (bytes : Option (List ℕ)) (sources : List FileAnswer → Type 0) (clock : List (Schedule × Reading) → Type 0) (output : List ℕ → Type 0) (untouched : Type 0) (lanes : ℕ) (kits : List (Kit O)) (before : State) (store : Held S) (minutes : List Event) (ends : List (WorkerEnd G O)) (outcome : Result Total ConductFault) (status : ℕ) : Type 0 where
+pub record IsRun {S G O : Type 0} (look : Held S → State) (shows : Shows O) (bytes : Option (List ℕ)) (sources : List FileAnswer → Type 0) (clock : List (Schedule × Reading) → Type 0) (output : List ℕ → Type 0) (untouched : Type 0) (lanes : ℕ) (kits : List (Kit O)) (before : State) (store : Held S) (minutes : List Event) (ends : List (WorkerEnd G O)) (outcome : Result Total ConductFault) (status : ℕ) : Type 0 where
   -- the schedule that was opened, without lanes, and the answer to its restart
   pub first : Schedule
   pub given : Answer
@@ -46,6 +45,8 @@ pub record IsRun {S G O : Type 0} (look : Held S → State) (runs : O → List (
   pub accepted : AreAccepted minutes first
   pub begun : BeginWithRestart lanes minutes
   pub started : came_to_its_end outcome ≡ true → 0 < length minutes
+  -- a disk that has given back what was written has done so all the time
+  pub was_clean : HasCleanDisk (look store) → HasCleanDisk before
   -- the record is open, unless its disk failed or refused meanwhile; and where it is, and had rows, in either version, it stores the schedule after the
   -- minutes
   pub stays : StaysOpen before (look store)
@@ -67,7 +68,7 @@ pub record IsRun {S G O : Type 0} (look : Held S → State) (runs : O → List (
   pub unstarted : IfErr outcome (λ f. is_unstarted f ≡ true → (minutes ≡ []) × untouched)
   -- with a fault too: each worker that came back told what its operators did, which did no job that was not handed out; and the minutes report nothing that
   -- none of them told
-  pub worked : HaveWorkedFor runs refused taken kits ends minutes first
+  pub worked : HaveWorkedFor shows kits ends minutes first
   -- with a fault too: no report of the history, missed or not, was heard more often than the workers told it
   pub heard : AreAmongTold (heard_in named.history) ends
   -- where the run ended well: no try is in flight; each try that was handed out stands in the log of one worker, as often as it was handed out, and no

@@ -9,6 +9,7 @@ ghost use Rattle.conduct.specs.sessions.director.Directors.{RestartsIn};
 ghost use Rattle.conduct.specs.sessions.director.Faults.{IsOpenFault, IsRefused};
 ghost use Rattle.conduct.specs.sessions.director.meta_store.Stores.{CommitsBy, IsKeptOrMigrated, Migrates, OpensBy};
 ghost use Rattle.script_reader.specs.Ends.{IsEndStatus, end_text};
+ghost use Rattle.workers.specs.Shows.{shows};
 ghost use Rattle.script_runner.specs.Runs.{IsRun};
 
 use conduct::{Clock, ConductFault, Conducted, Director, Fault, Limits, Store, conduct};
@@ -21,7 +22,7 @@ use std::alloc::Global;
 use std::io::{BufRead, Read, Write};
 use std::sync::Wait;
 use std::thread::Threads;
-use work::{Crew, Gate, WorkerEnd};
+use workers::{Crew, Gate, WorkerEnd};
 
 /// How a script is run.
 #[derive(Clone, Copy, Debug, PartialEq, Eq)]
@@ -88,7 +89,7 @@ pub fn run_on<
     requires lanes { options.lanes ≤ 64 }
     requires crews { length crews.items ≤ 16 }
     requires kits { All (λ c. IsKit O.kind_of c.kit) crews.items }
-    ensures run { IfOk result (λ ran. IsRun (state S.Store) O.runs_of O.refused_of O.taken (R.Read.remaining script.input)
+    ensures run { IfOk result (λ ran. IsRun (state S.Store) (shows O.kind_of O.runs_of O.refused_of O.taken) (R.Read.remaining script.input)
         (λ given. F.gives script.sources given ran.sources) (λ moments. C.gives clock.old moments clock.new)
         (λ shown. Appends (W.contents script.output) (W.contents ran.output) shown)
         ((ran.sources ≡ script.sources) × (clock.new ≡ clock.old)) options.lanes (map (λ c. c.kit) crews.items) (state S.Store store) ran.store ran.minutes.items ran.ends.items ran.outcome ran.status) }

@@ -12,7 +12,7 @@ use std::alloc::{AllocError, Global};
 use std::fs::File;
 use std::process::Processes;
 use std::rt::Files;
-use work::OpenGate;
+use workers::OpenGate;
 
 /// An operator of one of the three kinds, of which `command` is this one.
 #[derive(Drop)]

@@ -8,6 +8,7 @@ ghost use Rattle.sched_state.specs.Limits.{ceilings};
 ghost use Rattle.conduct.specs.sessions.director.Directors.{RestartsIn};
 ghost use Rattle.conduct.specs.sessions.director.Faults.{IsOpenFault, IsRefused};
 ghost use Rattle.conduct.specs.sessions.director.meta_store.Stores.{CommitsBy, IsKeptOrMigrated, Migrates, OpensBy};
+ghost use Rattle.workers.specs.Shows.{shows};
 ghost use Rattle.script_runner.specs.Teams.{AreKitsOf, IsTeamRun, IsWhole};
 
 use crate::running::{Ran, RunOptions, Unopened, run_on};
@@ -19,7 +20,7 @@ use std::alloc::{AllocError, Global};
 use std::io::{BufRead, Write};
 use std::sync::Wait;
 use std::thread::Threads;
-use work::{Crew, Gate};
+use workers::{Crew, Gate};
 
 /// Runs a script on a record with a worker for each of these lists of operators, of which each has one of each kind: what `run_on` does with crews of
 /// such kits.
@@ -45,7 +46,7 @@ pub fn run_team<
     requires lanes { lanes ≤ 64 }
     requires workers { length team.items ≤ 16 }
     requires whole { All (λ w. IsWhole O.kind_of w.0.items) team.items }
-    ensures run { IfOk result (λ ran. IsTeamRun (state S.Store) O.kind_of O.runs_of O.refused_of O.taken (R.Read.remaining script.input)
+    ensures run { IfOk result (λ ran. IsTeamRun (state S.Store) (shows O.kind_of O.runs_of O.refused_of O.taken) (R.Read.remaining script.input)
         (λ given. F.gives script.sources given ran.sources) (λ moments. C.gives clock.old moments clock.new)
         (λ shown. Appends (W.contents script.output) (W.contents ran.output) shown)
         ((ran.sources ≡ script.sources) × (clock.new ≡ clock.old)) lanes (map (λ w. w.0.items) team.items) (state S.Store store) ran.store ran.minutes.items ran.ends.items ran.outcome ran.status) }

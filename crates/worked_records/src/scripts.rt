@@ -19,7 +19,7 @@ use std::alloc::Global;
 use std::io::{self, BufRead, ErrorKind, Write};
 use std::sync::Wait;
 use std::thread::Threads;
-use work::Gate;
+use workers::Gate;
 
 const LANES: u32 = 4;
 

@@ -11,7 +11,7 @@ use sched_state::Job;
 use script_runner::TaskOperator;
 use std::alloc::AllocError;
 use std::sync::Wait;
-use work::Gate;
+use workers::Gate;
 
 // Where a try of `command` would have its folder; no script here has one.
 const SCRATCH: &str = "tries";

@@ -1,5 +1,6 @@
 use Rattle.std.proofs.Common.{rules, ◌≡◌, length, map, take, vec_items, vec_len, ap, sym, ◌∙◌}
 use Rattle.std.proofs.lemmas.List.{length-map}
+use Rattle.workers.specs.Shows.{shows}
 use Rattle.conduct.proofs.Runs.{each_started, same_stops, worked_from}
 use Rattle.conduct.proofs.threads.run.Goals as goal
 
@@ -14,9 +15,9 @@ returns-clause-managed g c =
     record {
       served = same_stops c.len.result (length results) (counted ∙ sym joined) c.serve-parted.ensures.served;
       worked =
-          worked_from g.O.Operator.kind_of g.O.Operator.runs_of g.O.Operator.refused_of g.O.Operator.taken _ _ _ _ _ _ results
-          (started.passes ∙ ap (λ n. take n (vec_items c.args.posts.passes)) long)
-          (started.shares ∙ ap (λ n. take n (vec_items c.args.posts.shares)) long)
+          worked_from (shows g.O.Operator.kind_of g.O.Operator.runs_of g.O.Operator.refused_of g.O.Operator.taken) _ _ _ _ _ _ results
+          (started.passes ∙ ap (λ n. take n (vec_items c.args.workers.passes)) long)
+          (started.shares ∙ ap (λ n. take n (vec_items c.args.workers.shares)) long)
           (started.kits ∙ ap (λ n. take n (map (λ x. x.kit) (vec_items c.args.crews))) long)
           c.join_all-results.ensures;
       all = each_started c.serve-parted.result.outcome c.start_all-are_all.result _ _ (length results) c.serve-parted.ensures.all started.all (sym long);

@@ -2,7 +2,7 @@ use Rattle.std.proofs.Common.{◌≡◌, ◌∙◌, List, [], ◌∷◌, ◌++�
 use Rattle.std.proofs.lemmas.List.Elements.{All-nil, All-push, All-same, All-tail}
 use Rattle.std.specs.Vec.Iter.{into_iter_items}
 use Rattle.operators.specs.Kits.{IsKit}
-use Rattle.work.specs.declared.crews.Crew.{Crew}
+use Rattle.workers.specs.declared.crews.Crew.{Crew}
 use Rattle.script_runner.specs.Teams.{AreKitsOf, IsWhole}
 use Rattle.script_runner.proofs.TeamLemmas.{kits_grow, kits_end, none_left, one_more}
 use Rattle.script_runner.proofs.teams.make_crews.Goals as goal

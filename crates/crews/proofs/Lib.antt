@@ -1,4 +1,0 @@
-pub mod Places
-pub mod Backs
-pub mod Owners
-pub mod Told

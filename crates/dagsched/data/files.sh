@@ -1,0 +1,150 @@
+# What the program does with records in files: sh files.sh CHECK, as a task of the stored run, by the program that performs it. It fails unless each answer and
+# each status is what stands here.
+program=/proc/$PPID/exe
+
+# answers STATUS WORDS ..: the program, which reads the file script, answers these words so (standard input), with this status
+answers() {
+    wanted=$1
+    shift
+    cat > wanted
+    "$program" "$@" < script > said 2> told
+    status=$?
+    if [ $status != "$wanted" ] || ! cmp -s said wanted; then
+        echo "$program $* answered with status $status:"
+        cat said told
+        exit 1
+    fi
+}
+
+# tells TEXT: it told a person this
+tells() {
+    grep -Fqx "dagsched: $1" told || { echo "it did not tell: $1"; cat told; exit 1; }
+}
+
+case $1 in
+# a record that is not there is made; one worker and one lane; the status is that of the refused command; the folders are those that are named
+opens)
+    cat > script <<'END'
+load inline
+dag_id = "daily"
+schedule = "@daily"
+start_date = "2024-03-01"
+task = [
+    { task_id = "one", operator = "noop" },
+    { task_id = "two", operator = "noop" },
+    { task_id = "write", operator = "command", argv = ["echo", "@scratch"] },
+]
+.
+tick 2024-03-02
+drain
+pause nightly
+drain
+END
+    answers 1 --record new.db run --workers 1 --lanes 1 --scratch new-tries --logs new-logs <<'END'
+ok
+made daily scheduled__2024-03-01T00:00:00+00:00
+try 1 daily 2024-03-01T00:00:00+00:00 one 1
+ok
+ok
+refused 6 UnknownGraph
+ok
+END
+    tells 'new.db was not there, so a new record was made'
+    [ "$(cat new-logs/dag_id=daily/run_id=scheduled__2024-03-01T00:00:00+00:00/task_id=write/attempt=1.log)" = new-tries/try-3 ]
+    ;;
+# what it answered is there at the next start, and what a command does at the next but one
+goes-on)
+    : > script
+    answers 0 --record new.db list tasks <<'END'
+daily scheduled__2024-03-01T00:00:00+00:00 one success 1
+daily scheduled__2024-03-01T00:00:00+00:00 two success 1
+daily scheduled__2024-03-01T00:00:00+00:00 write success 1
+ok
+END
+    answers 0 --record new.db trigger daily <<'END'
+made daily manual__2024-03-02T00:00:00+00:00
+ok
+END
+    answers 1 --record new.db trigger daily <<'END'
+refused 10 RunExists
+END
+    answers 0 --record new.db explain daily 2024-03-02 one <<'END'
+lanes 0
+ok
+END
+    # without lanes nothing is handed out, and with one one try at a time
+    printf 'explain daily 2024-03-02 one\ndrain\n' > script
+    answers 0 --record new.db run --lanes 0 --scratch new-tries <<'END'
+lanes 0
+ok
+ok
+END
+    printf 'explain daily 2024-03-02 two\nresize etl 2\ndrain\n' > script
+    answers 0 --record new.db run --lanes 1 --scratch new-tries <<'END'
+lanes 1
+ok
+ok
+ok
+END
+    answers 0 --record new.db list tasks <<'END'
+daily scheduled__2024-03-01T00:00:00+00:00 one success 1
+daily scheduled__2024-03-01T00:00:00+00:00 two success 1
+daily scheduled__2024-03-01T00:00:00+00:00 write success 1
+daily manual__2024-03-02T00:00:00+00:00 one success 1
+daily manual__2024-03-02T00:00:00+00:00 two success 1
+daily manual__2024-03-02T00:00:00+00:00 write success 1
+ok
+END
+    answers 0 --record new.db list pools <<'END'
+default_pool 128 0 128
+etl 2 0 2
+ok
+END
+    # the folder of the logs is made before the record
+    answers 4 --record none.db run --logs new.db/logs <<'END'
+END
+    [ ! -e none.db ]
+    ;;
+# a file that is no database, and the database of another program, are refused, and stay as they are
+is-refused)
+    echo 'a letter' > letter
+    cp notes.db notes
+    echo 'tick 2024-03-02' > script
+    answers 3 --record letter run --scratch new-tries <<'END'
+store 1 Refused
+END
+    answers 3 --record letter list dags <<'END'
+store 1 Refused
+END
+    answers 3 --record notes run --scratch new-tries <<'END'
+store 2 NotOurs
+END
+    answers 3 --record notes pause daily <<'END'
+store 2 NotOurs
+END
+    [ "$(cat letter)" = 'a letter' ] && cmp notes notes.db
+    ;;
+# without --record nothing is kept, and no file is made
+keeps-nothing)
+    mkdir empty && cd empty || exit 1
+    : > script
+    answers 0 resize etl 2 <<'END'
+ok
+END
+    tells 'there is no --record PATH before the command, so it was done on a new record in memory, and nothing is kept'
+    answers 0 list pools <<'END'
+default_pool 128 0 128
+ok
+END
+    echo 'resize etl 2' > script
+    answers 0 run --scratch tries <<'END'
+ok
+END
+    answers 2 drain <<'END'
+END
+    [ "$(ls)" = "$(printf 'said\nscript\ntold\ntries\nwanted')" ]
+    ;;
+*)
+    exit 2
+    ;;
+esac

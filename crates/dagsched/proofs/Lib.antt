@@ -1,0 +1,2 @@
+pub mod DoneLemmas
+pub mod MemoryLemmas

@@ -1,0 +1,33 @@
+use Rattle.std.proofs.Common.{◌∙◌, map, vec_items, inl, inr}
+use Rattle.std.proofs.lemmas.List.{length-map}
+use Rattle.std.proofs.lemmas.List.Elements.{All-map}
+use Rattle.sqlite.specs.Held.{state}
+use Rattle.script_runner.proofs.LessLemmas.{by_team}
+use Rattle.dagsched.proofs.scripts.run_by_team.Goals as goal
+
+pub returns-in-Ok : goal.returns-in-Ok
+returns-in-Ok g c =
+    let team = vec_items c.in_ok-team.team in
+    let made = c.in_ok-team.ensures in
+    let run = rw c.get-2.ensures.value at c.in-Ok.ensures.run in
+    inl (
+      c.in-Ok.ran.sources,
+      c.in-Ok.ran.output,
+      by_team (g.R.Read.remaining c.args.script.input) _ _ _ _ (λ _. Unit {0}) _ _ (λ _ is. is) (λ _ given. given) (λ _ _. tt) (λ _ shown. shown)
+          (state g.S.Store) _ _ _ (λ both. both.0) c.args.options.now.workers c.args.options.now.lanes (state g.S.Store c.args.store) c.in-Ok.ran.store c.in-Ok.ran.status
+          (map (λ w. w.0.items) team) (vec_items c.in-Ok.ran.minutes) (vec_items c.in-Ok.ran.ends) c.in-Ok.ran.outcome
+          (length-map team (λ w. w.0.items) ∙ made.workers ∙ c.get.ensures.value) (All-map _ (λ w. w.0.items) team made.whole) (All-map _ (λ w. w.0.items) team made.fresh) run,
+    )
+
+pub returns-in-Err : goal.returns-in-Err
+returns-in-Err g c =
+    inr (
+      c.in-Err.unopened.fault,
+      record {
+        cause = c.in-Err.ensures.fault;
+        kept = c.in-Err.ensures.kept;
+        crash = c.in-Err.ensures.crash;
+        refused_crash = c.in-Err.ensures.refused_crash;
+      },
+      c.in_ok-status.ensures,
+    )

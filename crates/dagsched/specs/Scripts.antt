@@ -1,0 +1,35 @@
+-- What the program does with a script on a record, by the options of `run`.
+-- restates: this project's own profile
+use Rattle.std.specs.Prelude.{◌≡◌, ◌⊎◌, ℕ, List, Option, None}
+use Rattle.std.specs.Io.KnownBytes.{Appends}
+use Rattle.sqlite.specs.Held.{Held}
+use Rattle.sqlite.specs.State.{State}
+use Rattle.operators.specs.declared.operators.Operator as operator
+use Rattle.command_words.specs.declared.commands.ScriptOptions.{ScriptOptions}
+use Rattle.command_runner.specs.Events.{IsUnopened}
+use Rattle.director.specs.declared.faults.Fault.{Fault}
+use Rattle.script_reader.specs.Done.{FileAnswer}
+use Rattle.script_reader.specs.Statuses.{failure_status}
+use Rattle.script_runner.specs.Teams.{IsRunByTeam}
+
+-- the record was not opened, and the status is that of the cause
+abbrev pub IsNotOpened : {S : Type 0} → (Held S → State) → Held S → Held S → ℕ → Type 0
+IsNotOpened look before after status = (fault : Fault) × IsUnopened look (look before) fault after × (status ≡ failure_status fault)
+
+-- A script was run on a record with the workers and the lanes that the options name, its streams and sources being what their contracts know of them; or the
+-- record was not opened, and the status is that of the cause.
+abbrev pub IsScriptOf : {S O F W : Type 0} → (Held S → State) → operator.Ghosts O → Option (List ℕ) → (F → List FileAnswer → F → Type 0) → (W → Option (List ℕ)) → ScriptOptions → F → W → Held S → Held S → ℕ → Type 0
+IsScriptOf {S} {O} {F} {W} look o bytes gives contents options sources output before after status =
+    ((later : F) × (written : W)
+    × IsRunByTeam look o bytes (λ given. gives sources given later) (λ _. Unit {0}) (λ shown. Appends (contents output) (contents written) shown) (later ≡ sources) options.workers options.lanes (look before) after status)
+    ⊎ IsNotOpened look before after status
+
+-- Nothing was run, since another program has its tries in the folder: the record stays.
+abbrev pub IsHeldBack : {S : Type 0} → Held S → Held S → ℕ → Type 0
+IsHeldBack before after status = (after ≡ before) × (status ≡ 4)
+
+-- the same, where nothing is known of streams, sources and clock, as of the system's; or nothing was run
+abbrev pub IsScriptDone : {S O : Type 0} → (Held S → State) → operator.Ghosts O → ScriptOptions → Held S → Held S → ℕ → Type 0
+IsScriptDone look o options before after status =
+    IsRunByTeam look o None (λ _. Unit {0}) (λ _. Unit {0}) (λ _. Unit {0}) (Unit {0}) options.workers options.lanes (look before) after status
+    ⊎ (IsNotOpened look before after status ⊎ IsHeldBack before after status)

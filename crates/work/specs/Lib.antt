@@ -1,3 +1,0 @@
-pub mod Logs
-pub mod Accounts
-pub mod Passes

@@ -1,0 +1,6 @@
+pub mod Holds
+pub mod Entries
+pub mod Places
+pub mod Backs
+pub mod Owners
+pub mod Told
