@@ -67,11 +67,11 @@ pub struct Search<'a, R: Files> {
 impl<R: Files> Search<'_, R> {
     /// Adds the first of these tasks whose program the system does not start, or nothing. One whose arguments were told of is passed over.
     pub fn push_task(&self, sentence: &mut String, tasks: &[TaskSpec]) -> Result<(), AllocError> {
-        let mut before = "";
+        let mut seen = Vec::new(*sentence.allocator());
         for task in tasks {
             let program = program_of(task);
-            if program != before {
-                before = program;
+            if !seen.as_slice().contains(&program) {
+                seen.push(program)?;
                 match self.lack_of(*sentence.allocator(), program)? {
                     Some(lack) if !has_doubt(task) => {
                         let owner = task.task_id.as_str();

@@ -64,12 +64,17 @@ pub(crate) fn logged_status<R: Processes>(
     command.stdout(log.try_clone()?);
     command.stderr(log.try_clone()?);
     let status = command.status(rt);
-    let _ = write_end(log, &status, has_timeout);
+    let _ = write_end(log, command.get_program(), &status, has_timeout);
     status
 }
 
-// Writes how a program ended that did not end well, on a line of its own.
-fn write_end(log: File, status: &io::Result<ExitStatus>, has_timeout: bool) -> io::Result<()> {
+// Writes how a program ended that did not end well, or that it was not started, on a line of its own.
+fn write_end(
+    log: File,
+    program: &str,
+    status: &io::Result<ExitStatus>,
+    has_timeout: bool,
+) -> io::Result<()> {
     let mut log = log;
     match status {
         Ok(status) if status.success() => Ok(()),
@@ -80,7 +85,7 @@ fn write_end(log: File, status: &io::Result<ExitStatus>, has_timeout: bool) -> i
         }
         Err(error) => {
             end_line(&mut log)?;
-            writeln!(log, "dagsched: the program cannot be started: {error}")
+            writeln!(log, "dagsched: {program} cannot be started: {error}")
         }
     }
 }
