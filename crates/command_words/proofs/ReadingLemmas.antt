@@ -37,7 +37,7 @@ name_not t = go (is_name t)
 state_not : (t : Text) → skipped_of t ≢ Err Words
 state_not t = go (bytes_eq t (codes "skipped"))
   where
-    go : (b : Bool) → NotWords {Unit {0}} (if b then Ok tt else Err BadState)
+    go : (b : Bool) → NotWords {A = Unit {0}} (if b then Ok tt else Err BadState)
     go true = ok_not tt
     go false h = cc
 
