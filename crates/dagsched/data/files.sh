@@ -50,7 +50,7 @@ refused 6 UnknownGraph
 ok
 END
     tells 'new.db was not there, so a new record was made'
-    [ "$(cat new-logs/dag_id=daily/run_id=scheduled__2024-03-01T00:00:00+00:00/task_id=write/attempt=1.log)" = new-tries/try-3 ]
+    [ "$(cat new-logs/dag_id=daily/run_id=scheduled__2024-03-01T00:00:00+00:00/task_id=write/attempt=1.log)" = "$(pwd -P)/new-tries/try-3" ]
     ;;
 # what it answered is there at the next start, and what a command does at the next but one
 goes-on)

@@ -22,7 +22,8 @@ pub fn put_fault(rt: &HostRuntime, fault: UsageFault, words: &[String]) -> io::R
         UsageFault::BadName
         | UsageFault::BadMoment(_)
         | UsageFault::NotHere
-        | UsageFault::BadLine => put_usage(rt, fault, words),
+        | UsageFault::BadLine
+        | UsageFault::BadState => put_usage(rt, fault, words),
     }
 }
 
