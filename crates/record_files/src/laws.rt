@@ -44,8 +44,8 @@ pub fn the_next_start_finds_what_was_closed<D: Disk, E: Disk>(
         → ∥ (file_state found.now).now ≡ (file_state closed.now).now ∥₁ }
 {}
 
-/// After a crash in an event, in an opening, in a migration or in the making of a record (`crash` of `Director::step`, of `open`, of `Store::migrate` and of
-/// `Store::create`), the next start finds the database before it, or one that it makes: one that stores the schedule after the event, or after the restart, if
+/// After a crash in an event, in an opening, in a migration or in the making of a record (`crash` in `transacts` of `Director::step`, of `open`, of
+/// `Store::migrate` and of `Store::create`), the next start finds the database before it, or one that it makes: one that stores the schedule after the event, or after the restart, if
 /// the one before had that before; a record of version 2, if the one before was of version 1; or a new record, if the one before had nothing.
 pub fn the_next_start_finds_before_or_after<D: Disk, E: Disk>(
     old: &Connection<FileStore<D>>,
