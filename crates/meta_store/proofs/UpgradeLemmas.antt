@@ -11,7 +11,7 @@ use Rattle.sched_model.specs.Lists.{rises}
 use Rattle.record_tables.specs.Holds.{Stores, StoresFirst, AddsLimits}
 use Rattle.record_tables.specs.Puts.{GoesBy, PutsIn, put_metas, put_dag_limits}
 use Rattle.record_tables.proofs.LastLemmas.{puts_last}
-use Rattle.record_tables.proofs.OrderLemmas.{dag_limit_order}
+use Rattle.record_rules.proofs.OrderLemmas.{dag_limit_order}
 use Rattle.record_tables.proofs.StepLemmas.{by_then}
 use Rattle.record_load.specs.Loads.{is_version}
 use Rattle.record_load.proofs.VersionLemmas.{one_row}

@@ -4,8 +4,7 @@ use Rattle.sqlite.specs.Effect.{Database}
 use Rattle.sqlite.specs.State.{State, HasCleanDisk, Survives}
 use Rattle.sqlite.specs.Tree.{Trees}
 use Rattle.record_rows.specs.Rows.{Rows}
-use Rattle.record_changes.specs.Changes.{put_rows}
-use Rattle.record_tables.specs.Empties.{no_rows}
+use Rattle.record_rules.specs.Changes.{no_rows, put_rows}
 use Rattle.record_tables.specs.Holds.{Stores}
 use Rattle.record_tables.specs.Puts.{PutsIn}
 use Rattle.record_tables.specs.Schema.{no_schema}

@@ -19,9 +19,9 @@ use Rattle.sqlite_rules.proofs.PlaceLemmas.{next_is_free}
 use Rattle.sqlite.specs.Rows.{mended}
 use Rattle.record_tables.specs.Schema.{meta_table, pool_table, dag_table, dag_limit_table, run_table, instance_table, attempt_table, record_schema}
 use Rattle.record_rows.specs.Rows.{MetaRow, PoolRow, DagRow, DagLimitRow, RunRow, InstanceRow, AttemptRow}
-use Rattle.record_changes.specs.record_rules.Keys.{meta_row_before, pool_row_before, dag_row_before, dag_limit_row_before, run_row_before, instance_row_before, attempt_row_before}
+use Rattle.record_rules.specs.Keys.{meta_row_before, pool_row_before, dag_row_before, dag_limit_row_before, run_row_before, instance_row_before, attempt_row_before}
 use Rattle.record_tables.specs.Holds.{columns_of, IsRising, or_null, meta_cells, pool_cells, dag_cells, dag_limit_cells, run_cells, instance_cells, attempt_cells}
-use Rattle.record_tables.proofs.OrderLemmas.{meta_tied, pool_tied, dag_tied, dag_limit_tied, run_tied, instance_tied, attempt_tied}
+use Rattle.record_rules.proofs.OrderLemmas.{meta_tied, pool_tied, dag_tied, dag_limit_tied, run_tied, instance_tied, attempt_tied}
 use Rattle.record_tables.proofs.RowLemmas.{cast_null, cast_int, cast_or_null, equal_ints, equal_texts, apart, Clash}
 
 -- the row as the table stores it, given the rows that are there

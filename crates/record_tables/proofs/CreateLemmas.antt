@@ -17,7 +17,8 @@ use Rattle.sqlite.specs.State.{State, mode_of, Writes, ExecutesInside}
 use Rattle.sqlite.proofs.Callers.{runs_as}
 use Rattle.record_tables.specs.Schema.{meta_table, pool_table, dag_table, dag_limit_table, run_table, instance_table, attempt_table, by_instance, create_meta, create_pool, create_dag, create_dag_limit, create_run, create_instance, create_attempt, create_index, no_schema, schema_1, schema_2, schema_3, schema_4, schema_5, schema_6, first_schema, record_schema, text_at, schema_at}
 use Rattle.record_tables.specs.Holds.{Shows, Stores, StoresFirst, AddsLimits, dag_limit_cells}
-use Rattle.record_tables.specs.Empties.{IsEmpty, Extends, no_rows}
+use Rattle.record_rules.specs.Changes.{no_rows}
+use Rattle.record_tables.specs.Empties.{IsEmpty, Extends}
 use Rattle.record_tables.proofs.TextLemmas.{Makes, make_meta, make_pool, make_dag, make_dag_limit, make_run, make_instance, make_attempt, make_index}
 use Rattle.record_tables.proofs.ReplaceLemmas.{went, same_value}
 use Rattle.record_tables.proofs.TableLemmas.{shows_still}

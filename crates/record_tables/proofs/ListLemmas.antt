@@ -1,9 +1,9 @@
 -- Lists of rows that are put one after another.
 use Rattle.std.proofs.Common.{◌≡◌, ap, List, ◌++◌}
 use Rattle.record_rows.specs.Rows.{Rows, MetaRow, PoolRow, DagRow, DagLimitRow, RunRow, InstanceRow, AttemptRow}
-use Rattle.record_changes.specs.record_rules.Keys.{meta_row_before, pool_row_before, dag_row_before, dag_limit_row_before, run_row_before, instance_row_before, attempt_row_before}
+use Rattle.record_rules.specs.Keys.{meta_row_before, pool_row_before, dag_row_before, dag_limit_row_before, run_row_before, instance_row_before, attempt_row_before}
 use Rattle.record_tables.specs.Puts.{put_metas, put_pools, put_dags, put_dag_limits, put_runs, put_instances, put_attempts}
-use Rattle.record_tables.proofs.OrderLemmas.{puts_more}
+use Rattle.record_rules.proofs.OrderLemmas.{puts_more}
 
 pub metas_more : (rs ss : List MetaRow) (rows : Rows) → put_metas (rs ++ ss) rows ≡ put_metas ss (put_metas rs rows)
 metas_more rs ss rows = ap (λ xs. let r : Rows = record rows { metas = xs } in r) (puts_more meta_row_before rs ss rows.metas)

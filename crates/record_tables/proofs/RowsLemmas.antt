@@ -3,7 +3,7 @@ use Rattle.std.proofs.Common.{◌≡◌, List, Ok, Err, Result, OnOk, subst}
 use Rattle.sqlite.specs.declared.error.Error.{Error}
 use Rattle.sqlite.specs.State.{State}
 use Rattle.record_rows.specs.Rows.{Rows, MetaRow, PoolRow, DagRow, DagLimitRow, RunRow, InstanceRow, AttemptRow}
-use Rattle.record_changes.specs.Changes.{put_rows}
+use Rattle.record_rules.specs.Changes.{put_rows}
 use Rattle.record_tables.specs.Puts.{PutsIn, GoesBy, put_metas, put_pools, put_dags, put_dag_limits, put_runs, put_instances, put_attempts}
 use Rattle.record_tables.proofs.StepLemmas.{goes_puts}
 

@@ -18,13 +18,13 @@ use Rattle.sqlite.specs.Rows.{stamped}
 use Rattle.sqlite.specs.State.{State, ExecutesInside}
 use Rattle.sqlite.proofs.Callers.{statement_of, runs_as}
 use Rattle.record_rows.specs.Rows.{Rows, MetaRow, PoolRow, DagRow, DagLimitRow, RunRow, InstanceRow, AttemptRow}
-use Rattle.record_changes.specs.record_rules.Keys.{meta_row_before, pool_row_before, dag_row_before, dag_limit_row_before, run_row_before, instance_row_before, attempt_row_before}
+use Rattle.record_rules.specs.Keys.{meta_row_before, pool_row_before, dag_row_before, dag_limit_row_before, run_row_before, instance_row_before, attempt_row_before}
 use Rattle.record_tables.specs.Schema.{meta_table, pool_table, dag_table, dag_limit_table, run_table, instance_table, attempt_table, record_schema}
 use Rattle.record_tables.specs.Holds.{Shows, Stores, meta_cells, pool_cells, dag_cells, dag_limit_cells, run_cells, instance_cells, attempt_cells}
 use Rattle.record_tables.specs.Puts as spec
 use Rattle.record_tables.specs.Puts.{PutsIn}
 use Rattle.record_tables.proofs.TextLemmas as text
-use Rattle.record_tables.proofs.OrderLemmas.{put_rises, meta_order, pool_order, dag_order, dag_limit_order, run_order, instance_order, attempt_order}
+use Rattle.record_rules.proofs.OrderLemmas.{put_rises, meta_order, pool_order, dag_order, dag_limit_order, run_order, instance_order, attempt_order}
 use Rattle.record_tables.proofs.ReplaceLemmas.{Replaces, Keeps, replaces}
 use Rattle.record_tables.proofs.RowLemmas.{shows_put}
 use Rattle.record_tables.proofs.ClashLemmas.{as_stored, meta_row, pool_row, dag_row, dag_limit_row, run_row, instance_row, attempt_row, meta_stored, pool_stored, dag_stored, dag_limit_stored, run_stored, instance_stored, attempt_stored, meta_stable, pool_stable, dag_stable, dag_limit_stable, run_stable, instance_stable, attempt_stable, meta_clash, pool_clash, dag_clash, dag_limit_clash, run_clash, instance_clash, attempt_clash}

@@ -10,9 +10,9 @@ use Rattle.sqlite.specs.Tree.{Trees}
 use Rattle.sqlite_trees.specs.Tree.{rowid}
 use Rattle.sqlite_trees.specs.View.{IsShaped}
 use Rattle.sqlite_trees.specs.declared.store.Shape.TheVariants as shape
-use Rattle.record_changes.specs.sched_model.Lists.{rises}
+use Rattle.record_rules.specs.sched_model.Lists.{rises}
 use Rattle.record_rows.specs.Rows.{Rows, MetaRow, PoolRow, DagRow, DagLimitRow, RunRow, InstanceRow, AttemptRow}
-use Rattle.record_changes.specs.record_rules.Keys.{meta_row_before, pool_row_before, dag_row_before, dag_limit_row_before, run_row_before, instance_row_before, attempt_row_before}
+use Rattle.record_rules.specs.Keys.{meta_row_before, pool_row_before, dag_row_before, dag_limit_row_before, run_row_before, instance_row_before, attempt_row_before}
 use Rattle.record_tables.specs.Schema.{meta_table, pool_table, dag_table, dag_limit_table, run_table, instance_table, attempt_table, first_schema, record_schema}
 
 -- ---- the values of a row, column by column

@@ -4,8 +4,8 @@ use Rattle.std.specs.Prelude.{List, IsTrue}
 use Rattle.sqlite.specs.Effect.{Database}
 use Rattle.sqlite.specs.State.{State, HasCleanDisk, KeepsCommit, Survives}
 use Rattle.record_rows.specs.Rows.{Rows, MetaRow, PoolRow, DagRow, DagLimitRow, RunRow, InstanceRow, AttemptRow}
-use Rattle.record_changes.specs.record_rules.Keys.{meta_row_before, pool_row_before, dag_row_before, dag_limit_row_before, run_row_before, instance_row_before, attempt_row_before}
-use Rattle.record_changes.specs.record_rules.Between.{puts}
+use Rattle.record_rules.specs.Keys.{meta_row_before, pool_row_before, dag_row_before, dag_limit_row_before, run_row_before, instance_row_before, attempt_row_before}
+use Rattle.record_rules.specs.Between.{puts}
 use Rattle.record_tables.specs.Holds.{Stores}
 
 -- ---- rows put by key into one table

@@ -2,8 +2,9 @@
 ghost use Rattle.std.specs.Prelude.{◌≡◌};
 ghost use Rattle.sqlite.specs.Effect.{Database, IsDatabase};
 ghost use Rattle.record_rows.specs.Rows.{Rows};
-ghost use Rattle.record_changes.specs.record_rules.Keys.{IsByKey};
-ghost use Rattle.record_tables.specs.Empties.{IsEmpty, no_rows};
+ghost use Rattle.record_rules.specs.Keys.{IsByKey};
+ghost use Rattle.record_rules.specs.Changes.{no_rows};
+ghost use Rattle.record_tables.specs.Empties.{IsEmpty};
 ghost use Rattle.record_tables.specs.Holds.{RisesByKey, Stores};
 ghost use Rattle.record_tables.specs.Schema.{record_schema};
 

@@ -1,7 +1,7 @@
 //! Rows put into all tables.
 ghost use Rattle.std.specs.Prelude.{◌≡◌, OnOk, OnErr};
 ghost use Rattle.sqlite.specs.Held.{state};
-ghost use Rattle.record_changes.specs.Changes as changes;
+ghost use Rattle.record_rules.specs.Changes as changes;
 ghost use Rattle.record_tables.specs.Puts.{GoesBy, PutsIn, Stops};
 
 use crate::{

@@ -1,7 +1,7 @@
 use Rattle.std.proofs.Common.{rules}
 use Rattle.std.proofs.lemmas.List.Sorted.{answers_always}
 use Rattle.record_tables.specs.record_rules.Keys.{dag_limit_row_before}
-use Rattle.record_tables.proofs.OrderLemmas.{dag_limit_order}
+use Rattle.record_rules.proofs.OrderLemmas.{dag_limit_order}
 use Rattle.record_load.proofs.RiseLemmas.{ranks}
 use Rattle.record_load.proofs.dag_limits.sort_dag_limits.Goals as goal
 

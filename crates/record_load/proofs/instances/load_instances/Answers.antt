@@ -4,7 +4,7 @@ use Rattle.sqlite.specs.Held.{state}
 use Rattle.sqlite_rules.specs.Lists.{Has}
 use Rattle.record_rows.specs.Rows.{Rows}
 use Rattle.record_tables.specs.Holds.{Stores}
-use Rattle.record_tables.proofs.OrderLemmas.{instance_order}
+use Rattle.record_rules.proofs.OrderLemmas.{instance_order}
 use Rattle.record_load.specs.Loads.{IsInstanceText}
 use Rattle.record_load.specs.Shown.{first_5}
 use Rattle.record_load.specs.declared.faults.LoadFault.TheVariants.{NotOurs}

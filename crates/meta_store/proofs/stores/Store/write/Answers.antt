@@ -1,7 +1,7 @@
 use Rattle.std.proofs.Common.{subst}
 use Rattle.sqlite.specs.Held.{state}
 use Rattle.record_rows.specs.Rows.{Rows}
-use Rattle.record_changes.specs.Changes.{put_rows}
+use Rattle.record_rules.specs.Changes.{put_rows}
 use Rattle.record_tables.specs.Puts.{PutsIn}
 use Rattle.meta_store.specs.Stores.{CommitsBy, IsAsBefore}
 use Rattle.meta_store.specs.Transactions.{Commits, Undone}
