@@ -45,7 +45,7 @@ stepped look before d left e came opened restarted sound outcome followed leaves
     let a = d.schedule.content in
     let earlier : HasCleanDisk (look d.store) → HasCleanDisk before = λ clean. omega (arith, restarted.crash.clean, clean) in
     let keeps : HasCleanDisk (look d.store) → (rows : Rows) → HasRows before.now rows → Keeps a (look d.store).now =
-    λ clean rows has. subst (λ (x : Schedule). Keeps x (look d.store).now) (sym (opened clean rows has).stepped.after) (restarted.stored clean rows has) in
+    λ clean rows has. subst (λ (x : Schedule). Keeps x (look d.store).now) (sym (opened clean rows has).stepped.after) (restarted.stored clean rows has).0 in
     record {
       first = a;
       given = d.opened;

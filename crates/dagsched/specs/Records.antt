@@ -22,7 +22,7 @@ use Rattle.director.specs.Faults.{IsOfStore}
 use Rattle.director.specs.declared.faults.Fault.{Fault}
 use Rattle.operators.specs.declared.operators.Operator as operator
 use Rattle.command_words.specs.declared.commands.Command.{Command}
-use Rattle.record_files.specs.Crashes.{IsOpenedOn}
+use Rattle.director.specs.Crashes.{IsOpenedOn}
 use Rattle.script_reader.specs.Statuses.{failure_status}
 use Rattle.dagsched.specs.Commands.{IsCommandDone}
 

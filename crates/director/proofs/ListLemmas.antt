@@ -93,7 +93,7 @@ pub follows_step : (a b : Schedule) (e : Event) (r : Result Answer Fault) (s t :
 follows_step a b e (Ok w) s t made stepped = record {
   survives = survives_weaker s t (CommitsBy (StepsIn e a) s) (λ _. ⊤) (λ _ _ _. tt) made.crash;
   was_open = λ h is_open. (made.is_open h).0;
-  stored = λ h is_open keeps. subst (λ (x : Schedule). Keeps x t.now) (sym stepped.after) (made.stored h keeps);
+  stored = λ h is_open keeps. subst (λ (x : Schedule). Keeps x t.now) (sym stepped.after) (made.stored h keeps).0;
 }
 follows_step a b e (Err f) s t made refused = record {
   survives = survives_weaker s t (CommitsBy (StepsIn e a) s) (λ _. ⊤) (λ _ _ _. tt) made.crash;

@@ -9,6 +9,7 @@ use Rattle.sqlite.proofs.StateLemmas.{survives_then}
 use Rattle.record_rows.specs.Rows.{Rows}
 use Rattle.record_rules.specs.Reading.{schedule_of}
 use Rattle.meta_store.specs.record_tables.Holds.{Stores}
+use Rattle.meta_store.specs.record_tables.Puts.{LeavesOthers}
 use Rattle.sched_model.specs.Schedule.{Schedule}
 use Rattle.sched_state.specs.Limits.{Bounds}
 use Rattle.sched_events.specs.Outcomes.{IsStepped, IsCause}
@@ -68,6 +69,14 @@ if_refused (Err f) P h = λ _. h
 pub rows_after : (old mid : Database) (rows : Rows) → IsMigrated old mid → HasRows old rows → Stores mid rows
 rows_after old mid rows (inl (limits, same)) has = subst (λ (d : Database). Stores d rows) (sym same) (second_rows old rows limits has)
 rows_after old mid rows (inr migrates) has = rows_kept old mid rows has migrates
+
+-- a record of version 2 is as it was
+second_stays : (old mid : Database) (rows : Rows) → IsMigrated old mid → Stores old rows → mid ≡ old
+second_stays old mid rows (inl (limits, same)) stored = same
+second_stays old mid rows (inr migrates) stored = absurd (no_second old rows migrates.was stored)
+
+left_beside : {old : Database} (here new : Database) → here ≡ old → LeavesOthers here new → LeavesOthers old new
+left_beside here new same leaves = subst (λ (d : Database). LeavesOthers d new) same leaves
 
 -- a database that is no record after it was none before
 none_before : (old mid : Database) → IsMigrated old mid → IsNoRecord mid → IsNoRecord old
@@ -142,8 +151,8 @@ module _ (l : Bounds) (lanes : ℕ) where
 
     pub restarts : (here new : Database) → here ≡ mid → StepsIn (Restart lanes) a here new → RestartsIn l lanes old new
     restarts here new same steps = λ rows has.
-        let h : Keeps (step (Restart lanes) a) new = steps (subst (Keeps a) (sym same) (keeps rows has)) in
-        subst (λ (x : Schedule). Keeps (step (Restart lanes) x) new) (reads rows has).is h
+        let h = steps (subst (Keeps a) (sym same) (keeps rows has)) in
+        (subst (λ (x : Schedule). Keeps (step (Restart lanes) x) new) (reads rows has).is h.0, (λ stored. left_beside here new (same ∙ second_stays old mid rows migrated stored) h.1))
 
   -- ---- the same of the states before the migration, after it, after the load, and after the step
   module _ (b s t u : State) (a : Schedule) (migrated : HasCleanDisk s → IsMigrated b.now s.now) (read : HasCleanDisk t → ReadsAs l s.now a) (two : Survives s t (λ _. ⊥)) where
@@ -193,13 +202,13 @@ module _ (l : Bounds) (lanes : ℕ) where
 -- ---- what a record is after an opening, also one that is stopped
 pub either : (l : Bounds) (lanes : ℕ) (old new : Database) (rows : Rows) → HasRows old rows → OpensBy (RestartsIn l lanes) old new → Stores new rows ⊎ Keeps (step (Restart lanes) (schedule_of l rows)) new
 either l lanes old new rows has (inl migrates) = inl (rows_kept old new rows has migrates)
-either l lanes old new rows has (inr (mid, inl same, restarts)) = inr (restarts rows (subst (λ (d : Database). HasRows d rows) (sym same) has))
-either l lanes old new rows has (inr (mid, inr migrates, restarts)) = inr (restarts rows (inl (rows_kept old mid rows has migrates)))
+either l lanes old new rows has (inr (mid, inl same, restarts)) = inr (restarts rows (subst (λ (d : Database). HasRows d rows) (sym same) has)).0
+either l lanes old new rows has (inr (mid, inr migrates, restarts)) = inr (restarts rows (inl (rows_kept old mid rows has migrates))).0
 
 pub unmigrated : (old new : Database) (rows : Rows) → Stores old rows → Migrates old new → ⊥
 unmigrated old new rows stored migrates = no_second old rows migrates.was stored
 
 pub second_restarts : (l : Bounds) (lanes : ℕ) (old new : Database) (rows : Rows) → Stores old rows → OpensBy (RestartsIn l lanes) old new → Keeps (step (Restart lanes) (schedule_of l rows)) new
 second_restarts l lanes old new rows stored (inl migrates) = absurd (unmigrated old new rows stored migrates)
-second_restarts l lanes old new rows stored (inr (mid, inl same, restarts)) = restarts rows (inl (subst (λ (d : Database). Stores d rows) (sym same) stored))
+second_restarts l lanes old new rows stored (inr (mid, inl same, restarts)) = (restarts rows (inl (subst (λ (d : Database). Stores d rows) (sym same) stored))).0
 second_restarts l lanes old new rows stored (inr (mid, inr migrates, restarts)) = absurd (unmigrated old mid rows stored migrates)

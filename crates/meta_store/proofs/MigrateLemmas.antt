@@ -10,12 +10,13 @@ use Rattle.sched_state.proofs.OrderLemmas.{and_left}
 use Rattle.record_tables.specs.Holds.{Stores, StoresFirst, AddsLimits}
 use Rattle.record_tables.specs.Puts.{GoesBy, Stops}
 use Rattle.record_tables.proofs.StepLemmas.{by_then, stops_then}
-use Rattle.record_tables.proofs.OnceLemmas.{stores_once, first_once}
-use Rattle.record_load.specs.Ours.{has_limits, is_ours}
-use Rattle.record_load.specs.Loads.{Anyhow, Stays, AreTexts, IsDagText, IsDagLimitText, is_version}
-use Rattle.record_load.specs.declared.faults.LoadFault.{LoadFault}
-use Rattle.record_load.specs.declared.faults.LoadFault.TheVariants as unread
-use Rattle.record_load.proofs.OursLemmas.{ours, limits, no_limits}
+use Rattle.record_tables.proofs.StoredLemmas.{stores_once, first_once}
+use Rattle.record_tables.specs.Ours.{has_limits, is_ours}
+use Rattle.record_rules.specs.Cells.{AreText, AreTexts, meta_cells}
+use Rattle.record_tables.specs.Loads.{Anyhow, Stays, is_version}
+use Rattle.record_tables.specs.declared.faults.LoadFault.{LoadFault}
+use Rattle.record_tables.specs.declared.faults.LoadFault.TheVariants as unread
+use Rattle.record_tables.proofs.OursLemmas.{ours, limits, no_limits}
 use Rattle.meta_store.specs.Faults.{IsOfSqlite, fault_of_load}
 use Rattle.meta_store.specs.Stores.{CommitsBy, HasRows, IsKeptOrMigrated, IsNoRecord, IsOfVersion, Migrates, OpensBy, Upgrades}
 use Rattle.meta_store.specs.Transactions.{Commits, Looks}
@@ -29,7 +30,7 @@ pub no_first : (db : Database) (rows : Rows) → has_limits db.schema ≡ true �
 no_first db rows has stored = true≢false (sym has ∙ ap has_limits stored.schema ∙ no_limits)
 
 pub no_second : (db : Database) (rows : Rows) → has_limits db.schema ≡ false → Stores db rows → ⊥
-no_second db rows lacks stored = true≢false (sym (ap has_limits stored.holds.schema ∙ limits) ∙ lacks)
+no_second db rows lacks stored = true≢false (sym (ap has_limits stored.schema.0 ∙ limits stored.beside) ∙ lacks)
 
 -- ---- a call after another one, inside a transaction
 pub anyhow_after : {A E : Type 0} (P Q : Database → Database → Type 0) (a b c : State) (r : Result A E) → GoesBy P a b → OnOk r (GoesBy Q b c) → OnOk r (GoesBy Anyhow a c)
@@ -132,3 +133,13 @@ only_migrated R a b s = survives_weaker a b (CommitsBy Migrates a) (CommitsBy (O
 -- what `migrate` did
 abbrev pub Answered : Bool → State → State → Type 0
 Answered did a b = MatchBool did (Commits Migrates (CommitsBy Migrates a) a b) (Looks a b)
+
+-- ---- the rows of `meta`, which have no texts
+pub meta_texts : (ms : List MetaRow) → AllByRecursion AreText (map meta_cells ms)
+meta_texts [] = tt
+meta_texts (m ∷ ms) = ((tt, (tt, (tt, (tt, (tt, tt))))), meta_texts ms)
+
+pub none_read : {A : Type 0} (db : Database) (r : Result A LoadFault) → IfErr r (λ e. e ≡ unread.NotOurs → (rows : Rows) → Stores db rows → AllByRecursion AreText (map meta_cells rows.metas) → ⊥)
+    → IfErr r (λ e. e ≡ unread.NotOurs → (rows : Rows) → Stores db rows → ⊥)
+none_read db (Ok x) h = tt
+none_read db (Err e) h = λ is rows stored. h is rows stored (meta_texts rows.metas)

@@ -2,7 +2,7 @@
 ghost use Rattle.std.specs.Prelude.{◌≡◌, false, None, IfOk, IfErr, IsErrAnd};
 ghost use Rattle.sqlite.specs.Held.{state};
 ghost use Rattle.sqlite.specs.State.{HasCleanDisk};
-ghost use Rattle.record_load.specs.Ours.{is_ours};
+ghost use Rattle.record_tables.specs.Ours.{is_ours};
 ghost use Rattle.record_rules.specs.Faults.{record_fault};
 ghost use Rattle.record_rules.specs.Keys.{IsByKey};
 ghost use Rattle.meta_store.specs.Loads.{ReadsAs, IsReadAs, IsLoadFault, IsRuleFault, fault_of_first};
@@ -12,8 +12,8 @@ ghost use Rattle.meta_store.specs.declared.faults.StoreFault.TheVariants as faul
 
 use crate::faults::StoreFault;
 use crate::stores::Store;
-use record_load::{has_limits, stored_rows_are_by_key};
 use record_rows::Table;
+use record_tables::{has_limits, stored_rows_are_by_key};
 use sched_core::{KeyedRows, Limits, LoadedGraph, RestoreFault, Schedule};
 use sqlite::Alter;
 use std::alloc::Global;

@@ -3,9 +3,10 @@ ghost use Rattle.std.specs.Prelude.{◌≡◌, ◌⊎◌, pos, true, false, Matc
 ghost use Rattle.sqlite.specs.Held.{state};
 ghost use Rattle.sqlite.specs.State.{HasCleanDisk};
 ghost use Rattle.record_tables.specs.Holds.{Stores, StoresFirst};
-ghost use Rattle.record_load.specs.Loads.{AreTexts, is_version};
-ghost use Rattle.record_load.specs.Ours.{has_limits, is_ours};
-ghost use Rattle.record_load.specs.declared.faults.LoadFault.TheVariants as unread;
+ghost use Rattle.record_rules.specs.Cells.{AreTexts};
+ghost use Rattle.record_tables.specs.Loads.{is_version};
+ghost use Rattle.record_tables.specs.Ours.{has_limits, is_ours};
+ghost use Rattle.record_tables.specs.declared.faults.LoadFault.TheVariants as unread;
 ghost use Rattle.meta_store.specs.Stores.{CommitsBy, CommitsFrom, IsAsBefore, IsNoRecord, Migrates, Upgrades};
 ghost use Rattle.meta_store.specs.Transactions.{Commits, Looks, Transacts, TransactsTo, Undone};
 ghost use Rattle.meta_store.specs.declared.faults.StoreFault.TheVariants as fault;
@@ -14,8 +15,8 @@ ghost use Rattle.meta_store.specs.Faults.{IsOfSqlite};
 use crate::faults::{StoreFault, fault_of_load};
 use crate::stores::Store;
 use crate::upgrading::upgrade;
-use record_load::{LoadFault, has_limits, is_ours, is_version, load_metas, refused};
 use record_rows::MetaRow;
+use record_tables::{LoadFault, has_limits, is_ours, is_version, load_all, refused};
 use sqlite::Alter;
 use std::alloc::Global;
 
@@ -85,7 +86,7 @@ impl<S: Alter> Store<S> {
     {
         let _settled = self.conn.is_autocommit();
         let mut tx = self.conn.transaction();
-        load_metas(alloc, &mut tx)
+        load_all(alloc, &mut tx)
     }
 
     // Upgrades a record of version 1. A connection that is shut is found to be so before anything is changed.

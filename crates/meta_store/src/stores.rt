@@ -4,9 +4,10 @@ ghost use Rattle.sqlite.specs.Held.{state};
 ghost use Rattle.sqlite.specs.State.{HasCleanDisk};
 ghost use Rattle.record_tables.specs.Holds.{Stores, StoresFirst};
 ghost use Rattle.record_tables.specs.Schema.{first_schema};
-ghost use Rattle.record_load.specs.Loads.{AreTexts, is_version};
-ghost use Rattle.record_load.specs.Ours.{has_limits, is_ours};
-ghost use Rattle.record_load.specs.declared.faults.LoadFault.TheVariants as unread;
+ghost use Rattle.record_rules.specs.Cells.{AreTexts};
+ghost use Rattle.record_tables.specs.Loads.{is_version};
+ghost use Rattle.record_tables.specs.Ours.{has_limits, is_ours};
+ghost use Rattle.record_tables.specs.declared.faults.LoadFault.TheVariants as unread;
 ghost use Rattle.meta_store.specs.Stores.{Begins, CommitsBy, HasRows, IsAsBefore, IsNoRecord, IsOfVersion, has_record_table, Writes};
 ghost use Rattle.meta_store.specs.Transactions.{Commits, Looks, Transacts, Undone};
 ghost use Rattle.meta_store.specs.Upgraded.{upgraded};
@@ -18,8 +19,8 @@ use crate::first_rows::first_rows;
 use crate::names::has_record_table;
 use crate::transactions::Work;
 use crate::upgrading::{load_old_rows, upgrade_rows};
-use record_load::{LoadFault, has_limits, is_ours, is_version, load_rows};
 use record_rows::Rows;
+use record_tables::{LoadFault, has_limits, is_ours, is_version, load_rows};
 use sched_core::Change;
 use sqlite::{Alter, Connection};
 use std::alloc::Global;
@@ -122,6 +123,7 @@ impl<S: Alter> Store<S> {
         ensures list { HasCleanDisk (state S.Store self.new) → IfOk result (λ loaded. (rows : _)
             → HasRows (state S.Store self.old).now rows → loaded ≡ rows) }
         ensures version { IfOk result (λ loaded. is_version (pos 2) loaded.metas ≡ true) }
+        ensures texts { IfOk result AreTexts }
         ensures found { HasCleanDisk (state S.Store self.new) → OnOk result
             (IsOfVersion (state S.Store self.old).now) }
         ensures looks { Looks (state S.Store self.old) (state S.Store self.new) }
@@ -145,6 +147,7 @@ impl<S: Alter> Store<S> {
         ensures list { HasCleanDisk (state S.Store self.new) → IfOk result (λ loaded. (rows : _)
             → Stores (state S.Store self.old).now rows → loaded ≡ rows) }
         ensures version { IfOk result (λ loaded. is_version (pos 2) loaded.metas ≡ true) }
+        ensures texts { IfOk result AreTexts }
         ensures looks { Looks (state S.Store self.old) (state S.Store self.new) }
         ensures fault { HasCleanDisk (state S.Store self.new) → IfErr result (λ e. IsOfSqlite e
             ⊎ ((e ≡ fault.NotOurs) × ((rows : _) → Stores (state S.Store self.old).now rows
@@ -165,6 +168,7 @@ impl<S: Alter> Store<S> {
         ensures list { HasCleanDisk (state S.Store self.new) → IfOk result (λ loaded. (rows : _)
             → StoresFirst (state S.Store self.old).now rows → loaded ≡ upgraded rows) }
         ensures version { IfOk result (λ loaded. is_version (pos 2) loaded.metas ≡ true) }
+        ensures texts { IfOk result AreTexts }
         ensures found { HasCleanDisk (state S.Store self.new) → OnOk result ((rows : _)
             → StoresFirst (state S.Store self.old).now rows
             → is_version (pos 1) rows.metas ≡ true) }
@@ -190,6 +194,7 @@ impl<S: Alter> Store<S> {
     fn read_first(&mut self, alloc: Global) -> Result<Rows, LoadFault>
         ensures list { HasCleanDisk (state S.Store self.new) → IfOk result (λ loaded. (rows : _)
             → StoresFirst (state S.Store self.old).now rows → loaded ≡ rows) }
+        ensures texts { IfOk result AreTexts }
         ensures fault { HasCleanDisk (state S.Store self.new) → IfErr result (λ e.
             e ≡ unread.NotOurs → (rows : _) → StoresFirst (state S.Store self.old).now rows
             → ¬ AreTexts rows) }
@@ -204,6 +209,7 @@ impl<S: Alter> Store<S> {
     fn read_rows(&mut self, alloc: Global) -> Result<Rows, LoadFault>
         ensures list { HasCleanDisk (state S.Store self.new) → IfOk result (λ loaded. (rows : _)
             → Stores (state S.Store self.old).now rows → loaded ≡ rows) }
+        ensures texts { IfOk result AreTexts }
         ensures fault { HasCleanDisk (state S.Store self.new) → IfErr result (λ e.
             e ≡ unread.NotOurs → (rows : _) → Stores (state S.Store self.old).now rows
             → ¬ AreTexts rows) }

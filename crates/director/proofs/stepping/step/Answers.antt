@@ -29,7 +29,7 @@ returns-clause-transacts g c =
     let a : Schedule = c.args.schedule.now.content in
     let old = state g.S.Store c.args.store.now in
     transacts_on (Writes c.in_ok-change.change) (StepsIn e a) old (state g.S.Store c.keep.new.store)
-    (λ new writes keeps. c.a_planned_event_is_written.ensures e a c.in_ok-change.change old.now new c.in_ok-change.ensures.accepted c.runs-kept.ensures.kept keeps writes) c.keep.result c.keep.ensures.transacts
+    (λ new writes. c.a_planned_event_is_written.ensures e a c.in_ok-change.change old.now new c.in_ok-change.ensures.accepted c.runs-kept.ensures.kept writes) c.keep.result c.keep.ensures.transacts
 
 pub returns-in_err-change-clause-transacts : goal.returns-in_err-change-clause-transacts
 returns-in_err-change-clause-transacts g c =
