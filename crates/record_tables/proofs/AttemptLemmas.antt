@@ -35,7 +35,7 @@ selects : (o : Others) → Selects (with_others o) attempt_form.select 9 (shown_
 unfolding understood everything
 selects o = (refl, (refl, refl), refl)
 
-inj : (x y : Option ℤ) → or_null x ≡ or_null y → x ≡ y
+inj : (x y : AttemptRow) → values_of (attempt_cells x) ≡ values_of (attempt_cells y) → x ≡ y
 inj x y h = attempt_apart x y (values_apart (attempt_cells x) (attempt_cells y) refl h)
 
 stored : (rows : List Row) (x : AttemptRow) → as_stored attempt_form.table rows (source_of attempt_form (values_of (attempt_cells x))) ≡ row_of attempt_form rows (values_of (attempt_cells x))
