@@ -12,8 +12,8 @@ use Rattle.meta_store.specs.Stores.{CommitsBy, IsAsBefore}
 use Rattle.meta_store.specs.declared.transactions.Work.{Work}
 use Rattle.meta_store.specs.declared.transactions.Work.TheVariants.{Make, Put}
 
--- The database was changed by R, and that was committed: where the disk gave what was written, a crash leaves that alone. Whatever the disk gave, a crash leaves
--- what it could leave before, or what C says.
+-- a change by R was committed: where the disk gave what was written, a crash leaves that alone. Whatever the disk gave, a crash leaves what it could leave
+-- before, or what C says.
 pub record Commits (R : Database → Database → Type 0) (C : Trees → Type 0) (old new : State) : Type 0 where
   pub stored : HasCleanDisk new → R old.now new.now
   pub settled : HasCleanDisk new → new.committed ≡ new.now
@@ -21,8 +21,8 @@ pub record Commits (R : Database → Database → Type 0) (C : Trees → Type 0)
   pub is_open : HasCleanDisk new → IsTrue old.is_open × IsTrue new.is_open
   pub crash : Survives old new C
 
--- It was not: where the connection is open and the disk gave what was written, what it sees and what is committed are what K says. A crash leaves what it could
--- leave before, or what C says.
+-- the change was not committed: where the connection is open and the disk gave what was written, what it sees and what is committed are what K says. A crash leaves what
+-- it could leave before, or what C says.
 pub record Undone (K : State → State → Type 0) (C : Trees → Type 0) (old new : State) : Type 0 where
   pub kept : HasCleanDisk new → IsTrue new.is_open → K old new
   pub was_open : HasCleanDisk new → IsTrue new.is_open → IsTrue old.is_open
