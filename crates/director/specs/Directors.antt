@@ -35,8 +35,7 @@ director_code {S} store =
     code_by (Held S × (ScheduleValue × Answer)) (coded× (held_code store) (coded× schedule.the_row.coded answer.the_row.coded)) (λ d. (d.store, (d.schedule, d.opened)))
     (λ p. record { store = p.0; schedule = p.1.0; opened = p.1.1 }) (λ _. refl)
 
--- a database stores a schedule
--- its rows are the tables of the schedule
+-- a database stores a schedule: its rows are the tables of the schedule
 abbrev pub Keeps : Schedule → Database → Type 0
 Keeps a db = Stores db (tables a)
 
