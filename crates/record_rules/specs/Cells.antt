@@ -15,32 +15,25 @@ pub data Cell : Type 0 where
   -- it may be NULL
   Perhaps : Option ℤ → Cell
 
--- ---- the cells of a row, in the order of the columns
--- the cells of a row
+-- ---- the cells of a row of each table, in the order of its columns
 abbrev pub meta_cells : MetaRow → List Cell
 meta_cells m = Number m.one ∷ Number m.version ∷ Number m.now ∷ Number m.next_serial ∷ Number m.lanes ∷ []
 
--- the cells of a row
 abbrev pub pool_cells : PoolRow → List Cell
 pool_cells p = Words p.name ∷ Number p.size ∷ []
 
--- the cells of a row
 abbrev pub dag_cells : DagRow → List Cell
 dag_cells d = Words d.dag_id ∷ Words d.body ∷ Number d.paused ∷ []
 
--- the cells of a row
 abbrev pub dag_limit_cells : DagLimitRow → List Cell
 dag_limit_cells x = Words x.dag_id ∷ Number x.max_active_tasks ∷ []
 
--- the cells of a row
 abbrev pub run_cells : RunRow → List Cell
 run_cells r = Words r.dag_id ∷ Number r.logical ∷ Number r.data_start ∷ Number r.data_end ∷ Number r.kind ∷ Number r.phase ∷ []
 
--- the cells of a row
 abbrev pub instance_cells : InstanceRow → List Cell
 instance_cells i = Words i.dag_id ∷ Number i.logical ∷ Words i.task_id ∷ Number i.verdict ∷ Number i.since ∷ []
 
--- the cells of a row
 abbrev pub attempt_cells : AttemptRow → List Cell
 attempt_cells a =
     Number a.serial ∷ Words a.dag_id ∷ Number a.logical ∷ Words a.task_id ∷ Number a.try_number ∷ Number a.slots ∷ Perhaps a.started ∷ Perhaps a.ended ∷ Perhaps a.outcome ∷ []
