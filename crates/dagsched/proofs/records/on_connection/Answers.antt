@@ -2,6 +2,7 @@ use Rattle.std.proofs.Common.{◌≡◌, ◌∙◌, true, false, sym, inl, inr}
 use Rattle.std.proofs.lemmas.Result.{IfOk-weaker}
 use Rattle.sqlite.specs.Held.{state}
 use Rattle.dagsched.specs.Records.{has_tables}
+use Rattle.dagsched.proofs.DoneLemmas.{unmade_cause}
 use Rattle.dagsched.proofs.records.on_connection.Goals as goal
 
 pub returns-then-has_tables-clause-done : goal.returns-then-has_tables-clause-done
@@ -13,16 +14,17 @@ pub returns-in-Ok-clause-done : goal.returns-in-Ok-clause-done
 returns-in-Ok-clause-done g c =
     let none : has_tables (state g.S.Store c.args.conn).now.schema ≡ false = sym c.has_tables.ensures ∙ c.if-has_tables.false in
     let made = c.in-Ok.ensures in
-    IfOk-weaker c.on_store-in-Ok.result _ _ (λ r is. inl (c.in-Ok.store, inr (none, record { begun = made.stored; only = made.only; is_open = made.open; crash = made.crash }), is)) c.on_store-in-Ok.ensures.done
+    IfOk-weaker c.on_store-in-Ok.result _ _ (λ r is. inl (c.in-Ok.store, inr (none, made.transacts), is)) c.on_store-in-Ok.ensures.done
 
 pub returns-in_ok-status-in-Err-clause-done : goal.returns-in_ok-status-in-Err-clause-done
 returns-in_ok-status-in-Err-clause-done g c =
+    let none : has_tables (state g.S.Store c.args.conn).now.schema ≡ false = sym c.has_tables.ensures ∙ c.if-has_tables.false in
     inr (record {
+      none = none;
       fault = c.in-Err.fault;
       told = c.from.result;
       same = c.from.ensures;
-      cause = c.in-Err.ensures.fault;
+      cause = unmade_cause _ _ none c.in-Err.ensures.fault;
       status_is = c.in_ok-status-in-Err.ensures;
-      kept = c.in-Err.ensures.kept;
-      crash = c.in-Err.ensures.err_crash;
+      undone = c.in-Err.ensures.transacts;
     })
