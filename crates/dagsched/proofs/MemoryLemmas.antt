@@ -1,5 +1,5 @@
 -- A command on a record over files that hold nothing, and of which each byte is read as it was written.
-use Rattle.std.proofs.Common.{◌≡◌, ◌∙◌, ℕ, true, false, true≢false, List, [], length, refl, sym, ap, subst, inl, inr, arith}
+use Rattle.std.proofs.Common.{◌≡◌, ◌∙◌, ℕ, true≢false, List, [], length, refl, sym, ap, subst, inl, inr, arith}
 use Rattle.sqlite_catalog.specs.Listing.{Lists}
 use Rattle.sqlite_catalog.proofs.ReadLemmas.{lists_once}
 use Rattle.sqlite_disk.specs.declared.Disk as disk

@@ -7,7 +7,7 @@ use crate::graphs::{push_dag, push_graph, push_pool};
 use crate::moments::DATES_HINT;
 use crate::notes::{Rest, near_graph, near_task};
 use crate::parts::Part::{Date, Text};
-use crate::parts::{Part, say};
+use crate::parts::say;
 use crate::places::Source;
 use graph_file::{GraphSpec, Name, TaskSpec, read_graph};
 use sched_events::{Event, Refusal};
@@ -109,7 +109,8 @@ fn push_of_event(
             push_missing(sentence, Some(task), "task")
         }
         (Refusal::UnknownRun, Some(Event::Mark { graph, logical, .. })) => {
-            push_no_run(sentence, graph.as_str(), Date(*logical))
+            push_no_run(sentence, graph.as_str())?;
+            write!(sentence, "{logical}: {DATES_HINT}")
         }
         _ => sentence.push_str(plain(refusal)),
     }
@@ -225,7 +226,10 @@ fn push_unknown<'a>(
 ) -> Result<(), AllocError> {
     match fault {
         ExplainFault::UnknownGraph => say(sentence, "there is no graph \"{}\"", &[Text(graph)]),
-        ExplainFault::UnknownRun => push_no_run(sentence, graph, Text(logical)),
+        ExplainFault::UnknownRun => {
+            push_no_run(sentence, graph)?;
+            write!(sentence, "{logical}: {DATES_HINT}")
+        }
         ExplainFault::UnknownTask => say(
             sentence,
             "the graph \"{}\" has no task \"{}\"",
@@ -235,11 +239,11 @@ fn push_unknown<'a>(
     }
 }
 
-// Adds that the graph has no run of this date.
-fn push_no_run(sentence: &mut String, graph: &str, date: Part<'_>) -> Result<(), AllocError> {
+// Adds that the graph has no run of a date, which stands behind it.
+fn push_no_run(sentence: &mut String, graph: &str) -> Result<(), AllocError> {
     say(
         sentence,
-        "the graph \"{}\" has no run of the date {}: {}",
-        &[Text(graph), date, Text(DATES_HINT)],
+        "the graph \"{}\" has no run of the date ",
+        &[Text(graph)],
     )
 }

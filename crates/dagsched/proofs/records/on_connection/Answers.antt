@@ -24,7 +24,7 @@ returns-in_ok-status-in-Err-clause-done g c =
       fault = c.in-Err.fault;
       told = c.from.result;
       same = c.from.ensures;
-      cause = unmade_cause _ _ none c.in-Err.ensures.fault;
+      cause = unmade_cause _ (state g.S.Store c.args.conn).now.schema none c.in-Err.ensures.fault;
       status_is = c.in_ok-status-in-Err.ensures;
       undone = c.in-Err.ensures.transacts;
     })

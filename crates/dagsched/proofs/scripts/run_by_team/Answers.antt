@@ -2,7 +2,7 @@ use Rattle.std.proofs.Common.{◌∙◌, map, vec_items, All, inl, inr}
 use Rattle.std.proofs.lemmas.List.{length-map}
 use Rattle.std.proofs.lemmas.List.Elements.{All-map}
 use Rattle.sqlite.specs.Held.{state}
-use Rattle.script_runner.specs.TaskOperators.{IsFresh}
+use Rattle.script_runner.specs.TaskOperators.{IsFresh, runs_of, refused_by, taken_by}
 use Rattle.script_runner.specs.Teams.{IsWhole}
 use Rattle.script_runner.proofs.LessLemmas.{by_team}
 use Rattle.dagsched.proofs.DoneLemmas.{script_less}
@@ -19,7 +19,7 @@ returns-in-Ok-clause-known g c =
       by_team (g.R.Read.remaining c.args.script.input) _ _ _ _ (λ _. Unit {0}) _ _ (λ _ is. is) (λ _ given. given) (λ _ _. tt) (λ _ shown. shown)
           (state g.S.Store) _ _ _ (λ both. both.0) c.args.options.now.workers c.args.options.now.lanes (state g.S.Store c.args.store) c.in-Ok.ran.store c.in-Ok.ran.status
           (map (λ w. w.0.items) team) (vec_items c.in-Ok.ran.minutes) (vec_items c.in-Ok.ran.ends) c.in-Ok.ran.outcome
-          (length-map team (λ w. w.0.items) ∙ made.workers ∙ c.get.ensures.value) (All-map (IsWhole _) (λ w. w.0.items) team made.whole) (All-map (All (IsFresh _ _ _)) (λ w. w.0.items) team made.fresh) run,
+          (length-map team (λ w. w.0.items) ∙ made.workers ∙ c.get.ensures.value) (All-map (IsWhole _) (λ w. w.0.items) team made.whole) (All-map (All (IsFresh (runs_of _) (refused_by _) (taken_by _))) (λ w. w.0.items) team made.fresh) run,
     )
 
 pub returns-in-Ok-clause-done : goal.returns-in-Ok-clause-done
