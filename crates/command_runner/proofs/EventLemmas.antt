@@ -1,5 +1,5 @@
 -- An event in a record that was opened for it.
-use Rattle.std.proofs.Common.{◌≡◌, ◌≤◌, ◌∷◌, ◌++◌, List, [], Result, IsTrue, refl, sym, subst, inl, inr}
+use Rattle.std.proofs.Common.{◌≡◌, ◌∷◌, ◌++◌, List, [], Result, IsTrue, refl, sym, subst, inl, inr, arith}
 use Rattle.sqlite.specs.Effect.{Database}
 use Rattle.sqlite.specs.Held.{Held}
 use Rattle.sqlite.specs.State.{State, HasCleanDisk}
@@ -13,7 +13,8 @@ use Rattle.sched_events.specs.declared.answers.Answer.{Answer}
 use Rattle.sched_events.specs.declared.events.Event.{Event}
 use Rattle.director.specs.Directors.{DirectorValue, Follows, Keeps, Opens, RestartsIn}
 use Rattle.director.specs.Leaves.{IsOneOf, Leaves, LeavesBy, accepted_in, tried_in}
-use Rattle.director.specs.meta_store.Stores.{HasRows}
+use Rattle.director.specs.meta_store.Stores.{CommitsBy, HasRows, OpensBy}
+use Rattle.director.specs.meta_store.Transactions.{Commits}
 use Rattle.director.specs.Lists.{IsOutcome}
 use Rattle.director.specs.declared.faults.Fault.{Fault}
 use Rattle.director.proofs.ListLemmas.{stays_open, was_clean}
@@ -34,31 +35,29 @@ left_files (e ∷ es) tried a s t left clean keeps only trees may = from_made (e
 -- ---- what came of the event
 pub stepped : {S : Type 0} (look : Held S → State) (before : State) (d left : DirectorValue S) (e : Event) (came : Result Answer Fault)
     → (HasCleanDisk (look d.store) → Opens ceilings 0 before.now d.schedule.content d.opened)
-    → (HasCleanDisk (look d.store) → RestartsIn ceilings 0 before.now (look d.store).now)
-    → (HasCleanDisk (look d.store) → (trees : Trees) → (look d.store).may_leave trees → trees ≡ (look d.store).now.trees)
-    → (HasCleanDisk (look d.store) → HasCleanDisk before)
-    → (before.faults ≤ (look d.store).faults) × (HasCleanDisk (look d.store) → IsTrue (look d.store).is_open)
+    → Commits (RestartsIn ceilings 0) (CommitsBy (OpensBy (RestartsIn ceilings 0)) before) before (look d.store)
     → IsSoundAndSaid d.schedule.content
     → IsOutcome d.schedule.content e came left.schedule.content
     → Follows d.schedule.content (look d.store) left.schedule.content (look left.store)
     → Leaves (accepted_in e came) (tried_in e came) d.schedule.content (look d.store) (look left.store)
     → IsStepped look before e came left.schedule.content left.store
-stepped look before d left e came opened restarted only clean_before is_open sound outcome followed leaves =
+stepped look before d left e came opened restarted sound outcome followed leaves =
     let a = d.schedule.content in
+    let earlier : HasCleanDisk (look d.store) → HasCleanDisk before = λ clean. omega (arith, restarted.crash.clean, clean) in
     let keeps : HasCleanDisk (look d.store) → (rows : Rows) → HasRows before.now rows → Keeps a (look d.store).now =
-    λ clean rows has. subst (λ (x : Schedule). Keeps x (look d.store).now) (sym (opened clean rows has).stepped.after) (restarted clean rows has) in
+    λ clean rows has. subst (λ (x : Schedule). Keeps x (look d.store).now) (sym (opened clean rows has).stepped.after) (restarted.stored clean rows has).0 in
     record {
       first = a;
       given = d.opened;
       opened = λ clean. opened (was_clean _ _ _ _ followed clean);
       sound = sound;
       outcome = outcome;
-      was_clean = λ clean. clean_before (was_clean _ _ _ _ followed clean);
-      stays = stays_open _ _ before _ _ is_open.0 is_open.1 followed;
+      was_clean = λ clean. earlier (was_clean _ _ _ _ followed clean);
+      stays = stays_open _ _ before _ _ restarted.crash.counts (λ clean. (restarted.is_open clean).1) followed;
       stored = λ clean is_open rows has. followed.stored clean is_open (keeps (was_clean _ _ _ _ followed clean) rows has);
       left = λ clean rows has.
           let first = was_clean _ _ _ _ followed clean in
-          left_files (accepted_in e came) (tried_in e came) a (look d.store) (look left.store) leaves clean (keeps first rows has) (only first);
+          left_files (accepted_in e came) (tried_in e came) a (look d.store) (look left.store) leaves clean (keeps first rows has) (restarted.only first);
     }
 
 -- the record that is given back

@@ -67,4 +67,4 @@ module _ {S O : Type 0} (look : Held S → State) (o : operator.Ghosts O) where
   on_clean c conn after status (inl (first, inr (none, made), done)) clean =
       let was : HasCleanDisk (look first) = done_clean c first after status done clean in
       omega (arith, made.crash.clean, was)
-  on_clean c conn after status (inr unmade) clean = omega (arith, unmade.crash.clean, clean)
+  on_clean c conn after status (inr unmade) clean = omega (arith, unmade.undone.crash.clean, clean)

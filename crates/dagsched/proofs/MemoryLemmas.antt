@@ -44,7 +44,7 @@ module _ {D : Type 0} {g : disk.Ghosts D} where
       → IsDoneOn (file_state {g = g}) o c conn after status → IsDoneInMemory g o c status
   done_in_memory o c conn after status clean bare (inl (first, inl (some, same), done)) = absurd (true≢false (sym some ∙ ap has_tables bare))
   done_in_memory o c conn after status clean bare (inl (first, inr (none, made), done)) =
-      let empty : Keeps (empty_schedule ceilings) (file_state first).now = made.begun (clean first) bare in
+      let empty : Keeps (empty_schedule ceilings) (file_state first).now = made.stored (clean first) bare in
       inl (record { first = first; after = after; empty = empty; clean = clean after; done = done })
   done_in_memory o c conn after status clean bare (inr unmade) =
       inr (

@@ -1,6 +1,6 @@
 -- The record on which the program does a command.
 -- restates: this project's own profile
-use Rattle.std.specs.Prelude.{◌≡◌, ◌⊎◌, ◌==◌, ℕ, Bool, true, false, not, max, length, IsTrue}
+use Rattle.std.specs.Prelude.{◌≡◌, ◌⊎◌, ◌==◌, ℕ, Bool, true, false, not, max, length}
 use Rattle.sqlite_disk.specs.declared.Disk as disk
 use Rattle.sqlite_disk.specs.declared.Files.{Files}
 use Rattle.sqlite_store.specs.declared.store.FileStore.{FileStore}
@@ -9,20 +9,20 @@ use Rattle.sqlite.specs.Schema.{Schema}
 use Rattle.sqlite.specs.Closing.{IsCopied}
 use Rattle.sqlite.specs.Files.{file_state, Finds, IsOpened}
 use Rattle.sqlite.specs.Held.{Held}
-use Rattle.sqlite.specs.State.{State, HasCleanDisk, Survives}
-use Rattle.sqlite.specs.Tree.{Trees}
+use Rattle.sqlite.specs.State.{State, HasCleanDisk}
 use Rattle.sqlite.specs.WalReads.{AreClean}
 use Rattle.sched_model.specs.Schedule.{empty_schedule}
 use Rattle.sched_state.specs.Limits.{ceilings}
 use Rattle.meta_store.specs.Faults.{IsOfSqlite}
-use Rattle.meta_store.specs.Stores.{Begins, CommitsBy}
+use Rattle.meta_store.specs.Stores.{Begins, CommitsBy, IsAsBefore}
+use Rattle.meta_store.specs.Transactions.{Commits, Undone}
 use Rattle.meta_store.specs.declared.faults.StoreFault.{StoreFault}
 use Rattle.director.specs.Directors.{Keeps}
 use Rattle.director.specs.Faults.{IsOfStore}
 use Rattle.director.specs.declared.faults.Fault.{Fault}
 use Rattle.operators.specs.declared.operators.Operator as operator
 use Rattle.command_words.specs.declared.commands.Command.{Command}
-use Rattle.record_files.specs.Crashes.{IsOpenedOn}
+use Rattle.director.specs.Crashes.{IsOpenedOn}
 use Rattle.script_reader.specs.Statuses.{failure_status}
 use Rattle.dagsched.specs.Commands.{IsCommandDone}
 
@@ -32,11 +32,8 @@ abbrev pub has_tables : Schema → Bool
 has_tables schema = not (length schema.tables == 0)
 
 -- a new record was made on a connection, in one transaction
-pub record IsMade {S : Type 0} (look : Held S → State) (conn first : Held S) : Type 0 where
-  pub begun : HasCleanDisk (look first) → Begins (look conn).now (look first).now
-  pub only : HasCleanDisk (look first) → (trees : Trees) → (look first).may_leave trees → trees ≡ (look first).now.trees
-  pub is_open : HasCleanDisk (look first) → IsTrue (look first).is_open
-  pub crash : Survives (look conn) (look first) (CommitsBy Begins (look conn))
+abbrev pub IsMade : {S : Type 0} → (Held S → State) → Held S → Held S → Type 0
+IsMade look conn first = Commits Begins (CommitsBy Begins (look conn)) (look conn) (look first)
 
 -- the record of a connection: what its database has, if that has tables, whatever they are; else a new one, which was made in it
 abbrev pub IsRecordOf : {S : Type 0} → (Held S → State) → Held S → Held S → Type 0
@@ -52,8 +49,7 @@ pub record IsUnmade {S : Type 0} (look : Held S → State) (conn after : Held S)
   pub same : IsOfStore fault told
   pub cause : IsOfSqlite fault
   pub status_is : status ≡ failure_status told
-  pub kept : HasCleanDisk (look after) → IsTrue (look after).is_open → ((look after).now ≡ (look conn).now) × ((look after).committed ≡ (look conn).committed)
-  pub crash : Survives (look conn) (look after) (CommitsBy Begins (look conn))
+  pub undone : Undone IsAsBefore (CommitsBy Begins (look conn)) (look conn) (look after)
 
 -- a command was done on the record of a connection, or there was none and none was made
 abbrev pub IsDoneOn : {S O : Type 0} → (Held S → State) → operator.Ghosts O → Command → Held S → Held S → ℕ → Type 0

@@ -16,11 +16,10 @@ use crate::volatile::Volatile;
 use answer_lines::{Shown, put};
 use command_runner::run_command;
 use command_words::Command;
-use director::Fault;
+use director::{Fault, open_database};
 use fault_sentences::SentenceConsole;
 use meta_store::Store;
 use operators::Operator;
-use record_files::open_database;
 use script_reader::failure_status;
 use sqlite::{
     Alter, Connection, Error, ErrorCode, FileFrom, FileStore, Files, Options, Start, Unknown,

@@ -1,10 +1,12 @@
 -- Lists of events, each answered.
-use Rattle.std.proofs.Common.{◌≡◌, ◌∙◌, ℕ, ◌+◌, ◌<◌, ◌≤◌, inl, inr, List, [], ◌∷◌, ◌++◌, take, length, get_or, Result, Ok, Err, IfOk, IfErr, OnOk, OnErr, IsTrue, refl, sym, ap, subst, arith}
+use Rattle.std.proofs.Common.{◌≡◌, ◌∙◌, ℕ, ◌+◌, ◌<◌, ◌≤◌, inl, inr, List, [], ◌∷◌, ◌++◌, take, length, get_or, Result, Ok, Err, IfOk, IfErr, OnErr, IsTrue, refl, sym, ap, subst, arith}
 use Rattle.std.proofs.lemmas.List.{take_more}
 use Rattle.std.specs.Prelude.{⊤}
 use Rattle.sqlite.specs.State.{State, HasCleanDisk, Survives}
 use Rattle.sqlite.specs.Tree.{Trees}
 use Rattle.sqlite.proofs.StateLemmas.{survives_then, survives_weaker}
+use Rattle.meta_store.specs.Stores.{CommitsBy, IsAsBefore}
+use Rattle.meta_store.specs.Transactions.{Transacts, Undone}
 use Rattle.sched_model.specs.Schedule.{Schedule}
 use Rattle.sched_events.specs.Outcomes.{IsStepped}
 use Rattle.sched_events.specs.Steps.{steps, AreAccepted}
@@ -58,6 +60,10 @@ outcome_is a e (Err f) b stepped same fault = (fault, same)
 pub survives_itself : {P : Trees → Type 0} (s : State) → Survives s s P
 survives_itself s = record { clean = omega arith; shield = λ h. h; counts = omega arith; limit = refl; closes = λ _ h. inl h; crash = λ _ _ h. inl h }
 
+-- a call that changed nothing, of which a crash leaves what it could
+pub nothing_done : (C : Trees → Type 0) (s : State) → Undone IsAsBefore C s s
+nothing_done C s = record { kept = λ _ _. (refl, refl); was_open = λ _ h. h; crash = survives_itself s }
+
 pub follows_itself : (a : Schedule) (s : State) → Follows a s a s
 follows_itself a s = record {
   survives = survives_itself s;
@@ -83,15 +89,14 @@ stays_open a b first s t more was_open follows clean = elim (follows.survives.cl
 ]
 
 -- over one event
-pub follows_step : {P : Trees → Type 0} (a b : Schedule) (e : Event) (r : Result Answer Fault) (s t : State) → Survives s t P → (HasCleanDisk t → IsTrue t.is_open → IsTrue s.is_open)
-    → IsOutcome a e r b → (HasCleanDisk t → OnOk r (StepsIn e a s.now t.now)) → (HasCleanDisk t → IsTrue t.is_open → OnErr r ((t.now ≡ s.now) × (t.committed ≡ s.committed))) → Follows a s b t
-follows_step {P} a b e (Ok w) s t lives was stepped stored kept = record {
-  survives = survives_weaker s t P (λ _. ⊤) (λ _ _ _. tt) lives;
-  was_open = was;
-  stored = λ h is_open keeps. subst (λ (x : Schedule). Keeps x t.now) (sym stepped.after) (stored h keeps);
+pub follows_step : (a b : Schedule) (e : Event) (r : Result Answer Fault) (s t : State) → Transacts (StepsIn e a) s t r → IsOutcome a e r b → Follows a s b t
+follows_step a b e (Ok w) s t made stepped = record {
+  survives = survives_weaker s t (CommitsBy (StepsIn e a) s) (λ _. ⊤) (λ _ _ _. tt) made.crash;
+  was_open = λ h is_open. (made.is_open h).0;
+  stored = λ h is_open keeps. subst (λ (x : Schedule). Keeps x t.now) (sym stepped.after) (made.stored h keeps).0;
 }
-follows_step {P} a b e (Err f) s t lives was refused stored kept = record {
-  survives = survives_weaker s t P (λ _. ⊤) (λ _ _ _. tt) lives;
-  was_open = was;
-  stored = λ h is_open keeps. subst (λ (x : Schedule). Keeps x t.now) (sym refused.1) (subst (Keeps a) (sym (kept h is_open).0) keeps);
+follows_step a b e (Err f) s t made refused = record {
+  survives = survives_weaker s t (CommitsBy (StepsIn e a) s) (λ _. ⊤) (λ _ _ _. tt) made.crash;
+  was_open = made.was_open;
+  stored = λ h is_open keeps. subst (λ (x : Schedule). Keeps x t.now) (sym refused.1) (subst (Keeps a) (sym (made.kept h is_open).0) keeps);
 }

@@ -2,12 +2,8 @@
 use Rattle.std.proofs.Common.{◌≡◌, ◌∙◌, None, inl, inr, sym, subst, Result, Ok, Err, IfOk, IfErr, OnOk}
 use Rattle.std.specs.Result.{IsErrAnd}
 use Rattle.std.proofs.lemmas.Result.{err_from_is_err_and}
-use Rattle.sqlite.specs.Effect.{Database}
-use Rattle.sqlite.specs.State.{State, Survives}
-use Rattle.sqlite.proofs.StateLemmas.{survives_weaker}
 use Rattle.meta_store.specs.Faults.{IsOfSqlite}
 use Rattle.meta_store.specs.Schedules.{IsPlanned, Planned}
-use Rattle.meta_store.specs.Stores.{CommitsBy, Writes}
 use Rattle.meta_store.specs.declared.faults.StoreFault.{StoreFault}
 use Rattle.meta_store.specs.declared.faults.StoreFault.TheVariants as store
 use Rattle.sched_events.specs.Causes.{refused}
@@ -19,7 +15,6 @@ use Rattle.sched_events.specs.Steps.{step}
 use Rattle.sched_events.specs.declared.answers.Answer.{Answer}
 use Rattle.sched_events.specs.declared.events.Event.{Event}
 use Rattle.sched_model.specs.Schedule.{Schedule}
-use Rattle.director.specs.Directors.{Keeps, StepsIn}
 use Rattle.director.specs.Faults.{IsOfStore, IsFaultOf, IsFaultOfStore, IsRefused}
 use Rattle.director.specs.declared.faults.Fault.{Fault}
 use Rattle.director.specs.declared.faults.Fault.TheVariants.{Refused, Store, Memory}
@@ -60,14 +55,3 @@ pub keeps_promises : (a b : Schedule) (e : Event) (c : Planned) (r : Result Answ
     → (IsInRange e → refused a e ≡ None → IsSoundAndSaid a → KeepsPromises e a (step e a)) → OnOk r (KeepsPromises e a b)
 keeps_promises a b e c (Ok x) planned sound after law = subst (KeepsPromises e a) (sym (after ∙ planned.after)) (law planned.ranged planned.accepted sound)
 keeps_promises a b e c (Err f) planned sound after law = tt
-
-pub steps_stored : {T : Type 0} (a : Schedule) (e : Event) (c : Planned) (old new : Database) (r : Result T Fault) → (Keeps a old → Writes c old new → Keeps (step e a) new) → OnOk r (Writes c old new)
-    → OnOk r (StepsIn e a old new)
-steps_stored a e c old new (Ok x) law writes = λ keeps. law keeps writes
-steps_stored a e c old new (Err f) law writes = tt
-
--- where what is written steps the event, a crash leaves what it could leave before, or the schedule after the event
-pub steps_survive : (e : Event) (a : Schedule) (c : Planned) (s t : State) → ((old new : Database) → Keeps a old → Writes c old new → Keeps (step e a) new) → Survives s t (CommitsBy (Writes c) s)
-    → Survives s t (CommitsBy (StepsIn e a) s)
-steps_survive e a c s t law h =
-    survives_weaker s t (CommitsBy (Writes c) s) (CommitsBy (StepsIn e a) s) (λ clean db made. (made.0, (made.1.0, (λ keeps. law s.now made.1.0 keeps made.1.1), made.1.2))) h

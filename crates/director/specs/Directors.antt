@@ -8,6 +8,7 @@ use Rattle.sqlite_disk.specs.Disk.{MoreFaults}
 use Rattle.record_rows.specs.Rows.{Rows}
 use Rattle.record_rules.specs.Reading.{schedule_of}
 use Rattle.meta_store.specs.record_tables.Holds.{Stores}
+use Rattle.meta_store.specs.record_tables.Puts.{LeavesOthers, Turns}
 use Rattle.sched_model.specs.Schedule.{Schedule}
 use Rattle.sched_model.specs.Tables.{tables}
 use Rattle.sched_state.specs.Limits.{Bounds}
@@ -34,14 +35,14 @@ director_code {S} store =
     code_by (Held S × (ScheduleValue × Answer)) (coded× (held_code store) (coded× schedule.the_row.coded answer.the_row.coded)) (λ d. (d.store, (d.schedule, d.opened)))
     (λ p. record { store = p.0; schedule = p.1.0; opened = p.1.1 }) (λ _. refl)
 
--- a database stores a schedule
--- its rows are the tables of the schedule
+-- a database stores a schedule: its rows are the tables of the schedule
 abbrev pub Keeps : Schedule → Database → Type 0
 Keeps a db = Stores db (tables a)
 
--- what the step of an event makes of a database: one that stores the schedule stores the schedule after the event then
+-- what the step of an event makes of a database: one that stores the schedule stores the schedule after the event then, and what others have put beside it is
+-- as it was
 abbrev pub StepsIn : Event → Schedule → Database → Database → Type 0
-StepsIn e a old new = Keeps a old → Keeps (step e a) new
+StepsIn e a = Turns (tables a) (tables (step e a))
 
 -- the record is open, unless its disk has failed or refused since
 abbrev pub StaysOpen : State → State → Type 0
@@ -59,9 +60,9 @@ abbrev pub IsMigrated : Database → Database → Type 0
 IsMigrated old new = ((has_limits old.schema ≡ true) × (new ≡ old)) ⊎ Migrates old new
 
 -- what a restart with so many lanes makes of a database: one that has these rows, in either version, becomes one that stores the schedule that they are
--- read as, restarted
+-- read as, restarted; where it was of version 2, what others have put beside it is as it was
 abbrev pub RestartsIn : Bounds → ℕ → Database → Database → Type 0
-RestartsIn l lanes old new = (rows : Rows) → HasRows old rows → Keeps (step (Restart lanes) (schedule_of l rows)) new
+RestartsIn l lanes old new = (rows : Rows) → HasRows old rows → Keeps (step (Restart lanes) (schedule_of l rows)) new × (Stores old rows → LeavesOthers old new)
 
 -- rows are read as a schedule, and a restart of it with so many lanes gives this schedule, with this answer
 pub record IsOpenedAs (l : Bounds) (lanes : ℕ) (rows : Rows) (b : Schedule) (given : Answer) : Type 0 where

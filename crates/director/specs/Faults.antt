@@ -3,6 +3,7 @@ use Rattle.std.specs.Prelude.{◌≡◌, ◌≢◌, ◌⊎◌, ℕ, pos, false, 
 use Rattle.sqlite.specs.declared.error.Error.{Error}
 use Rattle.sqlite.specs.Effect.{Database}
 use Rattle.record_rows.specs.Rows.{Rows}
+use Rattle.record_rules.specs.Cells.{AreTexts}
 use Rattle.record_rules.specs.Faults.{record_fault}
 use Rattle.record_rules.specs.Reading.{schedule_of}
 use Rattle.meta_store.specs.Loads.{IsReadAs}
@@ -42,11 +43,11 @@ IsFaultOfStore (Store f) = (error : Error) × (is_memory error ≡ false) × (f 
 IsFaultOfStore Memory = Unit {0}
 
 -- what the store says against an opening: an error of SQLite, a database that is no record, the first rule that fails of the rows that the database has as
--- those of version 2, or want of memory
+-- those of version 2, all of whose texts are UTF-8, or want of memory
 abbrev pub StandsAgainst : Bounds → Database → StoreFault → Type 0
 StandsAgainst l db (store.Refused error) = is_memory error ≡ false
 StandsAgainst l db store.NotOurs = IsNoRecord db
-StandsAgainst l db (store.Inconsistent t n) = (rows : Rows) → HasRows db rows → (is_version (pos 2) rows.metas ≡ true) × (record_fault l rows ≡ Some (t, n))
+StandsAgainst l db (store.Inconsistent t n) = (rows : Rows) → HasRows db rows → (is_version (pos 2) rows.metas ≡ true) × AreTexts rows × (record_fault l rows ≡ Some (t, n))
 StandsAgainst l db store.Memory = Unit {0}
 
 -- a director is not opened on a database: the restart is refused at the schedule that is read, or why it is not migrated, not read or not written, or want

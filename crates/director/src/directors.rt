@@ -1,10 +1,10 @@
 //! A schedule, and the record that it stands in.
-ghost use Rattle.std.specs.Prelude.{◌≡◌, false, IfOk, IfErr, OnOk, OnErr, IsErrAnd, IsTrue};
+ghost use Rattle.std.specs.Prelude.{◌≡◌, false, IfOk, IfErr, OnOk, IsErrAnd, MatchResult};
 ghost use Rattle.sqlite.specs.Held.{state};
 ghost use Rattle.sqlite.specs.State.{HasCleanDisk, Survives};
-ghost use Rattle.sqlite.specs.Tree.{Trees};
 ghost use Rattle.meta_store.specs.Schedules.{is_ours};
 ghost use Rattle.meta_store.specs.Stores.{CommitsBy, IsKeptOrMigrated, Migrates, OpensBy};
+ghost use Rattle.meta_store.specs.Transactions.{Commits, Transacts, Undone};
 ghost use Rattle.meta_store.specs.declared.faults.StoreFault.TheVariants as store_fault;
 ghost use Rattle.sched_events.specs.Promises.{KeepsPromises};
 ghost use Rattle.director.specs.Directors.{Follows, Opens, RestartsIn, StepsIn};
@@ -58,25 +58,18 @@ impl<S: Alter> Director<S> {
     ) -> Result<Director<S>, (Store<S>, Fault)>
         ensures opened { IfOk result (λ d. HasCleanDisk (state S.Store d.store) → Opens limits lanes
             (state S.Store store).now d.schedule.content d.opened) }
-        ensures stored { IfOk result (λ d. HasCleanDisk (state S.Store d.store) → RestartsIn limits
-            lanes (state S.Store store).now (state S.Store d.store).now) }
-        ensures only { IfOk result (λ d. HasCleanDisk (state S.Store d.store) → (trees : Trees)
-            → (state S.Store d.store).may_leave trees
-            → trees ≡ (state S.Store d.store).now.trees) }
-        ensures open { IfOk result (λ d. HasCleanDisk (state S.Store d.store)
-            → IsTrue (state S.Store d.store).is_open) }
-        ensures crash { IfOk result (λ d. Survives (state S.Store store) (state S.Store d.store)
-            (CommitsBy (OpensBy (RestartsIn limits lanes)) (state S.Store store))) }
         ensures limits { IfOk result (λ d. d.schedule.content.limits ≡ limits) }
+        ensures transacts { MatchResult result
+            (λ d. Commits (RestartsIn limits lanes)
+            (CommitsBy (OpensBy (RestartsIn limits lanes)) (state S.Store store))
+            (state S.Store store) (state S.Store d.store))
+            (λ e. Undone IsKeptOrMigrated
+            (CommitsBy (OpensBy (RestartsIn limits lanes)) (state S.Store store))
+            (state S.Store store) (state S.Store e.0)) }
         ensures fault { IfErr result (λ e. HasCleanDisk (state S.Store e.0)
             → IsOpenFault limits lanes (state S.Store store).now e.1) }
         ensures missing { is_ours (state S.Store store).now.schema ≡ false
             → IsErrAnd result (λ e. e.1 ≡ fault.Store store_fault.NotOurs) }
-        ensures kept { IfErr result (λ e. HasCleanDisk (state S.Store e.0)
-            → IsTrue (state S.Store e.0).is_open
-            → IsKeptOrMigrated (state S.Store store) (state S.Store e.0)) }
-        ensures err_crash { IfErr result (λ e. Survives (state S.Store store) (state S.Store e.0)
-            (CommitsBy (OpensBy (RestartsIn limits lanes)) (state S.Store store))) }
         ensures refused_crash { IfErr result (λ e. IsRefused e.1
             → Survives (state S.Store store) (state S.Store e.0)
             (CommitsBy Migrates (state S.Store store))) }
@@ -94,33 +87,20 @@ impl<S: Alter> Director<S> {
 
     /// Opens the record anew, within the same limits: what `open` does with it.
     pub fn reopen(self, alloc: Global, lanes: u32) -> Result<Director<S>, (Store<S>, Fault)>
-        ensures opened { IfOk result (λ d. HasCleanDisk (state S.Store d.store)
-            → Opens self.schedule.content.limits lanes (state S.Store self.store).now
-            d.schedule.content d.opened) }
-        ensures stored { IfOk result (λ d. HasCleanDisk (state S.Store d.store)
-            → RestartsIn self.schedule.content.limits lanes (state S.Store self.store).now
-            (state S.Store d.store).now) }
-        ensures only { IfOk result (λ d. HasCleanDisk (state S.Store d.store) → (trees : Trees)
-            → (state S.Store d.store).may_leave trees
-            → trees ≡ (state S.Store d.store).now.trees) }
-        ensures open { IfOk result (λ d. HasCleanDisk (state S.Store d.store)
-            → IsTrue (state S.Store d.store).is_open) }
-        ensures crash { IfOk result (λ d. Survives (state S.Store self.store)
-            (state S.Store d.store)
-            (CommitsBy (OpensBy (RestartsIn self.schedule.content.limits lanes))
-            (state S.Store self.store))) }
+        ensures opened { IfOk result (λ d. HasCleanDisk (state S.Store d.store) → Opens self.schedule.content.limits lanes
+            (state S.Store self.store).now d.schedule.content d.opened) }
         ensures limits { IfOk result (λ d. d.schedule.content.limits ≡ self.schedule.content.limits) }
+        ensures transacts { MatchResult result
+            (λ d. Commits (RestartsIn self.schedule.content.limits lanes)
+            (CommitsBy (OpensBy (RestartsIn self.schedule.content.limits lanes)) (state S.Store self.store))
+            (state S.Store self.store) (state S.Store d.store))
+            (λ e. Undone IsKeptOrMigrated
+            (CommitsBy (OpensBy (RestartsIn self.schedule.content.limits lanes)) (state S.Store self.store))
+            (state S.Store self.store) (state S.Store e.0)) }
         ensures fault { IfErr result (λ e. HasCleanDisk (state S.Store e.0)
             → IsOpenFault self.schedule.content.limits lanes (state S.Store self.store).now e.1) }
         ensures missing { is_ours (state S.Store self.store).now.schema ≡ false
             → IsErrAnd result (λ e. e.1 ≡ fault.Store store_fault.NotOurs) }
-        ensures kept { IfErr result (λ e. HasCleanDisk (state S.Store e.0)
-            → IsTrue (state S.Store e.0).is_open
-            → IsKeptOrMigrated (state S.Store self.store) (state S.Store e.0)) }
-        ensures err_crash { IfErr result (λ e. Survives (state S.Store self.store)
-            (state S.Store e.0)
-            (CommitsBy (OpensBy (RestartsIn self.schedule.content.limits lanes))
-            (state S.Store self.store))) }
         ensures refused_crash { IfErr result (λ e. IsRefused e.1
             → Survives (state S.Store self.store) (state S.Store e.0)
             (CommitsBy Migrates (state S.Store self.store))) }
@@ -168,22 +148,8 @@ impl<S: Alter> Director<S> {
         ensures untouched { IfErr result (λ f. IsRefused f → self.new.store ≡ self.old.store) }
         ensures followed { Follows self.old.schedule.content (state S.Store self.old.store)
             self.new.schedule.content (state S.Store self.new.store) }
-        ensures stored { HasCleanDisk (state S.Store self.new.store) → OnOk result
-            (StepsIn event.now self.old.schedule.content (state S.Store self.old.store).now
-            (state S.Store self.new.store).now) }
-        ensures only { HasCleanDisk (state S.Store self.new.store) → OnOk result ((trees : Trees)
-            → (state S.Store self.new.store).may_leave trees
-            → trees ≡ (state S.Store self.new.store).now.trees) }
-        ensures open { HasCleanDisk (state S.Store self.new.store) → OnOk result
-            (IsTrue (state S.Store self.old.store).is_open
-            × IsTrue (state S.Store self.new.store).is_open) }
-        ensures kept { HasCleanDisk (state S.Store self.new.store)
-            → IsTrue (state S.Store self.new.store).is_open → OnErr result
-            (((state S.Store self.new.store).now ≡ (state S.Store self.old.store).now)
-            × ((state S.Store self.new.store).committed ≡ (state S.Store self.old.store).committed)) }
-        ensures crash { Survives (state S.Store self.old.store) (state S.Store self.new.store)
-            (CommitsBy (StepsIn event.now self.old.schedule.content)
-            (state S.Store self.old.store)) }
+        ensures transacts { Transacts (StepsIn event.now self.old.schedule.content)
+            (state S.Store self.old.store) (state S.Store self.new.store) result }
     {
         let before = Snapshot::of(&self.schedule);
         match step(alloc, &mut self.store, &mut self.schedule, event) {
@@ -203,22 +169,8 @@ impl<S: Alter> Director<S> {
         ensures untouched { IfErr result (λ f. IsRefused f → self.new.store ≡ self.old.store) }
         ensures followed { Follows self.old.schedule.content (state S.Store self.old.store)
             self.new.schedule.content (state S.Store self.new.store) }
-        ensures stored { HasCleanDisk (state S.Store self.new.store) → OnOk result
-            (StepsIn event.now self.old.schedule.content (state S.Store self.old.store).now
-            (state S.Store self.new.store).now) }
-        ensures only { HasCleanDisk (state S.Store self.new.store) → OnOk result ((trees : Trees)
-            → (state S.Store self.new.store).may_leave trees
-            → trees ≡ (state S.Store self.new.store).now.trees) }
-        ensures open { HasCleanDisk (state S.Store self.new.store) → OnOk result
-            (IsTrue (state S.Store self.old.store).is_open
-            × IsTrue (state S.Store self.new.store).is_open) }
-        ensures kept { HasCleanDisk (state S.Store self.new.store)
-            → IsTrue (state S.Store self.new.store).is_open → OnErr result
-            (((state S.Store self.new.store).now ≡ (state S.Store self.old.store).now)
-            × ((state S.Store self.new.store).committed ≡ (state S.Store self.old.store).committed)) }
-        ensures crash { Survives (state S.Store self.old.store) (state S.Store self.new.store)
-            (CommitsBy (StepsIn event.now self.old.schedule.content)
-            (state S.Store self.old.store)) }
+        ensures transacts { Transacts (StepsIn event.now self.old.schedule.content)
+            (state S.Store self.old.store) (state S.Store self.new.store) result }
     {
         match self.write(alloc, event) {
             Ok(written) => Ok(written.into_answer()),

@@ -1,10 +1,9 @@
 //! A planned change, kept in the record and in memory.
-ghost use Rattle.std.specs.Prelude.{◌≡◌, IfOk, IfErr, OnOk, OnErr, IsTrue};
+ghost use Rattle.std.specs.Prelude.{◌≡◌, IfOk, IfErr, OnOk, OnErr};
 ghost use Rattle.sqlite.specs.Held.{state};
-ghost use Rattle.sqlite.specs.State.{HasCleanDisk, Survives};
-ghost use Rattle.sqlite.specs.Tree.{Trees};
 ghost use Rattle.meta_store.specs.Schedules.{HasRoom};
-ghost use Rattle.meta_store.specs.Stores.{CommitsBy, Writes};
+ghost use Rattle.meta_store.specs.Stores.{Writes};
+ghost use Rattle.meta_store.specs.Transactions.{Transacts};
 ghost use Rattle.director.specs.Faults.{IsFaultOfStore};
 
 use crate::faults::Fault;
@@ -23,21 +22,8 @@ pub(crate) fn keep<S: Alter>(
     ensures after { OnOk result (schedule.new.content ≡ change.after) }
     ensures same { OnErr result (schedule.new.content ≡ schedule.old.content) }
     ensures fault { IfErr result IsFaultOfStore }
-    ensures stored { HasCleanDisk (state S.Store store.new) → OnOk result
-        (Writes change (state S.Store store.old).now (state S.Store store.new).now) }
-    ensures only { HasCleanDisk (state S.Store store.new) → OnOk result ((trees : Trees)
-        → (state S.Store store.new).may_leave trees
-        → trees ≡ (state S.Store store.new).now.trees) }
-    ensures kept { HasCleanDisk (state S.Store store.new)
-        → IsTrue (state S.Store store.new).is_open → OnErr result
-        (((state S.Store store.new).now ≡ (state S.Store store.old).now)
-        × ((state S.Store store.new).committed ≡ (state S.Store store.old).committed)) }
-    ensures was_open { HasCleanDisk (state S.Store store.new)
-        → IsTrue (state S.Store store.new).is_open → IsTrue (state S.Store store.old).is_open }
-    ensures open { HasCleanDisk (state S.Store store.new) → OnOk result
-        (IsTrue (state S.Store store.old).is_open × IsTrue (state S.Store store.new).is_open) }
-    ensures crash { Survives (state S.Store store.old) (state S.Store store.new)
-        (CommitsBy (Writes change) (state S.Store store.old)) }
+    ensures transacts { Transacts (Writes change) (state S.Store store.old) (state S.Store store.new)
+        result }
 {
     match write(store, schedule, &change) {
         Ok(()) => Ok(schedule.commit(change)),
@@ -54,21 +40,8 @@ fn write<S: Alter>(
     ensures room { OnOk result (HasRoom change.now schedule.new) }
     ensures same { schedule.new.content ≡ schedule.old.content }
     ensures fault { IfErr result IsFaultOfStore }
-    ensures stored { HasCleanDisk (state S.Store store.new) → OnOk result
-        (Writes change.now (state S.Store store.old).now (state S.Store store.new).now) }
-    ensures only { HasCleanDisk (state S.Store store.new) → OnOk result ((trees : Trees)
-        → (state S.Store store.new).may_leave trees
-        → trees ≡ (state S.Store store.new).now.trees) }
-    ensures kept { HasCleanDisk (state S.Store store.new)
-        → IsTrue (state S.Store store.new).is_open → OnErr result
-        (((state S.Store store.new).now ≡ (state S.Store store.old).now)
-        × ((state S.Store store.new).committed ≡ (state S.Store store.old).committed)) }
-    ensures was_open { HasCleanDisk (state S.Store store.new)
-        → IsTrue (state S.Store store.new).is_open → IsTrue (state S.Store store.old).is_open }
-    ensures open { HasCleanDisk (state S.Store store.new) → OnOk result
-        (IsTrue (state S.Store store.old).is_open × IsTrue (state S.Store store.new).is_open) }
-    ensures crash { Survives (state S.Store store.old) (state S.Store store.new)
-        (CommitsBy (Writes change.now) (state S.Store store.old)) }
+    ensures transacts { Transacts (Writes change.now) (state S.Store store.old) (state S.Store store.new)
+        result }
 {
     schedule.reserve(change)?;
     store.write(change)?;

@@ -1,13 +1,12 @@
 //! The laws of lists of events, of what a run leaves in its record, and of a record that is opened again.
-ghost use Rattle.std.specs.Prelude.{◌≡◌, ◌⊎◌, ◌++◌, ℕ, List, [], Result, IfErr, OnOk, IsTrue};
+ghost use Rattle.std.specs.Prelude.{◌≡◌, ◌⊎◌, ◌++◌, ℕ, List, [], Result, IfErr};
 ghost use Rattle.sqlite.specs.Effect.{Database};
 ghost use Rattle.sqlite.specs.Held.{Held, state};
-ghost use Rattle.sqlite.specs.State.{HasCleanDisk, Survives};
-ghost use Rattle.sqlite.specs.Tree.{Trees};
 ghost use Rattle.record_rows.specs.Rows.{Rows};
 ghost use Rattle.record_rules.specs.Reading.{schedule_of};
 ghost use Rattle.meta_store.specs.record_tables.Holds.{Stores};
-ghost use Rattle.meta_store.specs.Stores.{CommitsBy, HasRows, Migrates, OpensBy};
+ghost use Rattle.meta_store.specs.Stores.{HasRows, Migrates, OpensBy};
+ghost use Rattle.meta_store.specs.Transactions.{Transacts};
 ghost use Rattle.sched_model.specs.Schedule.{Schedule};
 ghost use Rattle.sched_state.specs.Limits.{Bounds};
 ghost use Rattle.sched_events.specs.Outcomes.{IsStepped};
@@ -41,14 +40,7 @@ pub fn what_a_run_leaves_is_told_stretch_by_stretch<S: Alter>()
     ensures none { (a : Schedule) (s : Held S)
         → Leaves [] [] a (state S.Store s) (state S.Store s) }
     ensures one { (a : Schedule) (e : Event) (r : Result WrittenEvent Fault) (old new : Held S)
-        → Survives (state S.Store old) (state S.Store new)
-        (CommitsBy (StepsIn e a) (state S.Store old))
-        → (HasCleanDisk (state S.Store new)
-        → OnOk r (StepsIn e a (state S.Store old).now (state S.Store new).now))
-        → (HasCleanDisk (state S.Store new) → OnOk r ((trees : Trees)
-        → (state S.Store new).may_leave trees → trees ≡ (state S.Store new).now.trees))
-        → (HasCleanDisk (state S.Store new)
-        → OnOk r (IsTrue (state S.Store old).is_open × IsTrue (state S.Store new).is_open))
+        → Transacts (StepsIn e a) (state S.Store old) (state S.Store new) r
         → IfErr r (λ f. IsRefused f → new ≡ old)
         → Leaves (accepted_in e (came_of r)) (tried_in e (came_of r)) a (state S.Store old)
         (state S.Store new) }

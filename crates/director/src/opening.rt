@@ -1,10 +1,10 @@
 //! A record, migrated where it has to be, read and restarted.
-ghost use Rattle.std.specs.Prelude.{◌≡◌, false, IfOk, IfErr, OnOk, OnErr, IsErrAnd, IsTrue, MatchResult, ℕ};
+ghost use Rattle.std.specs.Prelude.{◌≡◌, false, IfOk, IfErr, OnOk, IsErrAnd, MatchResult, ℕ};
 ghost use Rattle.sqlite.specs.Held.{state};
 ghost use Rattle.sqlite.specs.State.{HasCleanDisk, Survives};
-ghost use Rattle.sqlite.specs.Tree.{Trees};
 ghost use Rattle.meta_store.specs.Schedules.{is_ours};
-ghost use Rattle.meta_store.specs.Stores.{CommitsBy, IsKeptOrMigrated, Migrates, OpensBy};
+ghost use Rattle.meta_store.specs.Stores.{CommitsBy, IsAsBefore, IsKeptOrMigrated, Migrates, OpensBy};
+ghost use Rattle.meta_store.specs.Transactions.{Commits, Undone};
 ghost use Rattle.meta_store.specs.declared.faults.StoreFault.TheVariants as store_fault;
 ghost use Rattle.sched_state.specs.Limits.{Bounds};
 ghost use Rattle.director.specs.Directors.{IsMigrated, Opens, RestartsIn};
@@ -27,23 +27,16 @@ pub(crate) fn restart<S: Alter>(
 ) -> Result<(Schedule, Answer), Fault>
     ensures opened { HasCleanDisk (state S.Store store.new) → IfOk result (λ p. Opens limits lanes
         (state S.Store store.old).now p.0.content p.1) }
-    ensures stored { HasCleanDisk (state S.Store store.new) → OnOk result
-        (RestartsIn limits lanes (state S.Store store.old).now (state S.Store store.new).now) }
-    ensures only { HasCleanDisk (state S.Store store.new) → OnOk result ((trees : Trees)
-        → (state S.Store store.new).may_leave trees
-        → trees ≡ (state S.Store store.new).now.trees) }
     ensures limits { IfOk result (λ p. p.0.content.limits ≡ limits) }
+    ensures transacts { MatchResult result
+        (λ _. Commits (RestartsIn limits lanes) (CommitsBy (OpensBy (RestartsIn limits lanes))
+        (state S.Store store.old)) (state S.Store store.old) (state S.Store store.new))
+        (λ _. Undone IsKeptOrMigrated (CommitsBy (OpensBy (RestartsIn limits lanes))
+        (state S.Store store.old)) (state S.Store store.old) (state S.Store store.new)) }
     ensures fault { HasCleanDisk (state S.Store store.new)
         → IfErr result (IsOpenFault limits lanes (state S.Store store.old).now) }
     ensures missing { is_ours (state S.Store store.old).now.schema ≡ false
         → IsErrAnd result (λ e. e ≡ fault.Store store_fault.NotOurs) }
-    ensures kept { HasCleanDisk (state S.Store store.new)
-        → IsTrue (state S.Store store.new).is_open → OnErr result
-        (IsKeptOrMigrated (state S.Store store.old) (state S.Store store.new)) }
-    ensures open { HasCleanDisk (state S.Store store.new) → OnOk result
-        (IsTrue (state S.Store store.new).is_open) }
-    ensures crash { Survives (state S.Store store.old) (state S.Store store.new)
-        (CommitsBy (OpensBy (RestartsIn limits lanes)) (state S.Store store.old)) }
     ensures refused_crash { IfErr result (λ f. IsRefused f
         → Survives (state S.Store store.old) (state S.Store store.new)
         (CommitsBy Migrates (state S.Store store.old))) }
@@ -60,16 +53,11 @@ pub(crate) fn restart<S: Alter>(
 fn migrate<S: Alter>(alloc: Global, store: &mut Store<S>) -> Result<(), Fault>
     ensures done { HasCleanDisk (state S.Store store.new) → OnOk result
         (IsMigrated (state S.Store store.old).now (state S.Store store.new).now) }
-    ensures settled { HasCleanDisk (state S.Store store.new) → OnOk result
-        (IsKeptOrMigrated (state S.Store store.old) (state S.Store store.new)) }
-    ensures kept { HasCleanDisk (state S.Store store.new)
-        → IsTrue (state S.Store store.new).is_open → OnErr result
-        (((state S.Store store.new).now ≡ (state S.Store store.old).now)
-        × ((state S.Store store.new).committed ≡ (state S.Store store.old).committed)) }
-    ensures was_open { HasCleanDisk (state S.Store store.new)
-        → IsTrue (state S.Store store.new).is_open → IsTrue (state S.Store store.old).is_open }
-    ensures crash { Survives (state S.Store store.old) (state S.Store store.new)
-        (CommitsBy Migrates (state S.Store store.old)) }
+    ensures transacts { MatchResult result
+        (λ _. Undone IsKeptOrMigrated (CommitsBy Migrates (state S.Store store.old))
+        (state S.Store store.old) (state S.Store store.new))
+        (λ _. Undone IsAsBefore (CommitsBy Migrates (state S.Store store.old)) (state S.Store store.old)
+        (state S.Store store.new)) }
     ensures missing { is_ours (state S.Store store.old).now.schema ≡ false → MatchResult result
         (λ _. is_ours (state S.Store store.new).now.schema ≡ false)
         (λ e. e ≡ fault.Store store_fault.NotOurs) }

@@ -1,9 +1,7 @@
 //! One event, done to a schedule and to its record.
-ghost use Rattle.std.specs.Prelude.{◌≡◌, IfOk, IfErr, OnOk, OnErr, IsTrue};
+ghost use Rattle.std.specs.Prelude.{◌≡◌, IfOk, IfErr, OnOk, OnErr};
 ghost use Rattle.sqlite.specs.Held.{state};
-ghost use Rattle.sqlite.specs.State.{HasCleanDisk, Survives};
-ghost use Rattle.sqlite.specs.Tree.{Trees};
-ghost use Rattle.meta_store.specs.Stores.{CommitsBy};
+ghost use Rattle.meta_store.specs.Transactions.{Transacts};
 ghost use Rattle.sched_events.specs.Outcomes.{IsStepped};
 ghost use Rattle.sched_events.specs.Promises.{KeepsPromises};
 ghost use Rattle.director.specs.Directors.{StepsIn};
@@ -30,22 +28,8 @@ pub(crate) fn step<S: Alter>(
     ensures same { OnErr result (schedule.new.content ≡ schedule.old.content) }
     ensures fault { IfErr result (IsFaultOf schedule.old.content event.now) }
     ensures untouched { IfErr result (λ f. IsRefused f → store.new ≡ store.old) }
-    ensures stored { HasCleanDisk (state S.Store store.new) → OnOk result
-        (StepsIn event.now schedule.old.content (state S.Store store.old).now
-        (state S.Store store.new).now) }
-    ensures only { HasCleanDisk (state S.Store store.new) → OnOk result ((trees : Trees)
-        → (state S.Store store.new).may_leave trees
-        → trees ≡ (state S.Store store.new).now.trees) }
-    ensures kept { HasCleanDisk (state S.Store store.new)
-        → IsTrue (state S.Store store.new).is_open → OnErr result
-        (((state S.Store store.new).now ≡ (state S.Store store.old).now)
-        × ((state S.Store store.new).committed ≡ (state S.Store store.old).committed)) }
-    ensures was_open { HasCleanDisk (state S.Store store.new)
-        → IsTrue (state S.Store store.new).is_open → IsTrue (state S.Store store.old).is_open }
-    ensures open { HasCleanDisk (state S.Store store.new) → OnOk result
-        (IsTrue (state S.Store store.old).is_open × IsTrue (state S.Store store.new).is_open) }
-    ensures crash { Survives (state S.Store store.old) (state S.Store store.new)
-        (CommitsBy (StepsIn event.now schedule.old.content) (state S.Store store.old)) }
+    ensures transacts { Transacts (StepsIn event.now schedule.old.content) (state S.Store store.old)
+        (state S.Store store.new) result }
 {
     a_planned_event_is_written();
     accepted_events_keep_the_promises();

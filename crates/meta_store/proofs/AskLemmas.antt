@@ -5,7 +5,7 @@ use Rattle.sqlite.specs.Outline.{Outline}
 use Rattle.sqlite.specs.Schema.{Schema}
 use Rattle.sqlite.specs.Steps.{Outlines}
 use Rattle.record_tables.specs.Schema.{first_schema}
-use Rattle.record_load.proofs.SelectLemmas.{no_bounds}
+use Rattle.record_tables.proofs.OursLemmas.{no_bounds}
 
 -- it is understood
 pub known : (schema : Schema) (sql : List ℕ) (s : Outline) → Outlines (understood schema sql) s → IsOk (understood schema sql)

@@ -1,5 +1,5 @@
-mod BeginLemmas
-mod CommitLemmas
+mod WorkLemmas
+pub mod CommitLemmas
 mod FaultLemmas
 mod AskLemmas
 mod UpgradeLemmas

@@ -10,14 +10,16 @@ use Rattle.sched_state.proofs.OrderLemmas.{and_left}
 use Rattle.record_tables.specs.Holds.{Stores, StoresFirst, AddsLimits}
 use Rattle.record_tables.specs.Puts.{GoesBy, Stops}
 use Rattle.record_tables.proofs.StepLemmas.{by_then, stops_then}
-use Rattle.record_tables.proofs.OnceLemmas.{stores_once, first_once}
-use Rattle.record_load.specs.Ours.{has_limits, is_ours}
-use Rattle.record_load.specs.Loads.{Anyhow, Stays, AreTexts, IsDagText, IsDagLimitText, is_version}
-use Rattle.record_load.specs.declared.faults.LoadFault.{LoadFault}
-use Rattle.record_load.specs.declared.faults.LoadFault.TheVariants as unread
-use Rattle.record_load.proofs.OursLemmas.{ours, limits, no_limits}
+use Rattle.record_tables.proofs.StoredLemmas.{stores_once, first_once}
+use Rattle.record_tables.specs.Ours.{has_limits, is_ours}
+use Rattle.record_rules.specs.Cells.{AreText, AreTexts, meta_cells}
+use Rattle.record_tables.specs.Loads.{Anyhow, Stays, is_version}
+use Rattle.record_tables.specs.declared.faults.LoadFault.{LoadFault}
+use Rattle.record_tables.specs.declared.faults.LoadFault.TheVariants as unread
+use Rattle.record_tables.proofs.OursLemmas.{ours, limits, no_limits}
 use Rattle.meta_store.specs.Faults.{IsOfSqlite, fault_of_load}
 use Rattle.meta_store.specs.Stores.{CommitsBy, HasRows, IsKeptOrMigrated, IsNoRecord, IsOfVersion, Migrates, OpensBy, Upgrades}
+use Rattle.meta_store.specs.Transactions.{Commits, Looks}
 use Rattle.meta_store.specs.Upgraded.{old_limit, second, upgraded}
 use Rattle.meta_store.specs.declared.faults.StoreFault.{StoreFault}
 use Rattle.meta_store.specs.declared.faults.StoreFault.TheVariants.{NotOurs}
@@ -28,7 +30,7 @@ pub no_first : (db : Database) (rows : Rows) → has_limits db.schema ≡ true �
 no_first db rows has stored = true≢false (sym has ∙ ap has_limits stored.schema ∙ no_limits)
 
 pub no_second : (db : Database) (rows : Rows) → has_limits db.schema ≡ false → Stores db rows → ⊥
-no_second db rows lacks stored = true≢false (sym (ap has_limits stored.holds.schema ∙ limits) ∙ lacks)
+no_second db rows lacks stored = true≢false (sym (ap has_limits stored.schema.0 ∙ limits stored.beside) ∙ lacks)
 
 -- ---- a call after another one, inside a transaction
 pub anyhow_after : {A E : Type 0} (P Q : Database → Database → Type 0) (a b c : State) (r : Result A E) → GoesBy P a b → OnOk r (GoesBy Q b c) → OnOk r (GoesBy Anyhow a c)
@@ -124,45 +126,20 @@ rows_once db s t (inl a) (inr b) = absurd (no_second db s (ap has_limits b.1.sch
 rows_once db s t (inr a) (inl b) = absurd (no_second db t (ap has_limits a.1.schema ∙ no_limits) b)
 rows_once db s t (inr a) (inr b) = a.2 ∙ ap upgraded (first_once db a.0 b.0 a.1 b.1) ∙ sym b.2
 
--- ---- an opening: a migration, and then what changes the record
-module _ (R : Database → Database → Type 0) (a b c : State) (was : HasCleanDisk b → IsTrue b.is_open → IsTrue a.is_open) (mid : HasCleanDisk b → IsTrue b.is_open → (b.now ≡ a.now) ⊎ Migrates a.now b.now) where
-  pub opened_survives : Survives a b (CommitsBy Migrates a) → Survives b c (CommitsBy R b) → Survives a c (CommitsBy (OpensBy R) a)
-  opened_survives one two = survives_then a b c _ _ _
-      (λ clean db may. (may.0, (may.1.0, inl may.1.1, may.1.2)))
-      (λ clean db may. let before : HasCleanDisk b = omega (arith, two.clean) in (was before may.0, (may.1.0, inr (b.now, mid before may.0, may.1.1), may.1.2)))
-      one two
-
+-- a migration and nothing more is an opening
 pub only_migrated : (R : Database → Database → Type 0) (a b : State) → Survives a b (CommitsBy Migrates a) → Survives a b (CommitsBy (OpensBy R) a)
 only_migrated R a b s = survives_weaker a b (CommitsBy Migrates a) (CommitsBy (OpensBy R) a) (λ clean db may. (may.0, (may.1.0, inl may.1.1, may.1.2))) s
 
--- what `migrate` answered (`done`)
+-- what `migrate` did
 abbrev pub Answered : Bool → State → State → Type 0
-Answered did a b = MatchBool did (Migrates a.now b.now) (IsTrue b.is_open → (b.now ≡ a.now) × (b.committed ≡ a.committed))
+Answered did a b = MatchBool did (Commits Migrates (CommitsBy Migrates a) a b) (Looks a b)
 
--- ---- a record that is none once it is migrated was none before
-second_version : (ms : List MetaRow) → is_version (pos 1) ms ≡ true → is_version (pos 2) (map second ms) ≡ true
-second_version [] h = absurd (true≢false (sym h))
-second_version (m ∷ []) h = and_from (int_eq m.one (pos 1)) _ (and_left _ _ h) refl
-second_version (m ∷ n ∷ ms) h = absurd (true≢false (sym h))
+-- ---- the rows of `meta`, which have no texts
+pub meta_texts : (ms : List MetaRow) → AllByRecursion AreText (map meta_cells ms)
+meta_texts [] = tt
+meta_texts (m ∷ ms) = ((tt, (tt, (tt, (tt, (tt, tt))))), meta_texts ms)
 
-limit_texts : (ds : List DagRow) → AllByRecursion IsDagText ds → AllByRecursion IsDagLimitText (map old_limit ds)
-limit_texts [] all = tt
-limit_texts (d ∷ ds) all = (all.0.0, limit_texts ds all.1)
-
-upgraded_texts : (rows : Rows) → AreTexts rows → AreTexts (upgraded rows)
-upgraded_texts rows texts = record {
-  pools = texts.pools;
-  dags = texts.dags;
-  dag_limits = limit_texts rows.dags texts.dags;
-  runs = texts.runs;
-  instances = texts.instances;
-  attempts = texts.attempts;
-}
-
-none_before : (old new : Database) → Migrates old new → IsNoRecord new → (rows : Rows) → StoresFirst old rows → AreTexts rows → ⊥
-none_before old new m (inl lacks) rows stored texts =
-    let there : is_ours new.schema ≡ true = ap is_ours (m.stored rows stored).1.holds.schema ∙ ours in
-    true≢false (sym there ∙ lacks)
-none_before old new m (inr none) rows stored texts =
-    let it = m.stored rows stored in
-    true≢false (sym (second_version rows.metas it.0) ∙ none.second (upgraded rows) it.1 (upgraded_texts rows texts))
+pub none_read : {A : Type 0} (db : Database) (r : Result A LoadFault) → IfErr r (λ e. e ≡ unread.NotOurs → (rows : Rows) → Stores db rows → AllByRecursion AreText (map meta_cells rows.metas) → ⊥)
+    → IfErr r (λ e. e ≡ unread.NotOurs → (rows : Rows) → Stores db rows → ⊥)
+none_read db (Ok x) h = tt
+none_read db (Err e) h = λ is rows stored. h is rows stored (meta_texts rows.metas)

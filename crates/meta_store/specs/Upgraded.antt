@@ -1,6 +1,7 @@
 -- A record of version 1 as version 2 has it.
-use Rattle.std.specs.Prelude.{pos, map}
+use Rattle.std.specs.Prelude.{pos, map, List}
 use Rattle.record_rows.specs.Rows.{Rows, MetaRow, DagRow, DagLimitRow}
+use Rattle.record_rules.specs.Changes.{no_rows}
 use Rattle.sched_model.specs.Schedule.{old_bound}
 
 -- the bound of a graph from before there were bounds
@@ -14,3 +15,7 @@ second m = record m { version = pos 2 }
 -- the rows of a record of version 1, as version 2 has them
 abbrev pub upgraded : Rows → Rows
 upgraded old = record old { metas = map second old.metas; dag_limits = map old_limit old.dags }
+
+-- the rows in which version 2 differs, of rows of `meta` and of graphs
+abbrev pub second_rows : List MetaRow → List DagRow → Rows
+second_rows ms ds = record no_rows { metas = map second ms; dag_limits = map old_limit ds }

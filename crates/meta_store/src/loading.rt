@@ -1,18 +1,19 @@
 //! A record read back.
-ghost use Rattle.std.specs.Prelude.{◌≡◌, false, None, IsTrue, IfOk, IfErr, IsErrAnd};
+ghost use Rattle.std.specs.Prelude.{◌≡◌, false, None, IfOk, IfErr, IsErrAnd};
 ghost use Rattle.sqlite.specs.Held.{state};
-ghost use Rattle.sqlite.specs.State.{HasCleanDisk, Survives};
-ghost use Rattle.record_load.specs.Ours.{is_ours};
+ghost use Rattle.sqlite.specs.State.{HasCleanDisk};
+ghost use Rattle.record_tables.specs.Ours.{is_ours};
 ghost use Rattle.record_rules.specs.Faults.{record_fault};
 ghost use Rattle.record_rules.specs.Keys.{IsByKey};
 ghost use Rattle.meta_store.specs.Loads.{ReadsAs, IsReadAs, IsLoadFault, IsRuleFault, fault_of_first};
 ghost use Rattle.meta_store.specs.Loads as spec;
+ghost use Rattle.meta_store.specs.Transactions.{Looks};
 ghost use Rattle.meta_store.specs.declared.faults.StoreFault.TheVariants as fault;
 
 use crate::faults::StoreFault;
 use crate::stores::Store;
-use record_load::{has_limits, stored_rows_are_by_key};
 use record_rows::Table;
+use record_tables::{has_limits, stored_rows_are_by_key};
 use sched_core::{KeyedRows, Limits, LoadedGraph, RestoreFault, Schedule};
 use sqlite::Alter;
 use std::alloc::Global;
@@ -25,13 +26,7 @@ impl<S: Alter> Store<S> {
         ensures schedule { HasCleanDisk (state S.Store self.new) → IfOk result (λ loaded. ReadsAs
             limits (state S.Store self.old).now loaded.content) }
         ensures limits { IfOk result (λ loaded. loaded.content.limits ≡ limits) }
-        ensures kept { HasCleanDisk (state S.Store self.new)
-            → IsTrue (state S.Store self.new).is_open
-            → ((state S.Store self.new).now ≡ (state S.Store self.old).now)
-            × ((state S.Store self.new).committed ≡ (state S.Store self.old).committed) }
-        ensures was_open { HasCleanDisk (state S.Store self.new)
-            → IsTrue (state S.Store self.new).is_open → IsTrue (state S.Store self.old).is_open }
-        ensures crash { Survives (state S.Store self.old) (state S.Store self.new) (λ _. ⊥) }
+        ensures looks { Looks (state S.Store self.old) (state S.Store self.new) }
         ensures missing { is_ours (state S.Store self.old).now.schema ≡ false
             → IsErrAnd result (λ e. e ≡ fault.NotOurs) }
         ensures fault { HasCleanDisk (state S.Store self.new)

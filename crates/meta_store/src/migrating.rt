@@ -1,51 +1,40 @@
 //! A record of version 1 made one of version 2.
-ghost use Rattle.std.specs.Prelude.{◌≡◌, ◌⊎◌, pos, true, false, MatchBool, IsTrue, IfOk, IfErr, OnOk, OnErr, IsErrAnd};
+ghost use Rattle.std.specs.Prelude.{◌≡◌, ◌⊎◌, pos, true, false, MatchBool, MatchResult, IfOk, IfErr, OnOk, IsErrAnd};
 ghost use Rattle.sqlite.specs.Held.{state};
-ghost use Rattle.sqlite.specs.State.{HasCleanDisk, Survives};
-ghost use Rattle.sqlite.specs.Tree.{Trees};
+ghost use Rattle.sqlite.specs.State.{HasCleanDisk};
 ghost use Rattle.record_tables.specs.Holds.{Stores, StoresFirst};
-ghost use Rattle.record_load.specs.Loads.{AreTexts, is_version};
-ghost use Rattle.record_load.specs.Ours.{has_limits, is_ours};
-ghost use Rattle.record_load.specs.declared.faults.LoadFault.TheVariants as unread;
-ghost use Rattle.meta_store.specs.Stores.{CommitsBy, CommitsFrom, IsNoRecord, Migrates, Upgrades};
+ghost use Rattle.record_rules.specs.Cells.{AreTexts};
+ghost use Rattle.record_tables.specs.Loads.{is_version};
+ghost use Rattle.record_tables.specs.Ours.{has_limits, is_ours};
+ghost use Rattle.record_tables.specs.declared.faults.LoadFault.TheVariants as unread;
+ghost use Rattle.meta_store.specs.Stores.{CommitsBy, CommitsFrom, IsAsBefore, IsNoRecord, Migrates, Upgrades};
+ghost use Rattle.meta_store.specs.Transactions.{Commits, Looks, Transacts, TransactsTo, Undone};
 ghost use Rattle.meta_store.specs.declared.faults.StoreFault.TheVariants as fault;
 ghost use Rattle.meta_store.specs.Faults.{IsOfSqlite};
 
 use crate::faults::{StoreFault, fault_of_load};
 use crate::stores::Store;
 use crate::upgrading::upgrade;
-use record_load::{LoadFault, has_limits, is_ours, is_version, load_metas, refused};
 use record_rows::MetaRow;
+use record_tables::{LoadFault, has_limits, is_ours, is_version, load_all, refused};
 use sqlite::Alter;
 use std::alloc::Global;
 
 impl<S: Alter> Store<S> {
     /// Makes a record of version 1 one of version 2, in one transaction, and says whether it was one. A record of version 2 stays as it is.
     pub fn migrate(&mut self, alloc: Global) -> Result<bool, StoreFault>
-        ensures done { HasCleanDisk (state S.Store self.new) → IfOk result (λ did. MatchBool did
-            (Migrates (state S.Store self.old).now (state S.Store self.new).now)
-            (IsTrue (state S.Store self.new).is_open
-            → ((state S.Store self.new).now ≡ (state S.Store self.old).now)
-            × ((state S.Store self.new).committed ≡ (state S.Store self.old).committed))) }
+        ensures transacts { MatchResult result
+            (λ did. MatchBool did
+            (Commits Migrates (CommitsBy Migrates (state S.Store self.old)) (state S.Store self.old)
+            (state S.Store self.new))
+            (Looks (state S.Store self.old) (state S.Store self.new)))
+            (λ _. Undone IsAsBefore (CommitsBy Migrates (state S.Store self.old))
+            (state S.Store self.old) (state S.Store self.new)) }
         ensures which { IfOk result (λ did. did ≡ false
             → has_limits (state S.Store self.old).now.schema ≡ true) }
         ensures second { HasCleanDisk (state S.Store self.new) → IfOk result (λ did. did ≡ false
             → (rows : _) → Stores (state S.Store self.old).now rows
             → is_version (pos 2) rows.metas ≡ true) }
-        ensures settled { HasCleanDisk (state S.Store self.new) → IfOk result (λ did. did ≡ true
-            → (state S.Store self.new).committed ≡ (state S.Store self.new).now) }
-        ensures only { HasCleanDisk (state S.Store self.new) → IfOk result (λ did. did ≡ true
-            → (trees : Trees) → (state S.Store self.new).may_leave trees
-            → trees ≡ (state S.Store self.new).now.trees) }
-        ensures kept { HasCleanDisk (state S.Store self.new) → IsTrue (state S.Store self.new).is_open
-            → OnErr result (((state S.Store self.new).now ≡ (state S.Store self.old).now)
-            × ((state S.Store self.new).committed ≡ (state S.Store self.old).committed)) }
-        ensures was_open { HasCleanDisk (state S.Store self.new)
-            → IsTrue (state S.Store self.new).is_open → IsTrue (state S.Store self.old).is_open }
-        ensures open { HasCleanDisk (state S.Store self.new) → IfOk result (λ did. did ≡ true
-            → IsTrue (state S.Store self.old).is_open × IsTrue (state S.Store self.new).is_open) }
-        ensures crash { Survives (state S.Store self.old) (state S.Store self.new)
-            (CommitsBy Migrates (state S.Store self.old)) }
         ensures missing { is_ours (state S.Store self.old).now.schema ≡ false
             → IsErrAnd result (λ e. e ≡ fault.NotOurs) }
         ensures fault { HasCleanDisk (state S.Store self.new) → IfErr result (λ e. IsOfSqlite e
@@ -70,13 +59,7 @@ impl<S: Alter> Store<S> {
     fn look_at_second(&mut self, alloc: Global) -> Result<(), StoreFault>
         ensures version { HasCleanDisk (state S.Store self.new) → OnOk result ((rows : _)
             → Stores (state S.Store self.old).now rows → is_version (pos 2) rows.metas ≡ true) }
-        ensures kept { HasCleanDisk (state S.Store self.new)
-            → IsTrue (state S.Store self.new).is_open
-            → ((state S.Store self.new).now ≡ (state S.Store self.old).now)
-            × ((state S.Store self.new).committed ≡ (state S.Store self.old).committed) }
-        ensures was_open { HasCleanDisk (state S.Store self.new)
-            → IsTrue (state S.Store self.new).is_open → IsTrue (state S.Store self.old).is_open }
-        ensures crash { Survives (state S.Store self.old) (state S.Store self.new) (λ _. ⊥) }
+        ensures looks { Looks (state S.Store self.old) (state S.Store self.new) }
         ensures fault { HasCleanDisk (state S.Store self.new) → IfErr result (λ e. IsOfSqlite e
             ⊎ ((e ≡ fault.NotOurs) × ((rows : _) → Stores (state S.Store self.old).now rows
             → AreTexts rows → is_version (pos 2) rows.metas ≡ false))) }
@@ -99,36 +82,17 @@ impl<S: Alter> Store<S> {
             → Stores (state S.Store self.old).now rows → v.items ≡ rows.metas) }
         ensures fault { HasCleanDisk (state S.Store self.new) → IfErr result (λ e.
             e ≡ unread.NotOurs → (rows : _) → ¬ Stores (state S.Store self.old).now rows) }
-        ensures kept { HasCleanDisk (state S.Store self.new)
-            → IsTrue (state S.Store self.new).is_open
-            → ((state S.Store self.new).now ≡ (state S.Store self.old).now)
-            × ((state S.Store self.new).committed ≡ (state S.Store self.old).committed) }
-        ensures was_open { HasCleanDisk (state S.Store self.new)
-            → IsTrue (state S.Store self.new).is_open → IsTrue (state S.Store self.old).is_open }
-        ensures crash { Survives (state S.Store self.old) (state S.Store self.new) (λ _. ⊥) }
+        ensures looks { Looks (state S.Store self.old) (state S.Store self.new) }
     {
         let _settled = self.conn.is_autocommit();
         let mut tx = self.conn.transaction();
-        load_metas(alloc, &mut tx)
+        load_all(alloc, &mut tx)
     }
 
     // Upgrades a record of version 1. A connection that is shut is found to be so before anything is changed.
     fn commit_upgrade(&mut self, alloc: Global) -> Result<(), LoadFault>
-        ensures stored { HasCleanDisk (state S.Store self.new) → OnOk result
-            (Upgrades (state S.Store self.old).now (state S.Store self.new).now) }
-        ensures settled { HasCleanDisk (state S.Store self.new) → OnOk result
-            ((state S.Store self.new).committed ≡ (state S.Store self.new).now) }
-        ensures only { HasCleanDisk (state S.Store self.new) → OnOk result ((trees : Trees)
-            → (state S.Store self.new).may_leave trees → trees ≡ (state S.Store self.new).now.trees) }
-        ensures kept { HasCleanDisk (state S.Store self.new) → IsTrue (state S.Store self.new).is_open
-            → OnErr result (((state S.Store self.new).now ≡ (state S.Store self.old).now)
-            × ((state S.Store self.new).committed ≡ (state S.Store self.old).committed)) }
-        ensures was_open { HasCleanDisk (state S.Store self.new)
-            → IsTrue (state S.Store self.new).is_open → IsTrue (state S.Store self.old).is_open }
-        ensures open { HasCleanDisk (state S.Store self.new) → OnOk result
-            (IsTrue (state S.Store self.old).is_open × IsTrue (state S.Store self.new).is_open) }
-        ensures crash { Survives (state S.Store self.old) (state S.Store self.new)
-            (CommitsBy Upgrades (state S.Store self.old)) }
+        ensures transacts { Transacts Upgrades (state S.Store self.old) (state S.Store self.new)
+            result }
         ensures fault { HasCleanDisk (state S.Store self.new) → IfErr result (λ e.
             e ≡ unread.NotOurs → (rows : _) → StoresFirst (state S.Store self.old).now rows
             → AreTexts rows → is_version (pos 1) rows.metas ≡ false) }
@@ -141,19 +105,9 @@ impl<S: Alter> Store<S> {
 
     // The same, where it is not known whether the connection is open.
     fn begin_upgrade(&mut self, alloc: Global) -> Result<(), LoadFault>
-        ensures stored { HasCleanDisk (state S.Store self.new) → OnOk result
-            (Upgrades (state S.Store self.old).now (state S.Store self.new).now) }
-        ensures settled { HasCleanDisk (state S.Store self.new) → OnOk result
-            ((state S.Store self.new).committed ≡ (state S.Store self.new).now) }
-        ensures only { HasCleanDisk (state S.Store self.new) → OnOk result ((trees : Trees)
-            → (state S.Store self.new).may_leave trees → trees ≡ (state S.Store self.new).now.trees) }
-        ensures kept { HasCleanDisk (state S.Store self.new) → IsTrue (state S.Store self.new).is_open
-            → OnErr result (((state S.Store self.new).now ≡ (state S.Store self.old).now)
-            × ((state S.Store self.new).committed ≡ (state S.Store self.old).committed)) }
-        ensures open { HasCleanDisk (state S.Store self.new) → OnOk result
-            (IsTrue (state S.Store self.new).is_open) }
-        ensures crash { Survives (state S.Store self.old) (state S.Store self.new)
-            (CommitsFrom Upgrades (state S.Store self.old).now) }
+        ensures transacts { TransactsTo Upgrades
+            (CommitsFrom Upgrades (state S.Store self.old).now) (state S.Store self.old)
+            (state S.Store self.new) result }
         ensures fault { HasCleanDisk (state S.Store self.new) → IfErr result (λ e.
             e ≡ unread.NotOurs → (rows : _) → StoresFirst (state S.Store self.old).now rows
             → AreTexts rows → is_version (pos 1) rows.metas ≡ false) }

@@ -1,16 +1,15 @@
 //! The record and its transactions.
-ghost use Rattle.std.specs.Prelude.{◌≡◌, ◌⊎◌, pos, true, false, IsTrue, OnOk, OnErr, IfOk, IfErr, IsErrAnd};
+ghost use Rattle.std.specs.Prelude.{◌≡◌, ◌⊎◌, pos, true, false, OnOk, IfOk, IfErr, IsErrAnd, MatchResult};
 ghost use Rattle.sqlite.specs.Held.{state};
-ghost use Rattle.sqlite.specs.State.{HasCleanDisk, Survives};
-ghost use Rattle.sqlite.specs.Tree.{Trees};
-ghost use Rattle.record_changes.specs.Changes as changes;
+ghost use Rattle.sqlite.specs.State.{HasCleanDisk};
 ghost use Rattle.record_tables.specs.Holds.{Stores, StoresFirst};
-ghost use Rattle.record_tables.specs.Puts.{PutsIn};
 ghost use Rattle.record_tables.specs.Schema.{first_schema};
-ghost use Rattle.record_load.specs.Loads.{AreTexts, is_version};
-ghost use Rattle.record_load.specs.Ours.{has_limits, is_ours};
-ghost use Rattle.record_load.specs.declared.faults.LoadFault.TheVariants as unread;
-ghost use Rattle.meta_store.specs.Stores.{Begins, CommitsBy, HasRows, IsNoRecord, IsOfVersion, first_rows, has_record_table, Writes};
+ghost use Rattle.record_rules.specs.Cells.{AreTexts};
+ghost use Rattle.record_tables.specs.Loads.{is_version};
+ghost use Rattle.record_tables.specs.Ours.{has_limits, is_ours};
+ghost use Rattle.record_tables.specs.declared.faults.LoadFault.TheVariants as unread;
+ghost use Rattle.meta_store.specs.Stores.{Begins, CommitsBy, HasRows, IsAsBefore, IsNoRecord, IsOfVersion, has_record_table, Writes};
+ghost use Rattle.meta_store.specs.Transactions.{Commits, Looks, Transacts, Undone};
 ghost use Rattle.meta_store.specs.Upgraded.{upgraded};
 ghost use Rattle.meta_store.specs.declared.faults.StoreFault.TheVariants as fault;
 ghost use Rattle.meta_store.specs.Faults.{IsOfSqlite};
@@ -18,9 +17,10 @@ ghost use Rattle.meta_store.specs.Faults.{IsOfSqlite};
 use crate::faults::{StoreFault, fault_of, fault_of_load};
 use crate::first_rows::first_rows;
 use crate::names::has_record_table;
+use crate::transactions::Work;
 use crate::upgrading::{load_old_rows, upgrade_rows};
-use record_load::{LoadFault, has_limits, is_ours, is_version, load_rows};
 use record_rows::Rows;
+use record_tables::{LoadFault, has_limits, is_ours, is_version, load_rows};
 use sched_core::Change;
 use sqlite::{Alter, Connection};
 use std::alloc::Global;
@@ -60,20 +60,11 @@ impl<S: Alter> Store<S> {
         conn: Connection<S>,
     ) -> Result<Store<S>, (Connection<S>, StoreFault)>
         requires { conn.in_transaction ≡ false }
-        ensures stored { IfOk result (λ s. HasCleanDisk (state S.Store s)
-            → Begins (state S.Store conn).now (state S.Store s).now) }
-        ensures only { IfOk result (λ s. HasCleanDisk (state S.Store s) → (trees : Trees)
-            → (state S.Store s).may_leave trees → trees ≡ (state S.Store s).now.trees) }
-        ensures open { IfOk result (λ s. HasCleanDisk (state S.Store s)
-            → IsTrue (state S.Store s).is_open) }
-        ensures crash { IfOk result (λ s. Survives (state S.Store conn) (state S.Store s)
-            (CommitsBy Begins (state S.Store conn))) }
-        ensures kept { IfErr result (λ e. HasCleanDisk (state S.Store e.0)
-            → IsTrue (state S.Store e.0).is_open
-            → ((state S.Store e.0).now ≡ (state S.Store conn).now)
-            × ((state S.Store e.0).committed ≡ (state S.Store conn).committed)) }
-        ensures err_crash { IfErr result (λ e. Survives (state S.Store conn) (state S.Store e.0)
-            (CommitsBy Begins (state S.Store conn))) }
+        ensures transacts { MatchResult result
+            (λ s. Commits Begins (CommitsBy Begins (state S.Store conn)) (state S.Store conn)
+            (state S.Store s))
+            (λ e. Undone IsAsBefore (CommitsBy Begins (state S.Store conn)) (state S.Store conn)
+            (state S.Store e.0)) }
         ensures settled { IfErr result (λ e. e.0.in_transaction ≡ false) }
         ensures names { has_record_table (state S.Store conn).now.schema ≡ true
             → IsErrAnd result (λ e. e.1 ≡ fault.NotOurs) }
@@ -88,7 +79,7 @@ impl<S: Alter> Store<S> {
             return Err((conn, StoreFault::Memory));
         };
         let mut store = Store { conn };
-        match store.make_record(&rows) {
+        match store.transact("SELECT 1", Work::Make, &rows) {
             Ok(()) => Ok(store),
             Err(error) => Err((store.release(), fault_of(error))),
         }
@@ -113,51 +104,14 @@ impl<S: Alter> Store<S> {
     /// Writes what a planned change makes differ, in one transaction, which is committed as a whole or not at all. Where the record
     /// holds the schedule before the change, it holds the one after it then (`a_planned_event_is_written`). A record of version 1 is refused.
     pub fn write(&mut self, change: &Change) -> Result<(), StoreFault>
-        ensures stored { HasCleanDisk (state S.Store self.new) → OnOk result
-            (Writes change.now (state S.Store self.old).now (state S.Store self.new).now) }
-        ensures only { HasCleanDisk (state S.Store self.new) → OnOk result ((trees : Trees)
-            → (state S.Store self.new).may_leave trees
-            → trees ≡ (state S.Store self.new).now.trees) }
-        ensures kept { HasCleanDisk (state S.Store self.new)
-            → IsTrue (state S.Store self.new).is_open → OnErr result
-            (((state S.Store self.new).now ≡ (state S.Store self.old).now)
-            × ((state S.Store self.new).committed ≡ (state S.Store self.old).committed)) }
-        ensures was_open { HasCleanDisk (state S.Store self.new)
-            → IsTrue (state S.Store self.new).is_open → IsTrue (state S.Store self.old).is_open }
-        ensures open { HasCleanDisk (state S.Store self.new) → OnOk result
-            (IsTrue (state S.Store self.old).is_open × IsTrue (state S.Store self.new).is_open) }
-        ensures crash_stored { Survives (state S.Store self.old) (state S.Store self.new)
-            (CommitsBy (Writes change.now) (state S.Store self.old)) }
+        ensures transacts { Transacts (Writes change.now) (state S.Store self.old)
+            (state S.Store self.new) result }
         ensures fault { IfErr result IsOfSqlite }
         ensures guarded { HasCleanDisk (state S.Store self.new)
             → (state S.Store self.old).now.schema ≡ first_schema → OnOk result ⊥ }
     {
-        self.write_rows(change.rows())
-    }
-
-    /// Puts the rows of all tables by key, in one transaction, which is committed as a whole or not at all. A record of version 1 is refused.
-    pub fn write_rows(&mut self, rows: &Rows) -> Result<(), StoreFault>
-        ensures stored { HasCleanDisk (state S.Store self.new) → OnOk result
-            (PutsIn (changes.put_rows rows.now) (state S.Store self.old).now
-            (state S.Store self.new).now) }
-        ensures only { HasCleanDisk (state S.Store self.new) → OnOk result ((trees : Trees)
-            → (state S.Store self.new).may_leave trees
-            → trees ≡ (state S.Store self.new).now.trees) }
-        ensures kept { HasCleanDisk (state S.Store self.new)
-            → IsTrue (state S.Store self.new).is_open → OnErr result
-            (((state S.Store self.new).now ≡ (state S.Store self.old).now)
-            × ((state S.Store self.new).committed ≡ (state S.Store self.old).committed)) }
-        ensures was_open { HasCleanDisk (state S.Store self.new)
-            → IsTrue (state S.Store self.new).is_open → IsTrue (state S.Store self.old).is_open }
-        ensures open { HasCleanDisk (state S.Store self.new) → OnOk result
-            (IsTrue (state S.Store self.old).is_open × IsTrue (state S.Store self.new).is_open) }
-        ensures crash_stored { Survives (state S.Store self.old) (state S.Store self.new)
-            (CommitsBy (PutsIn (changes.put_rows rows.now)) (state S.Store self.old)) }
-        ensures fault { IfErr result IsOfSqlite }
-        ensures guarded { HasCleanDisk (state S.Store self.new)
-            → (state S.Store self.old).now.schema ≡ first_schema → OnOk result ⊥ }
-    {
-        match self.commit_rows(rows) {
+        let asked = "SELECT max_active_tasks FROM dag_limit";
+        match self.transact(asked, Work::Put, change.rows()) {
             Ok(()) => Ok(()),
             Err(error) => Err(fault_of(error)),
         }
@@ -169,15 +123,10 @@ impl<S: Alter> Store<S> {
         ensures list { HasCleanDisk (state S.Store self.new) → IfOk result (λ loaded. (rows : _)
             → HasRows (state S.Store self.old).now rows → loaded ≡ rows) }
         ensures version { IfOk result (λ loaded. is_version (pos 2) loaded.metas ≡ true) }
+        ensures texts { IfOk result AreTexts }
         ensures found { HasCleanDisk (state S.Store self.new) → OnOk result
             (IsOfVersion (state S.Store self.old).now) }
-        ensures kept { HasCleanDisk (state S.Store self.new)
-            → IsTrue (state S.Store self.new).is_open
-            → ((state S.Store self.new).now ≡ (state S.Store self.old).now)
-            × ((state S.Store self.new).committed ≡ (state S.Store self.old).committed) }
-        ensures was_open { HasCleanDisk (state S.Store self.new)
-            → IsTrue (state S.Store self.new).is_open → IsTrue (state S.Store self.old).is_open }
-        ensures crash { Survives (state S.Store self.old) (state S.Store self.new) (λ _. ⊥) }
+        ensures looks { Looks (state S.Store self.old) (state S.Store self.new) }
         ensures missing { is_ours (state S.Store self.old).now.schema ≡ false
             → IsErrAnd result (λ e. e ≡ fault.NotOurs) }
         ensures fault { HasCleanDisk (state S.Store self.new) → IfErr result (λ e. IsOfSqlite e
@@ -198,13 +147,8 @@ impl<S: Alter> Store<S> {
         ensures list { HasCleanDisk (state S.Store self.new) → IfOk result (λ loaded. (rows : _)
             → Stores (state S.Store self.old).now rows → loaded ≡ rows) }
         ensures version { IfOk result (λ loaded. is_version (pos 2) loaded.metas ≡ true) }
-        ensures kept { HasCleanDisk (state S.Store self.new)
-            → IsTrue (state S.Store self.new).is_open
-            → ((state S.Store self.new).now ≡ (state S.Store self.old).now)
-            × ((state S.Store self.new).committed ≡ (state S.Store self.old).committed) }
-        ensures was_open { HasCleanDisk (state S.Store self.new)
-            → IsTrue (state S.Store self.new).is_open → IsTrue (state S.Store self.old).is_open }
-        ensures crash { Survives (state S.Store self.old) (state S.Store self.new) (λ _. ⊥) }
+        ensures texts { IfOk result AreTexts }
+        ensures looks { Looks (state S.Store self.old) (state S.Store self.new) }
         ensures fault { HasCleanDisk (state S.Store self.new) → IfErr result (λ e. IsOfSqlite e
             ⊎ ((e ≡ fault.NotOurs) × ((rows : _) → Stores (state S.Store self.old).now rows
             → AreTexts rows → is_version (pos 2) rows.metas ≡ false))) }
@@ -224,16 +168,11 @@ impl<S: Alter> Store<S> {
         ensures list { HasCleanDisk (state S.Store self.new) → IfOk result (λ loaded. (rows : _)
             → StoresFirst (state S.Store self.old).now rows → loaded ≡ upgraded rows) }
         ensures version { IfOk result (λ loaded. is_version (pos 2) loaded.metas ≡ true) }
+        ensures texts { IfOk result AreTexts }
         ensures found { HasCleanDisk (state S.Store self.new) → OnOk result ((rows : _)
             → StoresFirst (state S.Store self.old).now rows
             → is_version (pos 1) rows.metas ≡ true) }
-        ensures kept { HasCleanDisk (state S.Store self.new)
-            → IsTrue (state S.Store self.new).is_open
-            → ((state S.Store self.new).now ≡ (state S.Store self.old).now)
-            × ((state S.Store self.new).committed ≡ (state S.Store self.old).committed) }
-        ensures was_open { HasCleanDisk (state S.Store self.new)
-            → IsTrue (state S.Store self.new).is_open → IsTrue (state S.Store self.old).is_open }
-        ensures crash { Survives (state S.Store self.old) (state S.Store self.new) (λ _. ⊥) }
+        ensures looks { Looks (state S.Store self.old) (state S.Store self.new) }
         ensures fault { HasCleanDisk (state S.Store self.new) → IfErr result (λ e. IsOfSqlite e
             ⊎ ((e ≡ fault.NotOurs) × ((rows : _) → StoresFirst (state S.Store self.old).now rows
             → AreTexts rows → is_version (pos 1) rows.metas ≡ false))) }
@@ -255,16 +194,11 @@ impl<S: Alter> Store<S> {
     fn read_first(&mut self, alloc: Global) -> Result<Rows, LoadFault>
         ensures list { HasCleanDisk (state S.Store self.new) → IfOk result (λ loaded. (rows : _)
             → StoresFirst (state S.Store self.old).now rows → loaded ≡ rows) }
+        ensures texts { IfOk result AreTexts }
         ensures fault { HasCleanDisk (state S.Store self.new) → IfErr result (λ e.
             e ≡ unread.NotOurs → (rows : _) → StoresFirst (state S.Store self.old).now rows
             → ¬ AreTexts rows) }
-        ensures kept { HasCleanDisk (state S.Store self.new)
-            → IsTrue (state S.Store self.new).is_open
-            → ((state S.Store self.new).now ≡ (state S.Store self.old).now)
-            × ((state S.Store self.new).committed ≡ (state S.Store self.old).committed) }
-        ensures was_open { HasCleanDisk (state S.Store self.new)
-            → IsTrue (state S.Store self.new).is_open → IsTrue (state S.Store self.old).is_open }
-        ensures crash { Survives (state S.Store self.old) (state S.Store self.new) (λ _. ⊥) }
+        ensures looks { Looks (state S.Store self.old) (state S.Store self.new) }
     {
         let _settled = self.conn.is_autocommit();
         let mut tx = self.conn.transaction();
@@ -275,16 +209,11 @@ impl<S: Alter> Store<S> {
     fn read_rows(&mut self, alloc: Global) -> Result<Rows, LoadFault>
         ensures list { HasCleanDisk (state S.Store self.new) → IfOk result (λ loaded. (rows : _)
             → Stores (state S.Store self.old).now rows → loaded ≡ rows) }
+        ensures texts { IfOk result AreTexts }
         ensures fault { HasCleanDisk (state S.Store self.new) → IfErr result (λ e.
             e ≡ unread.NotOurs → (rows : _) → Stores (state S.Store self.old).now rows
             → ¬ AreTexts rows) }
-        ensures kept { HasCleanDisk (state S.Store self.new)
-            → IsTrue (state S.Store self.new).is_open
-            → ((state S.Store self.new).now ≡ (state S.Store self.old).now)
-            × ((state S.Store self.new).committed ≡ (state S.Store self.old).committed) }
-        ensures was_open { HasCleanDisk (state S.Store self.new)
-            → IsTrue (state S.Store self.new).is_open → IsTrue (state S.Store self.old).is_open }
-        ensures crash { Survives (state S.Store self.old) (state S.Store self.new) (λ _. ⊥) }
+        ensures looks { Looks (state S.Store self.old) (state S.Store self.new) }
     {
         let _settled = self.conn.is_autocommit();
         let mut tx = self.conn.transaction();

@@ -1,121 +1,76 @@
 //! The transactions of a record.
-ghost use Rattle.std.specs.Prelude.{◌≡◌, false, IsOk, IsTrue, OnOk, OnErr};
+ghost use Rattle.std.specs.Prelude.{◌≡◌, false, IsOk, OnOk, OnErr};
 ghost use Rattle.sqlite.specs.Held.{state};
 ghost use Rattle.sqlite.specs.Listing.{understood};
-ghost use Rattle.sqlite.specs.State.{HasCleanDisk, Shows, Survives};
-ghost use Rattle.sqlite.specs.Tree.{Trees};
-ghost use Rattle.record_changes.specs.Changes as changes;
-ghost use Rattle.record_tables.specs.Puts.{PutsIn};
-ghost use Rattle.record_tables.specs.Schema.{first_schema};
-ghost use Rattle.meta_store.specs.Stores.{Begins, CommitsBy, CommitsFrom, first_rows};
+ghost use Rattle.sqlite.specs.State.{HasCleanDisk, Shows};
+ghost use Rattle.record_tables.specs.Puts.{GoesBy, Stops};
+ghost use Rattle.meta_store.specs.Stores.{CommitsFrom};
+ghost use Rattle.meta_store.specs.Transactions.{Looks, Transacts, TransactsTo, does};
 
 use crate::stores::Store;
 use record_rows::Rows;
 use record_tables::{make_tables, put_rows};
-use sqlite::{Alter, Error};
+use sqlite::{Alter, Error, Transaction};
+
+/// What a transaction does with rows.
+#[derive(Clone, Copy, Debug)]
+pub(crate) enum Work {
+    /// Makes the tables and puts the rows.
+    Make,
+    /// Puts the rows by key.
+    Put,
+}
+
+// Does a work with rows, inside a transaction.
+fn do_work<S: Alter>(tx: &mut Transaction<'_, S>, work: Work, rows: &Rows) -> Result<(), Error>
+    ensures same_reference { tx.new.conn.ghost_name ≡ tx.old.conn.ghost_name }
+    ensures ok { OnOk result (GoesBy (does work rows.now) (state S.Store tx.old.conn.now)
+        (state S.Store tx.new.conn.now)) }
+    ensures err { OnErr result (Stops (state S.Store tx.old.conn.now)
+        (state S.Store tx.new.conn.now)) }
+{
+    match work {
+        Work::Make => {
+            make_tables(tx)?;
+            put_rows(tx, rows)
+        }
+        Work::Put => put_rows(tx, rows),
+    }
+}
 
 impl<S: Alter> Store<S> {
-    /// Makes the tables and puts the first rows, in one transaction.
-    pub(crate) fn make_record(&mut self, first: &Rows) -> Result<(), Error>
-        requires { first.now ≡ first_rows }
-        ensures stored { HasCleanDisk (state S.Store self.new) → OnOk result
-            (Begins (state S.Store self.old).now (state S.Store self.new).now) }
-        ensures only { HasCleanDisk (state S.Store self.new) → OnOk result ((trees : Trees)
-            → (state S.Store self.new).may_leave trees → trees ≡ (state S.Store self.new).now.trees) }
-        ensures kept { HasCleanDisk (state S.Store self.new) → IsTrue (state S.Store self.new).is_open
-            → OnErr result (((state S.Store self.new).now ≡ (state S.Store self.old).now)
-            × ((state S.Store self.new).committed ≡ (state S.Store self.old).committed)) }
-        ensures open { HasCleanDisk (state S.Store self.new) → OnOk result
-            (IsTrue (state S.Store self.new).is_open) }
-        ensures crash { Survives (state S.Store self.old) (state S.Store self.new)
-            (CommitsBy Begins (state S.Store self.old)) }
+    /// Does a work with rows, in one transaction. Before it begins, SQLite is asked for a statement, which is not run: it gives none once the connection is
+    /// shut, nor of a table that is not there, and then nothing is done.
+    pub(crate) fn transact(&mut self, asked: &str, work: Work, rows: &Rows) -> Result<(), Error>
+        ensures transacts { Transacts (does work rows.now) (state S.Store self.old)
+            (state S.Store self.new) result }
+        ensures known { HasCleanDisk (state S.Store self.new) → OnOk result
+            (IsOk (understood (state S.Store self.old).now.schema asked.now)) }
     {
-        self.ask("SELECT 1")?;
-        self.begin_record(first)
+        self.ask(asked)?;
+        self.begin(work, rows)
     }
 
     // The same, where it is not known whether the connection is open.
-    fn begin_record(&mut self, first: &Rows) -> Result<(), Error>
-        requires { first.now ≡ first_rows }
-        ensures stored { HasCleanDisk (state S.Store self.new) → OnOk result
-            (Begins (state S.Store self.old).now (state S.Store self.new).now) }
-        ensures only { HasCleanDisk (state S.Store self.new) → OnOk result ((trees : Trees)
-            → (state S.Store self.new).may_leave trees → trees ≡ (state S.Store self.new).now.trees) }
-        ensures kept { HasCleanDisk (state S.Store self.new) → IsTrue (state S.Store self.new).is_open
-            → OnErr result (((state S.Store self.new).now ≡ (state S.Store self.old).now)
-            × ((state S.Store self.new).committed ≡ (state S.Store self.old).committed)) }
-        ensures open { HasCleanDisk (state S.Store self.new) → OnOk result
-            (IsTrue (state S.Store self.new).is_open) }
-        ensures crash { Survives (state S.Store self.old) (state S.Store self.new)
-            (CommitsFrom Begins (state S.Store self.old).now) }
+    fn begin(&mut self, work: Work, rows: &Rows) -> Result<(), Error>
+        ensures transacts { TransactsTo (does work rows.now)
+            (CommitsFrom (does work rows.now) (state S.Store self.old).now)
+            (state S.Store self.old) (state S.Store self.new) result }
     {
         let _settled = self.conn.is_autocommit();
         let mut tx = self.conn.transaction();
-        make_tables(&mut tx)?;
-        put_rows(&mut tx, first)?;
-        tx.commit()
-    }
-
-    /// Puts rows by key, in one transaction. A connection that is shut is found to be so before anything is put, and so is a record of version 1,
-    /// which has no bounds.
-    pub(crate) fn commit_rows(&mut self, rows: &Rows) -> Result<(), Error>
-        ensures stored { HasCleanDisk (state S.Store self.new) → OnOk result
-            (PutsIn (changes.put_rows rows.now) (state S.Store self.old).now
-            (state S.Store self.new).now) }
-        ensures only { HasCleanDisk (state S.Store self.new) → OnOk result ((trees : Trees)
-            → (state S.Store self.new).may_leave trees → trees ≡ (state S.Store self.new).now.trees) }
-        ensures kept { HasCleanDisk (state S.Store self.new) → IsTrue (state S.Store self.new).is_open
-            → OnErr result (((state S.Store self.new).now ≡ (state S.Store self.old).now)
-            × ((state S.Store self.new).committed ≡ (state S.Store self.old).committed)) }
-        ensures was_open { HasCleanDisk (state S.Store self.new)
-            → IsTrue (state S.Store self.new).is_open → IsTrue (state S.Store self.old).is_open }
-        ensures open { HasCleanDisk (state S.Store self.new) → OnOk result
-            (IsTrue (state S.Store self.old).is_open × IsTrue (state S.Store self.new).is_open) }
-        ensures crash_stored { Survives (state S.Store self.old) (state S.Store self.new)
-            (CommitsBy (PutsIn (changes.put_rows rows.now)) (state S.Store self.old)) }
-        ensures guarded { HasCleanDisk (state S.Store self.new)
-            → (state S.Store self.old).now.schema ≡ first_schema → OnOk result ⊥ }
-    {
-        self.ask("SELECT max_active_tasks FROM dag_limit")?;
-        self.begin_rows(rows)
-    }
-
-    // The same, where it is not known whether the connection is open.
-    fn begin_rows(&mut self, rows: &Rows) -> Result<(), Error>
-        ensures stored { HasCleanDisk (state S.Store self.new) → OnOk result
-            (PutsIn (changes.put_rows rows.now) (state S.Store self.old).now
-            (state S.Store self.new).now) }
-        ensures only { HasCleanDisk (state S.Store self.new) → OnOk result ((trees : Trees)
-            → (state S.Store self.new).may_leave trees → trees ≡ (state S.Store self.new).now.trees) }
-        ensures kept { HasCleanDisk (state S.Store self.new) → IsTrue (state S.Store self.new).is_open
-            → OnErr result (((state S.Store self.new).now ≡ (state S.Store self.old).now)
-            × ((state S.Store self.new).committed ≡ (state S.Store self.old).committed)) }
-        ensures was_open { HasCleanDisk (state S.Store self.new)
-            → IsTrue (state S.Store self.new).is_open → IsTrue (state S.Store self.old).is_open }
-        ensures open { HasCleanDisk (state S.Store self.new) → OnOk result
-            (IsTrue (state S.Store self.new).is_open) }
-        ensures crash_stored { Survives (state S.Store self.old) (state S.Store self.new)
-            (CommitsFrom (PutsIn (changes.put_rows rows.now)) (state S.Store self.old).now) }
-    {
-        let _settled = self.conn.is_autocommit();
-        let mut tx = self.conn.transaction();
-        put_rows(&mut tx, rows)?;
+        do_work(&mut tx, work, rows)?;
         tx.commit()
     }
 
     /// Asks SQLite for a statement, which is not run. It gives none once the connection is shut, nor of a table that is not there.
     pub(crate) fn ask(&mut self, text: &str) -> Result<(), Error>
-        ensures open { HasCleanDisk (state S.Store self.new) → OnOk result (Shows
+        ensures shows { HasCleanDisk (state S.Store self.new) → OnOk result (Shows
             (state S.Store self.old) (state S.Store self.new) (state S.Store self.old).now
             (state S.Store self.old).committed false) }
         ensures known { HasCleanDisk (state S.Store self.new) → OnOk result
             (IsOk (understood (state S.Store self.old).now.schema text.now)) }
-        ensures kept { HasCleanDisk (state S.Store self.new) → IsTrue (state S.Store self.new).is_open
-            → ((state S.Store self.new).now ≡ (state S.Store self.old).now)
-            × ((state S.Store self.new).committed ≡ (state S.Store self.old).committed) }
-        ensures was_open { HasCleanDisk (state S.Store self.new)
-            → IsTrue (state S.Store self.new).is_open → IsTrue (state S.Store self.old).is_open }
-        ensures crash { Survives (state S.Store self.old) (state S.Store self.new) (λ _. ⊥) }
+        ensures looks { Looks (state S.Store self.old) (state S.Store self.new) }
     {
         let _settled = self.conn.is_autocommit();
         let _statement = self.conn.prepare(text)?;

@@ -4,15 +4,15 @@ ghost use Rattle.sqlite.specs.Held.{state};
 ghost use Rattle.sqlite.specs.State.{HasCleanDisk};
 ghost use Rattle.record_rows.specs.Rows.{Rows};
 ghost use Rattle.record_tables.specs.Holds.{AddsLimits, StoresFirst};
-ghost use Rattle.record_tables.specs.Puts.{GoesBy, PutsIn, Stops, put_metas, put_dag_limits};
-ghost use Rattle.record_load.specs.Loads.{AreTexts, Anyhow, is_version};
-ghost use Rattle.record_load.specs.declared.faults.LoadFault.TheVariants as fault;
+ghost use Rattle.record_tables.specs.Puts.{GoesBy, Stops};
+ghost use Rattle.record_rules.specs.Cells.{AreTexts};
+ghost use Rattle.record_tables.specs.Loads.{Anyhow, is_version};
+ghost use Rattle.record_tables.specs.declared.faults.LoadFault.TheVariants as fault;
 ghost use Rattle.meta_store.specs.Stores.{Upgrades};
 ghost use Rattle.meta_store.specs.Upgraded as spec;
 
-use record_load::{LoadFault, is_version, load_dags, load_metas, load_rows, refused};
 use record_rows::{DagLimitRow, DagRow, MetaRow, Rows};
-use record_tables::{add_limits, put_dag_limits, put_metas};
+use record_tables::{LoadFault, add_limits, is_version, load_all, load_rows, put_rows, refused};
 use sqlite::{Alter, Transaction};
 use std::alloc::{AllocError, Global};
 
@@ -49,17 +49,18 @@ fn old_limits(alloc: Global, dags: &[DagRow]) -> Result<Vec<DagLimitRow>, AllocE
 }
 
 // The rows in which version 2 differs.
-fn second_rows(
-    alloc: Global,
-    metas: &[MetaRow],
-    dags: &[DagRow],
-) -> Result<(Vec<MetaRow>, Vec<DagLimitRow>), AllocError>
-    ensures { IfOk result (λ p. (p.0.items ≡ map spec.second metas.now)
-        × (p.1.items ≡ map spec.old_limit dags.now)) }
+fn second_rows(alloc: Global, metas: &[MetaRow], dags: &[DagRow]) -> Result<Rows, AllocError>
+    ensures { IfOk result (λ made. made ≡ spec.second_rows metas.now dags.now) }
 {
-    let metas = second_metas(alloc, metas)?;
-    let limits = old_limits(alloc, dags)?;
-    Ok((metas, limits))
+    Ok(Rows {
+        metas: second_metas(alloc, metas)?,
+        dag_limits: old_limits(alloc, dags)?,
+        pools: Vec::new(alloc),
+        dags: Vec::new(alloc),
+        runs: Vec::new(alloc),
+        instances: Vec::new(alloc),
+        attempts: Vec::new(alloc),
+    })
 }
 
 /// The rows of a record of version 1, as version 2 has them.
@@ -101,6 +102,7 @@ pub(crate) fn load_old_rows<S: Alter>(
     ensures list { HasCleanDisk (state S.Store tx.new.conn.now)
         → IsTrue (state S.Store tx.old.conn.now).in_transaction → IfOk result (λ loaded.
         (rows : Rows) → StoresFirst (state S.Store tx.old.conn.now).now rows → loaded ≡ rows) }
+    ensures texts { IfOk result AreTexts }
     ensures fault { HasCleanDisk (state S.Store tx.new.conn.now)
         → IsTrue (state S.Store tx.old.conn.now).in_transaction → IfErr result (λ e.
         e ≡ fault.NotOurs → (rows : Rows) → StoresFirst (state S.Store tx.old.conn.now).now rows
@@ -115,16 +117,13 @@ pub(crate) fn load_old_rows<S: Alter>(
 }
 
 // Makes the table that a record of version 1 lacks, and gives the rows that are then to be put.
-fn prepare<S: Alter>(
-    alloc: Global,
-    tx: &mut Transaction<'_, S>,
-) -> Result<(Vec<MetaRow>, Vec<DagLimitRow>), LoadFault>
+fn prepare<S: Alter>(alloc: Global, tx: &mut Transaction<'_, S>) -> Result<Rows, LoadFault>
     ensures same_reference { tx.new.conn.ghost_name ≡ tx.old.conn.ghost_name }
     ensures rows { HasCleanDisk (state S.Store tx.new.conn.now)
-        → IsTrue (state S.Store tx.old.conn.now).in_transaction → IfOk result (λ p.
+        → IsTrue (state S.Store tx.old.conn.now).in_transaction → IfOk result (λ made.
         (rows : Rows) → StoresFirst (state S.Store tx.old.conn.now).now rows
-        → (is_version (pos 1) rows.metas ≡ true) × (p.0.items ≡ map spec.second rows.metas)
-        × (p.1.items ≡ map spec.old_limit rows.dags)) }
+        → (is_version (pos 1) rows.metas ≡ true)
+        × (made ≡ spec.second_rows rows.metas rows.dags)) }
     ensures fault { HasCleanDisk (state S.Store tx.new.conn.now)
         → IsTrue (state S.Store tx.old.conn.now).in_transaction → IfErr result (λ e.
         e ≡ fault.NotOurs → (rows : Rows) → StoresFirst (state S.Store tx.old.conn.now).now rows
@@ -135,37 +134,14 @@ fn prepare<S: Alter>(
         (state S.Store tx.new.conn.now)) }
 {
     add_table(tx)?;
-    let metas = load_metas(alloc, tx)?;
+    let metas: Vec<MetaRow> = load_all(alloc, tx)?;
     if !is_version(1, &metas) {
         return Err(LoadFault::NotOurs);
     }
-    let dags = load_dags(alloc, tx)?;
+    let dags: Vec<DagRow> = load_all(alloc, tx)?;
     match second_rows(alloc, &metas, &dags) {
         Ok(made) => Ok(made),
         Err(_) => Err(LoadFault::Memory),
-    }
-}
-
-// Puts the rows in which version 2 differs.
-fn put_second<S: Alter>(
-    tx: &mut Transaction<'_, S>,
-    metas: &[MetaRow],
-    limits: &[DagLimitRow],
-) -> Result<(), LoadFault>
-    ensures same_reference { tx.new.conn.ghost_name ≡ tx.old.conn.ghost_name }
-    ensures ok { OnOk result (GoesBy
-        (PutsIn (λ t. put_dag_limits limits.now (put_metas metas.now t)))
-        (state S.Store tx.old.conn.now) (state S.Store tx.new.conn.now)) }
-    ensures err { OnErr result (Stops (state S.Store tx.old.conn.now)
-        (state S.Store tx.new.conn.now)) }
-    ensures fault { IfErr result (λ e. e ≢ fault.NotOurs) }
-{
-    if let Err(error) = put_metas(tx, metas) {
-        return Err(refused(error));
-    }
-    match put_dag_limits(tx, limits) {
-        Ok(()) => Ok(()),
-        Err(error) => Err(refused(error)),
     }
 }
 
@@ -181,6 +157,9 @@ pub(crate) fn upgrade<S: Alter>(alloc: Global, tx: &mut Transaction<'_, S>) -> R
     ensures err { OnErr result (Stops (state S.Store tx.old.conn.now)
         (state S.Store tx.new.conn.now)) }
 {
-    let (metas, limits) = prepare(alloc, tx)?;
-    put_second(tx, &metas, &limits)
+    let made = prepare(alloc, tx)?;
+    match put_rows(tx, &made) {
+        Ok(()) => Ok(()),
+        Err(error) => Err(refused(error)),
+    }
 }

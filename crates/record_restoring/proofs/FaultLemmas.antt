@@ -5,7 +5,7 @@ use Rattle.std.proofs.lemmas.Bool.{and_from}
 use Rattle.sched_state.proofs.OrderLemmas.{and_left, and_right}
 use Rattle.record_rules.specs.Faults.{first_from, first_bad}
 use Rattle.std.proofs.lemmas.List.{take_all}
-use Rattle.record_restoring.proofs.OrderLemmas.{read_at}
+use Rattle.record_rules.proofs.RiseLemmas.{read_at}
 
 from_here : {X : Type 0} (ok : X → Bool) (i : ℕ) (xs : List X) (n : ℕ) (x : X) → list_all ok (take n xs) ≡ true → slice_get xs n ≡ Some x → ok x ≡ false → first_from ok i xs ≡ Some (i + n)
 from_here {X} ok i [] n x a e b = absurd (let c : ◌≡◌ {A = Option X} None (Some x) = e in cc)

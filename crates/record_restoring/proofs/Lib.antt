@@ -1,4 +1,3 @@
-pub mod OrderLemmas
 pub mod FaultLemmas
 pub mod SearchLemmas
 pub mod BodyLemmas

@@ -19,7 +19,7 @@ use Rattle.record_rules.specs.Keys.{pool_row_before}
 use Rattle.record_rules.specs.Numbers.{natural}
 use Rattle.record_rules.specs.Reading.{pool_of as pool_for}
 use Rattle.record_restoring.specs.Pools.{vacant_pool, vacant_pools}
-use Rattle.record_restoring.proofs.OrderLemmas.{read_at}
+use Rattle.record_rules.proofs.RiseLemmas.{read_at}
 
 -- ---- rows that rise
 before_all : (xs : List PoolRow) (n : ℕ) (x : PoolRow) → rises pool_row_before xs ≡ true → slice_get xs n ≡ Some x → list_all (λ (y : PoolRow). pool_row_before y x) (take n xs) ≡ true

@@ -14,15 +14,16 @@ ghost use Rattle.record_rules.specs.Reading as reading;
 ghost use Rattle.record_rules.specs.Faults as spec;
 ghost use Rattle.record_restoring.specs.Results.{IsFault, is_memory};
 
-use crate::codes::{USUAL_BOUND, bound_of, flag_of};
 use crate::columns::is_between;
 use crate::earlier::{earlier, past_limit};
 use crate::faults::RestoreFault;
 use crate::finding::limit_named;
+use crate::numbers::{USUAL_BOUND, bound_of};
 use crate::pools::has_pool;
 use dag_check::{DagFault, Graph, check};
 use graph_file::{Bounded, GraphFault, GraphSpec, TaskSpec, read_graph};
 use record_rows::{DagRow, PoolRow, Rows, Table};
+use record_rules::flag_of;
 use sched_state::{GraphText, Limits, LoadedGraph};
 use std::alloc::{AllocError, Global};
 

@@ -12,11 +12,11 @@ ghost use Rattle.record_rules.specs.Faults as spec;
 ghost use Rattle.record_restoring.specs.Dealing.{tries_among};
 
 use crate::buckets::Bucket;
-use crate::codes::verdict_of;
 use crate::earlier::earlier;
 use crate::finding::{graph_named, has_instance, has_run};
 use dag_check::Graph;
 use record_rows::{InstanceRow, Rows, RunRow};
+use record_rules::verdict_of;
 use sched_state::LoadedGraph;
 
 // The first row of `instance` at fault. `buckets` are the tries of each row.

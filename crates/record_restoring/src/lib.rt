@@ -16,7 +16,6 @@
 mod attempt_rules;
 mod buckets;
 mod checking;
-mod codes;
 mod columns;
 mod dags;
 mod earlier;
@@ -29,6 +28,7 @@ mod laws;
 mod limit_rules;
 mod making;
 mod metas;
+mod numbers;
 mod occupying;
 mod orders;
 mod parts;
@@ -40,10 +40,10 @@ mod run_making;
 mod run_rules;
 mod try_rules;
 
-pub use codes::{OLD_BOUND, USUAL_BOUND};
 pub use dags::is_within;
 pub use faults::RestoreFault;
 pub use keyed::KeyedRows;
 pub use laws::taken_slots_are_counted;
+pub use numbers::{OLD_BOUND, USUAL_BOUND};
 pub use parts::ScheduleParts;
 pub use restoring::restore_parts;

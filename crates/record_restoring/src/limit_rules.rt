@@ -10,10 +10,10 @@ ghost use Rattle.record_rules.specs.Keys.{dag_limit_row_before};
 ghost use Rattle.record_rules.specs.Numbers.{is_between as spec_between};
 ghost use Rattle.record_rules.specs.Faults as spec;
 
-use crate::codes::{OLD_BOUND, USUAL_BOUND};
 use crate::columns::is_between;
 use crate::earlier::earlier;
 use crate::finding::{graph_named, limit_named};
+use crate::numbers::{OLD_BOUND, USUAL_BOUND};
 use dag_check::Graph;
 use record_rows::{DagLimitRow, DagRow, Rows};
 use sched_state::LoadedGraph;

@@ -8,11 +8,12 @@ ghost use Rattle.record_rules.specs.Faults.{is_end_row_right};
 ghost use Rattle.record_restoring.specs.Making.{instance_of, is_readable};
 
 use crate::buckets::{Bucket, TryEntry};
-use crate::codes::{count_of, moment_of, outcome_of, verdict_of};
+use crate::numbers::count_of;
 use graph_file::{Bounded, TaskSpec};
 use instance_machine::{End, Instance, Try};
 use moment_core::Moment;
 use record_rows::{AttemptRow, InstanceRow};
+use record_rules::{moment_of, outcome_of, verdict_of};
 use std::alloc::{AllocError, Global};
 
 // The instance of a row with the rows of its tries, which are right.

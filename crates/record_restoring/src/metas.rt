@@ -4,9 +4,9 @@ ghost use Rattle.sched_model.specs.Handout.{last_serial};
 ghost use Rattle.record_rules.specs.Numbers.{is_moment_column, is_between as spec_between};
 ghost use Rattle.record_rules.specs.Faults as spec;
 
-use crate::codes::moment_of;
 use crate::columns::is_between;
 use record_rows::MetaRow;
+use record_rules::moment_of;
 use sched_state::{LAST_SERIAL, Limits};
 
 // The first row of `meta` at fault.

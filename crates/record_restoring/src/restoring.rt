@@ -11,16 +11,17 @@ ghost use Rattle.record_restoring.specs.Parts.{IsRestored};
 ghost use Rattle.record_restoring.specs.Results.{IsFault};
 
 use crate::checking::{Checked, check_rows};
-use crate::codes::{lanes_of, moment_of, serial_of};
 use crate::end_rules::end_fault;
 use crate::faults::RestoreFault;
 use crate::keyed::KeyedRows;
+use crate::numbers::{lanes_of, serial_of};
 use crate::occupying::occupy_by_runs;
 use crate::parts::ScheduleParts;
 use crate::pool_making::read_pools;
 use crate::run_making::read_runs;
 use pool_book::Pools;
 use record_rows::{MetaRow, Rows, Table};
+use record_rules::moment_of;
 use sched_state::{Limits, LoadedGraph, Run};
 use std::alloc::{AllocError, Global};
 

@@ -3,10 +3,10 @@ ghost use Rattle.std.specs.Prelude.{◌≡◌};
 ghost use Rattle.graph_file.specs.Lists.{when};
 ghost use Rattle.record_restoring.specs.Columns.{are_columns_right, columns_in};
 
-use crate::codes::{kind_of, moment_of, phase_of};
 use cron_timetable::Interval;
 use moment_core::Moment;
 use record_rows::RunRow;
+use record_rules::{kind_of, moment_of, phase_of};
 use sched_state::{RunKind, RunPhase};
 
 // What the columns say but the one that names the graph.

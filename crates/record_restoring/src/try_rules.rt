@@ -7,9 +7,9 @@ ghost use Rattle.record_rules.specs.Faults as spec;
 ghost use Rattle.sched_model.specs.Lists.{rises};
 
 use crate::buckets::Bucket;
-use crate::codes::{moment_of, outcome_of};
 use graph_file::TaskSpec;
 use record_rows::{AttemptRow, InstanceRow};
+use record_rules::{moment_of, outcome_of};
 
 // Whether the row of a try is right.
 pub(crate) fn is_try_right(

@@ -1,10 +1,9 @@
 -- What the statements that make the record do to a database whose schema is known.
-use Rattle.std.proofs.Common.{◌≡◌, ℕ, zero, suc, ◌+◌, ◌<◌, List, [], ◌∷◌, ◌++◌, map, false, None, Ok, Err, Result, OnOk, refl, sym, ap, subst, ◌∙◌, arith}
+use Rattle.std.proofs.Common.{◌≡◌, ℕ, zero, suc, ◌+◌, ◌<◌, List, [], ◌∷◌, ◌++◌, map, false, None, Ok, Err, Result, OnOk, IsTrue, refl, sym, ap, subst, ◌∙◌, arith}
 use Rattle.std.specs.List.{AllByRecursion}
-use Rattle.std.proofs.lemmas.List.Sorted.{IsPermutation-refl}
 use Rattle.sqlite_trees.specs.Tree.{Trees}
 use Rattle.sqlite_schema.specs.declared.schema.Schema.{Schema}
-use Rattle.sqlite_schema.specs.declared.schema.Table.{Table}
+use Rattle.sqlite_schema.specs.declared.schema.Table.{Table as Kept}
 use Rattle.sqlite_schema.specs.declared.command.Command.TheVariants.{CreateTable, CreateIndex}
 use Rattle.sqlite_catalog.specs.Calls.{CreatesIndex}
 use Rattle.sqlite_catalog.specs.Change.{indexed}
@@ -16,13 +15,19 @@ use Rattle.sqlite.specs.Does.{Tally, Does, Defines, MakesIndex, lacks_sequence}
 use Rattle.sqlite.specs.State.{State, mode_of, Writes, ExecutesInside}
 use Rattle.sqlite.proofs.Callers.{runs_as}
 use Rattle.record_tables.specs.Schema.{meta_table, pool_table, dag_table, dag_limit_table, run_table, instance_table, attempt_table, by_instance, create_meta, create_pool, create_dag, create_dag_limit, create_run, create_instance, create_attempt, create_index, no_schema, schema_1, schema_2, schema_3, schema_4, schema_5, schema_6, first_schema, record_schema, text_at, schema_at}
-use Rattle.record_tables.specs.Holds.{Shows, Stores, StoresFirst, AddsLimits, dag_limit_cells}
-use Rattle.record_tables.specs.Empties.{IsEmpty, Extends, no_rows}
-use Rattle.record_tables.proofs.TextLemmas.{Makes, make_meta, make_pool, make_dag, make_dag_limit, make_run, make_instance, make_attempt, make_index}
+use Rattle.record_rows.specs.Rows.{Rows}
+use Rattle.record_rows.specs.declared.tables.Table.{Table}
+use Rattle.record_rows.specs.declared.tables.Table.TheVariants.{Meta, Pool, Dag, DagLimit, Run, Instance, Attempt}
+use Rattle.record_rules.specs.Cells.{cells_in, dag_limit_cells}
+use Rattle.record_tables.specs.Forms.{form_of, values_of}
+use Rattle.record_tables.specs.Holds.{Shows, Stores, StoresFirst, AddsLimits, is_first}
+use Rattle.record_tables.specs.Empties.{IsEmpty, Extends}
+use Rattle.record_tables.proofs.MakeLemmas.{Makes, make_meta, make_pool, make_dag, make_dag_limit, make_run, make_instance, make_attempt, make_index}
 use Rattle.record_tables.proofs.ReplaceLemmas.{went, same_value}
-use Rattle.record_tables.proofs.TableLemmas.{shows_still}
+use Rattle.record_tables.proofs.PutLemmas.{shows_still}
+use Rattle.record_tables.proofs.StoredLemmas.{shows_none}
 
-pub creates : (schema after : Schema) (sql : List ℕ) (table : Table) → Makes schema sql table after → lacks_sequence after ≡ false → (old new : State) (r : Result ℕ Error) → old.now.schema ≡ schema
+pub creates : (schema after : Schema) (sql : List ℕ) (table : Kept) → Makes schema sql table after → lacks_sequence after ≡ false → (old new : State) (r : Result ℕ Error) → old.now.schema ≡ schema
     → ExecutesInside 0 sql [] old new r → OnOk r ((new.now.schema ≡ after) × (new.now.trees (next_tree schema) ≡ []) × KeepsRows schema.tables old.now.trees new.now.trees × IsDatabase new.now)
 creates schema after sql table m unsequenced old new (Err e) has h = tt
 creates schema after sql table m unsequenced old new (Ok count) has h =
@@ -55,17 +60,17 @@ indexes old new count has h =
       w.sound,
     )
 
-abbrev AreEmpty : List Table → Trees → Type 0
+abbrev AreEmpty : List Kept → Trees → Type 0
 AreEmpty tables db = AllByRecursion (λ t. db t.tree ≡ []) tables
 
-still_empty : (tables : List Table) (old new : Trees) → KeepsRows tables old new → AreEmpty tables old → AreEmpty tables new
+still_empty : (tables : List Kept) (old new : Trees) → KeepsRows tables old new → AreEmpty tables old → AreEmpty tables new
 still_empty tables old new same empty = all_from _ tables (λ t h. all_has _ tables t same h ∙ all_has _ tables t empty h)
 
-one_more : (tables : List Table) (table : Table) (db : Trees) → AreEmpty tables db → db table.tree ≡ [] → AreEmpty (tables ++ table ∷ []) db
+one_more : (tables : List Kept) (table : Kept) (db : Trees) → AreEmpty tables db → db table.tree ≡ [] → AreEmpty (tables ++ table ∷ []) db
 one_more [] table db empty none = (none, tt)
 one_more (t ∷ tables) table db empty none = (empty.0, one_more tables table db empty.1 none)
 
-extends : (schema after : Schema) (sql : List ℕ) (table : Table) → Makes schema sql table after → lacks_sequence after ≡ false → (old new : State) (r : Result ℕ Error) → ExecutesInside 0 sql [] old new r
+extends : (schema after : Schema) (sql : List ℕ) (table : Kept) → Makes schema sql table after → lacks_sequence after ≡ false → (old new : State) (r : Result ℕ Error) → ExecutesInside 0 sql [] old new r
     → OnOk r (Extends schema after old.now new.now)
 extends schema after sql table m unsequenced old new (Err e) h = tt
 extends schema after sql table m unsequenced old new (Ok count) h = λ was.
@@ -92,25 +97,21 @@ made (suc (suc (suc (suc (suc (suc zero)))))) low = indexed_empty
 made (suc (suc (suc (suc (suc (suc (suc zero))))))) low = extends first_schema record_schema create_dag_limit (dag_limit_table 0) make_dag_limit refl
 made (suc (suc (suc (suc (suc (suc (suc (suc n)))))))) low = absurd (omega (arith, low))
 
-shows_none : (table : Table) (db : Trees) → db table.tree ≡ [] → Shows table db []
-shows_none table db none = record { rising = rw none (tt, tt); is = rw none (IsPermutation-refl []) }
+-- what is left of the tables of version 1
+shows_added : {db : Database} (old new : Trees) (rows : Rows) → KeepsRows first_schema.tables old new → new 11 ≡ [] → StoresFirst db rows → db.trees ≡ old → (t : Table) → Shows (form_of t).table new (map values_of (cells_in t rows))
+shows_added old new rows kept none stored same = by
+  where
+    here : (t : Table) → IsTrue (is_first t) → Shows (form_of t).table old (map values_of (cells_in t rows))
+    here t first = subst (λ trees. Shows (form_of t).table trees (map values_of (cells_in t rows))) same (stored.shows t first)
 
--- the empty tables of the record store no rows
-pub stores_none : (db : Database) → IsEmpty record_schema db → IsDatabase db → Stores db no_rows
-stores_none db e is = record {
-  holds = record {
-    schema = e.is;
-    metas = shows_none (meta_table 0) db.trees e.empty.0;
-    pools = shows_none (pool_table 1) db.trees e.empty.1.0;
-    dags = shows_none (dag_table 3) db.trees e.empty.1.1.0;
-    dag_limits = shows_none (dag_limit_table 11) db.trees e.empty.1.1.1.1.1.1.0;
-    runs = shows_none (run_table 5) db.trees e.empty.1.1.1.0;
-    instances = shows_none (instance_table 7) db.trees e.empty.1.1.1.1.0;
-    attempts = shows_none (attempt_table 9) db.trees e.empty.1.1.1.1.1.0;
-  };
-  keys = record { metas = refl; pools = refl; dags = refl; dag_limits = refl; runs = refl; instances = refl; attempts = refl };
-  sound = is;
-}
+    by : (t : Table) → Shows (form_of t).table new (map values_of (cells_in t rows))
+    by Meta = shows_still (form_of Meta).table old new _ kept.0 (here Meta refl)
+    by Pool = shows_still (form_of Pool).table old new _ kept.1.0 (here Pool refl)
+    by Dag = shows_still (form_of Dag).table old new _ kept.1.1.0 (here Dag refl)
+    by DagLimit = subst (λ l. Shows (form_of DagLimit).table new (map values_of (map dag_limit_cells l))) (sym stored.none) (shows_none (form_of DagLimit).table new none)
+    by Run = shows_still (form_of Run).table old new _ kept.1.1.1.0 (here Run refl)
+    by Instance = shows_still (form_of Instance).table old new _ kept.1.1.1.1.0 (here Instance refl)
+    by Attempt = shows_still (form_of Attempt).table old new _ kept.1.1.1.1.1.0 (here Attempt refl)
 
 -- a record of version 1 keeps its rows, and the table that it lacked is empty
 pub adds_limits : (old new : State) (r : Result ℕ Error) → ExecutesInside 0 create_dag_limit [] old new r → OnOk r (AddsLimits old.now new.now)
@@ -121,16 +122,9 @@ adds_limits old new (Ok count) h = λ rows stored.
     let was = old.now.trees in
     let now = new.now.trees in
     record {
-      holds = record {
-        schema = it.0;
-        metas = shows_still (meta_table 0) was now _ kept.0 stored.metas;
-        pools = shows_still (pool_table 1) was now _ kept.1.0 stored.pools;
-        dags = shows_still (dag_table 3) was now _ kept.1.1.0 stored.dags;
-        dag_limits = subst (λ l. Shows (dag_limit_table 11) now (map dag_limit_cells l)) (sym stored.none) (shows_none (dag_limit_table 11) now it.1);
-        runs = shows_still (run_table 5) was now _ kept.1.1.1.0 stored.runs;
-        instances = shows_still (instance_table 7) was now _ kept.1.1.1.1.0 stored.instances;
-        attempts = shows_still (attempt_table 9) was now _ kept.1.1.1.1.1.0 stored.attempts;
-      };
+      beside = record { tables = []; indexes = []; views = [] };
+      schema = (it.0, refl);
+      shows = shows_added was now rows kept it.1 stored refl;
       keys = stored.keys;
       sound = it.3;
     }

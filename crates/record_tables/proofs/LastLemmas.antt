@@ -4,9 +4,9 @@ use Rattle.std.specs.List.{list_all}
 use Rattle.std.proofs.lemmas.List.{append-nil, append_assoc}
 use Rattle.sqlite_rules.specs.Lists.{Has}
 use Rattle.sched_state.proofs.OrderLemmas.{and_left, and_right}
-use Rattle.record_changes.specs.sched_model.Lists.{rises}
-use Rattle.record_changes.specs.record_rules.Between.{put, puts}
-use Rattle.record_tables.proofs.OrderLemmas.{IsOrdered}
+use Rattle.record_rules.specs.sched_model.Lists.{rises}
+use Rattle.record_rules.specs.Between.{put, puts}
+use Rattle.record_rules.specs.Keys.{IsOrdered}
 use Rattle.record_tables.proofs.OnceLemmas.{stands}
 
 module _ {X : Type 0} {before : X → X → Bool} (order : IsOrdered before) where

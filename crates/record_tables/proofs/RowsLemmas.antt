@@ -1,22 +1,27 @@
--- The rows of all tables, put one table after another.
-use Rattle.std.proofs.Common.{◌≡◌, List, Ok, Err, Result, OnOk, subst}
-use Rattle.sqlite.specs.declared.error.Error.{Error}
-use Rattle.sqlite.specs.State.{State}
-use Rattle.record_rows.specs.Rows.{Rows, MetaRow, PoolRow, DagRow, DagLimitRow, RunRow, InstanceRow, AttemptRow}
-use Rattle.record_changes.specs.Changes.{put_rows}
-use Rattle.record_tables.specs.Puts.{PutsIn, GoesBy, put_metas, put_pools, put_dags, put_dag_limits, put_runs, put_instances, put_attempts}
-use Rattle.record_tables.proofs.StepLemmas.{goes_puts}
+-- Loads one after another.
+use Rattle.std.proofs.Common.{◌∙◌, sym, subst, IsTrue, arith}
+use Rattle.sqlite.specs.Effect.{Database}
+use Rattle.sqlite.specs.State.{State, HasCleanDisk}
+use Rattle.record_rows.specs.Rows.{Rows}
+use Rattle.record_tables.specs.Holds.{Stores}
+use Rattle.record_tables.specs.Puts.{GoesBy, Stops}
+use Rattle.record_tables.proofs.StepLemmas.{by_then}
+use Rattle.record_tables.specs.Loads.{Stays}
 
-pub all_put : {A : Type 0} (view rows : Rows) → view ≡ rows → (ms : List MetaRow) (ps : List PoolRow) (ds : List DagRow) (ls : List DagLimitRow) (rs : List RunRow) (is : List InstanceRow) (ts : List AttemptRow)
-    → ms ≡ view.metas → ps ≡ view.pools → ds ≡ view.dags → ls ≡ view.dag_limits → rs ≡ view.runs → is ≡ view.instances → ts ≡ view.attempts
-    → (a b c d l e f last : State) → GoesBy (PutsIn (put_metas ms)) a b → GoesBy (PutsIn (put_pools ps)) b c → GoesBy (PutsIn (put_dags ds)) c d → GoesBy (PutsIn (put_dag_limits ls)) d l → GoesBy (PutsIn (put_runs rs)) l e → GoesBy (PutsIn (put_instances is)) e f
-    → (r : Result A Error) → OnOk r (GoesBy (PutsIn (put_attempts ts)) f last) → OnOk r (GoesBy (PutsIn (put_rows rows)) a last)
-all_put view rows same ms ps ds ls rs is ts em ep ed el er ei et a b c d l e f last m p n k o q (Err why) t = tt
-all_put view rows same ms ps ds ls rs is ts em ep ed el er ei et a b c d l e f last m p n k o q (Ok x) t =
-    let two = goes_puts (put_metas view.metas) (put_pools view.pools) a b c (subst (λ l. GoesBy (PutsIn (put_metas l)) a b) em m) (subst (λ l. GoesBy (PutsIn (put_pools l)) b c) ep p) in
-    let three = goes_puts _ (put_dags view.dags) a c d two (subst (λ l. GoesBy (PutsIn (put_dags l)) c d) ed n) in
-    let four = goes_puts _ (put_dag_limits view.dag_limits) a d l three (subst (λ k. GoesBy (PutsIn (put_dag_limits k)) d l) el k) in
-    let five = goes_puts _ (put_runs view.runs) a l e four (subst (λ k. GoesBy (PutsIn (put_runs k)) l e) er o) in
-    let six = goes_puts _ (put_instances view.instances) a e f five (subst (λ l. GoesBy (PutsIn (put_instances l)) e f) ei q) in
-    let seven : GoesBy (PutsIn (put_rows view)) a last = goes_puts _ (put_attempts view.attempts) a f last six (subst (λ l. GoesBy (PutsIn (put_attempts l)) f last) et t) in
-    subst (λ r. GoesBy (PutsIn (put_rows r)) a last) same seven
+stays_on : (x y z : Database) → Stays x y → Stays y z → Stays x z
+stays_on x y z p q rows stored =
+    let same = p rows stored in
+    q rows (subst (λ (d : Database). Stores d rows) (sym same) stored) ∙ same
+
+pub stays_then : (a b c : State) → GoesBy Stays a b → GoesBy Stays b c → GoesBy Stays a c
+stays_then = by_then Stays Stays Stays stays_on
+
+module _ (a b : State) (went : GoesBy Stays a b) (clean : HasCleanDisk b) where
+  pub before : HasCleanDisk a
+  before = omega (arith, went.survives.clean)
+
+  pub still : IsTrue a.in_transaction → (rows : Rows) → Stores a.now rows → Stores b.now rows
+  still inside rows stored = subst (λ (d : Database). Stores d rows) (sym (went.changed clean inside rows stored)) stored
+
+pub clean_before : (a b : State) → Stops a b → HasCleanDisk b → HasCleanDisk a
+clean_before a b stopped clean = omega (arith, stopped.survives.clean)

@@ -1,6 +1,10 @@
 -- What statements do inside a transaction, one after another.
-use Rattle.std.proofs.Common.{◌≡◌, ℕ, List, [], ◌∷◌, ◌++◌, Ok, Err, Result, OnOk, OnErr, IsTrue, ◌⊎◌, inl, inr, ◌<◌, ◌+◌, length, take, get_or, sym, ap, subst, ◌∙◌, arith}
+use Rattle.std.proofs.Common.{◌≡◌, ℕ, suc, List, [], ◌∷◌, ◌++◌, Ok, Err, Result, OnOk, OnErr, IsTrue, ◌⊎◌, inl, inr, ◌<◌, ◌+◌, length, take, get_or, false, sym, ap, subst, ◌∙◌, arith}
+use Rattle.std.specs.List.{AllByRecursion}
 use Rattle.std.proofs.lemmas.List.{take_more}
+use Rattle.sqlite_rules.proofs.ListLemmas.{all_has, all_from}
+use Rattle.sqlite_schema.specs.declared.schema.Schema.{Schema}
+use Rattle.sqlite_schema.specs.declared.schema.Table.{Table as Kept}
 use Rattle.sqlite_value.specs.Order.{Row}
 use Rattle.sqlite.specs.declared.error.Error.{Error}
 use Rattle.sqlite.specs.Effect.{Database}
@@ -8,7 +12,8 @@ use Rattle.sqlite.specs.State.{State, ExecutesInside, Survives, HasCleanDisk, Ke
 use Rattle.sqlite.proofs.StateLemmas.{survives_then}
 use Rattle.record_rows.specs.Rows.{Rows}
 use Rattle.record_tables.specs.Holds.{Stores}
-use Rattle.record_tables.specs.Puts.{PutsIn, Stops, GoesBy}
+use Rattle.record_tables.specs.Others.{is_record_tree}
+use Rattle.record_tables.specs.Puts.{LeavesOthers, PutsIn, Stops, GoesBy}
 
 commit_kept : (old new : State) → IsUnchanged old new ⊎ IsRolledBack old new → KeepsCommit old new
 commit_kept old new (inl same) = record { was_open = λ _. same.0.was_open; committed = λ _. same.0.committed_is }
@@ -48,9 +53,21 @@ by_then P Q R joins a b c p q = record {
   changed = λ clean inside. let mid = earlier b c q.survives clean in joins a.now b.now c.now (p.changed mid inside) (q.changed clean (p.inside mid inside));
 }
 
+-- ---- what is of others
+leaves_then : (x y z : Database) → LeavesOthers x y → LeavesOthers y z → LeavesOthers x z
+leaves_then x y z p q =
+    let later = subst (λ (s : Schema). AllByRecursion (λ (t : Kept). is_record_tree t.tree ≡ false → z.trees t.tree ≡ y.trees t.tree) s.tables) p.0 q.1 in
+    (q.0 ∙ p.0, all_from _ x.schema.tables (λ t has apart. all_has _ x.schema.tables t later has apart ∙ all_has _ x.schema.tables t p.1 has apart))
+
 -- rows put after others
+puts_then : (f g : Rows → Rows) (x y z : Database) → PutsIn f x y → PutsIn g y z → PutsIn (λ t. g (f t)) x z
+puts_then f g x y z p q rows stored =
+    let first = p rows stored in
+    let second = q (f rows) first.0 in
+    (second.0, leaves_then x y z first.1 second.1)
+
 pub goes_puts : (f g : Rows → Rows) (a b c : State) → GoesBy (PutsIn f) a b → GoesBy (PutsIn g) b c → GoesBy (PutsIn (λ t. g (f t))) a c
-goes_puts f g = by_then (PutsIn f) (PutsIn g) (PutsIn (λ t. g (f t))) (λ x y z p q t stored. q (f t) (p t stored))
+goes_puts f g = by_then (PutsIn f) (PutsIn g) (PutsIn (λ t. g (f t))) (puts_then f g)
 
 pub stops_then : (R : Database → Database → Type 0) (a b c : State) → GoesBy R a b → Stops b c → Stops a c
 stops_then R a b c p q = record {
@@ -72,4 +89,10 @@ pub goes_more : {X : Type 0} (change : List X → Rows → Rows) → ((rs ss : L
     → (a b c : State) → GoesBy (PutsIn (change (take i rows))) a b → GoesBy (PutsIn (change (row ∷ []))) b c → GoesBy (PutsIn (change (take (i + 1) rows))) a c
 goes_more change joins rows i row low is =
     let same : take (i + 1) rows ≡ take i rows ++ row ∷ [] = take_more rows i row low ∙ ap (λ r. take i rows ++ r ∷ []) (sym is) in
-    by_then _ _ _ (λ x y z p q t stored. subst (Stores z) (sym (ap (λ rs. change rs t) same ∙ joins (take i rows) (row ∷ []) t)) (q (change (take i rows) t) (p t stored)))
+    by_then _ _ _ (λ x y z p q t stored.
+    let it = puts_then (change (take i rows)) (change (row ∷ [])) x y z p q t stored in
+    (subst (Stores z) (sym (ap (λ rs. change rs t) same ∙ joins (take i rows) (row ∷ []) t)) it.0, it.1))
+
+-- the number of the next table
+pub next : (n : ℕ) → suc n ≡ n + 1
+next n = omega arith

@@ -9,12 +9,12 @@ use Rattle.sched_model.specs.Handout.{last_serial}
 use Rattle.sched_model.specs.Lists.{rises, all_pairs}
 use Rattle.sched_model.specs.Schedule.{Schedule, dag_among}
 use Rattle.sched_model.specs.Sound.{IsSound, is_sound_in, is_sound_run, is_used, try_before, tries_rise, all_tries_rise}
-use Rattle.record_changes.proofs.sched_laws.InstanceLemmas.{Parts, parts_of}
-use Rattle.record_changes.proofs.sched_laws.ListLemmas.{all_get}
-use Rattle.record_changes.proofs.sched_laws.RunLemmas.{pairs_of_run}
-use Rattle.record_changes.proofs.record_rules.FoundLemmas.{Stands, held_sound, ids_once}
-use Rattle.record_changes.proofs.record_rules.RisingLemmas.{attempts_rise}
-use Rattle.record_changes.proofs.record_rules.RuleLemmas.{serial_used}
+use Rattle.record_rules.proofs.sched_laws.InstanceLemmas.{Parts, parts_of}
+use Rattle.record_rules.proofs.sched_laws.ListLemmas.{all_get}
+use Rattle.record_rules.proofs.sched_laws.RunLemmas.{pairs_of_run}
+use Rattle.record_rules.proofs.FoundLemmas.{Stands, held_sound, ids_once}
+use Rattle.record_rules.proofs.RisingLemmas.{attempts_rise}
+use Rattle.record_rules.proofs.RuleLemmas.{serial_used}
 use Rattle.record_writing.specs.Ranges.{FitColumns, FitsTables}
 
 -- numbers that rise are no more than those between their bounds

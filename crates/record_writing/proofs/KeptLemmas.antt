@@ -7,11 +7,12 @@ use Rattle.sched_state.specs.declared.runs.Run.{Run}
 use Rattle.sched_state.proofs.NameLemmas.{same_itself}
 use Rattle.sched_model.specs.Schedule.{Schedule}
 use Rattle.sched_model.specs.Tables.{tables, run_row, instance_rows, serial_before, sort_by}
-use Rattle.record_changes.specs.record_rules.Between.{lacked}
-use Rattle.record_changes.proofs.record_rules.MemberLemmas.{Has, has_none, has_cases, has_head, has_more, map_get}
-use Rattle.record_changes.proofs.record_rules.NumberLemmas.{number_itself}
-use Rattle.record_changes.specs.Changes.{same_run_row, same_instance_row, same_attempt_row, same_if}
-use Rattle.record_changes.proofs.KeyLemmas.{any_get}
+use Rattle.record_rules.specs.Between.{lacked}
+use Rattle.record_rules.proofs.MemberLemmas.{Has, has_none, has_cases, has_head, has_more, map_get}
+use Rattle.record_rules.proofs.NumberLemmas.{number_itself}
+use Rattle.record_rules.specs.Changes.{same_run_row, same_instance_row, same_attempt_row}
+use Rattle.record_rules.specs.Cells.{same_if}
+use Rattle.record_writing.proofs.KeyLemmas.{any_get}
 use Rattle.record_writing.proofs.LackedLemmas.{lacked_held}
 use Rattle.record_writing.proofs.WholeLemmas.{tries_of_run}
 

@@ -1,9 +1,9 @@
 -- Which rows of a list another lacks, where a key stands once.
 use Rattle.std.proofs.Common.{◌≡◌, refl, sym, ap, ◌∙◌, ℕ, zero, suc, List, [], ◌∷◌, ◌++◌, Bool, true, false, true≢false, not, ◌||◌, cond, filter, Option, None, Some, slice_get}
 use Rattle.std.specs.List.{list_any}
-use Rattle.record_changes.specs.record_rules.Between.{lacked, Tells}
-use Rattle.record_changes.proofs.record_rules.MemberLemmas.{found_at}
-use Rattle.record_changes.proofs.KeyLemmas.{any_get}
+use Rattle.record_rules.specs.Between.{lacked, Tells}
+use Rattle.record_rules.proofs.MemberLemmas.{found_at}
+use Rattle.record_writing.proofs.KeyLemmas.{any_get}
 
 -- no member passes
 pub no_any : {X : Type 0} (p : X → Bool) (xs : List X) → ((m : ℕ) (z : X) → slice_get xs m ≡ Some z → p z ≡ true → ⊥) → list_any p xs ≡ false

@@ -12,4 +12,8 @@ pub mod PoolLemmas
 pub mod WholeLemmas
 pub mod KeptLemmas
 pub mod TouchedLemmas
-pub use Rattle.record_changes.proofs as record_changes
+pub mod KeyLemmas
+pub mod TaskLemmas
+mod GraphKeyLemmas
+mod RunKeyLemmas
+pub use Rattle.record_rules.proofs as record_rules

@@ -11,11 +11,11 @@ use Rattle.sched_state.specs.declared.runs.Run.{Run}
 use Rattle.sched_state.proofs.ElementLemmas.{element_at}
 use Rattle.sched_model.specs.Lists.{rises}
 use Rattle.sched_model.specs.Schedule.{dag_among, graph_among, graph_before, no_dag}
-use Rattle.record_changes.proofs.KeyLemmas.{found_by}
-use Rattle.record_changes.proofs.record_rules.MemberLemmas.{map_get}
+use Rattle.record_writing.proofs.KeyLemmas.{found_by}
+use Rattle.record_rules.proofs.MemberLemmas.{map_get}
 use Rattle.sched_draft.proofs.SearchLemmas.{eq_is, found_by_search, graph_id, graph_key}
-use Rattle.record_changes.proofs.sched_laws.RunLemmas.{rises_map}
-use Rattle.record_changes.proofs.sched_laws.SettleLemmas.{map_some}
+use Rattle.record_rules.proofs.sched_laws.RunLemmas.{rises_map}
+use Rattle.record_rules.proofs.sched_laws.SettleLemmas.{map_some}
 use Rattle.record_writing.specs.Before.{AreNamedAlike, EarlierValue}
 
 -- ids in order

@@ -13,8 +13,8 @@ use Rattle.sched_draft.specs.Books.{pools_in}
 use Rattle.sched_model.specs.Lists.{rises}
 use Rattle.sched_model.specs.Schedule.{Pool, pool_before}
 use Rattle.sched_model.specs.Tables.{pool_row}
-use Rattle.record_changes.proofs.record_rules.NumberLemmas.{same_naturals}
-use Rattle.record_changes.specs.Changes.{same_pool_row}
+use Rattle.record_rules.proofs.NumberLemmas.{same_naturals}
+use Rattle.record_rules.specs.Changes.{same_pool_row}
 use Rattle.sched_draft.proofs.SearchLemmas.{eq_is}
 
 -- a pool of this size is there

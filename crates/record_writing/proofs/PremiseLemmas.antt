@@ -11,8 +11,8 @@ use Rattle.sched_model.specs.Schedule.{Schedule, dag_among, graph_among}
 use Rattle.sched_draft.specs.Drafts.{SameDags}
 use Rattle.sched_draft.specs.Parts.{replaced_with, with_other, with_pause}
 use Rattle.sched_draft.proofs.SearchLemmas.{graph_id}
-use Rattle.record_changes.proofs.sched_laws.GraphLemmas.{flip_same}
-use Rattle.record_changes.proofs.sched_laws.LoadLemmas.{dag_found}
+use Rattle.record_rules.proofs.sched_laws.GraphLemmas.{flip_same}
+use Rattle.record_rules.proofs.sched_laws.LoadLemmas.{dag_found}
 use Rattle.record_writing.specs.Before.{AreNamedAlike, KeepDags}
 
 -- ---- ids

@@ -18,10 +18,10 @@ use Rattle.sched_state.specs.declared.runs.Run.{Run}
 use Rattle.sched_model.specs.Lists.{rises}
 use Rattle.sched_model.specs.Schedule.{Schedule}
 use Rattle.sched_model.specs.Tables.{tables, run_row, instance_row, instance_rows, attempt_rows, serial_before, sort_by, task_before}
-use Rattle.record_changes.specs.record_rules.Between.{lacked}
-use Rattle.record_changes.proofs.record_rules.ListLemmas.{append_none}
-use Rattle.record_changes.proofs.record_rules.MemberLemmas.{has_cases, map_get}
-use Rattle.record_changes.specs.Changes.{same_run_row, same_instance_row, same_attempt_row}
+use Rattle.record_rules.specs.Between.{lacked}
+use Rattle.record_rules.proofs.ListLemmas.{append_none}
+use Rattle.record_rules.proofs.MemberLemmas.{has_cases, map_get}
+use Rattle.record_rules.specs.Changes.{same_run_row, same_instance_row, same_attempt_row}
 use Rattle.record_writing.specs.Places.{put_each}
 use Rattle.record_writing.proofs.CollectLemmas.{from_place, put_joined}
 use Rattle.record_writing.proofs.KeptLemmas.{run_was, instances_were, tries_were}

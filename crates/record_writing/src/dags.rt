@@ -3,15 +3,15 @@ ghost use Rattle.std.specs.Prelude.{◌≡◌, ◌&&◌, [], ◌∷◌, true, ma
 ghost use Rattle.std.specs.List.{list_any};
 ghost use Rattle.std.specs.Ordering.{int_eq};
 ghost use Rattle.sched_state.specs.Lists.{same};
-ghost use Rattle.record_changes.specs.record_rules.Between.{lacked};
-ghost use Rattle.record_changes.specs.Changes.{same_dag_row};
+ghost use Rattle.record_rules.specs.Between.{lacked};
+ghost use Rattle.record_rules.specs.Changes.{same_dag_row};
 ghost use Rattle.sched_model.specs.Lists.{rises};
 ghost use Rattle.sched_model.specs.Schedule.{graph_before};
 ghost use Rattle.sched_model.specs.Tables.{dag_row, flag_code};
 
-use crate::codes::flag_code;
 use graph_file::Name;
 use record_rows::DagRow;
+use record_rules::flag_code;
 use sched_draft::graph_named;
 use sched_state::{GraphText, LoadedGraph};
 use std::alloc::{AllocError, Global};

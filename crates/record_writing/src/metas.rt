@@ -1,7 +1,7 @@
 //! The row of the clock that a record lacks.
 ghost use Rattle.std.specs.Prelude.{◌≡◌, ◌≤◌, ◌+◌, IfOk};
-ghost use Rattle.record_changes.specs.record_rules.Between.{lacked};
-ghost use Rattle.record_changes.specs.Changes.{same_meta_row};
+ghost use Rattle.record_rules.specs.Between.{lacked};
+ghost use Rattle.record_rules.specs.Changes.{same_meta_row};
 ghost use Rattle.sched_model.specs.Handout.{last_serial};
 ghost use Rattle.sched_model.specs.Tables.{tables, meta_row};
 

@@ -1,8 +1,8 @@
 //! The rows of pools that a record lacks.
 ghost use Rattle.std.specs.Prelude.{◌≡◌, true, map, pos, IfOk};
 ghost use Rattle.std.specs.List.{list_any};
-ghost use Rattle.record_changes.specs.record_rules.Between.{lacked};
-ghost use Rattle.record_changes.specs.Changes.{same_pool_row};
+ghost use Rattle.record_rules.specs.Between.{lacked};
+ghost use Rattle.record_rules.specs.Changes.{same_pool_row};
 ghost use Rattle.sched_draft.specs.Books.{pools_in};
 ghost use Rattle.sched_model.specs.Lists.{rises};
 ghost use Rattle.sched_model.specs.Schedule.{pool_before};

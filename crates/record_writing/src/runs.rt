@@ -1,16 +1,16 @@
 //! The rows of runs that a record lacks.
 ghost use Rattle.std.specs.Prelude.{◌≡◌, true, map, Some, slice_get, IfOk};
 ghost use Rattle.std.specs.List.{list_any};
-ghost use Rattle.record_changes.specs.record_rules.Between.{lacked};
-ghost use Rattle.record_changes.specs.Changes.{same_run_row};
+ghost use Rattle.record_rules.specs.Between.{lacked};
+ghost use Rattle.record_rules.specs.Changes.{same_run_row};
 ghost use Rattle.sched_draft.specs.run_lists.Overlays.{AreAllTouched};
 ghost use Rattle.sched_model.specs.Lists.{rises};
 ghost use Rattle.sched_model.specs.Schedule.{run_before};
 ghost use Rattle.sched_model.specs.Tables.{run_row};
 
-use crate::codes::{kind_code, phase_code, seconds};
 use crate::making::run_row;
 use record_rows::RunRow;
+use record_rules::{kind_code, phase_code, seconds};
 use sched_draft::Draft;
 use sched_state::Run;
 use std::alloc::{AllocError, Global};

@@ -21,7 +21,8 @@ use Rattle.sched_laws.proofs.LoadLemmas.{found_after, dags_found}
 use Rattle.sched_laws.proofs.PauseLemmas.{same_dag_paused}
 use Rattle.record_restoring.specs.record_rules.Between.{lacked}
 use Rattle.record_restoring.proofs.record_rules.NumberLemmas.{number_itself}
-use Rattle.record_writing.specs.record_changes.Changes.{rows_between, same_meta_row, same_pool_row, same_dag_row, same_dag_limit_row, same_run_row, same_instance_row, same_attempt_row, same_if}
+use Rattle.record_writing.specs.record_rules.Changes.{rows_between, same_meta_row, same_pool_row, same_dag_row, same_dag_limit_row, same_run_row, same_instance_row, same_attempt_row}
+use Rattle.record_writing.specs.record_rules.Cells.{same_if}
 use Rattle.record_writing.specs.Before.{AreNamedAlike}
 use Rattle.record_writing.specs.Ranges.{FitsTables}
 use Rattle.record_writing.proofs.LackedLemmas.{lacked_itself}

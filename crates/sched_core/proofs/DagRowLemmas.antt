@@ -17,8 +17,8 @@ use Rattle.record_restoring.specs.record_rules.Between.{lacked}
 use Rattle.record_restoring.proofs.record_rules.ListLemmas.{once_rising}
 use Rattle.record_restoring.proofs.record_rules.MemberLemmas.{map_get}
 use Rattle.record_restoring.proofs.record_rules.NumberLemmas.{number_itself}
-use Rattle.record_writing.specs.record_changes.Changes.{same_dag_row, same_dag_limit_row}
-use Rattle.record_writing.proofs.record_changes.KeyLemmas.{any_get, found_by}
+use Rattle.record_writing.specs.record_rules.Changes.{same_dag_row, same_dag_limit_row}
+use Rattle.record_writing.proofs.KeyLemmas.{any_get, found_by}
 use Rattle.record_writing.proofs.CollectLemmas.{lacked_there}
 use Rattle.sched_draft.proofs.SearchLemmas.{unfound}
 use Rattle.sched_core.specs.Inside.{taken_among}

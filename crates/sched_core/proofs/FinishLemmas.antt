@@ -15,7 +15,7 @@ use Rattle.sched_draft.specs.Books.{pools_in}
 use Rattle.sched_draft.specs.Drafts.{DraftValue}
 use Rattle.run_lists.specs.Edits.{AreEditsOf, edited}
 use Rattle.record_rows.specs.Rows.{Rows}
-use Rattle.record_writing.specs.record_changes.Changes.{rows_between}
+use Rattle.record_writing.specs.record_rules.Changes.{rows_between}
 use Rattle.sched_events.specs.SettledAndSound.{IsSettledAndSound}
 use Rattle.sched_handout.specs.Occupied.{AreOccupied}
 use Rattle.sched_handout.specs.declared.occupied.Occupied.{Occupied}

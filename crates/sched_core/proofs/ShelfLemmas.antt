@@ -12,7 +12,7 @@ use Rattle.sched_state.proofs.ElementLemmas.{element_at}
 use Rattle.sched_model.specs.Changes.{pause_graph}
 use Rattle.sched_model.specs.Schedule.{Schedule}
 use Rattle.sched_laws.proofs.GraphLemmas.{paused_dag}
-use Rattle.record_writing.proofs.record_changes.KeyLemmas.{any_get}
+use Rattle.record_writing.proofs.KeyLemmas.{any_get}
 use Rattle.sched_ready.specs.Held.{AreShelvesOf, FitsShelf, HoldsPlace, IsLater}
 use Rattle.sched_ready.specs.Shelves.{ShelfValue}
 use Rattle.sched_ready.specs.declared.queues.Queue.{Queue}

@@ -9,7 +9,7 @@ use Rattle.sched_model.specs.Schedule.{graph_before}
 use Rattle.sched_state.specs.declared.graphs.LoadedGraph.{LoadedGraph}
 use Rattle.sched_model.specs.Changes.{reloaded, taken_in, with_text, new_graph, with_graph}
 use Rattle.sched_laws.proofs.LoadLemmas.{text_stays, text_taken}
-use Rattle.record_writing.proofs.record_changes.KeyLemmas.{any_get}
+use Rattle.record_writing.proofs.KeyLemmas.{any_get}
 use Rattle.sched_model.specs.Lists.{rises}
 use Rattle.sched_core.proofs.GraphLemmas.{replaced_at, set_there, with_known, with_unknown}
 use Rattle.sched_core.specs.Inside.{StandsAt, IsPlaceFor}

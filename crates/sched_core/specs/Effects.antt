@@ -12,7 +12,7 @@ use Rattle.sched_ready.specs.Patched.{patched}
 use Rattle.sched_ready.specs.Shelves.{ShelfValue}
 use Rattle.sched_handout.specs.declared.occupied.Occupied.{Occupied}
 use Rattle.record_rows.specs.Rows.{Rows}
-use Rattle.record_writing.specs.record_changes.Changes.{rows_between}
+use Rattle.record_writing.specs.record_rules.Changes.{rows_between}
 use Rattle.sched_core.specs.Books.{IsHeldWith}
 use Rattle.sched_core.specs.Inside.{IsLast}
 use Rattle.sched_core.specs.declared.changes.Effect.{Effect}

@@ -6,7 +6,7 @@ ghost use Rattle.sched_state.specs.declared.graphs.LoadedGraph.{LoadedGraph as G
 ghost use Rattle.sched_model.specs.Sound.{IsSound};
 ghost use Rattle.sched_model.specs.Tables.{dag_row, limit_row};
 ghost use Rattle.record_restoring.specs.record_rules.Between.{lacked};
-ghost use Rattle.record_writing.specs.record_changes.Changes.{rows_between, same_dag_row, same_dag_limit_row};
+ghost use Rattle.record_writing.specs.record_rules.Changes.{rows_between, same_dag_row, same_dag_limit_row};
 ghost use Rattle.sched_draft.specs.Drafts.{HaveSameDags};
 ghost use Rattle.sched_draft.specs.Parts.{with_other};
 ghost use Rattle.sched_core.specs.Effects.{changed, with_change};

@@ -1,6 +1,6 @@
 //! A planned change.
 ghost use Rattle.std.specs.Prelude.{◌≡◌};
-ghost use Rattle.record_writing.specs.record_changes.Changes.{rows_between};
+ghost use Rattle.record_writing.specs.record_rules.Changes.{rows_between};
 
 use crate::schedules::Schedule;
 use dag_check::Graph;

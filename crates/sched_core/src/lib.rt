@@ -39,6 +39,7 @@ pub use moment_core::Moment;
 pub use pool_book::Slots;
 pub use pool_rows::PoolRows;
 pub use record_restoring::{KeyedRows, RestoreFault};
+pub use record_writing::rows_of_an_event_are_put;
 pub use rows::Instances;
 pub use run_lists::RunRows;
 pub use sched_events::{Answer, Event, InstanceRow, PoolRow, Refusal, RunId, State};

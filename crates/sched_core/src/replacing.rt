@@ -1,6 +1,6 @@
 //! Planning another text for a graph that is there: its runs go on by it, whether it has some or not.
 ghost use Rattle.std.specs.Prelude.{◌≡◌, false, IfOk, IfErr, MatchResult, None, OnOk, Some, slice_get, true};
-ghost use Rattle.record_writing.specs.record_changes.Changes.{rows_between};
+ghost use Rattle.record_writing.specs.record_rules.Changes.{rows_between};
 ghost use Rattle.sched_state.specs.declared.graphs.LoadedGraph as states;
 ghost use Rattle.sched_state.specs.Lists.{same};
 ghost use Rattle.sched_model.specs.Changes.{taken_in};

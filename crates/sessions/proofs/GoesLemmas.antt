@@ -309,7 +309,7 @@ module _ {S : Type 0} (look : Held S → State) where
     followed = subst (λ (d : DirectorValue S). Follows s.director.schedule.content (look s.director.store) d.schedule.content (look d.store)) (sym same) (follows_itself s.director.schedule.content (look s.director.store));
     left =
         subst (λ (d : DirectorValue S). Leaves [] (e ∷ []) s.director.schedule.content (look s.director.store) (look d.store)) (sym same)
-        (leaves_step {T = Answer} look s.director.schedule.content e (Err Memory) s.director.store s.director.store (survives_itself (look s.director.store)) (λ clean. tt) (λ clean. tt) (λ clean. tt) (λ never. absurd never));
+        (leaves_step {T = Answer} look s.director.schedule.content e (Err Memory) s.director.store s.director.store (record { kept = λ _ _. (refl, refl); was_open = λ _ h. h; crash = survives_itself (look s.director.store) }) (λ never. absurd never));
   }
 
   -- ---- tries of an event that came to nothing

@@ -2,7 +2,7 @@
 use crate::events::{changing_events, retried_events};
 use crate::files::sound_files;
 use crate::playing::play;
-use crate::{drains, meetings, refusals, stopping};
+use crate::{beside, drains, meetings, refusals, stopping};
 use std::io;
 use std::sync::Wait;
 use std::thread::Threads;
@@ -23,6 +23,7 @@ pub(crate) fn write_line<T: Threads + Wait + Sync>(
         "stop" => write_stops(host, rest),
         "refuse" => write_refusals(rt, host, rest),
         "fuse" => drains::write_answers(rt, host),
+        "beside" => beside::write_answer(host),
         "meet" => meetings::write_answer(rt, host),
         _ => host.println("no such question"),
     }

@@ -6,11 +6,12 @@
 //! with events by which a task is tried again. `refuse N` runs a script of one task over a new record, of whose log N writes in a row are refused, after 0, 1, 2 ..
 //! that are not, until a run meets none. `fuse` runs it over files that fail each call after the first 0, 1, 2 .., and says how many events were accepted, which were
 //! refused since, and what the record is opened as then: after the accepted events, or after these and one of the refused. Runs that print the same share a line.
-//! `meet` has two workers wait for one another at their gates.
+//! `beside` steps events with a record beside which others have put an index, a view and a table. `meet` has two workers wait for one another at their gates.
 #![tactic(auto)]
 
 mod alike;
 mod asking;
+mod beside;
 mod drains;
 mod events;
 mod files;

@@ -62,7 +62,8 @@ pub(crate) fn create<S: Alter + Drop>(alloc: Global, conn: Connection<S>) -> Res
     }
 }
 
-fn open_and_step<S: Alter + Drop>(
+/// Opens a director on a record, and steps the events.
+pub(crate) fn open_and_step<S: Alter + Drop>(
     alloc: Global,
     record: Store<S>,
     events: &[Event],

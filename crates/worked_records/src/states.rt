@@ -168,7 +168,11 @@ fn held_by<S: Alter + Drop>(alloc: Global, conn: Connection<S>) -> Result<Held, 
     held_of(alloc, Store::adopt(conn))
 }
 
-fn held_of<S: Alter + Drop>(alloc: Global, record: Store<S>) -> Result<Held, AllocError> {
+/// What a record holds, and what is opened of it.
+pub(crate) fn held_of<S: Alter + Drop>(
+    alloc: Global,
+    record: Store<S>,
+) -> Result<Held, AllocError> {
     let mut record = record;
     Ok(Held {
         rows: rows_of(alloc, &mut record)?,

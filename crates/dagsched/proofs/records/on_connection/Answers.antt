@@ -14,7 +14,7 @@ pub returns-in-Ok-clause-done : goal.returns-in-Ok-clause-done
 returns-in-Ok-clause-done g c =
     let none : has_tables (state g.S.Store c.args.conn).now.schema ≡ false = sym c.has_tables.ensures ∙ c.if-has_tables.false in
     let made = c.in-Ok.ensures in
-    IfOk-weaker c.on_store-in-Ok.result _ _ (λ r is. inl (c.in-Ok.store, inr (none, record { begun = made.stored; only = made.only; is_open = made.open; crash = made.crash }), is)) c.on_store-in-Ok.ensures.done
+    IfOk-weaker c.on_store-in-Ok.result _ _ (λ r is. inl (c.in-Ok.store, inr (none, made.transacts), is)) c.on_store-in-Ok.ensures.done
 
 pub returns-in_ok-status-in-Err-clause-done : goal.returns-in_ok-status-in-Err-clause-done
 returns-in_ok-status-in-Err-clause-done g c =
@@ -26,6 +26,5 @@ returns-in_ok-status-in-Err-clause-done g c =
       same = c.from.ensures;
       cause = unmade_cause _ (state g.S.Store c.args.conn).now.schema none c.in-Err.ensures.fault;
       status_is = c.in_ok-status-in-Err.ensures;
-      kept = c.in-Err.ensures.kept;
-      crash = c.in-Err.ensures.err_crash;
+      undone = c.in-Err.ensures.transacts;
     })

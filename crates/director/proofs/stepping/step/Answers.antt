@@ -1,7 +1,11 @@
 use Rattle.sched_events.specs.declared.events.Event.{Event}
 use Rattle.sched_model.specs.Schedule.{Schedule}
 use Rattle.sqlite.specs.Held.{state}
-use Rattle.director.proofs.StepLemmas.{is_stepped, is_no_refusal, keeps_promises, stands_against, steps_stored, steps_survive}
+use Rattle.meta_store.specs.Stores.{CommitsBy, Writes}
+use Rattle.meta_store.proofs.CommitLemmas.{failed, transacts_on}
+use Rattle.director.specs.Directors.{StepsIn}
+use Rattle.director.proofs.ListLemmas.{nothing_done}
+use Rattle.director.proofs.StepLemmas.{is_stepped, is_no_refusal, keeps_promises, stands_against}
 use Rattle.director.proofs.stepping.step.Goals as goal
 
 pub returns-clause-accepted : goal.returns-clause-accepted
@@ -19,16 +23,15 @@ returns-clause-fault g c = stands_against c.args.schedule.now.content c.args.eve
 pub returns-clause-untouched : goal.returns-clause-untouched
 returns-clause-untouched g c = is_no_refusal _ c.keep.result c.keep.ensures.fault
 
-pub returns-clause-stored : goal.returns-clause-stored
-returns-clause-stored g c clean =
+pub returns-clause-transacts : goal.returns-clause-transacts
+returns-clause-transacts g c =
     let e : Event = c.args.event.now in
     let a : Schedule = c.args.schedule.now.content in
-    steps_stored a e c.in_ok-change.change _ _ c.keep.result (λ keeps writes. c.a_planned_event_is_written.ensures e a c.in_ok-change.change _ _ c.in_ok-change.ensures.accepted c.runs-kept.ensures.kept keeps writes)
-    (c.keep.ensures.stored clean)
+    let old = state g.S.Store c.args.store.now in
+    transacts_on (Writes c.in_ok-change.change) (StepsIn e a) old (state g.S.Store c.keep.new.store)
+    (λ new writes. c.a_planned_event_is_written.ensures e a c.in_ok-change.change old.now new c.in_ok-change.ensures.accepted c.runs-kept.ensures.kept writes) c.keep.result c.keep.ensures.transacts
 
-pub returns-clause-crash : goal.returns-clause-crash
-returns-clause-crash g c =
-    let e : Event = c.args.event.now in
-    let a : Schedule = c.args.schedule.now.content in
-    steps_survive e a c.in_ok-change.change (state g.S.Store c.args.store.now) (state g.S.Store c.keep.new.store)
-    (λ old new keeps writes. c.a_planned_event_is_written.ensures e a c.in_ok-change.change old new c.in_ok-change.ensures.accepted c.runs-kept.ensures.kept keeps writes) c.keep.ensures.crash
+pub returns-in_err-change-clause-transacts : goal.returns-in_err-change-clause-transacts
+returns-in_err-change-clause-transacts g c =
+    let old = state g.S.Store c.args.store.now in
+    failed c.from_residual.result _ _ _ c.from_residual.ensures.1 (nothing_done (CommitsBy (StepsIn c.args.event.now c.args.schedule.now.content) old) old)

@@ -5,7 +5,7 @@ use Rattle.record_rules.specs.Reading.{run_of}
 use Rattle.record_rules.specs.Faults.{is_end_of_run}
 use Rattle.record_rules.proofs.MemberLemmas.{map_get}
 use Rattle.record_restoring.proofs.FaultLemmas.{bad_at, all_step, bad_none}
-use Rattle.record_restoring.proofs.OrderLemmas.{read_at}
+use Rattle.record_rules.proofs.RiseLemmas.{read_at}
 use Rattle.record_restoring.proofs.end_rules.end_fault.Goals as goal
 
 pub returns-then-not-is_right : goal.returns-then-not-is_right

@@ -1,6 +1,6 @@
 use Rattle.std.proofs.Common.{◌∙◌}
 use Rattle.record_restoring.specs.Pools.{open_in}
-use Rattle.record_restoring.proofs.OrderLemmas.{read_at}
+use Rattle.record_rules.proofs.RiseLemmas.{read_at}
 use Rattle.record_restoring.proofs.TakingLemmas.{taken_turn}
 use Rattle.record_restoring.proofs.occupying.occupy_by_runs.Goals as goal
 

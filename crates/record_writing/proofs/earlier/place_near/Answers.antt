@@ -6,7 +6,7 @@ use Rattle.dag_check.specs.Graphs.{no_task, task_of}
 use Rattle.sched_state.specs.Lists.{same}
 use Rattle.sched_state.proofs.NameLemmas.{same_is}
 use Rattle.sched_model.specs.Clearing.{place_of}
-use Rattle.record_changes.proofs.TaskLemmas.{place_at}
+use Rattle.record_writing.proofs.TaskLemmas.{place_at}
 use Rattle.record_writing.proofs.earlier.place_near.Goals as goal
 
 pub returns-then-eq : goal.returns-then-eq

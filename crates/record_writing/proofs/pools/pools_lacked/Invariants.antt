@@ -1,6 +1,6 @@
 use Rattle.std.proofs.Common.{◌≡◌, ◌++◌, map}
-use Rattle.record_changes.specs.record_rules.Between.{lacked}
-use Rattle.record_changes.specs.Changes.{same_pool_row}
+use Rattle.record_rules.specs.Between.{lacked}
+use Rattle.record_rules.specs.Changes.{same_pool_row}
 use Rattle.sched_draft.specs.Books.{pools_in}
 use Rattle.sched_model.specs.Tables.{pool_row}
 use Rattle.record_writing.proofs.pools.pools_lacked.Given as goal

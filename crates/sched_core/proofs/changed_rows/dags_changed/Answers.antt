@@ -7,7 +7,7 @@ use Rattle.record_rows.specs.Rows.{DagRow}
 use Rattle.sched_state.specs.declared.graphs.LoadedGraph.{LoadedGraph}
 use Rattle.sched_model.specs.Tables.{dag_row, flag_code}
 use Rattle.record_restoring.specs.record_rules.Between.{lacked}
-use Rattle.record_writing.specs.record_changes.Changes.{same_dag_row}
+use Rattle.record_writing.specs.record_rules.Changes.{same_dag_row}
 use Rattle.sched_core.specs.Effects.{changed}
 use Rattle.sched_core.specs.declared.changes.GraphChange.{GraphChange}
 use Rattle.sched_core.proofs.DagRowLemmas.{paused_among, row_itself, no_rows, dag_text_row, paused_row, paused_none}

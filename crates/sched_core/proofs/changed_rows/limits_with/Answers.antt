@@ -8,7 +8,7 @@ use Rattle.sched_state.specs.declared.graphs.LoadedGraph.{LoadedGraph}
 use Rattle.sched_model.specs.Schedule.{graph_among}
 use Rattle.sched_model.specs.Tables.{limit_row}
 use Rattle.record_restoring.specs.record_rules.Between.{lacked}
-use Rattle.record_writing.specs.record_changes.Changes.{same_dag_limit_row}
+use Rattle.record_writing.specs.record_rules.Changes.{same_dag_limit_row}
 use Rattle.sched_draft.specs.Parts.{with_other}
 use Rattle.sched_core.proofs.DagRowLemmas.{limit_itself, other_one, other_none}
 use Rattle.sched_core.proofs.changed_rows.limits_with.Goals as goal

@@ -8,16 +8,23 @@ use Rattle.script_runner.proofs.running.run_on.Goals as goal
 pub returns-in-Err-clause-kept : goal.returns-in-Err-clause-kept
 returns-in-Err-clause-kept g c clean is_open = inl (refl, refl)
 
+pub returns-in-Err-open-clause-kept : goal.returns-in-Err-open-clause-kept
+returns-in-Err-open-clause-kept g c = c.in-Err-open.ensures.transacts.kept
+
+pub returns-in-Err-open-clause-crash : goal.returns-in-Err-open-clause-crash
+returns-in-Err-open-clause-crash g c = let t = rw c.full.ensures at c.in-Err-open.ensures.transacts in t.crash
+
 pub returns-in-Ok-open-clause-run : goal.returns-in-Ok-open-clause-run
 returns-in-Ok-open-clause-run g c =
     let kits = map (λ x. x.kit) (vec_items c.args.crews) in
     let z = c.close.ensures in
     let r = c.in-Ok.ensures in
-    let clean_before : HasCleanDisk (state g.S.Store c.in-Ok-open.director.store) → HasCleanDisk (state g.S.Store c.args.store) = λ clean. omega (arith, c.in-Ok-open.ensures.crash.clean, clean) in
+    let restarted = (let t = rw c.full.ensures at c.in-Ok-open.ensures.transacts in t) in
+    let clean_before : HasCleanDisk (state g.S.Store c.in-Ok-open.director.store) → HasCleanDisk (state g.S.Store c.args.store) = λ clean. omega (arith, restarted.crash.clean, clean) in
     let h =
     ran (state g.S.Store) (shows g.O.Operator.kind_of g.O.Operator.runs_of g.O.Operator.refused_of g.O.Operator.taken) g.R.Read.remaining g.W.Write.contents g.F.Sources.gives g.C.Clock.gives c.args.options.lanes kits (state g.S.Store c.args.store) c.in-Ok-open.director c.conduct-conducted.result c.in-Ok.reader c.conduct-conducted.new.lines
-    c.args.clock.now c.conduct-conducted.new.clock c.conduct-conducted.ensures (let k = rw c.schedule.ensures at c.runs.ensures.kept in k) (let o = rw c.full.ensures at c.in-Ok-open.ensures.opened in o) (let s = rw c.full.ensures at c.in-Ok-open.ensures.stored in s)
-    clean_before (c.in-Ok-open.ensures.crash.counts, c.in-Ok-open.ensures.open) c.in-Ok-open.ensures.only
+    c.args.clock.now c.conduct-conducted.new.clock c.conduct-conducted.ensures (let k = rw c.schedule.ensures at c.runs.ensures.kept in k) (let o = rw c.full.ensures at c.in-Ok-open.ensures.opened in o) restarted.stored
+    clean_before (restarted.crash.counts, (λ clean. (restarted.is_open clean).1)) restarted.only
     (record { over = r.over; status = r.status; listed = r.listed })
     c.close.result.store (vec_items c.close.result.minutes) (vec_items c.close.result.ends) c.close.result.outcome c.close.result.status c.close.result.sources c.close.result.output
     (record { store_is = z.store; minutes_are = ap vec_items z.minutes; ends_are = ap vec_items z.ends; outcome_is = z.outcome; status_is = z.status; sources_are = z.sources; output_is = z.output; ended_is = z.ended })

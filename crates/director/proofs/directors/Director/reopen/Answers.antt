@@ -7,28 +7,15 @@ returns-clause-opened g c =
     let limits = c.limits-limits.ensures ∙ ap (λ (h : ScheduleValue). h.content.limits) c.schedule.ensures in
     rw (← limits) (rw (← c.close.ensures) c.open.ensures.opened)
 
-pub returns-clause-stored : goal.returns-clause-stored
-returns-clause-stored g c =
+pub returns-clause-transacts : goal.returns-clause-transacts
+returns-clause-transacts g c =
     let limits = c.limits-limits.ensures ∙ ap (λ (h : ScheduleValue). h.content.limits) c.schedule.ensures in
-    rw (← limits) (rw (← c.close.ensures) c.open.ensures.stored)
+    rw (← limits) (rw (← c.close.ensures) c.open.ensures.transacts)
 
 pub returns-clause-fault : goal.returns-clause-fault
 returns-clause-fault g c =
     let limits = c.limits-limits.ensures ∙ ap (λ (h : ScheduleValue). h.content.limits) c.schedule.ensures in
     rw (← limits) (rw (← c.close.ensures) c.open.ensures.fault)
-
-pub returns-clause-kept : goal.returns-clause-kept
-returns-clause-kept g c = rw (← c.close.ensures) c.open.ensures.kept
-
-pub returns-clause-crash : goal.returns-clause-crash
-returns-clause-crash g c =
-    let limits = c.limits-limits.ensures ∙ ap (λ (h : ScheduleValue). h.content.limits) c.schedule.ensures in
-    rw (← limits) (rw (← c.close.ensures) c.open.ensures.crash)
-
-pub returns-clause-err_crash : goal.returns-clause-err_crash
-returns-clause-err_crash g c =
-    let limits = c.limits-limits.ensures ∙ ap (λ (h : ScheduleValue). h.content.limits) c.schedule.ensures in
-    rw (← limits) (rw (← c.close.ensures) c.open.ensures.err_crash)
 
 pub returns-clause-refused_crash : goal.returns-clause-refused_crash
 returns-clause-refused_crash g c = rw (← c.close.ensures) c.open.ensures.refused_crash

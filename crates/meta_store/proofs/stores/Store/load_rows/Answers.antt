@@ -1,6 +1,6 @@
 use Rattle.std.proofs.Common.{◌≡◌, rules, true, false}
 use Rattle.sqlite.specs.Held.{state}
-use Rattle.record_load.specs.Ours.{has_limits}
+use Rattle.record_tables.specs.Ours.{has_limits}
 use Rattle.meta_store.proofs.MigrateLemmas.{list_second, list_first, found_second, found_first, if_fault_second, if_fault_first}
 use Rattle.meta_store.proofs.stores.Store.load_rows.Goals as goal
 

@@ -1,13 +1,24 @@
-use Rattle.std.proofs.Common.{subst, OnOk}
-use Rattle.sqlite.specs.Effect.{Database}
+use Rattle.std.proofs.Common.{subst}
 use Rattle.sqlite.specs.Held.{state}
 use Rattle.record_rows.specs.Rows.{Rows}
-use Rattle.record_changes.specs.Changes.{put_rows}
+use Rattle.record_rules.specs.Changes.{put_rows}
 use Rattle.record_tables.specs.Puts.{PutsIn}
+use Rattle.meta_store.specs.Stores.{CommitsBy, IsAsBefore}
+use Rattle.meta_store.specs.Transactions.{Commits, Undone}
+use Rattle.meta_store.proofs.AskLemmas.{unbounded}
 use Rattle.meta_store.proofs.stores.Store.write.Goals as goal
 
-pub returns-clause-stored : goal.returns-clause-stored
-returns-clause-stored g c clean =
-    let old : Database = (state g.S.Store c.args.self.now).now in
-    let new : Database = (state g.S.Store c.write_rows.new.self).now in
-    subst (λ (r : Rows). OnOk c.write_rows.result (PutsIn (put_rows r) old new)) c.rows.ensures (c.write_rows.ensures.stored clean)
+pub returns-in-Ok-clause-transacts : goal.returns-in-Ok-clause-transacts
+returns-in-Ok-clause-transacts g c =
+    let old = state g.S.Store c.args.self.now in
+    let new = state g.S.Store c.transact.new.self in
+    subst (λ (r : Rows). Commits (PutsIn (put_rows r)) (CommitsBy (PutsIn (put_rows r)) old) old new) c.rows.ensures c.in-Ok.ensures.transacts
+
+pub returns-in-Err-clause-transacts : goal.returns-in-Err-clause-transacts
+returns-in-Err-clause-transacts g c =
+    let old = state g.S.Store c.args.self.now in
+    let new = state g.S.Store c.transact.new.self in
+    subst (λ (r : Rows). Undone IsAsBefore (CommitsBy (PutsIn (put_rows r)) old) old new) c.rows.ensures c.in-Err.ensures.transacts
+
+pub returns-in-Ok-clause-guarded : goal.returns-in-Ok-clause-guarded
+returns-in-Ok-clause-guarded g c clean is = unbounded c.args.self.now.schema is (c.in-Ok.ensures.known clean)

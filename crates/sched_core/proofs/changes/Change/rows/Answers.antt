@@ -1,5 +1,5 @@
 use Rattle.std.proofs.Common.{◌∙◌, ap}
-use Rattle.record_writing.specs.record_changes.Changes.{rows_between}
+use Rattle.record_writing.specs.record_rules.Changes.{rows_between}
 use Rattle.sched_core.specs.Changes.{Planned}
 use Rattle.sched_core.proofs.changes.Change.rows.Goals as goal
 

@@ -1,7 +1,7 @@
 use Rattle.std.proofs.Common.{◌≡◌, ◌∙◌, ap, List, map}
 use Rattle.record_rows.specs.Rows.{DagRow, DagLimitRow}
 use Rattle.record_restoring.specs.record_rules.Between.{lacked}
-use Rattle.record_writing.specs.record_changes.Changes.{same_dag_row, same_dag_limit_row}
+use Rattle.record_writing.specs.record_rules.Changes.{same_dag_row, same_dag_limit_row}
 use Rattle.sched_state.specs.declared.graphs.LoadedGraph.{LoadedGraph}
 use Rattle.sched_model.specs.Schedule.{Schedule}
 use Rattle.sched_model.specs.Tables.{dag_row, limit_row}

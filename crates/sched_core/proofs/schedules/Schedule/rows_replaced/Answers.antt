@@ -3,7 +3,7 @@ use Rattle.std.proofs.lemmas.Result.{IfOk-weaker}
 use Rattle.record_rows.specs.Rows.{Rows, DagRow, DagLimitRow}
 use Rattle.record_restoring.specs.record_rules.Between.{lacked}
 use Rattle.record_writing.specs.Before.{AreNamedAlike, KeepDags}
-use Rattle.record_writing.specs.record_changes.Changes.{rows_between, same_dag_row, same_dag_limit_row}
+use Rattle.record_writing.specs.record_rules.Changes.{rows_between, same_dag_row, same_dag_limit_row}
 use Rattle.record_writing.proofs.FitLemmas.{fits_tables}
 use Rattle.record_writing.proofs.PremiseLemmas.{other_alike}
 use Rattle.sched_state.specs.declared.graphs.LoadedGraph.{LoadedGraph}

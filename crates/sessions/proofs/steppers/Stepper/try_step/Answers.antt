@@ -16,4 +16,4 @@ returns-clause-tried g c =
     let room : vec_len c.reserve.new.self < vec_capacity c.reserve.new.self = search rules in
     tried_once (state g.S.Store) c.args.event.now c.write.result c.args.self.now (record { director = c.write.new.self; minutes = c.reserve.new.self; tries = c.saturating_add-self.result }) room c.reserve.ensures.items c.saturating_add-self.ensures wrote.opened
     wrote.outcome wrote.followed
-    (leaves_written (state g.S.Store) old.schedule.content c.args.event.now c.write.result old.store c.write.new.self.store wrote.crash wrote.stored wrote.only wrote.open wrote.untouched)
+    (leaves_written (state g.S.Store) old.schedule.content c.args.event.now c.write.result old.store c.write.new.self.store wrote.transacts wrote.untouched)

@@ -1,0 +1,10 @@
+use Rattle.std.proofs.Common.{IsTrue}
+use Rattle.sqlite.specs.Held.{state}
+use Rattle.meta_store.proofs.CommitLemmas.{dropped, looked}
+use Rattle.meta_store.proofs.stores.Store.read_first.Goals as goal
+
+pub returns-clause-looks : goal.returns-clause-looks
+returns-clause-looks g c =
+    let auto : IsTrue c.is_autocommit-settled.result = cc in
+    dropped g.S.Store c.args.self.now c.transaction-tx.result.conn.now c.load_old_rows.new.tx.conn.now c.drop-tx.new.self.0 (rw (← c.self.view_is) c.transaction-tx.ensures.begun) (rw (← c.self.view_is) (c.is_autocommit-settled.ensures.settled auto)) (λ _. ⊥)
+    (looked _ (state g.S.Store c.transaction-tx.result.conn.now) (state g.S.Store c.load_old_rows.new.tx.conn.now) c.load_old_rows.result c.load_old_rows.ensures.ok c.load_old_rows.ensures.err) c.drop-tx.ensures.undone c.drop-tx.ensures.survives

@@ -1,0 +1,5 @@
+use Rattle.std.proofs.lemmas.Str.{IsUtf8-string_bytes}
+use Rattle.record_tables.proofs.runs.RunRowStored.read.Goals as goal
+
+pub returns-clause-texts : goal.returns-clause-texts
+returns-clause-texts c = (IsUtf8-string_bytes c.in_ok-dag_id.dag_id, (tt, (tt, (tt, (tt, (tt, tt))))))
