@@ -201,8 +201,8 @@ module _ {S : Type 0} (look : Held S → State) where
         unserved first now last p outcome begun refused.0 refused.1 refused.2 refused.3 (ap fails refused.1 ∙ sound) nothing ungiven ended
 
     -- and either way it keeps of its minutes what it kept
-    pub keeps_or : {lane_count : ℕ} {l later : L} {c then : C} {failed : Option LineFault} {is_over : Bool} {A : Type 0} (are_all : Bool) (first now : Session S) (outcome : Result W ConductFault)
-        → MatchBool are_all (IsFollowed look lane_count tell give first now l later c then failed is_over outcome) ((now ≡ first) × A) → now.stepper.minutes.keep ≡ first.stepper.minutes.keep
+    pub keeps_or : {lane_count : ℕ} {l later : L} {c then : C} {failed : Option LineFault} {is_over : Bool} {A B D : Type 0} (are_all : Bool) (first now : Session S) (outcome : Result W ConductFault)
+        → MatchBool are_all (IsFollowed look lane_count tell give first now l later c then failed is_over outcome) ((now ≡ first) × A × B × D) → now.stepper.minutes.keep ≡ first.stepper.minutes.keep
     keeps_or true first now outcome followed = followed.served.went.keep
     keeps_or false first now outcome refused = ap (λ (s : Session S). s.stepper.minutes.keep) refused.0
 

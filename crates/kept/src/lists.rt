@@ -1,5 +1,5 @@
 //! A list that grows.
-ghost use Rattle.std.specs.Prelude.{◌≡◌, ◌<◌, ◌++◌, ◌∷◌, [], OnOk};
+ghost use Rattle.std.specs.Prelude.{◌≡◌, ◌<◌, ◌≤◌, ◌+◌, ◌++◌, ◌∷◌, [], OnErr, OnOk};
 ghost use Rattle.kept.specs.Lists.{values_of};
 
 use std::alloc::{AllocError, Global};
@@ -38,10 +38,11 @@ impl<T: Drop> Model for Kept<T> {
 }
 
 impl<T: Drop> Kept<T> {
-    /// A list without items.
+    /// A list without items. It takes no memory.
     pub fn new(alloc: Global, keep: Keep) -> Kept<T>
         ensures items { result.items ≡ [] }
         ensures keep { result.keep ≡ keep }
+        ensures room { result.room ≡ 0 }
     {
         let list = match keep {
             Keep::All => Items::Values(Vec::new(alloc)),
@@ -50,11 +51,13 @@ impl<T: Drop> Kept<T> {
         Kept { list }
     }
 
-    /// Makes room for one more.
+    /// Makes room for one more. It fails only where that room was missing, and never takes room away.
     pub fn reserve(&mut self) -> Result<(), AllocError>
         ensures items { self.new.items ≡ self.old.items }
         ensures keep { self.new.keep ≡ self.old.keep }
         ensures room { OnOk result (0 < self.new.room) }
+        ensures full { OnErr result (self.old.room ≡ 0) }
+        ensures more { self.old.room ≤ self.new.room }
     {
         match &mut self.list {
             Items::Values(values) => values.reserve(1),
@@ -67,6 +70,7 @@ impl<T: Drop> Kept<T> {
         requires { 0 < self.old.room }
         ensures items { self.new.items ≡ self.old.items ++ item ∷ [] }
         ensures keep { self.new.keep ≡ self.old.keep }
+        ensures room { self.new.room + 1 ≡ self.old.room }
     {
         match &mut self.list {
             Items::Values(values) => values.push_reserved(item),

@@ -3,6 +3,8 @@ use Rattle.std.proofs.lemmas.List.{length-map}
 use Rattle.sqlite.specs.Held.{state}
 use Rattle.ruled_dispatch.specs.Lanes.{HasWorkers}
 use Rattle.sched_events.specs.SettledAndSound.{IsSoundAndSaid}
+use Rattle.sched_events.specs.declared.events.Event.{Event}
+use Rattle.kept.specs.Lists.{KeptValue}
 use Rattle.sessions.specs.Runs.{ScheduleValue}
 use Rattle.sessions.specs.History.{readings_in}
 use Rattle.sessions.specs.declared.faults.ConductFault.TheVariants as fault
@@ -115,7 +117,7 @@ returns-clause-conducted g c =
     let h = d.served.history in
     let sound : IsSoundAndSaid a = subst (λ (s : ScheduleValue). IsSoundAndSaid s.content) c.schedule.ensures c.runs.ensures.kept in
     conducted (state g.S.Store) all q.lanes c.args.lane_count (length results) kits c.args.director q.pass m.parted m.outcome results (λ r. r.0) c.close.result _ _ _ _
-    sound (subst (λ k. 0 < k) (sym long) c.requires.crews.0) d.served z.director (ap (λ m. m.items) z.minutes) z.ok z.fault
+    sound (subst (λ k. 0 < k) (sym long) c.requires.crews.0) d.served z.director (ap (λ (m : KeptValue Event). m.items) z.minutes) z.ok z.fault
     (λ started. d.all started ∙ sym long) z.ends z.none
     (also_ok c.close.result.outcome z.once (λ each. each h c.args.director stop))
     (also_ok c.close.result.outcome z.own (λ each. each h c.args.director sound stop))
@@ -135,7 +137,7 @@ returns-clause-keep g c =
     let z = c.close.ensures in
     let kept = c.manage-managed.ensures.keep in
     let asked = c.in-Ok.ensures.keep in (
-      ap (λ l. l.keep) z.minutes ∙ kept.0 ∙ asked,
+      ap (λ (m : KeptValue Event). m.keep) z.minutes ∙ kept.0 ∙ asked,
       ends_kept c.args.keep (all_started m.outcome) (map (λ r. r.0) (vec_items m.results)) (vec_items c.close.result.ends) z.ends z.none
           (subst (λ k. All (λ e. e.log.keep ≡ k) (map (λ r. r.0) (vec_items m.results))) asked kept.1),
     )

@@ -1,6 +1,8 @@
 use Rattle.std.proofs.Common.{◌≡◌, ◌∙◌, All, map, vec_items, ap, arith, inl, refl, subst, sym}
 use Rattle.sqlite.specs.Held.{state}
 use Rattle.sqlite.specs.State.{HasCleanDisk}
+use Rattle.kept.specs.Lists.{KeptValue}
+use Rattle.sched_events.specs.declared.events.Event.{Event}
 use Rattle.workers.specs.Shows.{shows}
 use Rattle.script_runner.proofs.RunLemmas.{ran}
 use Rattle.script_runner.proofs.running.run_on.Goals as goal
@@ -20,7 +22,7 @@ returns-in-Ok-open-clause-run g c =
     clean_before (c.in-Ok-open.ensures.crash.counts, c.in-Ok-open.ensures.open) c.in-Ok-open.ensures.only
     (record { over = r.over; status = r.status; listed = r.listed })
     c.close.result.store c.close.result.minutes.items (vec_items c.close.result.ends) c.close.result.outcome c.close.result.status c.close.result.sources c.close.result.output
-    (record { store_is = z.store; minutes_are = ap (λ m. m.items) z.minutes; ends_are = ap vec_items z.ends; outcome_is = z.outcome; status_is = z.status; sources_are = z.sources; output_is = z.output; ended_is = z.ended })
+    (record { store_is = z.store; minutes_are = ap (λ (m : KeptValue Event). m.items) z.minutes; ends_are = ap vec_items z.ends; outcome_is = z.outcome; status_is = z.status; sources_are = z.sources; output_is = z.output; ended_is = z.ended })
     in
     let i = rw r.input at h in
     let s = rw r.sources at i in
@@ -31,6 +33,6 @@ pub returns-in-Ok-open-clause-keep : goal.returns-in-Ok-open-clause-keep
 returns-in-Ok-open-clause-keep g c =
     let kept = c.conduct-conducted.ensures.keep in
     let z = c.close.ensures in (
-      ap (λ m. m.keep) z.minutes ∙ kept.0,
+      ap (λ (m : KeptValue Event). m.keep) z.minutes ∙ kept.0,
       subst (λ es. All (λ e. e.log.keep ≡ c.args.options.keep) (vec_items es)) (sym z.ends) kept.1,
     )
