@@ -1,4 +1,6 @@
 //! Words of Airflow that are none of a graph file.
+//!
+//! No contract holds this file: the sections `told` of `worked_scripts` show what it writes.
 
 const BASH: &str = "here it is operator = \"command\", argv = [\"bash\", \"-c\", \"..\"]";
 

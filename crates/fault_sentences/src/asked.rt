@@ -1,4 +1,6 @@
 //! A command as a person wrote it: a line of a script, or the program's own words.
+//!
+//! No contract holds this file: the sections `told` of `worked_scripts` show what it writes.
 use std::alloc::{AllocError, Global};
 
 /// A command as a person wrote it.

@@ -1,4 +1,6 @@
 //! Sentences on another text for a graph that has runs.
+//!
+//! No contract holds this file: the sections `told` of `worked_scripts` show what it writes.
 use crate::notes::{Rest, near_graph};
 use crate::parts::Part::{Date, Number, Text};
 use crate::parts::{say, say_more};

@@ -1,4 +1,6 @@
 //! Sentences on words that are no command, and on files without a graph's text.
+//!
+//! No contract holds this file: the sections `told` of `worked_scripts` show what it writes.
 use crate::asked::Asked;
 use crate::keys::is_key_of;
 use crate::moments::moment_text;

@@ -1,4 +1,6 @@
 //! What a person is told beside the answers: sentences, and a line on a terminal that says how a drain goes on.
+//!
+//! No contract holds this file: the sections `told` of `worked_scripts` show what it writes.
 use crate::asked::Asked;
 use crate::due::runs_of;
 use crate::lines::one_line;

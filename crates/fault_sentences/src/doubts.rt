@@ -1,4 +1,6 @@
 //! Sentences on what a graph that was taken in has, and cannot mean.
+//!
+//! No contract holds this file: the sections `told` of `worked_scripts` show what it writes.
 use crate::due::has_more;
 use crate::parts::Part::Text;
 use crate::parts::say;

@@ -1,4 +1,6 @@
 //! What is said of how many runs of a graph are due.
+//!
+//! No contract holds this file: the sections `told` of `worked_scripts` show what it writes.
 use crate::parts::Part::{Date, Text};
 use crate::parts::say_more;
 use cron_timetable::Timetable;

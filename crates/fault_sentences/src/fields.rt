@@ -1,4 +1,6 @@
 //! Which field of a cron expression is faulty.
+//!
+//! No contract holds this file: the sections `told` of `worked_scripts` show what it writes.
 use crate::asked::words_of_line;
 use crate::parts::Part::Text;
 use crate::parts::say;

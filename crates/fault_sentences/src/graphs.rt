@@ -1,4 +1,6 @@
 //! Sentences on the texts of graphs.
+//!
+//! No contract holds this file: the sections `told` of `worked_scripts` show what it writes.
 use crate::doubts::push_doubt;
 use crate::keys::{push_key, push_schedule, push_unknown, text_of};
 use crate::notes::Rest;

@@ -1,4 +1,6 @@
 //! What is said of a backfill or a clear that was done.
+//!
+//! No contract holds this file: the sections `told` of `worked_scripts` show what it writes.
 use crate::doubts::looks_back;
 use crate::idle::Work;
 use crate::notes::{push_paused, push_slots, size_of};

@@ -1,4 +1,6 @@
 //! Sentences on commands that were accepted and changed nothing.
+//!
+//! No contract holds this file: the sections `told` of `worked_scripts` show what it writes.
 use crate::held::Done;
 use crate::moments::DATES_HINT;
 use crate::notes::{Rest, push_clock};

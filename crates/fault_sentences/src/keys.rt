@@ -1,4 +1,6 @@
 //! Sentences on the keys of a graph's text and their values.
+//!
+//! No contract holds this file: the sections `told` of `worked_scripts` show what it writes.
 use crate::airflow::airflow_text;
 use crate::fields::push_fault;
 use crate::moments::moment_text;

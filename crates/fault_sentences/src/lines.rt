@@ -1,4 +1,6 @@
 //! A sentence as a line.
+//!
+//! No contract holds this file: the sections `told` of `worked_scripts` show what it writes.
 use std::alloc::{AllocError, Global};
 
 // The most bytes of a line, with its newline.

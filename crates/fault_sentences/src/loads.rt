@@ -1,4 +1,6 @@
 //! Which graphs a script has taken in, and at which lines.
+//!
+//! No contract holds this file: the sections `told` of `worked_scripts` show what it writes.
 use crate::notes::{Note, Rest};
 use crate::parts::Part::Number;
 use crate::parts::say_more;

@@ -1,4 +1,6 @@
 //! Sentences on the logs of tries that failed, and on programs that were not started.
+//!
+//! No contract holds this file: the sections `told` of `worked_scripts` show what it writes.
 use crate::parts::Part::{Date, Text};
 use crate::parts::say;
 use crate::programs::{Search, program_of};

@@ -1,4 +1,6 @@
 //! What is said of dates, and of texts that are no moments.
+//!
+//! No contract holds this file: the sections `told` of `worked_scripts` show what it writes.
 use moment_core::MomentFault;
 
 // Where the dates of a graph's runs are found, and what is easily missed.

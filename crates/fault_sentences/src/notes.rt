@@ -1,4 +1,6 @@
 //! What is to be told of a command.
+//!
+//! No contract holds this file: the sections `told` of `worked_scripts` show what it writes.
 use crate::asked::Asked;
 use crate::changes::{push_old_slots, push_reach};
 use crate::commands::push_command;

@@ -1,4 +1,6 @@
 //! Writing a sentence: a text with holes, and the parts that fill them.
+//!
+//! No contract holds this file: the sections `told` of `worked_scripts` show what it writes.
 use moment_core::Moment;
 use std::alloc::AllocError;
 

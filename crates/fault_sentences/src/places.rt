@@ -1,4 +1,6 @@
 //! Where something stands in a graph's text.
+//!
+//! No contract holds this file: the sections `told` of `worked_scripts` show what it writes.
 use crate::asked::Asked;
 use crate::parts::Part::{Number, Text};
 use crate::parts::say;

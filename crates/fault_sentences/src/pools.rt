@@ -1,4 +1,6 @@
 //! Sentences on pools.
+//!
+//! No contract holds this file: the sections `told` of `worked_scripts` show what it writes.
 use crate::keys::nearest;
 use crate::notes::size_of;
 use crate::parts::Part::{Number, Text};

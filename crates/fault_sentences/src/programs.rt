@@ -1,4 +1,6 @@
 //! Sentences on programs that the system does not start.
+//!
+//! No contract holds this file: the sections `told` of `worked_scripts` show what it writes.
 use crate::doubts::has_doubt;
 use crate::parts::Part::Text;
 use crate::parts::say_more;

@@ -1,4 +1,6 @@
 //! Sentences on records, clocks and ends of runs.
+//!
+//! No contract holds this file: the sections `told` of `worked_scripts` show what it writes.
 use script_reader::{ClockFault, ConductFault, StoreFault};
 use std::alloc::AllocError;
 

@@ -1,4 +1,6 @@
 //! Sentences on events that are refused, and on questions without an answer.
+//!
+//! No contract holds this file: the sections `told` of `worked_scripts` show what it writes.
 use crate::asked::Asked;
 use crate::changes::{change_rest, push_change};
 use crate::graphs::{push_dag, push_graph, push_pool};

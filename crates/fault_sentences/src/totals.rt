@@ -1,4 +1,6 @@
 //! How far the task instances of a schedule are.
+//!
+//! No contract holds this file: the sections `told` of `worked_scripts` show what it writes.
 use sched_state::{LoadedGraph, Run};
 use script_reader::Schedule;
 use trigger_rules::State;

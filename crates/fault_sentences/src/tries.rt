@@ -1,4 +1,6 @@
 //! Sentences on what became of tries.
+//!
+//! No contract holds this file: the sections `told` of `worked_scripts` show what it writes.
 use crate::logs::{Failure, push_name};
 use crate::parts::Part::{Date, Number, Text};
 use crate::parts::{push_between, say, say_more};
