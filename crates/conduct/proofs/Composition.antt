@@ -186,12 +186,12 @@ module _ {G O : Type 0} (shows : Shows O) (kits : List (Kit O)) where
 -- ---- what is kept
 module _ {G O : Type 0} (keep : Keep) where
   -- where there is no end, each log is kept so
-  pub none_kept : (ends : List (WorkerEnd G O)) → ends ≡ [] → All (λ e. e.log.keep ≡ keep) ends
-  none_kept ends none = subst (All (λ e. e.log.keep ≡ keep)) (sym none) (All-nil (λ (e : WorkerEnd G O). e.log.keep ≡ keep))
+  pub none_kept : (ends : List (WorkerEnd G O)) → ends ≡ [] → All (λ (e : WorkerEnd G O). e.log.keep ≡ keep) ends
+  none_kept ends none = subst (All (λ (e : WorkerEnd G O). e.log.keep ≡ keep)) (sym none) (All-nil (λ (e : WorkerEnd G O). e.log.keep ≡ keep))
 
   -- the ends are all, or none
-  pub ends_kept : (b : Bool) (all ends : List (WorkerEnd G O)) → (b ≡ true → ends ≡ all) → (b ≡ false → ends ≡ []) → All (λ e. e.log.keep ≡ keep) all → All (λ e. e.log.keep ≡ keep) ends
-  ends_kept true all ends same none each = subst (All (λ e. e.log.keep ≡ keep)) (sym (same refl)) each
+  pub ends_kept : (b : Bool) (all ends : List (WorkerEnd G O)) → (b ≡ true → ends ≡ all) → (b ≡ false → ends ≡ []) → All (λ (e : WorkerEnd G O). e.log.keep ≡ keep) all → All (λ (e : WorkerEnd G O). e.log.keep ≡ keep) ends
+  ends_kept true all ends same none each = subst (All (λ (e : WorkerEnd G O). e.log.keep ≡ keep)) (sym (same refl)) each
   ends_kept false all ends same none each = none_kept ends (none refl)
 
 -- ---- a history that is right

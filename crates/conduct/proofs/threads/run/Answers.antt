@@ -1,6 +1,7 @@
 use Rattle.std.proofs.Common.{rules, ◌≡◌, length, map, take, vec_items, vec_len, ap, sym, ◌∙◌}
 use Rattle.std.proofs.lemmas.List.{length-map}
 use Rattle.std.proofs.lemmas.List.Elements.{All-map}
+use Rattle.workers.specs.declared.crews.WorkerEnd.{WorkerEnd}
 use Rattle.workers.specs.Shows.{shows}
 use Rattle.conduct.proofs.Runs.{each_started, same_stops, worked_from}
 use Rattle.conduct.proofs.threads.run.Goals as goal
@@ -27,5 +28,5 @@ returns-clause-managed g c =
 pub returns-clause-keep : goal.returns-clause-keep
 returns-clause-keep g c = (
   c.serve-parted.ensures.keep,
-  All-map (λ e. e.log.keep ≡ c.args.workers.keep) (λ r. r.0) (vec_items c.join_all-results.result) (c.join_all-results.ensures.keep c.args.workers.keep c.start_all-are_all.ensures.keep),
+  All-map (λ (e : WorkerEnd g.row.G.Denot g.row.O.Denot). e.log.keep ≡ c.args.workers.keep) (λ r. r.0) (vec_items c.join_all-results.result) (c.join_all-results.ensures.keep c.args.workers.keep c.start_all-are_all.ensures.keep),
 )
