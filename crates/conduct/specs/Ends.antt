@@ -40,7 +40,7 @@ module _ {G O : Type 0} where
       (k : ℕ) (e : WorkerEnd G O) → k < length ends
       → of_worker (serials_of (slice_index_or ends k e).log.items) minutes ≡ reports_of (slice_index_or ends k e).log.items
 
-  -- of the minutes, and of the log of each worker, so much is kept
+  -- of the minutes and of the log of each worker all is kept, or nothing, as this says
   abbrev pub AreKept : Keep → KeptValue Event → List (WorkerEnd G O) → Type 0
   AreKept keep minutes ends = (minutes.keep ≡ keep) × All (λ e. e.log.keep ≡ keep) ends
 

@@ -40,8 +40,8 @@ pub struct Conducted<S: Alter, G: Gate, O: Operator> {
 /// until the lines are over and no try is in flight. Each crew works on a thread of its own.
 ///
 /// It waits for the lines, for the tries and for the threads. A report, and the restart, are stepped up to three times where the record or
-/// want of memory stands against them; an event of a line once. At the end, and on a fault, each worker is stopped and joined. So much is kept of
-/// the minutes and of the workers' logs.
+/// want of memory stands against them; an event of a line once. At the end, and on a fault, each worker is stopped and joined. `keep` says
+/// whether the minutes and the workers' logs are kept.
 pub fn conduct<
     S: Alter + Drop,
     G: Gate + Send,

@@ -28,8 +28,8 @@ pub struct Served<S: Alter> {
     pub outcome: Result<(), ConductFault>,
 }
 
-/// Serves a session of the director, if all workers were started, and sends each that was a stop. So much is kept of the minutes. The session borrows the lanes,
-/// so it is made and taken apart here.
+/// Serves a session of the director, if all workers were started, and sends each that was a stop. `keep` says whether the minutes are kept. The session borrows
+/// the lanes, so it is made and taken apart here.
 pub(crate) fn serve<S: Alter, L: Lines<S>, C: Clock, R: Wait>(
     rt: &R,
     alloc: Global,

@@ -32,7 +32,7 @@ use workers::{Crew, Gate, WorkerEnd};
 pub struct RunOptions {
     /// The most tries that may be in flight, at most 64. With none nothing is handed out.
     pub lanes: u32,
-    /// What is kept of the accepted events and of the workers' logs, for who reads them in the end. All of it takes memory for each event and for each try.
+    /// Whether the accepted events and the workers' logs are kept, for whoever reads them in the end. Then each event and each try takes memory.
     pub keep: Keep,
 }
 

@@ -37,7 +37,7 @@ pub struct Parted<S: Alter> {
 }
 
 impl<'l, S: Alter> Session<'l, S> {
-    /// A session of which nothing is stepped yet, and which keeps so much of the events that it accepts.
+    /// A session of which nothing is stepped yet. `keep` says whether the events that it accepts are kept.
     pub fn new(
         alloc: Global,
         director: Director<S>,

@@ -21,7 +21,7 @@ pub struct Stepper<S: Alter> {
 }
 
 impl<S: Alter> Stepper<S> {
-    /// One that has tried nothing yet, and keeps so much of the events that it accepts.
+    /// One that has tried nothing yet. `keep` says whether the events that it accepts are kept.
     pub(crate) fn new(alloc: Global, director: Director<S>, keep: Keep) -> Stepper<S>
         ensures director { result.director ≡ director }
         ensures minutes { result.minutes.items ≡ [] }

@@ -23,7 +23,7 @@ use std::thread::{Promise, PromisedHandle, Scope, Threads};
 /// What the thread of a worker gives back: the end of the crew, the pass and the share.
 pub type Worked<L, G, O> = (EndAt<L, G, O>, WorkerPass, Share<L>);
 
-/// The promise of a worker's thread: it worked from this pass, this share and this kit, and so much of its log is kept.
+/// The promise of a worker's thread: it worked from this pass, this share and this kit, and its log is kept, or not, as this says.
 #[derive(Drop)]
 pub struct Works<L: Ledger, O: Operator> {
     /// The pass that it got.
@@ -32,7 +32,7 @@ pub struct Works<L: Ledger, O: Operator> {
     pub share: Snapshot<Share<L>>,
     /// The kit that it got.
     pub kit: Snapshot<Kit<O>>,
-    /// What is kept of its log.
+    /// Whether its log is kept.
     pub keep: Keep,
 }
 
@@ -49,8 +49,8 @@ impl<L: Ledger, G: Gate, O: Operator> Promise<(EndAt<L, G, O>, WorkerPass, Share
 /// The thread of a worker.
 pub type Handle<L, G, O> = PromisedHandle<Worked<L, G, O>, Works<L, O>>;
 
-/// Starts a thread for each crew, with the pass and the share at its place, which keeps so much of its log. False where one was refused: its crew is gone,
-/// and those after it were not started.
+/// Starts a thread for each crew, with the pass and the share at its place; `keep` says whether the logs are kept. False where a thread was refused: its
+/// crew is gone, and those after it were not started.
 pub fn start_all<
     's,
     E,

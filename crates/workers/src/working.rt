@@ -24,7 +24,7 @@ use std::sync::ledger::Ledger;
 
 /// Does the jobs that it takes, one after another, until it takes a stop.
 ///
-/// While there is no job it sleeps. A log that is kept takes memory for each job, until the worker ends.
+/// While there is no job it sleeps. `keep` says whether the log is kept, which then takes memory for each job until the worker ends.
 pub fn work<L: Ledger, G: Gate, O: Operator, R: Wait>(
     rt: &R,
     alloc: Global,
