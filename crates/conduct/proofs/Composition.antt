@@ -45,6 +45,7 @@ use Rattle.conduct.specs.Faults.{EndsInside, EndsRun, all_started, came_to_its_e
 use Rattle.conduct.specs.Served.{IsHistory, IsServed}
 use Rattle.conduct.specs.Run.{IsConducted}
 use Rattle.conduct.proofs.Logs.{jobs_among}
+use Rattle.kept.specs.declared.lists.Keep.{Keep}
 
 -- ---- why it ended
 ends_run : (f : ConductFault) (o : Option LineFault) → EndsInside f o → EndsRun f o
@@ -181,6 +182,17 @@ module _ {G O : Type 0} (shows : Shows O) (kits : List (Kit O)) where
         let three : sum_by weight (map (λ (t : WorkerReport). t.report) heard) ≤ sum_by (λ (e : WorkerEnd G O). sum_by weight (reports_of e.log.items)) ends = told weight in
         omega arith;
   }
+
+-- ---- what is kept
+module _ {G O : Type 0} (keep : Keep) where
+  -- where there is no end, each log is kept so
+  pub none_kept : (ends : List (WorkerEnd G O)) → ends ≡ [] → All (λ (e : WorkerEnd G O). e.log.keep ≡ keep) ends
+  none_kept ends none = subst (All (λ (e : WorkerEnd G O). e.log.keep ≡ keep)) (sym none) (All-nil (λ (e : WorkerEnd G O). e.log.keep ≡ keep))
+
+  -- the ends are all, or none
+  pub ends_kept : (b : Bool) (all ends : List (WorkerEnd G O)) → (b ≡ true → ends ≡ all) → (b ≡ false → ends ≡ []) → All (λ (e : WorkerEnd G O). e.log.keep ≡ keep) all → All (λ (e : WorkerEnd G O). e.log.keep ≡ keep) ends
+  ends_kept true all ends same none each = subst (All (λ (e : WorkerEnd G O). e.log.keep ≡ keep)) (sym (same refl)) each
+  ends_kept false all ends same none each = none_kept ends (none refl)
 
 -- ---- a history that is right
 -- its first event is the restart, and no other is one

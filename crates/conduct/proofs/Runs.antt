@@ -1,5 +1,5 @@
 -- A session that was served, and one that was not, with the stops sent after it.
-use Rattle.std.proofs.Common.{◌≡◌, ℕ, ◌<◌, ◌||◌, Bool, true, false, true≢false, inl, inr, List, [], ◌∷◌, ◌++◌, length, replicate, is_ok, Option, None, Result, Ok, Err, MatchBool, MatchResult, OnOk, IfErr, vec_items, refl, sym, ap, ◌∙◌, subst, arith}
+use Rattle.std.proofs.Common.{◌≡◌, ℕ, ◌<◌, ◌||◌, Bool, true, false, true≢false, inl, inr, List, [], ◌∷◌, ◌++◌, length, replicate, is_ok, Option, None, Result, Ok, Err, MatchBool, MatchResult, OnOk, IfErr, refl, sym, ap, ◌∙◌, subst, arith}
 use Rattle.std.proofs.lemmas.List.Elements.{All-nil}
 use Rattle.sqlite.specs.Held.{Held}
 use Rattle.sqlite.specs.State.{State}
@@ -27,6 +27,7 @@ use Rattle.sessions.specs.declared.state.Parted.{Parted}
 use Rattle.sessions.specs.declared.state.Session.{Session}
 use Rattle.sessions.specs.declared.steppers.Stepper.{Stepper}
 use Rattle.sessions.proofs.GoesLemmas.{goes_nowhere}
+use Rattle.kept.specs.Lists.{KeptValue}
 use Rattle.slot_desk.specs.declared.holds.Hold.{Hold}
 use Rattle.operators.specs.declared.kits.Kit.{Kit}
 use Rattle.workers.specs.declared.crews.WorkerEnd.{WorkerEnd}
@@ -111,7 +112,7 @@ module _ {S : Type 0} (look : Held S → State) where
       let silent : has_heard first.executor ≡ [] = ap has_heard begun.executor ∙ begun.unheard in
       record {
         right = subst (λ (b : Schedule). AreRight h b) start went.right;
-        minutes = ap vec_items ended.minutes ∙ ap (λ (x : Stepper S). vec_items x.minutes) ended.stepper ∙ went.minutes ∙ ap (λ (l : List Event). l ++ accepted h) begun.minutes;
+        minutes = ap (λ (m : KeptValue Event). m.items) ended.minutes ∙ ap (λ (x : Stepper S). x.minutes.items) ended.stepper ∙ went.minutes ∙ ap (λ (l : List Event). l ++ accepted h) begun.minutes;
         stepped = ap (λ (d : DirectorValue S). d.schedule.content) there ∙ went.stepped ∙ ap (steps (accepted h)) start;
         sent =
             ap sent_of ended.by ∙ ended.sent ∙ ap (λ l. l ++ replicate stops item.Stop) (went.works.sent ∙ ap (λ l. l ++ as_sent (handed_along (accepted h) a)) quiet)
@@ -198,6 +199,12 @@ module _ {S : Type 0} (look : Held S → State) where
     served_or fails ends true first now last p outcome begun followed sound nothing ungiven ended = served first now last p outcome begun followed ended
     served_or fails ends false first now last p outcome begun refused sound nothing ungiven ended =
         unserved first now last p outcome begun refused.0 refused.1 refused.2 refused.3 (ap fails refused.1 ∙ sound) nothing ungiven ended
+
+    -- and either way it keeps of its minutes what it kept
+    pub keeps_or : {lane_count : ℕ} {l later : L} {c then : C} {failed : Option LineFault} {is_over : Bool} {A B D : Type 0} (are_all : Bool) (first now : Session S) (outcome : Result W ConductFault)
+        → MatchBool are_all (IsFollowed look lane_count tell give first now l later c then failed is_over outcome) ((now ≡ first) × A × B × D) → now.stepper.minutes.keep ≡ first.stepper.minutes.keep
+    keeps_or true first now outcome followed = followed.served.went.keep
+    keeps_or false first now outcome refused = ap (λ (s : Session S). s.stepper.minutes.keep) refused.0
 
 -- it was served, so all were started; else a thread was refused
 pub all_or : {W : Type 0} (P A B C : Type 0) (are_all : Bool) (outcome : Result W ConductFault) → MatchBool are_all P (A × B × C × (outcome ≡ Err fault.SpawnRefused)) → all_started outcome ≡ true → are_all ≡ true

@@ -15,6 +15,8 @@ use Rattle.workers.specs.Accounted.{AreAccounts}
 use Rattle.workers.specs.Ends.{AreInOrder}
 use Rattle.workers.specs.Logs.{reports_of}
 use Rattle.workers.specs.Shows.{Shows}
+use Rattle.kept.specs.Lists.{KeptValue}
+use Rattle.kept.specs.declared.lists.Keep.{Keep}
 
 -- the jobs of a log
 abbrev pub logged : List Logged → List Job
@@ -37,6 +39,10 @@ module _ {G O : Type 0} where
   EachToldItsOwn minutes ends =
       (k : ℕ) (e : WorkerEnd G O) → k < length ends
       → of_worker (serials_of (slice_index_or ends k e).log.items) minutes ≡ reports_of (slice_index_or ends k e).log.items
+
+  -- of the minutes and of the log of each worker all is kept, or nothing, as this says
+  abbrev pub AreKept : Keep → KeptValue Event → List (WorkerEnd G O) → Type 0
+  AreKept keep minutes ends = (minutes.keep ≡ keep) × All (λ e. e.log.keep ≡ keep) ends
 
 -- Workers with these kits came to these ends while these minutes were made, from this schedule on. There is an end for each kit, or, where no minute was made,
 -- perhaps none; and each end is the one of the worker whose number is its place. The log of each is an account of its kit, which is whole; no job stands in the logs more often than the minutes hand it out; and the minutes report nothing

@@ -4,11 +4,13 @@ ghost use Rattle.sqlite.specs.Held.{state};
 ghost use Rattle.operators.specs.Kits.{IsKit};
 ghost use Rattle.sessions.specs.History.{readings_in};
 ghost use Rattle.workers.specs.Shows.{shows};
+ghost use Rattle.conduct.specs.Ends.{AreKept};
 ghost use Rattle.conduct.specs.Run.{IsConducted};
 
 use crate::closing::close;
 use crate::equipment::{Equipment, equip};
 use crate::threads::manage;
+use kept::{Keep, Kept};
 use operators::Operator;
 use sched_events::Event;
 use sessions::{Clock, ConductFault, Director, Lines};
@@ -27,7 +29,7 @@ pub struct Conducted<S: Alter, G: Gate, O: Operator> {
     /// The director, as the minutes left it.
     pub director: Director<S>,
     /// The events that were accepted in the run, in their order: the restart, the events of the lines, and what workers reported.
-    pub minutes: Vec<Event>,
+    pub minutes: Kept<Event>,
     /// What became of the crews, in their order, also where the run ended with a fault. Before an event was stepped there may be none.
     pub ends: Vec<WorkerEnd<G, O>>,
     /// What the desk held, or why the run ended otherwise.
@@ -38,7 +40,8 @@ pub struct Conducted<S: Alter, G: Gate, O: Operator> {
 /// until the lines are over and no try is in flight. Each crew works on a thread of its own.
 ///
 /// It waits for the lines, for the tries and for the threads. A report, and the restart, are stepped up to three times where the record or
-/// want of memory stands against them; an event of a line once. At the end, and on a fault, each worker is stopped and joined.
+/// want of memory stands against them; an event of a line once. At the end, and on a fault, each worker is stopped and joined. `keep` says
+/// whether the minutes and the workers' logs are kept.
 pub fn conduct<
     S: Alter + Drop,
     G: Gate + Send,
@@ -54,13 +57,15 @@ pub fn conduct<
     crews: Vec<Crew<G, O>>,
     lines: &mut L,
     clock: &mut C,
+    keep: Keep,
 ) -> Conducted<S, G, O>
     requires lanes { (lane_count ≤ 64) × (lane_count ≤ director.schedule.content.limits.lanes) }
     requires crews { length crews.items ≤ 16 }
     requires kits { All (λ c. IsKit O.kind_of c.kit) crews.items }
     requires sound { L.failed lines.old ≡ None }
-    ensures { IsConducted (state S.Store) (shows O.kind_of O.runs_of O.refused_of O.taken) lane_count (map (λ c. c.kit) crews.items) director result
+    ensures conducted { IsConducted (state S.Store) (shows O.kind_of O.runs_of O.refused_of O.taken) lane_count (map (λ c. c.kit) crews.items) director result
         (λ told waits. L.tells lines.old told waits lines.new × C.gives clock.old (readings_in told) clock.new) ((lines.new ≡ lines.old) × (clock.new ≡ clock.old)) (L.failed lines.new) (L.over lines.new) }
+    ensures keep { AreKept keep result.minutes result.ends.items }
 {
     // what is known of the schedule that is run
     let _ = director.schedule().runs();
@@ -68,7 +73,7 @@ pub fn conduct<
     if workers == 0 {
         return Conducted {
             director,
-            minutes: Vec::new(alloc),
+            minutes: Kept::new(alloc, keep),
             ends: Vec::new(alloc),
             outcome: Err(ConductFault::NoWorker),
         };
@@ -82,6 +87,7 @@ pub fn conduct<
         crews,
         lines,
         clock,
+        keep,
     )
 }
 
@@ -103,6 +109,7 @@ fn conduct_at<
     crews: Vec<Crew<G, O>>,
     lines: &mut L,
     clock: &mut C,
+    keep: Keep,
 ) -> Conducted<S, G, O>
     requires name { blank.name ≡ D.name }
     requires parts { (blank.parts ≡ D.parts) × (blank.parts ≡ length crews.items) }
@@ -110,16 +117,17 @@ fn conduct_at<
     requires crews { (0 < length crews.items) × (length crews.items ≤ 16) }
     requires kits { All (λ c. IsKit O.kind_of c.kit) crews.items }
     requires sound { L.failed lines.old ≡ None }
-    ensures { IsConducted (state S.Store) (shows O.kind_of O.runs_of O.refused_of O.taken) lane_count (map (λ c. c.kit) crews.items) director result
+    ensures conducted { IsConducted (state S.Store) (shows O.kind_of O.runs_of O.refused_of O.taken) lane_count (map (λ c. c.kit) crews.items) director result
         (λ told waits. L.tells lines.old told waits lines.new × C.gives clock.old (readings_in told) clock.new) ((lines.new ≡ lines.old) × (clock.new ≡ clock.old)) (L.failed lines.new) (L.over lines.new) }
+    ensures keep { AreKept keep result.minutes result.ends.items }
 {
     // what is known of the schedule that is run
     let _ = director.schedule().runs();
     let count = crews.len();
-    let Ok(equipment) = equip::<D, G, O>(alloc, blank, lane_count, count) else {
+    let Ok(equipment) = equip::<D, G, O>(alloc, blank, lane_count, count, keep) else {
         return Conducted {
             director,
-            minutes: Vec::new(alloc),
+            minutes: Kept::new(alloc, keep),
             ends: Vec::new(alloc),
             outcome: Err(ConductFault::Memory),
         };

@@ -2,6 +2,7 @@
 ghost use Rattle.std.specs.Prelude.{◌≡◌, ◌+◌, ◌*◌, ◌<◌, ◌≤◌, max, [], All, IfOk, length, vec_capacity};
 ghost use Rattle.ruled_dispatch.specs.Lanes.{sent_of, heard_of, taken_of, told_of, job_capacity_of, report_capacity_of, AreAllOf, AreNumbered};
 
+use kept::Keep;
 use operators::Operator;
 use ruled_dispatch::{DirectorPass, Lanes, WorkerPass};
 use slot_desk::{Share, SlotDesk};
@@ -19,12 +20,13 @@ pub(crate) struct Equipment<D: Ledger, G: Gate, O: Operator> {
     pub room: ResultRoom<D, G, O>,
 }
 
-/// What the workers get, and room for their threads.
+/// What the workers get, room for their threads, and what is kept of a run.
 #[derive(Drop)]
 pub(crate) struct Workers<D: Ledger, G: Gate, O: Operator> {
     pub handles: Vec<Handle<D, G, O>>,
     pub passes: Vec<WorkerPass>,
     pub shares: Vec<Share<D>>,
+    pub keep: Keep,
 }
 
 /// Equips a run with so many lanes and so many workers.
@@ -33,6 +35,7 @@ pub(crate) fn equip<D: Ledger, G: Gate, O: Operator>(
     blank: Blank,
     lane_count: u32,
     count: usize,
+    keep: Keep,
 ) -> Result<Equipment<D, G, O>, AllocError>
     requires lanes { lane_count ≤ 64 }
     requires workers { (0 < count) × (count ≤ 16) }
@@ -46,6 +49,7 @@ pub(crate) fn equip<D: Ledger, G: Gate, O: Operator>(
     ensures new { IfOk result (λ q. All (λ w. taken_of w ≡ []) q.workers.passes.items × All (λ w. told_of w ≡ []) q.workers.passes.items) }
     ensures none { IfOk result (λ q. All (λ share. share ≡ []) q.workers.shares.items) }
     ensures room { IfOk result (λ q. (q.workers.handles.items ≡ []) × (count ≤ vec_capacity q.workers.handles) × (q.room ≡ count)) }
+    ensures keep { IfOk result (λ q. q.workers.keep ≡ keep) }
 {
     let handles = Vec::with_capacity(alloc, count)?;
     let room = ResultRoom::new(alloc, count)?;
@@ -55,6 +59,7 @@ pub(crate) fn equip<D: Ledger, G: Gate, O: Operator>(
         handles,
         passes,
         shares,
+        keep,
     };
     Ok(Equipment {
         lanes,

@@ -5,7 +5,7 @@
 //! log of one worker, once; what a worker reported is in the minutes as it told it, and nothing else; each log is an account of what the worker's
 //! kit did; and at the desk nothing is left.
 //!
-//! In: `conduct(rt, alloc, director, 4, crews, &mut lines, &mut clock)`. Out: the director, the minutes, the ends of the crews, and what the
+//! In: `conduct(rt, alloc, director, 4, crews, &mut lines, &mut clock, keep)`. Out: the director, the minutes, the ends of the crews, and what the
 //! desk held or why the run ended otherwise. Easy to get wrong: with a fault the minutes, the record and the logs are right too, but where no
 //! event was stepped there may be no ends.
 #![tactic(auto)]
@@ -17,4 +17,5 @@ mod serving;
 mod threads;
 
 pub use conducting::{Conducted, conduct};
+pub use kept::{Keep, Kept};
 pub use sessions::{Clock, ClockFault, ConductFault, Director, Fault, Limits, Schedule, Store};

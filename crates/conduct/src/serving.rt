@@ -7,6 +7,7 @@ ghost use Rattle.conduct.specs.Faults.{all_started};
 ghost use Rattle.conduct.specs.Served.{IsFollowed, IsServed};
 ghost use Rattle.sessions.specs.declared.faults.ConductFault.TheVariants as fault;
 
+use kept::Keep;
 use ruled_dispatch::{DirectorPass, Lanes};
 use sessions::{Clock, ConductFault, Director, Lines, Parted, Session};
 use sqlite::Alter;
@@ -27,8 +28,8 @@ pub struct Served<S: Alter> {
     pub outcome: Result<(), ConductFault>,
 }
 
-/// Serves a session of the director, if all workers were started, and sends each that was a stop. The session borrows the lanes, so it is made and taken apart
-/// here.
+/// Serves a session of the director, if all workers were started, and sends each that was a stop. `keep` says whether the minutes are kept. The session borrows
+/// the lanes, so it is made and taken apart here.
 pub(crate) fn serve<S: Alter, L: Lines<S>, C: Clock, R: Wait>(
     rt: &R,
     alloc: Global,
@@ -39,6 +40,7 @@ pub(crate) fn serve<S: Alter, L: Lines<S>, C: Clock, R: Wait>(
     pass: DirectorPass,
     lines: &mut L,
     clock: &mut C,
+    keep: Keep,
 ) -> Served<S>
     requires pass { IsDirectorOf lanes.now pass }
     requires unused { (sent_of pass ≡ []) × (heard_of pass ≡ []) }
@@ -47,8 +49,9 @@ pub(crate) fn serve<S: Alter, L: Lines<S>, C: Clock, R: Wait>(
     ensures served { IsServed (state S.Store) lanes.now lane_count started.workers director pass result.parted result.outcome
         (λ told waits. L.tells lines.old told waits lines.new × C.gives clock.old (readings_in told) clock.new) ((lines.new ≡ lines.old) × (clock.new ≡ clock.old)) (L.failed lines.new) (L.over lines.new) }
     ensures all { all_started result.outcome ≡ true → started.are_all ≡ true }
+    ensures keep { result.parted.minutes.keep ≡ keep }
 {
-    let mut session = Session::new(alloc, director, lanes, pass);
+    let mut session = Session::new(alloc, director, lanes, pass, keep);
     let outcome = serve_all(
         rt,
         alloc,

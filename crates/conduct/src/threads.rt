@@ -2,10 +2,11 @@
 //!
 //! The lines and the clock are lent into the scope, and come out of it beside what came of it (`Lent`), so that what is said of them there can be said
 //! of the references that the caller has.
-ghost use Rattle.std.specs.Prelude.{◌≡◌};
+ghost use Rattle.std.specs.Prelude.{◌≡◌, map};
 ghost use Rattle.sqlite.specs.Held.{state};
 ghost use Rattle.sessions.specs.History.{readings_in};
 ghost use Rattle.workers.specs.Shows.{shows};
+ghost use Rattle.conduct.specs.Ends.{AreKept};
 ghost use Rattle.conduct.specs.Served.{IsReady, IsManaged};
 
 use crate::equipment::Workers;
@@ -66,6 +67,7 @@ pub(crate) fn manage<
         (L.failed lines.old) }
     ensures managed { IsManaged (state S.Store) (shows O.kind_of O.runs_of O.refused_of O.taken) lanes.now lane_count director pass workers crews.items result.parted result.outcome result.results.items
         (λ told waits. L.tells lines.old told waits lines.new × C.gives clock.old (readings_in told) clock.new) ((lines.new ≡ lines.old) × (clock.new ≡ clock.old)) (L.failed lines.new) (L.over lines.new) }
+    ensures keep { AreKept workers.keep result.parted.minutes (map (λ r. r.0) result.results.items) }
 {
     let Lent {
         parted,
@@ -118,6 +120,7 @@ fn in_scope<
     ensures lent { (result.lines.ghost_name ≡ lines.entry.ghost_name) × (result.clock.ghost_name ≡ clock.entry.ghost_name) }
     ensures managed { IsManaged (state S.Store) (shows O.kind_of O.runs_of O.refused_of O.taken) lanes.now lane_count director pass workers crews.items result.parted result.outcome result.results.items
         (λ told waits. L.tells lines.old told waits result.lines.now × C.gives clock.old (readings_in told) result.clock.now) ((result.lines.now ≡ lines.old) × (result.clock.now ≡ clock.old)) (L.failed result.lines.now) (L.over result.lines.now) }
+    ensures keep { AreKept workers.keep result.parted.minutes (map (λ r. r.0) result.results.items) }
 {
     thread::scope(
         thread::scope_env(),
@@ -128,6 +131,7 @@ fn in_scope<
             ensures lent { (result.lines.ghost_name ≡ lines.entry.ghost_name) × (result.clock.ghost_name ≡ clock.entry.ghost_name) }
             ensures managed { IsManaged (state S.Store) (shows O.kind_of O.runs_of O.refused_of O.taken) lanes.entry.now lane_count director pass workers crews.items result.parted result.outcome result.results.items
                 (λ told waits. L.tells lines.entry.now told waits result.lines.now × C.gives clock.entry.now (readings_in told) result.clock.now) ((result.lines.now ≡ lines.entry.now) × (result.clock.now ≡ clock.entry.now)) (L.failed result.lines.now) (L.over result.lines.now) }
+            ensures keep { AreKept workers.keep result.parted.minutes (map (λ r. r.0) result.results.items) }
         {
             run(
                 scope, rt, alloc, lanes, desk, lane_count, director, pass, workers, crews, lines,
@@ -169,11 +173,13 @@ fn run<
     ensures lent { (result.lines.ghost_name ≡ lines.entry.ghost_name) × (result.clock.ghost_name ≡ clock.entry.ghost_name) }
     ensures managed { IsManaged (state S.Store) (shows O.kind_of O.runs_of O.refused_of O.taken) lanes.now lane_count director pass workers crews.items result.parted result.outcome result.results.items
         (λ told waits. L.tells lines.old told waits result.lines.now × C.gives clock.old (readings_in told) result.clock.now) ((result.lines.now ≡ lines.old) × (result.clock.now ≡ clock.old)) (L.failed result.lines.now) (L.over result.lines.now) }
+    ensures keep { AreKept workers.keep result.parted.minutes (map (λ r. r.0) result.results.items) }
 {
     let Workers {
         mut handles,
         passes,
         shares,
+        keep,
     } = workers;
     let are_all = start_all(
         scope,
@@ -185,13 +191,14 @@ fn run<
         passes,
         shares,
         crews,
+        keep,
     );
     let started = Started {
         workers: handles.len(),
         are_all,
     };
     let Served { parted, outcome } = serve(
-        rt, alloc, lanes, lane_count, started, director, pass, lines, clock,
+        rt, alloc, lanes, lane_count, started, director, pass, lines, clock, keep,
     );
     let results = join_all(rt, handles);
     Lent {

@@ -11,7 +11,9 @@ use fault_sentences::SentenceConsole;
 use meta_store::Store;
 use operators::{Operator, Program};
 use script_reader::{Console, Script, Sources};
-use script_runner::{FileSources, SystemClock, TaskOperator, operators_for, run_team};
+use script_runner::{
+    FileSources, Keep, RunOptions, SystemClock, TaskOperator, operators_for, run_team,
+};
 use sqlite::Alter;
 use sqlite_disk::{Files, Unknown};
 use sqlite_std_file::{File, OpenError};
@@ -142,7 +144,10 @@ fn run_by_team<
         threads,
         alloc,
         store,
-        options.lanes.get(),
+        RunOptions {
+            lanes: options.lanes.get(),
+            keep: Keep::Nothing,
+        },
         team,
         script,
         &mut clock,

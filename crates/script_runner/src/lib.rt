@@ -4,7 +4,7 @@
 //! stepped in the record and in memory, a refused one changes nothing, and what is no command is answered by its fault; the script goes on after each.
 //!
 //! ```text
-//! let ran = run_on(rt, alloc, store, RunOptions { lanes: 4 }, crews, script, &mut clock)?;
+//! let ran = run_on(rt, alloc, store, RunOptions { lanes: 4, keep: Keep::All }, crews, script, &mut clock)?;
 //! ```
 //!
 //! Beside it stands what the program runs scripts with: the system's clock, files by their paths, and teams of operators ([`run_team`]). What the system's clock says and what stands in a file is the system's: nothing is proved of it but that a reading of the
@@ -13,7 +13,7 @@
 //! ```text
 //! let team = operators_for(*rt, alloc, 4, "dagsched-scratch", None)?;
 //! let script = Script { input, output, sources: FileSources::new(*rt, alloc), console };
-//! let ran = run_team(rt, alloc, store, 4, team, script, &mut SystemClock::new(*rt))?;
+//! let ran = run_team(rt, alloc, store, RunOptions { lanes: 4, keep: Keep::Nothing }, team, script, &mut SystemClock::new(*rt))?;
 //! ```
 //!
 //! Easy to get wrong: the minutes have the workers' reports too, so they are more than the script's own events.
@@ -25,6 +25,7 @@ mod system_clock;
 mod task_operators;
 mod teams;
 
+pub use conduct::{Keep, Kept};
 pub use file_sources::FileSources;
 pub use running::{Ran, RunOptions, Unopened, run_on};
 pub use system_clock::SystemClock;

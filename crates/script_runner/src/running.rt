@@ -5,6 +5,7 @@ ghost use Rattle.sqlite.specs.Held.{state};
 ghost use Rattle.sqlite.specs.State.{HasCleanDisk, Survives};
 ghost use Rattle.operators.specs.Kits.{IsKit};
 ghost use Rattle.sched_state.specs.Limits.{ceilings};
+ghost use Rattle.conduct.specs.Ends.{AreKept};
 ghost use Rattle.conduct.specs.sessions.director.Directors.{RestartsIn};
 ghost use Rattle.conduct.specs.sessions.director.Faults.{IsOpenFault, IsRefused};
 ghost use Rattle.conduct.specs.sessions.director.meta_store.Stores.{CommitsBy, IsKeptOrMigrated, Migrates, OpensBy};
@@ -12,7 +13,9 @@ ghost use Rattle.script_reader.specs.Ends.{IsEndStatus, end_text};
 ghost use Rattle.workers.specs.Shows.{shows};
 ghost use Rattle.script_runner.specs.Runs.{IsRun};
 
-use conduct::{Clock, ConductFault, Conducted, Director, Fault, Limits, Store, conduct};
+use conduct::{
+    Clock, ConductFault, Conducted, Director, Fault, Keep, Kept, Limits, Store, conduct,
+};
 use operators::Operator;
 use sched_events::Event;
 use script_reader::{Console, Script, ScriptReader, Sources};
@@ -29,6 +32,8 @@ use workers::{Crew, Gate, WorkerEnd};
 pub struct RunOptions {
     /// The most tries that may be in flight, at most 64. With none nothing is handed out.
     pub lanes: u32,
+    /// Whether the accepted events and the workers' logs are kept, for whoever reads them in the end. Then each event and each try takes memory.
+    pub keep: Keep,
 }
 
 /// What came of a script.
@@ -40,7 +45,7 @@ pub struct Ran<S: Alter, G: Gate, O: Operator, F: Sources, W: Write + Drop> {
     /// answer, 2 where a line is no command, 3 for a fault of the record, 4 for any other.
     pub status: u8,
     /// The events that were accepted, in their order, from the restart on.
-    pub minutes: Vec<Event>,
+    pub minutes: Kept<Event>,
     /// What became of the crews, in their order, also where the run ended with a fault. Before an event was stepped there may be none.
     pub ends: Vec<WorkerEnd<G, O>>,
     /// What the desk held, or why the run ended otherwise.
@@ -93,6 +98,7 @@ pub fn run_on<
         (λ given. F.gives script.sources given ran.sources) (λ moments. C.gives clock.old moments clock.new)
         (λ shown. Appends (W.contents script.output) (W.contents ran.output) shown)
         ((ran.sources ≡ script.sources) × (clock.new ≡ clock.old)) options.lanes (map (λ c. c.kit) crews.items) (state S.Store store) ran.store ran.minutes.items ran.ends.items ran.outcome ran.status) }
+    ensures keep { IfOk result (λ ran. AreKept options.keep ran.minutes ran.ends.items) }
     ensures fault { IfErr result (λ e. HasCleanDisk (state S.Store e.store)
         → IsOpenFault ceilings 0 (state S.Store store).now e.fault) }
     ensures kept { IfErr result (λ e. HasCleanDisk (state S.Store e.store)
@@ -128,6 +134,7 @@ pub fn run_on<
                 crews,
                 &mut reader,
                 clock,
+                options.keep,
             );
             Ok(close(reader, conducted))
         }

@@ -5,6 +5,7 @@ ghost use Rattle.sqlite.specs.Held.{state};
 ghost use Rattle.sqlite.specs.State.{HasCleanDisk, Survives};
 ghost use Rattle.operators.specs.Kits.{IsKit};
 ghost use Rattle.sched_state.specs.Limits.{ceilings};
+ghost use Rattle.conduct.specs.Ends.{AreKept};
 ghost use Rattle.conduct.specs.sessions.director.Directors.{RestartsIn};
 ghost use Rattle.conduct.specs.sessions.director.Faults.{IsOpenFault, IsRefused};
 ghost use Rattle.conduct.specs.sessions.director.meta_store.Stores.{CommitsBy, IsKeptOrMigrated, Migrates, OpensBy};
@@ -38,18 +39,19 @@ pub fn run_team<
     rt: &T,
     alloc: Global,
     store: Store<S>,
-    lanes: u32,
+    options: RunOptions,
     team: Vec<(Vec<O>, G)>,
     script: Script<R, W, F, P>,
     clock: &mut C,
 ) -> Result<Ran<S, G, O, F, W>, Unopened<S, R, W, F, P>>
-    requires lanes { lanes ≤ 64 }
+    requires lanes { options.lanes ≤ 64 }
     requires workers { length team.items ≤ 16 }
     requires whole { All (λ w. IsWhole O.kind_of w.0.items) team.items }
     ensures run { IfOk result (λ ran. IsTeamRun (state S.Store) (shows O.kind_of O.runs_of O.refused_of O.taken) (R.Read.remaining script.input)
         (λ given. F.gives script.sources given ran.sources) (λ moments. C.gives clock.old moments clock.new)
         (λ shown. Appends (W.contents script.output) (W.contents ran.output) shown)
-        ((ran.sources ≡ script.sources) × (clock.new ≡ clock.old)) lanes (map (λ w. w.0.items) team.items) (state S.Store store) ran.store ran.minutes.items ran.ends.items ran.outcome ran.status) }
+        ((ran.sources ≡ script.sources) × (clock.new ≡ clock.old)) options.lanes (map (λ w. w.0.items) team.items) (state S.Store store) ran.store ran.minutes.items ran.ends.items ran.outcome ran.status) }
+    ensures keep { IfOk result (λ ran. AreKept options.keep ran.minutes ran.ends.items) }
     ensures fault { IfErr result (λ e. HasCleanDisk (state S.Store e.store)
         → IsOpenFault ceilings 0 (state S.Store store).now e.fault) }
     ensures kept { IfErr result (λ e. HasCleanDisk (state S.Store e.store)
@@ -70,7 +72,7 @@ pub fn run_team<
             script,
         });
     };
-    run_on(rt, alloc, store, RunOptions { lanes }, crews, script, clock)
+    run_on(rt, alloc, store, options, crews, script, clock)
 }
 
 // A crew for each list of operators.

@@ -1,6 +1,6 @@
 -- What steps do to a session.
 use Rattle.std.proofs.Common.{◌≡◌, ◌∙◌, ℕ, ◌+◌, zero, suc, Bool, true, false, ◌||◌, List, [], ◌∷◌, ◌++◌, length, None, Result, Ok, Err, is_ok, true≢false, IfOk, IfErr, OnOk, All, replicate, refl, sym, ap, subst, arith, append_assoc, append-nil}
-use Rattle.std.specs.Prelude.{◌<◌, vec_len, vec_capacity}
+use Rattle.std.specs.Prelude.{◌<◌}
 use Rattle.std.proofs.lemmas.List.{map-append}
 use Rattle.std.proofs.lemmas.List.Sums.{sum_by-append}
 use Rattle.std.proofs.lemmas.List.Elements.{All-append, All-cons, All-nil}
@@ -65,14 +65,14 @@ or_true false = refl
 
 module _ {S : Type 0} where
   -- an event was put, or there is none to put
-  pub put_ok : {e : Event} {came : Result WrittenEvent Fault} {w : WrittenEvent} (s u : Session S) → came ≡ Ok w → u.stepper.minutes.items ≡ s.stepper.minutes.items ++ e ∷ [] → u.stepper.director ≡ s.stepper.director
+  pub put_ok : {e : Event} {came : Result WrittenEvent Fault} {w : WrittenEvent} (s u : Session S) → came ≡ Ok w → u.stepper.minutes.items ≡ s.stepper.minutes.items ++ e ∷ [] → u.stepper.minutes.keep ≡ s.stepper.minutes.keep → u.stepper.director ≡ s.stepper.director
       → u.stepper.tries ≡ s.stepper.tries → Works (as_sent w.answer.jobs) [] 0 0 s.executor u.executor → u.missed ≡ s.missed → IsPut e (came_of came) s u
-  put_ok {e} {came} {w} s u is minutes director tries works missed =
-      subst (λ (r : Result WrittenEvent Fault). IsPut e (came_of r) s u) (sym is) (record { minutes = minutes; director = director; tries = tries; works = works; missed = missed })
+  put_ok {e} {came} {w} s u is minutes keep director tries works missed =
+      subst (λ (r : Result WrittenEvent Fault). IsPut e (came_of r) s u) (sym is) (record { minutes = minutes; keep = keep; director = director; tries = tries; works = works; missed = missed })
 
   pub put_err : {e : Event} {came : Result WrittenEvent Fault} {fault : Fault} (s : Session S) → came ≡ Err fault → IsPut e (came_of came) s s
   put_err {e} {came} {fault} s is =
-      subst (λ (r : Result WrittenEvent Fault). IsPut e (came_of r) s s) (sym is) (record { minutes = sym (append-nil s.stepper.minutes.items); director = refl; tries = refl; works = works_idle s.executor; missed = refl })
+      subst (λ (r : Result WrittenEvent Fault). IsPut e (came_of r) s s) (sym is) (record { minutes = sym (append-nil s.stepper.minutes.items); keep = refl; director = refl; tries = refl; works = works_idle s.executor; missed = refl })
 
 -- what two stretches leave
 leaves_both : {S : Type 0} (look : Held S → State) (h k : List Step) (s t u : Session S) → now_of t ≡ steps (accepted h) (now_of s) → Follows (now_of s) (look s.stepper.director.store) (now_of t) (look t.stepper.director.store)
@@ -103,6 +103,7 @@ module _ {S : Type 0} {look : Held S → State} where
             (sym (flat_map-append heard_by h k)) (sym (sum_by-append nones_by h k)) (sym (sum_by-append waits_by h k))
             (works_then (as_sent (handed_along (accepted h) a)) (as_sent (handed_along (accepted k) (now_of t))) (heard_in h) (heard_in k) (nones_in h) (nones_in k) (waits_in h) (waits_in k) s.executor t.executor u.executor one.works two.works);
         missed = two.missed ∙ ap (λ b. b || any_missed k) one.missed ∙ or_assoc s.missed (any_missed h) (any_missed k) ∙ ap (λ b. s.missed || b) (sym (list_any-append is_missed h k));
+        keep = two.keep ∙ one.keep;
         opened = two.opened ∙ one.opened;
         followed = follows_then _ _ _ _ _ _ one.followed two.followed;
         left = leaves_both look h k s t u one.stepped one.followed one.left two.left;
@@ -117,6 +118,7 @@ module _ {S : Type 0} {look : Held S → State} where
     tries = refl;
     works = works_idle s.executor;
     missed = or_false s.missed;
+    keep = refl;
     opened = refl;
     followed = follows_itself (now_of s) (look s.stepper.director.store);
     left = leaves_none (now_of s) (look s.stepper.director.store);
@@ -136,6 +138,7 @@ module _ {S : Type 0} {look : Held S → State} where
             works_same [] (as_sent (handed_along (accepted (x ∷ [])) (now_of s))) (heard_by x) (heard_in (x ∷ [])) (nones_by x) (nones_in (x ∷ [])) (waits_by x) (waits_in (x ∷ [])) s.executor y
             (ap (λ l. as_sent (handed_along l (now_of s))) (sym nothing)) (sym (append-nil (heard_by x))) (omega arith) (omega arith) works;
         missed = or_false s.missed ∙ ap (λ b. s.missed || b) (sym unmissed ∙ or_false (is_missed x));
+        keep = refl;
         opened = refl;
         followed = follows_itself (now_of s) (look s.stepper.director.store);
         left =
@@ -161,6 +164,7 @@ module _ {S : Type 0} {look : Held S → State} where
         works_same (as_sent (jobs_of came)) (as_sent (handed_along (accepted_in e came) (now_of s))) [] [] 0 0 0 0 s.executor u.executor
         (outcome_jobs (now_of s) t.director.schedule.content e came tried.outcome) refl refl refl put.works;
     missed = put.missed ∙ or_false s.missed;
+    keep = put.keep ∙ tried.keep;
     opened = ap (λ (d : DirectorValue S). d.opened) put.director ∙ tried.opened;
     followed = subst (λ (d : DirectorValue S). Follows (now_of s) (look s.stepper.director.store) d.schedule.content (look d.store)) (sym put.director) tried.followed;
     left = subst (λ (d : DirectorValue S). Leaves (accepted_in e came) (tried_part e n came) (now_of s) (look s.stepper.director.store) (look d.store)) (sym put.director) tried.left;
@@ -182,6 +186,7 @@ module _ {S : Type 0} {look : Held S → State} where
             (ap (λ l. as_sent (handed_along l (now_of s))) (sym one)) refl (omega arith) (omega arith)
             (works_then [] (as_sent (handed_along (accepted_in e came) (now_of s))) (heard_by x) [] (nones_by x) 0 (waits_by x) 0 s.executor y u.executor heard done.works);
         missed = done.missed ∙ ap (λ b. s.missed || b) (or_false (is_missed x));
+        keep = done.keep;
         opened = done.opened;
         followed = done.followed;
         left =
@@ -250,6 +255,7 @@ module _ {S : Type 0} {look : Held S → State} where
     tries = done.tries;
     works = done.works;
     missed = sym (or_true s.missed) ∙ ap (λ (r : Result Answer Fault). s.missed || is_lost r) (sym is);
+    keep = done.keep;
     opened = done.opened;
     followed = done.followed;
     left = done.left;
@@ -283,15 +289,16 @@ is_come a b e (Err fault) of out = subst (λ (x : Schedule). IsFaultOf x e fault
 module _ {S : Type 0} (look : Held S → State) where
   -- ---- one try
   -- it was put to the director, with room for it in the minutes
-  pub tried_once : (e : Event) (r : Result WrittenEvent Fault) (s u : Stepper S) → vec_len u.minutes < vec_capacity u.minutes → u.minutes.items ≡ s.minutes.items → u.tries ≡ more 1 s.tries → u.director.opened ≡ s.director.opened
+  pub tried_once : (e : Event) (r : Result WrittenEvent Fault) (s u : Stepper S) → 0 < u.minutes.room → u.minutes.items ≡ s.minutes.items → u.minutes.keep ≡ s.minutes.keep → u.tries ≡ more 1 s.tries → u.director.opened ≡ s.director.opened
       → IsOutcome s.director.schedule.content e (came_of r) u.director.schedule.content
       → Follows s.director.schedule.content (look s.director.store) u.director.schedule.content (look u.director.store)
       → Leaves (accepted_in e (came_of r)) (tried_in e (came_of r)) s.director.schedule.content (look s.director.store) (look u.director.store)
       → IsTried look e 0 s (came_of r) u
-  tried_once e r s u room minutes tries opened outcome followed left = record {
+  tried_once e r s u room minutes keep tries opened outcome followed left = record {
     outcome = outcome;
     room = where_came r room;
     minutes = minutes;
+    keep = keep;
     tries = tries;
     opened = opened;
     followed = followed;
@@ -299,12 +306,13 @@ module _ {S : Type 0} (look : Held S → State) where
   }
 
   -- there was no room, so it was not put to the director
-  pub untried : {e : Event} (s u : Stepper S) → u.minutes.items ≡ s.minutes.items → u.tries ≡ more 1 s.tries → u.director ≡ s.director → IsTried look e 0 s (Err Memory) u
-  untried {e} s u minutes tries same = record {
+  pub untried : {e : Event} (s u : Stepper S) → u.minutes.items ≡ s.minutes.items → u.minutes.keep ≡ s.minutes.keep → u.tries ≡ more 1 s.tries → u.director ≡ s.director → IsTried look e 0 s (Err Memory) u
+  untried {e} s u minutes keep tries same = record {
     outcome = (tt, ap (λ (d : DirectorValue S). d.schedule.content) same);
     room = tt;
     minutes = minutes;
     tries = tries;
+    keep = keep;
     opened = ap (λ (d : DirectorValue S). d.opened) same;
     followed = subst (λ (d : DirectorValue S). Follows s.director.schedule.content (look s.director.store) d.schedule.content (look d.store)) (sym same) (follows_itself s.director.schedule.content (look s.director.store));
     left =
@@ -316,6 +324,7 @@ module _ {S : Type 0} (look : Held S → State) where
   pub record AreVain (e : Event) (n : ℕ) (s t : Stepper S) : Type 0 where
     pub same : t.director.schedule.content ≡ s.director.schedule.content
     pub minutes : t.minutes.items ≡ s.minutes.items
+    pub keep : t.minutes.keep ≡ s.minutes.keep
     pub tries : t.tries ≡ more n s.tries
     pub opened : t.director.opened ≡ s.director.opened
     pub followed : Follows s.director.schedule.content (look s.director.store) t.director.schedule.content (look t.director.store)
@@ -326,6 +335,7 @@ module _ {S : Type 0} (look : Held S → State) where
     same = refl;
     minutes = refl;
     tries = refl;
+    keep = refl;
     opened = refl;
     followed = follows_itself s.director.schedule.content (look s.director.store);
     left = leaves_none s.director.schedule.content (look s.director.store);
@@ -346,6 +356,7 @@ module _ {S : Type 0} (look : Held S → State) where
         room = h.room;
         minutes = h.minutes ∙ was.minutes;
         tries = h.tries ∙ ap (more 1) was.tries ∙ more_then n 1 s.tries ∙ same_more (n + 1) (suc n) s.tries (omega arith);
+        keep = h.keep ∙ was.keep;
         opened = h.opened ∙ was.opened;
         followed = follows_then _ _ _ _ _ _ was.followed h.followed;
         left = subst (λ (xs : List Event). Leaves (accepted_in e q) xs s.director.schedule.content (look s.director.store) (look u.director.store)) (once_behind e n q) (left_behind was h);
@@ -358,6 +369,7 @@ module _ {S : Type 0} (look : Held S → State) where
         same = h.outcome.1 ∙ was.same;
         minutes = h.minutes ∙ was.minutes;
         tries = h.tries ∙ ap (more 1) was.tries ∙ more_then n 1 s.tries ∙ same_more (n + 1) m s.tries (omega (arith, count));
+        keep = h.keep ∙ was.keep;
         opened = h.opened ∙ was.opened;
         followed = follows_then _ _ _ _ _ _ was.followed h.followed;
         left =

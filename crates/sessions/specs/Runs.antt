@@ -1,6 +1,6 @@
 -- What a history does to a session.
 -- restates: this project's own profile
-use Rattle.std.specs.Prelude.{◌≡◌, ◌<◌, ◌+◌, ◌-◌, ◌^◌, ◌||◌, ℕ, suc, zero, min, Bool, List, [], ◌∷◌, ◌++◌, map, Result, Ok, Err, OnOk, vec_len, vec_capacity}
+use Rattle.std.specs.Prelude.{◌≡◌, ◌<◌, ◌+◌, ◌-◌, ◌^◌, ◌||◌, ℕ, suc, zero, min, Bool, List, [], ◌∷◌, ◌++◌, map, Result, Ok, Err, OnOk}
 use Rattle.sqlite.specs.Held.{Held}
 use Rattle.sqlite.specs.State.{State}
 use Rattle.ruled_dispatch.specs.declared.items.JobOrStop.{JobOrStop}
@@ -43,8 +43,9 @@ pub record Works (jobs : List JobOrStop) (reports : List WorkerReport) (polls sl
 -- the event was tried once more than so often in vain: it is answered or refused, as the director does, and where it is answered, the minutes have room for it
 pub record IsTried {S : Type 0} (look : Held S → State) (e : Event) (vain : ℕ) (old : Stepper S) (came : Result Answer Fault) (new : Stepper S) : Type 0 where
   pub outcome : IsOutcome old.director.schedule.content e came new.director.schedule.content
-  pub room : OnOk came (vec_len new.minutes < vec_capacity new.minutes)
+  pub room : OnOk came (0 < new.minutes.room)
   pub minutes : new.minutes.items ≡ old.minutes.items
+  pub keep : new.minutes.keep ≡ old.minutes.keep
   pub tries : new.tries ≡ more (suc vain) old.tries
   pub opened : new.director.opened ≡ old.director.opened
   pub followed : Follows old.director.schedule.content (look old.director.store) new.director.schedule.content (look new.director.store)
@@ -57,6 +58,7 @@ jobs_of (Err fault) = []
 -- an event that was stepped is put into the minutes, and the jobs of its answer are sent; nothing else has changed
 pub record IsPut {S : Type 0} (e : Event) (came : Result Answer Fault) (old new : Session S) : Type 0 where
   pub minutes : new.stepper.minutes.items ≡ old.stepper.minutes.items ++ accepted_in e came
+  pub keep : new.stepper.minutes.keep ≡ old.stepper.minutes.keep
   pub director : new.stepper.director ≡ old.stepper.director
   pub tries : new.stepper.tries ≡ old.stepper.tries
   pub works : Works (as_sent (jobs_of came)) [] 0 0 old.executor new.executor
@@ -67,6 +69,7 @@ pub record IsDone {S : Type 0} (look : Held S → State) (e : Event) (vain : ℕ
   pub came : CameTo (now_of old) e result
   pub stepped : now_of new ≡ steps (accepted_in e result) (now_of old)
   pub minutes : new.stepper.minutes.items ≡ old.stepper.minutes.items ++ accepted_in e result
+  pub keep : new.stepper.minutes.keep ≡ old.stepper.minutes.keep
   pub tries : new.stepper.tries ≡ more (suc vain) old.stepper.tries
   pub works : Works (as_sent (handed_along (accepted_in e result) (now_of old))) [] 0 0 old.executor new.executor
   pub missed : new.missed ≡ (old.missed || lost)
@@ -81,6 +84,7 @@ pub record Goes {S : Type 0} (look : Held S → State) (h : List Step) (old new 
   pub right : AreRight h (now_of old)
   pub stepped : now_of new ≡ steps (accepted h) (now_of old)
   pub minutes : new.stepper.minutes.items ≡ old.stepper.minutes.items ++ accepted h
+  pub keep : new.stepper.minutes.keep ≡ old.stepper.minutes.keep
   pub tries : new.stepper.tries ≡ more (tries_in h) old.stepper.tries
   pub works : Works (as_sent (handed_along (accepted h) (now_of old))) (heard_in h) (nones_in h) (waits_in h) old.executor new.executor
   pub missed : new.missed ≡ (old.missed || any_missed h)

@@ -7,6 +7,7 @@ ghost use Rattle.sessions.specs.Executors.{AsksNothing, has_sent, IsSameExecutor
 use crate::executors::Executor;
 use crate::steppers::Stepper;
 use director::Director;
+use kept::{Keep, Kept};
 use ruled_dispatch::{DirectorPass, Lanes};
 use sched_events::Event;
 use sqlite::Alter;
@@ -28,7 +29,7 @@ pub struct Parted<S: Alter> {
     /// The director.
     pub director: Director<S>,
     /// The events that it accepted, in their order.
-    pub minutes: Vec<Event>,
+    pub minutes: Kept<Event>,
     /// The pass that sent jobs to the workers and heard their reports.
     pub pass: DirectorPass,
     /// Whether a report that was heard is not among the minutes.
@@ -36,21 +37,23 @@ pub struct Parted<S: Alter> {
 }
 
 impl<'l, S: Alter> Session<'l, S> {
-    /// A session of which nothing is stepped yet.
+    /// A session of which nothing is stepped yet. `keep` says whether the events that it accepts are kept.
     pub fn new(
         alloc: Global,
         director: Director<S>,
         lanes: &'l Lanes,
         pass: DirectorPass,
+        keep: Keep,
     ) -> Session<'l, S>
         requires { IsDirectorOf lanes.now pass }
         ensures director { result.stepper.director ≡ director }
         ensures minutes { (result.stepper.minutes.items ≡ []) × (result.stepper.tries ≡ 0) }
+        ensures keep { result.stepper.minutes.keep ≡ keep }
         ensures executor { result.executor ≡ record { lanes = lanes.now; pass = pass; nones = 0; waits = 0 } }
         ensures missed { result.missed ≡ false }
     {
         Session {
-            stepper: Stepper::new(alloc, director),
+            stepper: Stepper::new(alloc, director, keep),
             executor: Executor::new(lanes, pass),
             missed: false,
         }

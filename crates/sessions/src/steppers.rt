@@ -1,5 +1,5 @@
 //! A director whose tries are counted, and the events that it accepted.
-ghost use Rattle.std.specs.Prelude.{◌≡◌, ◌<◌, ◌++◌, ◌∷◌, [], List, length, IfOk, vec_len, vec_capacity};
+ghost use Rattle.std.specs.Prelude.{◌≡◌, ◌<◌, ◌++◌, ◌∷◌, [], List, length, IfOk};
 ghost use Rattle.sqlite.specs.Held.{state};
 ghost use Rattle.director.specs.Written.{came_of};
 ghost use Rattle.director.specs.declared.faults.Fault.{Fault as FaultValue};
@@ -7,6 +7,7 @@ ghost use Rattle.sessions.specs.History.{AreTries};
 ghost use Rattle.sessions.specs.Runs.{IsTried};
 
 use director::{Director, Fault, Schedule, Written};
+use kept::{Keep, Kept};
 use sched_events::Event;
 use sqlite::Alter;
 use std::alloc::Global;
@@ -15,20 +16,21 @@ use std::alloc::Global;
 #[derive(Drop)]
 pub struct Stepper<S: Alter> {
     director: Director<S>,
-    minutes: Vec<Event>,
+    minutes: Kept<Event>,
     tries: u64,
 }
 
 impl<S: Alter> Stepper<S> {
-    /// One that has tried nothing yet.
-    pub(crate) fn new(alloc: Global, director: Director<S>) -> Stepper<S>
+    /// One that has tried nothing yet. `keep` says whether the events that it accepts are kept.
+    pub(crate) fn new(alloc: Global, director: Director<S>, keep: Keep) -> Stepper<S>
         ensures director { result.director ≡ director }
         ensures minutes { result.minutes.items ≡ [] }
+        ensures keep { result.minutes.keep ≡ keep }
         ensures tries { result.tries ≡ 0 }
     {
         Stepper {
             director,
-            minutes: Vec::new(alloc),
+            minutes: Kept::new(alloc, keep),
             tries: 0,
         }
     }
@@ -47,7 +49,7 @@ impl<S: Alter> Stepper<S> {
             × (w.before ≡ self.old.director.schedule.content)) }
     {
         self.tries = self.tries.saturating_add(1);
-        if self.minutes.reserve(1).is_err() {
+        if self.minutes.reserve().is_err() {
             return Err(Fault::Memory);
         }
         self.director.write(alloc, event)
@@ -73,16 +75,17 @@ impl<S: Alter> Stepper<S> {
 
     /// Puts an event that is written into the minutes.
     pub(crate) fn put(&mut self, event: Event)
-        requires room { vec_len self.old.minutes < vec_capacity self.old.minutes }
+        requires room { 0 < self.old.minutes.room }
         ensures minutes { self.new.minutes.items ≡ self.old.minutes.items ++ event ∷ [] }
+        ensures keep { self.new.minutes.keep ≡ self.old.minutes.keep }
         ensures director { self.new.director ≡ self.old.director }
         ensures tries { self.new.tries ≡ self.old.tries }
     {
-        self.minutes.push_reserved(event);
+        self.minutes.put(event);
     }
 
     /// The director, and the events that it accepted.
-    pub(crate) fn into_parts(self) -> (Director<S>, Vec<Event>)
+    pub(crate) fn into_parts(self) -> (Director<S>, Kept<Event>)
         ensures director { result.0 ≡ self.director }
         ensures minutes { result.1 ≡ self.minutes }
     {

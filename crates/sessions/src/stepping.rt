@@ -1,5 +1,5 @@
 //! Steps of a session: the restart, and the event of a line.
-ghost use Rattle.std.specs.Prelude.{◌≡◌, ◌≤◌, ◌<◌, ◌∷◌, [], List, true, None, Some, Err, Result, is_ok, IfErr, MatchResult, OnOk, vec_len, vec_capacity};
+ghost use Rattle.std.specs.Prelude.{◌≡◌, ◌≤◌, ◌<◌, ◌∷◌, [], List, true, None, Some, Err, Result, is_ok, IfErr, MatchResult, OnOk};
 ghost use Rattle.sqlite.specs.Held.{state};
 ghost use Rattle.sched_events.specs.declared.answers.Answer.{Answer as AnswerValue};
 ghost use Rattle.director.specs.declared.faults.Fault.{Fault as FaultValue};
@@ -27,8 +27,7 @@ impl<'l, S: Alter> Session<'l, S> {
         event: Event,
         came: Result<Written<S>, Fault>,
     ) -> Result<(), Fault>
-        requires room { OnOk (came_of came) (vec_len self.old.stepper.minutes
-            < vec_capacity self.old.stepper.minutes) }
+        requires room { OnOk (came_of came) (0 < self.old.stepper.minutes.room) }
         ensures put { IsPut event (came_of came) self.old self.new }
         ensures fault { MatchResult result (λ _. is_ok (came_of came) ≡ true)
             (λ f. came_of came ≡ Err f) }

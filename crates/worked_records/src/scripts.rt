@@ -12,7 +12,7 @@ use meta_store::Store;
 use operators::Operator;
 use sched_core::Event;
 use script_reader::{Console, NoConsole, Script, Sources, failure_status};
-use script_runner::{FileSources, SystemClock, run_team};
+use script_runner::{FileSources, Keep, RunOptions, SystemClock, run_team};
 use sqlite::{Alter, Connection, Files};
 use sqlite_disk::Disk;
 use std::alloc::Global;
@@ -150,11 +150,15 @@ fn run_by<
     requires whole { All (λ w. IsWhole O.kind_of w.0.items) team.items }
 {
     let mut clock = SystemClock::new(*host);
-    match run_team(rt, host.alloc(), record, LANES, team, script, &mut clock) {
+    let options = RunOptions {
+        lanes: LANES,
+        keep: Keep::All,
+    };
+    match run_team(rt, host.alloc(), record, options, team, script, &mut clock) {
         Ok(ran) => {
             let end = End {
                 status: Some(ran.status),
-                accepted: ran.minutes,
+                accepted: ran.minutes.into_values(host.alloc()),
             };
             (ran.store, Ok(end))
         }

@@ -9,7 +9,7 @@ use meta_store::Store;
 use moment_core::Moment;
 use sched_core::Limits;
 use script_reader::{Console, Script, Sources};
-use script_runner::{FileSources, operators_for, run_team};
+use script_runner::{FileSources, Keep, RunOptions, operators_for, run_team};
 use sqlite::Alter;
 use std::alloc::{AllocError, Global};
 use std::fs::{self, File};
@@ -177,7 +177,11 @@ fn run_by<
     let alloc = host.alloc();
     let team = operators_for(*host, alloc, setting.workers, SCRATCH, setting.logs)?;
     let mut clock = worked_clock(alloc)?;
-    match run_team(rt, alloc, record, setting.lanes, team, script, &mut clock) {
+    let options = RunOptions {
+        lanes: setting.lanes,
+        keep: Keep::Nothing,
+    };
+    match run_team(rt, alloc, record, options, team, script, &mut clock) {
         Ok(ran) => Ok((ran.store, ran.output, ran.status)),
         Err(_) => Err(io::Error::other("not opened")),
     }

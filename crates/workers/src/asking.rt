@@ -1,5 +1,5 @@
 //! What is asked again until it is granted: room in the log, a hold and its place at the desk, and room in the queue of reports.
-ghost use Rattle.std.specs.Prelude.{◌≡◌, ◌<◌, ◌++◌, ◌∷◌, [], true, false, vec_len, vec_capacity};
+ghost use Rattle.std.specs.Prelude.{◌≡◌, ◌<◌, ◌++◌, ◌∷◌, [], true, false};
 ghost use Rattle.std.specs.List.{Contains};
 ghost use Rattle.ruled_dispatch.specs.Lanes.{taken_of, told_of, IsWorkerOf};
 ghost use Rattle.slot_desk.specs.Holds.{has_serial, without};
@@ -18,7 +18,8 @@ use std::sync::ledger::Ledger;
 /// Makes room for one more entry in the log.
 pub(crate) fn reserve<L: Ledger, R: Wait>(rt: &R, log: &mut Log<L>)
     ensures same { log.new.items ≡ log.old.items }
-    ensures room { vec_len log.new < vec_capacity log.new }
+    ensures keep { log.new.keep ≡ log.old.keep }
+    ensures room { 0 < log.new.room }
 {
     let mut pause = Pause::new();
     for _ in rt.forever() {

@@ -4,6 +4,7 @@ ghost use Rattle.workers.specs.Ends.{number_of};
 
 use crate::logs::{Log, Logged};
 use instance_machine::Outcome;
+use kept::Kept;
 use operators::{BoxedOperator, Kit, Operator};
 use ruled_dispatch::WorkerPass;
 use sched_state::Job;
@@ -50,7 +51,7 @@ pub struct WorkerEnd<G: Gate, O: Operator = BoxedOperator> {
     /// What its jobs passed.
     pub gate: G,
     /// What it did, job by job, in order.
-    pub log: Vec<Logged>,
+    pub log: Kept<Logged>,
     // its pass, which has its number: it is seen in contracts alone, and an end with another cannot be made
     pass: Snapshot<WorkerPass>,
 }

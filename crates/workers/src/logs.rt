@@ -1,10 +1,11 @@
 //! What a worker writes down of its jobs.
 //!
 //! While it works each entry, and the log, name the desk by `L`. So what was left at another desk comes into no log of this one.
-ghost use Rattle.std.specs.Prelude.{◌≡◌, ◌<◌, ◌++◌, ◌∷◌, [], IfOk, vec_len, vec_capacity};
+ghost use Rattle.std.specs.Prelude.{◌≡◌, ◌<◌, ◌++◌, ◌∷◌, [], OnOk};
 
 use crate::steps::LoggedAt;
 use instance_machine::Outcome;
+use kept::{Keep, Kept};
 use sched_state::Job;
 use slot_desk::Left;
 use std::alloc::{AllocError, Global};
@@ -24,29 +25,30 @@ pub struct Logged {
     pub left: Left,
 }
 
-/// The jobs that a worker did at the desk that `L` names, in order. Contracts see it as the list that it keeps.
+/// The jobs that a worker did at the desk that `L` names, in order. Contracts see it as the list of its entries, of which all are kept, or none.
 #[derive(Drop)]
 pub(crate) struct Log<L: Ledger> {
-    entries: Vec<Logged>,
+    entries: Kept<Logged>,
     desk: PhantomData<L>,
 }
 
 impl<L: Ledger> Model for Log<L> {
-    ghost use Rattle.std.specs.Global.{Vec};
+    ghost use Rattle.kept.specs.Lists.{KeptValue};
     ghost use Rattle.workers.specs.declared.logs.Logged.{Logged};
 
-    ghost Value = { Vec Logged };
+    ghost Value = { KeptValue Logged };
 
     ghost view = { λ l. l.entries };
 }
 
 impl<L: Ledger> Log<L> {
     /// A log without a job. It takes no memory.
-    pub fn new(alloc: Global) -> Log<L>
-        ensures { result.items ≡ [] }
+    pub fn new(alloc: Global, keep: Keep) -> Log<L>
+        ensures items { result.items ≡ [] }
+        ensures keep { result.keep ≡ keep }
     {
         Log {
-            entries: Vec::new(alloc),
+            entries: Kept::new(alloc, keep),
             desk: PhantomData,
         }
     }
@@ -54,21 +56,23 @@ impl<L: Ledger> Log<L> {
     /// Makes room for one more job.
     pub fn reserve(&mut self) -> Result<(), AllocError>
         ensures same { self.new.items ≡ self.old.items }
-        ensures room { IfOk result (λ _. vec_len self.new < vec_capacity self.new) }
+        ensures keep { self.new.keep ≡ self.old.keep }
+        ensures room { OnOk result (0 < self.new.room) }
     {
-        self.entries.reserve(1)
+        self.entries.reserve()
     }
 
     /// Puts a job behind the others. It takes no memory.
     pub fn push_reserved(&mut self, entry: LoggedAt<L>)
-        requires { vec_len self.old < vec_capacity self.old }
-        ensures { self.new.items ≡ self.old.items ++ entry ∷ [] }
+        requires { 0 < self.old.room }
+        ensures items { self.new.items ≡ self.old.items ++ entry ∷ [] }
+        ensures keep { self.new.keep ≡ self.old.keep }
     {
-        self.entries.push_reserved(entry.logged());
+        self.entries.put(entry.logged());
     }
 
     /// The jobs, without the name of their desk.
-    pub fn into_entries(self) -> Vec<Logged>
+    pub fn into_entries(self) -> Kept<Logged>
         ensures { result ≡ self }
     {
         let Log { entries, .. } = self;

@@ -2,12 +2,14 @@
 ghost use Rattle.std.specs.Prelude.{◌≡◌, ◌<◌, ◌≤◌, [], All, IfSome, MatchBool, length, map, take, vec_len, vec_capacity};
 ghost use Rattle.ruled_dispatch.specs.Lanes.{IsWorkerOf};
 ghost use Rattle.operators.specs.Kits.{IsKit};
+ghost use Rattle.kept.specs.declared.lists.Keep.{Keep as KeepValue};
 ghost use Rattle.workers.specs.Shows.{shows};
 ghost use Rattle.workers.specs.Threads.{HasWorked, HaveWorked};
 
 use crate::crews::{Crew, EndAt, Gate};
 use crate::pauses::Pause;
 use crate::working::work;
+use kept::Keep;
 use operators::{Kit, Operator};
 use ruled_dispatch::{Lanes, WorkerPass};
 use slot_desk::{Share, SlotDesk};
@@ -21,7 +23,7 @@ use std::thread::{Promise, PromisedHandle, Scope, Threads};
 /// What the thread of a worker gives back: the end of the crew, the pass and the share.
 pub type Worked<L, G, O> = (EndAt<L, G, O>, WorkerPass, Share<L>);
 
-/// The promise of a worker's thread: it worked from this pass, this share and this kit.
+/// The promise of a worker's thread: it worked from this pass, this share and this kit, and its log is kept, or not, as this says.
 #[derive(Drop)]
 pub struct Works<L: Ledger, O: Operator> {
     /// The pass that it got.
@@ -30,21 +32,25 @@ pub struct Works<L: Ledger, O: Operator> {
     pub share: Snapshot<Share<L>>,
     /// The kit that it got.
     pub kit: Snapshot<Kit<O>>,
+    /// Whether its log is kept.
+    pub keep: Keep,
 }
 
 impl<L: Ledger, G: Gate, O: Operator> Promise<(EndAt<L, G, O>, WorkerPass, Share<L>)>
     for Works<L, O> {
+    ghost use Rattle.std.specs.Prelude.{◌≡◌};
     ghost use Rattle.workers.specs.Shows.{shows};
     ghost use Rattle.workers.specs.Threads.{HasWorked};
 
-    ghost kept_by = { λ p r. HasWorked (shows O.kind_of O.runs_of O.refused_of O.taken) p.pass.value p.share.value p.kit.value r.0 r.1 r.2 };
+    ghost kept_by = { λ p r. HasWorked (shows O.kind_of O.runs_of O.refused_of O.taken) p.pass.value p.share.value p.kit.value r.0 r.1 r.2
+        × (r.0.log.keep ≡ p.keep) };
 }
 
 /// The thread of a worker.
 pub type Handle<L, G, O> = PromisedHandle<Worked<L, G, O>, Works<L, O>>;
 
-/// Starts a thread for each crew, with the pass and the share at its place. False where one was refused: its crew is gone, and those after
-/// it were not started.
+/// Starts a thread for each crew, with the pass and the share at its place; `keep` says whether the logs are kept. False where a thread was refused: its
+/// crew is gone, and those after it were not started.
 pub fn start_all<
     's,
     E,
@@ -62,6 +68,7 @@ pub fn start_all<
     passes: Vec<WorkerPass>,
     shares: Vec<Share<L>>,
     crews: Vec<Crew<G, O>>,
+    keep: Keep,
 ) -> bool
     requires passes { All (IsWorkerOf lanes.now) passes.items }
     requires kits { All (λ c. IsKit O.kind_of c.kit) crews.items }
@@ -72,6 +79,7 @@ pub fn start_all<
     ensures passes { map (λ h. h.promise.pass.value) handles.new.items ≡ take (vec_len handles.new) passes.items }
     ensures shares { map (λ h. h.promise.share.value) handles.new.items ≡ take (vec_len handles.new) shares.items }
     ensures kits { map (λ h. h.promise.kit.value) handles.new.items ≡ take (vec_len handles.new) (map (λ c. c.kit) crews.items) }
+    ensures keep { All (λ h. h.promise.keep ≡ keep) handles.new.items }
     ensures all { MatchBool result (vec_len handles.new ≡ length crews.items) (vec_len handles.new < length crews.items) }
 {
     let mut passes = passes.into_iter();
@@ -83,7 +91,7 @@ pub fn start_all<
         let Some(share) = shares.next() else {
             unreachable!()
         };
-        match start(scope, rt, alloc, lanes, desk, pass, share, crew) {
+        match start(scope, rt, alloc, lanes, desk, pass, share, crew, keep) {
             Some(handle) => handles.push_reserved(handle),
             None => return false,
         }
@@ -108,22 +116,26 @@ fn start<
     pass: WorkerPass,
     share: Share<L>,
     crew: Crew<G, O>,
+    keep: Keep,
 ) -> Option<Handle<L, G, O>>
     requires pass { IsWorkerOf lanes.now pass }
     requires kit { IsKit O.kind_of crew.kit }
     ensures pass { IfSome result (λ h. h.promise.pass.value ≡ pass) }
     ensures share { IfSome result (λ h. h.promise.share.value ≡ share) }
     ensures kit { IfSome result (λ h. h.promise.kit.value ≡ crew.kit) }
+    ensures keep { IfSome result (λ h. h.promise.keep ≡ keep) }
 {
     let promise = Works {
         pass: Snapshot::of(&pass),
         share: Snapshot::of(&share),
         kit: Snapshot::of(&crew.kit),
+        keep,
     };
     let body = move || -> Worked<L, G, O>
         requires { IsWorkerOf lanes.now pass × IsKit O.kind_of crew.kit }
-        ensures { HasWorked (shows O.kind_of O.runs_of O.refused_of O.taken) pass share crew.kit result.0 result.1 result.2 }
-    { work(rt, alloc, lanes, desk, pass, share, crew) };
+        ensures { HasWorked (shows O.kind_of O.runs_of O.refused_of O.taken) pass share crew.kit result.0 result.1 result.2
+            × (result.0.log.keep ≡ keep) }
+    { work(rt, alloc, lanes, desk, pass, share, crew, keep) };
     match scope.spawn_with(promise, body) {
         Ok(handle) => Some(handle),
         Err(_) => None,
@@ -135,7 +147,9 @@ pub fn join_all<L: Ledger, G: Gate, O: Operator, R: Threads + Wait>(
     rt: &R,
     handles: Vec<Handle<L, G, O>>,
 ) -> Vec<Worked<L, G, O>>
-    ensures { HaveWorked (shows O.kind_of O.runs_of O.refused_of O.taken) (map (λ h. h.promise.pass.value) handles.items) (map (λ h. h.promise.share.value) handles.items) (map (λ h. h.promise.kit.value) handles.items) result.items }
+    ensures worked { HaveWorked (shows O.kind_of O.runs_of O.refused_of O.taken) (map (λ h. h.promise.pass.value) handles.items) (map (λ h. h.promise.share.value) handles.items) (map (λ h. h.promise.kit.value) handles.items) result.items }
+    ensures keep { (keep : KeepValue) → All (λ h. h.promise.keep ≡ keep) handles.items
+        → All (λ r. r.0.log.keep ≡ keep) result.items }
 {
     let mut handles = handles;
     let mut pause = Pause::new();

@@ -14,6 +14,7 @@ use crate::crews::{Crew, EndAt, Gate};
 use crate::logs::Log;
 use crate::steps::Worker;
 use crate::trying::do_job;
+use kept::Keep;
 use operators::Operator;
 use ruled_dispatch::{JobOrStop, Lanes, WorkerPass};
 use slot_desk::{Share, SlotDesk};
@@ -23,7 +24,7 @@ use std::sync::ledger::Ledger;
 
 /// Does the jobs that it takes, one after another, until it takes a stop.
 ///
-/// While there is no job it sleeps. The log takes memory for each job, and is kept until the worker ends.
+/// While there is no job it sleeps. `keep` says whether the log is kept, which then takes memory for each job until the worker ends.
 pub fn work<L: Ledger, G: Gate, O: Operator, R: Wait>(
     rt: &R,
     alloc: Global,
@@ -32,6 +33,7 @@ pub fn work<L: Ledger, G: Gate, O: Operator, R: Wait>(
     pass: WorkerPass,
     share: Share<L>,
     crew: Crew<G, O>,
+    keep: Keep,
 ) -> (EndAt<L, G, O>, WorkerPass, Share<L>)
     requires pass { IsWorkerOf lanes.now pass }
     requires kit { IsKit O.kind_of crew.kit }
@@ -42,10 +44,11 @@ pub fn work<L: Ledger, G: Gate, O: Operator, R: Wait>(
     ensures number { number_of result.0 ≡ pass.number }
     ensures pass { StaysWith pass result.1 }
     ensures share { result.2 ≡ share }
+    ensures keep { result.0.log.keep ≡ keep }
 {
     let Crew { kit, mut gate } = crew;
     let mut worker = Worker::new(alloc, pass, share, kit);
-    let mut log = Log::new(alloc);
+    let mut log = Log::new(alloc, keep);
     for _ in rt.forever() {
         reserve(rt, &mut log);
         match worker.take(rt, lanes) {

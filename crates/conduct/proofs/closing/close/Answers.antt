@@ -42,7 +42,7 @@ returns-in-Ok-clause-own g c =
     let e = c.account-ends.ensures in
     let law = c.each_report_is_its_workers_own.ensures in
     let session = c.args.managed.parted in
-    let es = vec_items session.minutes in
+    let es = session.minutes.items in
     let heard = heard_of session.pass in
     let ends = vec_items c.account-ends.result.ends in
     both_passed_on c.account-ends.result.desk c.unless_missed.result c.unless_missed.ensures.desk c.unless_missed.ensures.missed e.once e.heard
@@ -55,7 +55,7 @@ returns-in-Ok-clause-own g c =
     let each0 = jobs_stand ends (sent_of session.pass) _ _ stopped.sent stand in
     let each : EachStandsInALog (handed_along es a) ends = subst (λ (l : List Event). EachStandsInALog (handed_along l a) ends) (sym stopped.minutes) each0 in
     told_own ends heard es told
-    (λ k below. law es a (map (λ (x : WorkerEnd g.row.G.Denot g.row.O.Denot). logged (vec_items x.log)) ends) heard are sound (are_logs ends heard es a each told reported) k below))
+    (λ k below. law es a (map (λ (x : WorkerEnd g.row.G.Denot g.row.O.Denot). logged x.log.items) ends) heard are sound (are_logs ends heard es a each told reported) k below))
 
 pub returns-in-Ok-clause-desk : goal.returns-in-Ok-clause-desk
 returns-in-Ok-clause-desk g c =

@@ -1,20 +1,23 @@
-use Rattle.std.proofs.Common.{rules, ◌≡◌, ◌<◌, ◌≤◌, ◌==◌, inl, false, length, map, vec_items, vec_capacity, refl, sym, ap, ◌∙◌, subst, arith, ne_eqb}
+use Rattle.std.proofs.Common.{rules, ◌≡◌, ◌<◌, ◌≤◌, ◌==◌, All, inl, false, length, map, vec_items, vec_capacity, refl, sym, ap, ◌∙◌, subst, arith, ne_eqb}
 use Rattle.std.proofs.lemmas.List.{length-map}
 use Rattle.sqlite.specs.Held.{state}
 use Rattle.ruled_dispatch.specs.Lanes.{HasWorkers}
 use Rattle.sched_events.specs.SettledAndSound.{IsSoundAndSaid}
+use Rattle.sched_events.specs.declared.events.Event.{Event}
+use Rattle.kept.specs.Lists.{KeptValue}
 use Rattle.sessions.specs.Runs.{ScheduleValue}
 use Rattle.sessions.specs.History.{readings_in}
 use Rattle.sessions.specs.declared.faults.ConductFault.TheVariants as fault
 use Rattle.workers.specs.Shows.{Shows, shows}
 use Rattle.workers.specs.Threads.{HaveWorked}
 use Rattle.workers.proofs.Backs.{are_back, are_accounts, are_in_order, are_kits, none_in_hand}
+use Rattle.conduct.specs.Faults.{all_started}
 use Rattle.conduct.proofs.Runs.{worked_from}
-use Rattle.conduct.proofs.Composition.{also_ok, both_ok, conducted, on_ok, take_all, unstarted_run}
+use Rattle.conduct.proofs.Composition.{also_ok, both_ok, conducted, ends_kept, none_kept, on_ok, take_all, unstarted_run}
 use Rattle.conduct.proofs.conducting.conduct_at.Goals as goal
 
-pub returns-in_default : goal.returns-in_default
-returns-in_default g c =
+pub returns-in_default-clause-conducted : goal.returns-in_default-clause-conducted
+returns-in_default-clause-conducted g c =
     let crews = vec_items c.args.crews in
     let kits = map (λ x. x.kit) crews in
     let some : 0 < length kits = subst (λ n. 0 < n) (sym (length-map crews (λ x. x.kit))) c.requires.crews.0 in
@@ -88,8 +91,8 @@ close-requires-clause-all g c =
       omega arith,
     )
 
-pub returns : goal.returns
-returns g c =
+pub returns-clause-conducted : goal.returns-clause-conducted
+returns-clause-conducted g c =
     let q = c.in-Ok.equipment in
     let e = c.in-Ok.ensures in
     let m = c.manage-managed.result in
@@ -114,7 +117,7 @@ returns g c =
     let h = d.served.history in
     let sound : IsSoundAndSaid a = subst (λ (s : ScheduleValue). IsSoundAndSaid s.content) c.schedule.ensures c.runs.ensures.kept in
     conducted (state g.S.Store) all q.lanes c.args.lane_count (length results) kits c.args.director q.pass m.parted m.outcome results (λ r. r.0) c.close.result _ _ _ _
-    sound (subst (λ k. 0 < k) (sym long) c.requires.crews.0) d.served z.director (ap vec_items z.minutes) z.ok z.fault
+    sound (subst (λ k. 0 < k) (sym long) c.requires.crews.0) d.served z.director (ap (λ (m : KeptValue Event). m.items) z.minutes) z.ok z.fault
     (λ started. d.all started ∙ sym long) z.ends z.none
     (also_ok c.close.result.outcome z.once (λ each. each h c.args.director stop))
     (also_ok c.close.result.outcome z.own (λ each. each h c.args.director sound stop))
@@ -124,3 +127,17 @@ returns g c =
     (both_ok c.close.result.outcome m.outcome z.ok (on_ok m.outcome (λ started. none_in_hand all passes shares kits results (worked (d.all started)) (e.workers.1 ∙ sym e.workers.0) e.none)) z.desk
     (λ s none p. (p.0 ∙ none, p.1)))
     z.sent z.told
+
+pub returns-in_default-clause-keep : goal.returns-in_default-clause-keep
+returns-in_default-clause-keep g c = (c.new.ensures.keep, none_kept c.args.keep (vec_items c.new-in_default.result) c.new-in_default.ensures.items)
+
+pub returns-clause-keep : goal.returns-clause-keep
+returns-clause-keep g c =
+    let m = c.manage-managed.result in
+    let z = c.close.ensures in
+    let kept = c.manage-managed.ensures.keep in
+    let asked = c.in-Ok.ensures.keep in (
+      ap (λ (m : KeptValue Event). m.keep) z.minutes ∙ kept.0 ∙ asked,
+      ends_kept c.args.keep (all_started m.outcome) (map (λ r. r.0) (vec_items m.results)) (vec_items c.close.result.ends) z.ends z.none
+          (subst (λ k. All (λ e. e.log.keep ≡ k) (map (λ r. r.0) (vec_items m.results))) asked kept.1),
+    )

@@ -1,5 +1,9 @@
+use Rattle.std.proofs.Common.{◌≡◌, ◌∙◌, ap}
 use Rattle.sqlite.specs.Held.{state}
-use Rattle.conduct.proofs.Runs.{all_or, served_or, Begins, Ends}
+use Rattle.kept.specs.Lists.{KeptValue}
+use Rattle.sched_events.specs.declared.events.Event.{Event}
+use Rattle.sessions.specs.declared.steppers.Stepper.{Stepper}
+use Rattle.conduct.proofs.Runs.{all_or, keeps_or, served_or, Begins, Ends}
 use Rattle.conduct.proofs.serving.serve.Goals as goal
 
 pub returns-clause-served : goal.returns-clause-served
@@ -14,3 +18,8 @@ returns-clause-served g c =
 
 pub returns-clause-all : goal.returns-clause-all
 returns-clause-all g c = all_or _ _ _ _ c.args.started.are_all c.serve_all-outcome.result c.serve_all-outcome.ensures
+
+pub returns-clause-keep : goal.returns-clause-keep
+returns-clause-keep g c =
+    ap (λ (m : KeptValue Event). m.keep) c.part.ensures.minutes ∙ ap (λ (x : Stepper g.row.S.Denot). x.minutes.keep) c.stop.ensures.stepper
+    ∙ keeps_or (state g.S.Store) g.L.Lines.tells g.C.Clock.gives c.args.started.are_all c.new-session.result c.serve_all-outcome.new.session c.serve_all-outcome.result c.serve_all-outcome.ensures ∙ c.new-session.ensures.keep

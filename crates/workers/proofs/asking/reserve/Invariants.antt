@@ -1,5 +1,5 @@
-use Rattle.std.proofs.Common.{◌≡◌, vec_items}
+use Rattle.std.proofs.Common.{◌≡◌}
 use Rattle.workers.proofs.asking.reserve.Given as goal
 
 abbrev pub invariant-loop : goal.invariant-loop
-invariant-loop g l = vec_items l.log ≡ vec_items l.initial.log
+invariant-loop g l = (l.log.items ≡ l.initial.log.items) × (l.log.keep ≡ l.initial.log.keep)

@@ -5,8 +5,8 @@ use Rattle.workers.specs.Threads.{HasWorked}
 use Rattle.workers.proofs.Places.{at_images, same_at}
 use Rattle.workers.proofs.threads.join_all.Goals as goal
 
-pub returns-in-Ok : goal.returns-in-Ok
-returns-in-Ok g c =
+pub returns-in-Ok-clause-worked : goal.returns-in-Ok-clause-worked
+returns-in-Ok-clause-worked g c =
     let hs = vec_items c.args.handles in
     let results = vec_items c.in-Ok.results in
     let same : c.loop.handles ≡ c.args.handles = c.loop.invariant in
@@ -19,6 +19,17 @@ returns-in-Ok g c =
           (λ n h b.
           let kept = (c.in-Ok.ensures.each n r (omega arith)).1 in
           subst (λ x. HasWorked (shows g.O.Operator.kind_of g.O.Operator.runs_of g.O.Operator.refused_of g.O.Operator.taken) x.promise.pass.value x.promise.share.value x.promise.kit.value (get_or results n r).0 (get_or results n r).1 (get_or results n r).2)
-          (kept.handle_is ∙ ap (λ v. get_or (vec_items v) n kept.handle) same ∙ same_at hs n kept.handle h b) kept.kept)
+          (kept.handle_is ∙ ap (λ v. get_or (vec_items v) n kept.handle) same ∙ same_at hs n kept.handle h b) kept.kept.0)
           i p s k (let l = length-map hs (λ h. h.promise.pass.value) in omega arith),
     )
+
+pub returns-in-Ok-clause-keep : goal.returns-in-Ok-clause-keep
+returns-in-Ok-clause-keep g c = λ keep each n r below.
+    let hs = vec_items c.args.handles in
+    let results = vec_items c.in-Ok.results in
+    let same : c.loop.handles ≡ c.args.handles = c.loop.invariant in
+    let len : length results ≡ length hs = search rules in
+    let before : vec_len c.loop.handles ≡ length hs = search rules in
+    let kept = (c.in-Ok.ensures.each n r (omega arith)).1 in
+    subst (λ x. (get_or results n r).0.log.keep ≡ x.promise.keep) (kept.handle_is ∙ ap (λ v. get_or (vec_items v) n kept.handle) same) kept.kept.1
+    ∙ each n kept.handle (omega arith)

@@ -1,4 +1,5 @@
-use Rattle.std.proofs.Common.{rules, suc, ◌≡◌, ◌++◌, ◌∷◌, [], ◌+◌, length, map, vec_items, vec_len, ap, arith}
+use Rattle.std.proofs.Common.{rules, suc, ◌≡◌, ◌++◌, ◌∷◌, [], ◌+◌, All, length, map, vec_items, vec_len, ap, arith, subst, sym}
+use Rattle.std.proofs.lemmas.List.Elements.{All-push}
 use Rattle.std.specs.Vec.Iter.{into_iter_items}
 use Rattle.ruled_dispatch.specs.declared.passes.WorkerPass.{WorkerPass}
 use Rattle.ruled_dispatch.specs.Lanes.{IsWorkerOf}
@@ -35,6 +36,7 @@ loop-crew-preserved g c =
     let pass_is : handle.promise.pass.value ≡ pass = search rules in
     let share_is : handle.promise.share.value ≡ share = search rules in
     let kit_is : handle.promise.kit.value ≡ crew.kit = search rules in
+    let keep_is : handle.promise.keep ≡ c.args.keep = search rules in
     let one_more : vec_len c.push_reserved.new.self ≡ vec_len c.loop-crew.handles + 1 = search rules in
     record {
       of = each_taken (λ (w : WorkerPass). IsWorkerOf c.args.lanes.now w) passes_left passes_rest pass e was.of;
@@ -46,4 +48,5 @@ loop-crew-preserved g c =
       passes = moved (λ x. x.promise.pass.value) before now handle passes_left passes_rest (vec_items c.args.passes) pass grown e pass_is was.passes;
       shares = moved (λ x. x.promise.share.value) before now handle shares_left shares_rest (vec_items c.args.shares) share grown f share_is was.shares;
       kits = moved (λ x. x.promise.kit.value) before now handle (map (λ x. x.kit) left) (map (λ x. x.kit) rest) (map (λ x. x.kit) (vec_items c.args.crews)) crew.kit grown (ap (map (λ x. x.kit)) h) kit_is was.kits;
+      keep = subst (All (λ x. x.promise.keep ≡ c.args.keep)) (sym grown) (All-push (λ x. x.promise.keep ≡ c.args.keep) before handle was.keep keep_is);
     }

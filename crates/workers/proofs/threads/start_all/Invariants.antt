@@ -20,4 +20,5 @@ invariant-loop-crew g l =
       passes : map (λ h. h.promise.pass.value) (vec_items l.handles) ++ passes_left ≡ vec_items l.fn.passes;
       shares : map (λ h. h.promise.share.value) (vec_items l.handles) ++ shares_left ≡ vec_items l.fn.shares;
       kits : map (λ h. h.promise.kit.value) (vec_items l.handles) ++ map (λ c. c.kit) rest ≡ map (λ c. c.kit) (vec_items l.fn.crews);
+      keep : All (λ h. h.promise.keep ≡ l.fn.keep) (vec_items l.handles);
     }

@@ -1,4 +1,4 @@
-use Rattle.std.proofs.Common.{rules, ◌≡◌, List, [], ◌∷◌, ◌++◌, vec_items, sym, ap, ◌∙◌, subst, append-nil, append_assoc}
+use Rattle.std.proofs.Common.{rules, ◌≡◌, List, [], ◌∷◌, ◌++◌, sym, ap, ◌∙◌, subst, append-nil, append_assoc}
 use Rattle.std.proofs.lemmas.List.{map-append}
 use Rattle.std.proofs.lemmas.Grind.{flat_map-append}
 use Rattle.ruled_dispatch.specs.declared.items.JobOrStop.TheVariants as items
@@ -18,7 +18,7 @@ loop-init g c =
     let op = g.O.Operator in
     let all : Shows g.row.O.Denot = shows op.kind_of op.runs_of op.refused_of op.taken in
     let made = c.new-worker.ensures in
-    let none = c.new-log.ensures in
+    let none = c.new-log.ensures.items in
     let pass = c.args.pass in
     let kit = c.args.crew.kit in
     record {
@@ -31,6 +31,7 @@ loop-init g c =
       account =
           subst (λ (l : List Logged). IsAccount all kit c.new-worker.result.kit l) (sym none)
           (subst (λ (k : Kit g.row.O.Denot). IsAccount all kit k []) (sym made.2) (none_yet all kit));
+      keep = c.new-log.ensures.keep;
     }
 
 pub loop-preserved : goal.loop-preserved
@@ -42,8 +43,8 @@ loop-preserved g c =
     let entry = c.do_job.result in
     let last = entry ∷ [] in
     let pass = c.args.pass in
-    let old = vec_items c.loop.log in
-    let now = vec_items c.push_reserved.new.self in
+    let old = c.loop.log.items in
+    let now = c.push_reserved.new.self.items in
     let grown : now ≡ old ++ last = search rules in
     let took : taken_of c.take.new.self.pass ≡ taken_of c.loop.worker.pass ++ items.Job c.in-Job.job ∷ [] = search rules in
     let told : told_of c.take.new.self.pass ≡ told_of c.loop.worker.pass = search rules in
@@ -65,4 +66,5 @@ loop-preserved g c =
           subst (λ (l : List Logged). IsAccount all c.args.crew.kit c.do_job.new.worker.kit l) (sym grown)
           (and_then all c.args.crew.kit c.loop.worker.kit c.do_job.new.worker.kit old last was.account
           (subst (λ (k : Kit g.row.O.Denot). IsAccount all k c.do_job.new.worker.kit last) c.take.ensures.others.1 did.account));
+      keep = search rules;
     }
