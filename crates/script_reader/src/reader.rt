@@ -20,8 +20,7 @@ use crate::statuses::{command_status, explain_status};
 use answer_lines::{Line, LineFault, Schedule, Shown, explain, put, put_listing, put_reasons};
 use command_words::{CommandReader, FilePath, Question, Taking};
 use sched_state::GraphText;
-use script_commands::{CommandFault, ScriptCommand, next_command};
-use script_lines::LineReader;
+use script_commands::{CommandFault, LineReader, ScriptCommand, next_command};
 use std::alloc::{AllocError, Global};
 use std::io::{self, ErrorKind, Read, Write};
 

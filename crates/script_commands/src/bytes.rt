@@ -1,7 +1,7 @@
 //! The next byte of a reader.
 ghost use Rattle.std.specs.Prelude.{◌≡◌, ◌≢◌, ℕ, List, Some, IfOk, IfErr};
 ghost use Rattle.std.specs.IoError.{error_kind};
-ghost use Rattle.script_lines.specs.Lines.{IsNextByte};
+ghost use Rattle.script_commands.specs.Lines.{IsNextByte};
 
 use std::io::{self, ErrorKind, Read};
 

@@ -5,8 +5,8 @@ use Rattle.std.proofs.lemmas.List.{append-nil, length-append, take_all}
 use Rattle.std.proofs.lemmas.List.Folds.{list_all-append}
 use Rattle.std.specs.List.{list_all}
 use Rattle.text_words.specs.Words.{is_blank}
-use Rattle.script_lines.specs.Lines.{newline, line_limit, lines_of, IsNextByte, IsFirstLine, IsNextLine, found_of}
-use Rattle.script_lines.specs.declared.lines.Found.TheVariants.{Line, LongLine, End}
+use Rattle.script_commands.specs.Lines.{newline, line_limit, lines_of, IsNextByte, IsFirstLine, IsNextLine, found_of}
+use Rattle.script_commands.specs.declared.lines.Found.TheVariants.{Line, LongLine, End}
 
 -- none of the bytes ends a line
 abbrev pub IsOneLine : List ℕ → Type 0

@@ -1,7 +1,7 @@
 use Rattle.std.proofs.Common.{◌≡◌, ℕ, List, Some}
-use Rattle.script_lines.specs.Lines.{next_number}
-use Rattle.script_lines.proofs.LineLemmas.{Reading}
-use Rattle.script_lines.proofs.lines.LineReader.read.Given as goal
+use Rattle.script_commands.specs.Lines.{next_number}
+use Rattle.script_commands.proofs.LineLemmas.{Reading}
+use Rattle.script_commands.proofs.lines.LineReader.read.Given as goal
 
 -- the bytes that were read begin a line, of which the reader keeps what it may; the line has its number
 abbrev pub invariant-loop-length : goal.invariant-loop-length

@@ -1,7 +1,7 @@
 use Rattle.std.proofs.Common.{◌≡◌, ◌∙◌, ◌≤◌, [], ◌∷◌, ◌++◌, length, ap, sym, arith}
 use Rattle.std.proofs.lemmas.List.{length-append, take_all, take-append-le}
-use Rattle.script_lines.specs.Lines.{Held, line_limit}
-use Rattle.script_lines.proofs.lines.LineReader.keep.Goals as goal
+use Rattle.script_commands.specs.Lines.{Held, line_limit}
+use Rattle.script_commands.proofs.lines.LineReader.keep.Goals as goal
 
 pub returns-then-len-lt-LINE_LIMIT-clause-line : goal.returns-then-len-lt-LINE_LIMIT-clause-line
 returns-then-len-lt-LINE_LIMIT-clause-line c =

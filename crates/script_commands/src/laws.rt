@@ -1,6 +1,6 @@
 //! Laws of the definitions, each the contract of a function that does nothing.
 ghost use Rattle.std.specs.Prelude.{◌≡◌};
-ghost use Rattle.script_lines.specs.Lines.{line_limit};
+ghost use Rattle.script_commands.specs.Lines.{line_limit};
 
 use crate::lines::LINE_LIMIT;
 

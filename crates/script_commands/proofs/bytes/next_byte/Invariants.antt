@@ -1,5 +1,5 @@
 use Rattle.std.proofs.Common.{◌≡◌, ℕ, List, length, Some}
-use Rattle.script_lines.proofs.bytes.next_byte.Given as goal
+use Rattle.script_commands.proofs.bytes.next_byte.Given as goal
 
 -- an interrupted read takes nothing
 abbrev pub invariant-loop : goal.invariant-loop

@@ -4,7 +4,7 @@
 ghost use Rattle.std.specs.Prelude.{◌≡◌, ◌≢◌, ◌&&◌, ℕ, ◌≤◌, List, [], ◌∷◌, ◌++◌, length, take, Some, IfOk, IfErr};
 ghost use Rattle.std.specs.IoError.{error_kind};
 ghost use Rattle.text_words.specs.Words as spec;
-ghost use Rattle.script_lines.specs.Lines.{line_limit, found_of, next_number, IsNextLine};
+ghost use Rattle.script_commands.specs.Lines.{line_limit, found_of, next_number, IsNextLine};
 
 use crate::bytes::{MOST_READS, next_byte};
 use std::alloc::{AllocError, Global};
@@ -47,7 +47,7 @@ pub struct LineReader {
 
 impl Model for LineReader {
     ghost use Rattle.std.specs.Prelude.{◌≤◌, length, vec_capacity};
-    ghost use Rattle.script_lines.specs.Lines.{Held, line_limit};
+    ghost use Rattle.script_commands.specs.Lines.{Held, line_limit};
 
     ghost Value = { Held };
 

@@ -2,8 +2,8 @@
 use Rattle.std.specs.Prelude.{◌≡◌, ℕ, ◌+◌, ◌<◌, ◌≤◌, ◌==◌, min, nat_le, Bool, if◌then◌else◌, List, [], ◌∷◌, length, take, Option, Some, MatchOption}
 use Rattle.std.specs.List.{list_all}
 use Rattle.text_words.specs.Words.{is_blank}
-use Rattle.script_lines.specs.declared.lines.Found.{Found}
-use Rattle.script_lines.specs.declared.lines.Found.TheVariants.{Line, LongLine, End}
+use Rattle.script_commands.specs.declared.lines.Found.{Found}
+use Rattle.script_commands.specs.declared.lines.Found.TheVariants.{Line, LongLine, End}
 
 -- the byte that ends a line
 -- restates: this project's own profile

@@ -1,8 +1,8 @@
 use Rattle.std.proofs.Common.{◌∙◌, subst, sym}
-use Rattle.script_lines.specs.declared.lines.Found.{Found}
-use Rattle.script_lines.specs.Lines.{IsNextLine}
-use Rattle.script_lines.proofs.LineLemmas.{reading-byte, read-ended, read-unended, read-end}
-use Rattle.script_lines.proofs.lines.LineReader.read.Goals as goal
+use Rattle.script_commands.specs.declared.lines.Found.{Found}
+use Rattle.script_commands.specs.Lines.{IsNextLine}
+use Rattle.script_commands.proofs.LineLemmas.{reading-byte, read-ended, read-unended, read-end}
+use Rattle.script_commands.proofs.lines.LineReader.read.Goals as goal
 
 pub returns-in-None-clause-next : goal.returns-in-None-clause-next
 returns-in-None-clause-next g c = λ bytes known.
