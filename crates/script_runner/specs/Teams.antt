@@ -1,5 +1,5 @@
 -- Teams: for each worker a list of operators, which become its kit.
-use Rattle.std.specs.Prelude.{◌≡◌, ℕ, true, List, [], ◌∷◌, map, All, Option, Result}
+use Rattle.std.specs.Prelude.{◌≡◌, ℕ, Bool, true, List, [], ◌∷◌, map, All, Option, Result}
 use Rattle.graph_file.specs.declared.operators.Operator.{Operator as Kind}
 use Rattle.instance_machine.specs.declared.tries.Outcome.{Outcome}
 use Rattle.sched_state.specs.declared.jobs.Job.{Job}
@@ -34,7 +34,7 @@ module _ {O : Type 0} (kind_of : O → Kind) where
 
 -- what `run_on` promises of a script that workers with these operators ran
 -- restates: this project's own profile
-pub record IsTeamRun {S G O : Type 0} (look : Held S → State) (kind_of : O → Kind) (runs : O → List (Job × Outcome)) (refused : O → List Job) (taken : O → Option Job) (bytes : Option (List ℕ)) (sources : List FileAnswer → Type 0) (clock : List (Schedule × Reading) → Type 0) (output : List ℕ → Type 0) (untouched : Type 0) (lanes : ℕ) (operators : List (List O)) (before : State) (store : Held S) (minutes : List Event) (ends : List (WorkerEnd G O)) (outcome : Result Total ConductFault) (status : ℕ) : Type 0 where
+pub record IsTeamRun {S G O : Type 0} (look : Held S → State) (kind_of : O → Kind) (runs : O → List (Job × Outcome)) (refused : O → List Job) (taken : O → Option Job) (bytes : Option (List ℕ)) (sources : List FileAnswer → Type 0) (clock : List (Schedule × Reading) → Type 0) (output : List ℕ → Type 0) (untouched : Type 0) (lanes : ℕ) (operators : List (List O)) (before : State) (store : Held S) (minutes : List Event) (ends : List (WorkerEnd G O)) (outcome : Result Total ConductFault) (told : Bool) (status : ℕ) : Type 0 where
   pub kits : List (Kit O)
   pub made : AreKitsOf kind_of operators kits
-  pub run : IsRun look runs refused taken bytes sources clock output untouched lanes kits before store minutes ends outcome status
+  pub run : IsRun look runs refused taken bytes sources clock output untouched lanes kits before store minutes ends outcome told status
