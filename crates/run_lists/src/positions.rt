@@ -14,7 +14,7 @@ use std::alloc::{AllocError, Global};
 
 /// Of which runs the positions are kept.
 #[derive(Clone, Copy, Debug, PartialEq, Eq)]
-pub(crate) enum Standing {
+pub enum Standing {
     /// Of those that are running.
     Running,
     /// Of those that are queued.

@@ -141,7 +141,7 @@ fn choose_on_shelf<'d>(
 }
 
 /// The best of what stands on shelves.
-pub fn best_shelved<'d>(
+pub(crate) fn best_shelved<'d>(
     draft: &'d Draft<'_>,
     taken: &Occupied,
     shelves: &[Shelf],

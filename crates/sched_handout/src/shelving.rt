@@ -19,13 +19,13 @@ use std::cmp::Ordering;
 
 /// The best offer so far, with the position of its graph.
 #[derive(Drop)]
-pub struct Best<'a> {
+pub(crate) struct Best<'a> {
     pub offer: Offer<'a>,
     pub graph: usize,
 }
 
 /// Whether the run is running.
-pub fn is_running(run: &Run) -> bool
+pub(crate) fn is_running(run: &Run) -> bool
     ensures { result ≡ is_running run.now.phase }
 {
     matches!(run.phase, RunPhase::Running)
@@ -170,7 +170,7 @@ fn choose_waiting<'d>(
 }
 
 /// The best of what is found at a place, and of what was chosen before it. Offers at the place fit.
-pub fn choose_at_place<'d>(
+pub(crate) fn choose_at_place<'d>(
     draft: &'d Draft<'_>,
     graph: usize,
     dag: &'d Graph,
