@@ -63,7 +63,7 @@ on_ok P (Err e) well p = absurd (true≢false (sym well))
 -- a run that ended well puts nothing last
 pub well_so : {A F T E : Type 0} (o : Result A F) (r : Result T E) (was now : Bool) → OnOk o (IsOk r) → now ≡ (was && is_ok r) → OnOk o (now ≡ was)
 well_so (Ok v) (Ok u) was now ok is = is ∙ with_true was
-well_so (Ok v) (Err e) was now ok is = absurd ok
+well_so (Ok v) (Err e) was now ok is = absurd (true≢false (sym ok))
 well_so (Err f) r was now ok is = tt
 
 module _ {W P : Type 0} (contents : W → Option (List ℕ)) where

@@ -30,9 +30,9 @@ module _ {W P : Type 0} (contents : W → Option (List ℕ)) where
 
   -- what is done of a command when it is read: it leaves a line to the run, and nothing is put; or it is answered
   abbrev pub Does : {E : Type 0} → Schedule → Request → List FileAnswer → Result (Option Line) E → Answers W P → Answers W P → Type 0
-  Does a asked texts (Ok (Some line)) old new = Leaves asked texts line × (new ≡ old)
-  Does a asked texts (Ok None) old new = Answered a asked texts (Ok None) old new
-  Does a asked texts (Err error) old new = Answered a asked texts (Err error) old new
+  Does {E} a asked texts (Ok (Some line)) old new = Leaves asked texts line × (new ≡ old)
+  Does {E} a asked texts (Ok None) old new = Answered {T = Option Line} {E = E} a asked texts (Ok None) old new
+  Does {E} a asked texts (Err error) old new = Answered {T = Option Line} {E = E} a asked texts (Err error) old new
 
 -- nothing was read, since the script is over
 abbrev pub is_end : {E : Type 0} → Result (Option Line) E → Bool

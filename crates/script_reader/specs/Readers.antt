@@ -23,6 +23,14 @@ pub record IsNew {R W F P : Type 0} (script : Script R W F P) (reader : ScriptRe
   pub failed : reader.failed ≡ None
   pub over : reader.is_over ≡ false
 
+not_both : (b : Bool) → (b && not b) ≡ true → true ≡ false
+not_both true e = sym e
+not_both false e = sym e
+
+written : (now : Option (List ℕ)) → Appends now now []
+written None = tt
+written (Some bytes) = sym (append-nil bytes)
+
 module _ {R W F P : Type 0} (remaining : R → Option (List ℕ)) (contents : W → Option (List ℕ)) (gives : F → List FileAnswer → F → Type 0) where
   -- What was done of a script since its reader stood so (s): commands one after another, with these steps of the run and with what the sources answered; this line
   -- waits for its answer. If the bytes of the script are known, these are its commands, and those of the bytes that are left come next, unless it broke off; where
@@ -56,14 +64,6 @@ module _ {R W F P : Type 0} (remaining : R → Option (List ℕ)) (contents : W 
   Tells s steps waits t = AreDone s steps waits t.commands t.answers t.sources (is_some t.failed) (t.is_over && not s.is_over)
 
   -- where nothing was done, nothing was told
-  not_both : (b : Bool) → (b && not b) ≡ true → true ≡ false
-  not_both true e = sym e
-  not_both false e = sym e
-
-  written : (now : Option (List ℕ)) → Appends now now []
-  written None = tt
-  written (Some bytes) = sym (append-nil bytes)
-
   pub tells_nothing : ((f : F) → gives f [] f) → (s : ScriptReader R W F P) → Tells s [] None s
   unfolding greatest_status
   tells_nothing none s = record {
