@@ -1,18 +1,19 @@
 //! A script that is run on a new record in memory.
-ghost use Rattle.std.specs.Prelude.{◌≡◌, ◌≤◌, false};
+ghost use Rattle.std.specs.Prelude.{◌≡◌, ◌≤◌};
 
 use crate::clocks::worked_clock;
 use crate::failing::{Calls, Sink, Source};
+use crate::recording::Recorder;
 use fault_sentences::SentenceConsole;
 use meta_store::Store;
 use moment_core::Moment;
 use sched_core::Limits;
 use script_reader::{Console, Script, Sources};
 use script_runner::{FileSources, operators_for, run_team};
-use sqlite::{Alter, Connection, MemStore};
+use sqlite::Alter;
 use std::alloc::Global;
 use std::fs::{self, File};
-use std::io::{self, BufRead, BufReader, ErrorKind, Write};
+use std::io::{self, BufRead, BufReader, Write};
 use std::sync::Wait;
 use std::thread::Threads;
 
@@ -67,9 +68,10 @@ type WorkedScript<'a> = Script<
 >;
 
 /// Runs a script of which so many reads and writes do not fail.
-pub fn play<T: Threads + Wait + Sync>(
+pub fn play<R: Recorder, T: Threads + Wait + Sync>(
     rt: &T,
     host: &HostRuntime,
+    recorder: &R,
     setting: Setting<'_>,
     script: &[u8],
     calls: Calls,
@@ -77,25 +79,26 @@ pub fn play<T: Threads + Wait + Sync>(
     requires lanes { setting.lanes ≤ 64 }
     requires workers { setting.workers ≤ 16 }
 {
-    let (played, _record) = play_and_keep(rt, host, setting, script, calls)?;
+    let (played, _record) = play_and_keep(rt, host, recorder, setting, script, calls)?;
     Ok(played)
 }
 
 /// The same, with the record that it leaves.
 ///
 /// All scripts are run by this, since each type of record and of streams is proved and compiled with all that it stands on.
-pub fn play_and_keep<T: Threads + Wait + Sync>(
+pub fn play_and_keep<R: Recorder, T: Threads + Wait + Sync>(
     rt: &T,
     host: &HostRuntime,
+    recorder: &R,
     setting: Setting<'_>,
     script: &[u8],
     calls: Calls,
-) -> io::Result<(Played, Store<MemStore>)>
+) -> io::Result<(Played, Store<R::Pages>)>
     requires lanes { setting.lanes ≤ 64 }
     requires workers { setting.workers ≤ 16 }
 {
     let script = worked_script(host, script, calls)?;
-    play_on(rt, host, setting, script, new_record(host.alloc())?)
+    play_on(rt, host, setting, script, recorder.create(host.alloc())?)
 }
 
 fn worked_script<'a>(
@@ -162,20 +165,6 @@ fn run_by<
     match run_team(rt, alloc, record, setting.lanes, team, script, &mut clock) {
         Ok(ran) => Ok((ran.store, ran.output, ran.status)),
         Err(_) => Err(io::Error::other("not opened")),
-    }
-}
-
-fn new_record(alloc: Global) -> io::Result<Store<MemStore>> {
-    record_in(alloc, Connection::open_in_memory(alloc)?)
-}
-
-// A new record in this database.
-fn record_in<S: Alter + Drop>(alloc: Global, conn: Connection<S>) -> io::Result<Store<S>>
-    requires { conn.in_transaction ≡ false }
-{
-    match Store::create(alloc, conn) {
-        Ok(record) => Ok(record),
-        Err(_) => Err(io::Error::from(ErrorKind::OutOfMemory)),
     }
 }
 

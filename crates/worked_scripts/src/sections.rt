@@ -29,6 +29,8 @@ pub enum Kind {
     Tasks(usize),
     /// A script without lanes, and below a line that is `+` alone commands outside of scripts.
     Single,
+    /// A list of events, each with what it leaves.
+    Events,
     /// What is written where memory ran out.
     Memory,
 }
@@ -55,6 +57,7 @@ impl Section<'_> {
             "logs" => Kind::Logged,
             "told" => Kind::Told,
             "single" => Kind::Single,
+            "events" => Kind::Events,
             "memory" => Kind::Memory,
             _ => counted(word),
         }

@@ -1,6 +1,7 @@
 //! Commands outside of scripts.
 use crate::failing::Calls;
 use crate::playing::{Played, Setting, play_and_keep};
+use crate::recording::Recorder;
 use crate::sections::script_and_commands;
 use crate::{put_ended, put_lines};
 use command_runner::run_command;
@@ -16,15 +17,16 @@ use std::thread::Threads;
 
 /// Runs a script, and then does each line below it as a command outside of scripts on the record that it left. Writes what each prints, what a person is told of a
 /// command, with `! ` before each line, and each status.
-pub fn put_singles<T: Threads + Wait + Sync, W: Write>(
+pub fn put_singles<R: Recorder, T: Threads + Wait + Sync, W: Write>(
     rt: &T,
     host: &HostRuntime,
+    recorder: &R,
     text: &[u8],
     output: &mut W,
 ) -> io::Result<()> {
     let (script, commands) = script_and_commands(text);
     let setting = Setting::with_lanes(0);
-    let (played, record) = play_and_keep(rt, host, setting, script, Calls::all())?;
+    let (played, record) = play_and_keep(rt, host, recorder, setting, script, Calls::all())?;
     put_after(host, &played, record, commands, output)
 }
 

@@ -1,6 +1,7 @@
 //! Scripts whose reads or writes fail, after 0, 1, 2 .. that do not.
 use crate::failing::Calls;
 use crate::playing::{Played, Setting, play};
+use crate::recording::Recorder;
 use crate::sections::Part;
 use std::alloc::Global;
 use std::io::{self, ErrorKind, Write};
@@ -75,16 +76,25 @@ impl Stop {
 }
 
 /// Writes how a script ends where so many reads or writes do not fail, up to the first run that meets no failure.
-pub fn put_stops<T: Threads + Wait + Sync, W: Write>(
+pub fn put_stops<R: Recorder, T: Threads + Wait + Sync, W: Write>(
     rt: &T,
     host: &HostRuntime,
+    recorder: &R,
     part: Part,
     script: &[u8],
     output: &mut W,
 ) -> io::Result<()> {
     let mut alike: Option<Alike> = None;
     for count in 0..MANY {
-        if !is_stopped(rt, host, Stop { part, count }, script, &mut alike, output)? {
+        if !is_stopped(
+            rt,
+            host,
+            recorder,
+            Stop { part, count },
+            script,
+            &mut alike,
+            output,
+        )? {
             break;
         }
     }
@@ -92,15 +102,23 @@ pub fn put_stops<T: Threads + Wait + Sync, W: Write>(
 }
 
 // Whether a run met a failure. Those that did are written once a run ends otherwise.
-fn is_stopped<T: Threads + Wait + Sync, W: Write>(
+fn is_stopped<R: Recorder, T: Threads + Wait + Sync, W: Write>(
     rt: &T,
     host: &HostRuntime,
+    recorder: &R,
     stop: Stop,
     script: &[u8],
     alike: &mut Option<Alike>,
     output: &mut W,
 ) -> io::Result<bool> {
-    let played = play(rt, host, Setting::with_lanes(1), script, stop.calls())?;
+    let played = play(
+        rt,
+        host,
+        recorder,
+        Setting::with_lanes(1),
+        script,
+        stop.calls(),
+    )?;
     let line = line_of(host.alloc(), stop.part, &played)?;
     if played.status == FAILED {
         Alike::add(alike, stop.count, line, output)?;

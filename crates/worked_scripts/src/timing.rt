@@ -6,7 +6,7 @@ ghost use Rattle.std.specs.Prelude.{◌≡◌, IfOk, OnOk};
 ghost use Rattle.sched_core.specs.Changes.{HasRoom};
 
 use crate::lines::{Line, first_line};
-use crate::playing::next_request;
+use crate::lists::next_request;
 use sched_core::{Change, Event, Limits, Schedule};
 use script_commands::{LineReader, ScriptCommand};
 use std::alloc::Global;

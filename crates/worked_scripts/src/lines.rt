@@ -13,6 +13,8 @@ pub enum Line<'a> {
     Limits(Option<Limits>),
     /// `restart LANES`, or `report SERIAL STAGE`, where the stage is `started` or how the try ended.
     Event(Event),
+    /// `reopen LANES`: the record is closed, and opened again with so many lanes.
+    Reopen(u32),
     /// `sql STATEMENTS`: a record that the same events have made is changed by SQL, and loaded.
     Sql(&'a str),
     /// A line of a script.
@@ -47,6 +49,7 @@ fn of_text(text: &str) -> Line<'_> {
     match text.split_once(' ') {
         Some(("limits", rest)) => Line::Limits(limits_of(rest)),
         Some(("sql", rest)) => Line::Sql(rest),
+        Some(("reopen", rest)) => number(Some(rest)).map_or(Line::Script, Line::Reopen),
         Some((name, rest)) => match event_of(name, rest) {
             Some(event) => Line::Event(event),
             None => Line::Script,

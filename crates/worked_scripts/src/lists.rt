@@ -1,27 +1,50 @@
-//! The lines of a text, one after another.
+//! Lists of events, each told with its answer and with what it leaves.
+//!
+//! Each list is stepped by a director, with a new record in memory. At its end this is read back and compared with the schedule, and so is what
+//! the same events lead to in one call.
+//!
+//! A list has the lines of a script, and the words for what no script says (`lines`). They are written with `> ` before each, and after each what it answers, as a
+//! script prints it, and what it leaves (`leaving`). A line `sql STATEMENTS` changes a record that the same events have made, and says what that one is loaded
+//! as (`changing`). A line `reopen LANES` closes the record and opens it again.
+//!
+//! ```text
+//! == events a lane takes one try
+//! > restart 1
+//! ok
+//! = 1970-01-01T00:00:00+00:00, 0 of 1 in flight, next 1
+//! ```
 use crate::answering::answer;
 use crate::changing::load_changed;
 use crate::lines::{Line, first_line};
-use crate::records::{Played, Records};
-use crate::stepping::step;
+use crate::put_lines;
+use crate::recording::Recorder;
+use crate::records::{Directed, Records, Tally};
+use crate::stepping::{reopen, step};
 use command_words::CommandReader;
 use sched_core::Limits;
 use script_commands::{CommandFault, LineReader, ScriptCommand, SourceFault, next_command};
-use sqlite::{Alter, MemStore};
+use sqlite::Alter;
 use std::alloc::Global;
 use std::io::{self, Write};
-use std::str;
 
-/// Does what the lines say, and writes what comes of each, and at the end how many records were kept.
-pub fn play<W: Write>(alloc: Global, text: &[u8], output: &mut W) -> io::Result<()> {
+/// Does what the lines of a list say, writes what comes of each, and adds the records of the list to these.
+pub fn put_list<R: Recorder, W: Write>(
+    alloc: Global,
+    recorder: &R,
+    text: &[u8],
+    tally: Tally,
+    output: &mut W,
+) -> io::Result<Tally> {
     let mut lines = LineReader::new(alloc)?;
-    let mut records = Records::new(alloc)?;
-    play_lines(alloc, &mut records, &mut lines, text, output)
+    let mut records = Records::new(alloc, recorder, tally)?;
+    put_all(alloc, recorder, &mut records, &mut lines, text, output)?;
+    records.end(alloc, recorder)
 }
 
-fn play_lines<W: Write>(
+fn put_all<R: Recorder, W: Write>(
     alloc: Global,
-    records: &mut Records<MemStore>,
+    recorder: &R,
+    records: &mut Records<R::Pages>,
     lines: &mut LineReader,
     text: &[u8],
     output: &mut W,
@@ -31,66 +54,63 @@ fn play_lines<W: Write>(
         if left.is_empty() {
             break;
         }
-        left = play_line(alloc, records, lines, left, output)?;
+        left = put_next(alloc, recorder, records, lines, left, output)?;
     }
-    records.begin(alloc, Limits::full())?;
-    let (ended, kept) = (records.ended, records.kept);
-    writeln!(
-        output,
-        "{kept} of {ended} records are read back as their schedules, to which their events in one list lead too"
-    )
+    Ok(())
 }
 
 // Does what the first line says, and answers the text after it.
-fn play_line<'a, W: Write>(
+fn put_next<'a, R: Recorder, W: Write>(
     alloc: Global,
-    records: &mut Records<MemStore>,
+    recorder: &R,
+    records: &mut Records<R::Pages>,
     lines: &mut LineReader,
     text: &'a [u8],
     output: &mut W,
 ) -> io::Result<&'a [u8]> {
     let (line, rest) = first_line(text);
     match Line::of(line) {
-        Line::Script => play_script(alloc, &mut records.played, lines, text, output),
+        Line::Script => put_script(alloc, &mut records.directed, lines, text, output),
         own => {
-            play_own(alloc, records, line, &own, output)?;
+            put_own(alloc, recorder, records, line, &own, output)?;
             Ok(rest)
         }
     }
 }
 
 // Does a line that is none of a script.
-fn play_own<W: Write>(
+fn put_own<R: Recorder, W: Write>(
     alloc: Global,
-    records: &mut Records<MemStore>,
+    recorder: &R,
+    records: &mut Records<R::Pages>,
     line: &[u8],
     own: &Line<'_>,
     output: &mut W,
 ) -> io::Result<()> {
     match own {
-        Line::Remark | Line::Script => put_remark(line, output),
-        Line::Title(_) => {
-            records.begin(alloc, Limits::full())?;
-            put_remark(line, output)
-        }
+        Line::Remark | Line::Title(_) | Line::Script => put_remark(line, output),
         told => {
-            echo(line, output)?;
-            tell(alloc, records, told, output)
+            put_lines(b"> ", line, output)?;
+            tell(alloc, recorder, records, told, output)
         }
     }
 }
 
 // Does a line that was written, and writes what comes of it.
-fn tell<W: Write>(
+fn tell<R: Recorder, W: Write>(
     alloc: Global,
-    records: &mut Records<MemStore>,
+    recorder: &R,
+    records: &mut Records<R::Pages>,
     line: &Line<'_>,
     output: &mut W,
 ) -> io::Result<()> {
     match line {
-        Line::Limits(limits) => limit(alloc, records, *limits, output),
-        Line::Event(event) => step(alloc, &mut records.played, event, output),
-        Line::Sql(statements) => load_changed(alloc, &records.played, statements, output),
+        Line::Limits(limits) => limit(alloc, recorder, records, *limits, output),
+        Line::Event(event) => step(alloc, &mut records.directed, event, output),
+        Line::Reopen(lanes) => reopen(alloc, recorder, &mut records.directed, *lanes, output),
+        Line::Sql(statements) => {
+            load_changed(alloc, recorder, &records.directed, statements, output)
+        }
         Line::Remark | Line::Title(_) | Line::Script => Ok(()),
     }
 }
@@ -101,15 +121,16 @@ fn put_remark<W: Write>(line: &[u8], output: &mut W) -> io::Result<()> {
 }
 
 // Begins a new record within the limits.
-fn limit<W: Write>(
+fn limit<R: Recorder, W: Write>(
     alloc: Global,
-    records: &mut Records<MemStore>,
+    recorder: &R,
+    records: &mut Records<R::Pages>,
     limits: Option<Limits>,
     output: &mut W,
 ) -> io::Result<()> {
     match limits {
         Some(limits) => {
-            records.begin(alloc, limits)?;
+            records.begin(alloc, recorder, limits)?;
             output.write_all(b"ok\n")
         }
         None => output.write_all(b"no limits\n"),
@@ -117,30 +138,30 @@ fn limit<W: Write>(
 }
 
 // Does the next command of a script, and answers the text after it. The command is read again where memory ran out.
-fn play_script<'a, S: Alter + Drop, W: Write>(
+fn put_script<'a, S: Alter + Drop, W: Write>(
     alloc: Global,
-    played: &mut Played<S>,
+    directed: &mut Directed<S>,
     lines: &mut LineReader,
     text: &'a [u8],
     output: &mut W,
 ) -> io::Result<&'a [u8]> {
     let (request, left) = request_or_again(alloc, lines, text)?;
     let read = text.len().saturating_sub(left.len());
-    play_request(alloc, played, &text[..read], request, output)?;
+    put_request(alloc, directed, &text[..read], request, output)?;
     Ok(left)
 }
 
 // Writes the lines of a command, and does it.
-fn play_request<S: Alter + Drop, W: Write>(
+fn put_request<S: Alter + Drop, W: Write>(
     alloc: Global,
-    played: &mut Played<S>,
+    directed: &mut Directed<S>,
     text: &[u8],
     request: Option<Request>,
     output: &mut W,
 ) -> io::Result<()> {
-    let echoed = echo(text, output);
+    let echoed = put_lines(b"> ", text, output);
     match request {
-        Some(request) if echoed.is_ok() => answer(alloc, played, request, output),
+        Some(request) if echoed.is_ok() => answer(alloc, directed, request, output),
         _ => echoed,
     }
 }
@@ -187,14 +208,4 @@ pub fn next_request<'a>(
     let mut left = text;
     let request = next_command(alloc, &CommandReader::new(), lines, &mut left)?;
     Ok((request, left))
-}
-
-// Writes these lines with `> ` before each.
-fn echo<W: Write>(text: &[u8], output: &mut W) -> io::Result<()> {
-    if let Ok(text) = str::from_utf8(text) {
-        for line in text.lines() {
-            writeln!(output, "> {line}")?;
-        }
-    }
-    Ok(())
 }

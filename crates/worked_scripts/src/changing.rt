@@ -1,9 +1,10 @@
 //! Records that were changed by SQL, and what they are loaded as.
-use crate::records::Played;
+use crate::recording::Recorder;
+use crate::records::Directed;
 use meta_store::{Store, StoreFault};
 use record_rows::Table;
 use sched_core::{Limits, Schedule};
-use sqlite::{Alter, Connection, Error, ErrorCode, MemStore};
+use sqlite::{Alter, Connection, Error, ErrorCode};
 use std::alloc::{AllocError, Global};
 use std::io::{self, Write};
 
@@ -17,32 +18,40 @@ enum Loaded {
 }
 
 /// Does these statements to a record that the same events have made, loads it, and writes what it is loaded as. This is done again where memory ran out.
-pub fn load_changed<W: Write>(
+pub fn load_changed<R: Recorder, W: Write>(
     alloc: Global,
-    played: &Played<MemStore>,
+    recorder: &R,
+    directed: &Directed<R::Pages>,
     sql: &str,
     output: &mut W,
 ) -> io::Result<()> {
-    match load_or_again(alloc, played, sql)? {
+    match load_or_again(alloc, recorder, directed, sql)? {
         Loaded::Sound(schedule) => put_loaded(&schedule, output),
         Loaded::Faulty(fault) => put_fault(&fault, output),
         Loaded::Unchanged => output.write_all(b"refused by SQLite\n"),
     }
 }
 
-fn load_or_again(
+fn load_or_again<R: Recorder>(
     alloc: Global,
-    played: &Played<MemStore>,
+    recorder: &R,
+    directed: &Directed<R::Pages>,
     sql: &str,
 ) -> Result<Loaded, AllocError> {
-    match load_after(alloc, played, sql) {
-        Err(_) => load_after(alloc, played, sql),
+    match load_after(alloc, recorder, directed, sql) {
+        Err(_) => load_after(alloc, recorder, directed, sql),
         loaded => loaded,
     }
 }
 
-fn load_after(alloc: Global, played: &Played<MemStore>, sql: &str) -> Result<Loaded, AllocError> {
-    load_with(alloc, played.record(alloc)?, sql, played.limits())
+fn load_after<R: Recorder>(
+    alloc: Global,
+    recorder: &R,
+    directed: &Directed<R::Pages>,
+    sql: &str,
+) -> Result<Loaded, AllocError> {
+    let record = directed.record(alloc, recorder)?;
+    load_with(alloc, record, sql, directed.limits())
 }
 
 // Does these statements to a record, and loads it.
