@@ -97,7 +97,8 @@ impl<S, R: Read + Drop, W: Write + Drop, F: Sources, P: Console> Lines<S>
 
     fn no_clock(&mut self, _schedule: &Schedule, fault: ClockFault) -> Result<(), LineFault> {
         let spot = self.commands.spot();
-        let put = self.answers.put(Some(spot), None, Shown::NoMoment(fault), 4);
+        let shown = Shown::NoMoment(fault);
+        let put = self.answers.put(Some(spot), None, shown, 4);
         keep(&mut self.failed, put)
     }
 }

@@ -68,7 +68,9 @@ impl<R: Read + Drop, W: Write + Drop, F: Sources, P: Console> ScriptReader<R, W,
         } = self;
         let CommandInput { input, .. } = commands;
         let Answers {
-            output, console, ..
+            output,
+            console,
+            ..
         } = answers;
         Script {
             input,

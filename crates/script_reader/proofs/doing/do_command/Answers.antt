@@ -24,5 +24,5 @@ returns-in-Err-clause-does g c = (
   [],
   search rules,
   rw c.in-Err.is (done_so g.W.Write.contents c.args.schedule.now.content (Err c.in-Err.fault) [] c.refuse.result c.done-in-Err.result _ _ c.done-in-Err.ensures
-  (command_status c.in-Err.fault, command_fault_text c.in-Err.fault, (refl, refl, refl), c.refuse.ensures)),
+      (command_status c.in-Err.fault, command_fault_text c.in-Err.fault, (refl, refl, refl), c.refuse.ensures)),
 )
