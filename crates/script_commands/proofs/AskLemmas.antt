@@ -6,7 +6,7 @@ use Rattle.std.specs.Str.{is_utf8}
 use Rattle.std.proofs.Math.Bool.{or-true}
 use Rattle.text_words.specs.Words.{is_blank, words}
 use Rattle.text_words.proofs.WordLemmas.{words-blank, words-some}
-use Rattle.script_lines.specs.Lines.{line_limit}
+use Rattle.script_commands.specs.Lines.{line_limit}
 use Rattle.script_commands.specs.Meanings.{meaning_by}
 use Rattle.script_commands.specs.Commands.{meaning_of, is_bad, is_comment, is_skipped}
 use Rattle.script_commands.specs.declared.meanings.LineMeaning.{LineMeaning}

@@ -1,7 +1,7 @@
 -- The commands of what is left of a script.
 use Rattle.std.proofs.Common.{◌≡◌, ◌∙◌, ℕ, List, [], ◌∷◌, Option, Some, Ok, Err, refl, sym, ap, inl}
 use Rattle.word_app.specs.App.{Texts}
-use Rattle.script_lines.specs.Lines.{lines_of, IsFirstLine}
+use Rattle.script_commands.specs.Lines.{lines_of, IsFirstLine}
 use Rattle.script_commands.specs.Commands.{Request, IsFirst, meaning_of, given_by, commands_from, commands_in}
 use Rattle.script_commands.specs.Commands.Place.{Outside, Inside}
 use Rattle.script_commands.specs.declared.meanings.LineMeaning.{LineMeaning}

@@ -2,7 +2,7 @@
 use Rattle.std.proofs.Common.{◌≡◌, ◌<◌, ◌∙◌, ℕ, Bool, true, false, cond, List, [], length, Option, Some, None, Err, refl, sym, ap, subst, arith, inl, codes}
 use Rattle.std.proofs.lemmas.Slice.Eq.{bytes_eq-Decides}
 use Rattle.std.proofs.lemmas.Bool.{false_from_ne_true}
-use Rattle.script_lines.specs.Lines.{lines_of, line_limit, IsFirstLine}
+use Rattle.script_commands.specs.Lines.{lines_of, line_limit, IsFirstLine}
 use Rattle.script_commands.specs.Commands.{Request, IsFirst, IsGiven, commands_from, commands_in, ends_text, is_bad, take_of, with_line, with_newline}
 use Rattle.script_commands.specs.Commands.Place.{Inside}
 use Rattle.script_commands.specs.Gathered.{Gathers}

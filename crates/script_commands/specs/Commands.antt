@@ -2,7 +2,7 @@
 use Rattle.std.specs.Prelude.{◌≡◌, ◌⊎◌, ℕ, Bool, true, not, ◌==◌, ◌&&◌, ◌||◌, nat_lt, if◌then◌else◌, List, [], ◌∷◌, ◌++◌, length, slice_index, codes, Option, Some, None, MatchOption, option_map, Result, Ok, Err}
 use Rattle.std.specs.Str.{bytes_eq, is_utf8}
 use Rattle.text_words.specs.Words.{words}
-use Rattle.script_lines.specs.Lines.{lines_of, line_limit, newline, IsFirstLine}
+use Rattle.script_commands.specs.Lines.{lines_of, line_limit, newline, IsFirstLine}
 use Rattle.word_app.specs.App.{Texts}
 use Rattle.command_words.specs.Commands.{taken}
 use Rattle.command_words.specs.declared.takings.Taking.{Taking}

@@ -4,17 +4,17 @@
 //! all the same.
 ghost use Rattle.std.specs.Prelude.{◌≡◌, ℕ, true, List, [], ◌∷◌, ◌++◌, ◌≤◌, length, Some, Option, IfOk, string_bytes, OnOk};
 ghost use Rattle.word_app.specs.App.{Texts};
-ghost use Rattle.script_lines.specs.Lines.{line_limit, lines_of};
+ghost use Rattle.script_commands.specs.Lines.{line_limit, lines_of};
 ghost use Rattle.script_commands.specs.Commands as spec;
 ghost use Rattle.script_commands.specs.Commands.{IsFirst, IsGiven, commands_from, is_asked, take_of, with_line, with_newline};
 ghost use Rattle.script_commands.specs.Commands.Place.{Inside};
 ghost use Rattle.script_commands.specs.Gathered.{Gathers};
 
 use crate::commands::{CommandFault, ScriptCommand, SourceFault};
+use crate::lines::{Found, LineReader};
 use crate::requests::{MOST_LINES, text_of};
 use command_words::{Taking, UsageFault};
 use sched_state::GraphText;
-use script_lines::{Found, LineReader};
 use std::alloc::{AllocError, Global};
 use std::io::{self, ErrorKind, Read};
 

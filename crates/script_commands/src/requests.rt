@@ -5,16 +5,16 @@ ghost use Rattle.std.specs.Prelude.{◌≡◌, ℕ, ◌<◌, ◌≤◌, true, fa
 ghost use Rattle.std.specs.List.{list_all};
 ghost use Rattle.text_words.specs.Words.{is_blank as is_blank_byte, words};
 ghost use Rattle.word_app.specs.App.{Texts};
-ghost use Rattle.script_lines.specs.Lines.{line_limit};
+ghost use Rattle.script_commands.specs.Lines.{line_limit};
 ghost use Rattle.script_commands.specs.Meanings.{asks_of_script, IsReadAs};
 ghost use Rattle.script_commands.specs.Commands as spec;
 ghost use Rattle.script_commands.specs.Commands.{IsNext, IsMeaning, is_asked, is_bad};
 
 use crate::commands::{CommandFault, ScriptCommand};
 use crate::graph_texts::read_text;
+use crate::lines::{Found, LineReader};
 use crate::meanings::{LineMeaning, meaning_of_words};
 use command_words::{CommandReader, UsageFault, words_ask_for_no_report};
-use script_lines::{Found, LineReader};
 use std::alloc::{AllocError, Global};
 use std::io::{self, ErrorKind, Read};
 use std::str;

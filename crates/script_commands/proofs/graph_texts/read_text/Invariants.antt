@@ -1,6 +1,6 @@
 use Rattle.std.proofs.Common.{◌≡◌, ℕ, List, [], Some}
 use Rattle.word_app.specs.App.{Texts}
-use Rattle.script_lines.specs.Lines.{lines_of}
+use Rattle.script_commands.specs.Lines.{lines_of}
 use Rattle.script_commands.specs.Commands.{commands_from}
 use Rattle.script_commands.specs.Commands.Place.{Inside}
 use Rattle.script_commands.proofs.TextLemmas.{Stands}
