@@ -14,8 +14,8 @@ use std::io::Write;
 
 /// Does one command on a record, writes its answer, and gives the record back, with the status: that of the answer, and 4 where it was not written.
 ///
-/// `trigger`, `backfill`, `clear`, `pause`, `unpause` and `resize` open the record within the greatest limits, without lanes, which makes one of version 1
-/// one of version 2, and step their event. `list` and `explain` look at what the record holds, of either version, and leave it as it is. `run` is the
+/// `trigger`, `backfill`, `clear`, `mark`, `pause`, `unpause` and `resize` open the record within the greatest limits, without lanes, which makes one of
+/// version 1 one of version 2, and step their event. `list` and `explain` look at what the record holds, of either version, and leave it as it is. `run` is the
 /// caller's; it and what is for scripts alone, `load`, `replace`, `tick` and `drain`, have no place here. Each is done before anything is written. The console
 /// is given what came of an event, or why a question was not answered, and may tell of it before the output is flushed.
 pub fn run_command<S: Alter + Drop, W: Write, P: Console>(

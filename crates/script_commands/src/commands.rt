@@ -5,8 +5,8 @@ use sched_events::Event;
 /// What a script asks for.
 #[derive(Debug, Drop)]
 pub enum ScriptCommand {
-    /// An event for the schedule: `load inline` or `replace inline` with its text, `tick MOMENT`, `trigger`, `backfill`, `clear`, `pause`, `unpause` or
-    /// `resize`.
+    /// An event for the schedule: `load inline` or `replace inline` with its text, `tick MOMENT`, `trigger`, `backfill`, `clear`, `mark`, `pause`,
+    /// `unpause` or `resize`.
     Step(Event),
     /// `load PATH` or `replace PATH`: the graph file at this path is taken in.
     TakeFile(Taking, FilePath),
