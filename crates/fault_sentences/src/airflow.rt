@@ -127,7 +127,7 @@ static WORDS: [(&str, &str); 63] = [
 ];
 
 // What stands here for a word of Airflow that is none of a graph file.
-pub fn airflow_text(word: &str) -> Option<&'static str> {
+pub(crate) fn airflow_text(word: &str) -> Option<&'static str> {
     for (name, said) in WORDS.as_slice() {
         if *name == word {
             return Some(*said);

@@ -62,7 +62,7 @@ fn values_of<'a>(alloc: Global, words: &[&'a str]) -> Result<Vec<&'a str>, Alloc
 }
 
 // What stands between blanks and tabs.
-pub fn words_of_line(alloc: Global, line: &str) -> Result<Vec<&str>, AllocError> {
+pub(crate) fn words_of_line(alloc: Global, line: &str) -> Result<Vec<&str>, AllocError> {
     let mut words = Vec::new(alloc);
     for part in line.split(' ') {
         for word in part.split('\t') {

@@ -10,7 +10,7 @@ use script_reader::Schedule;
 use std::alloc::{AllocError, Global};
 
 // Adds why the graph is not given its text, and what may be written instead; nothing where this is no cause against a change alone.
-pub fn push_change(
+pub(crate) fn push_change(
     sentence: &mut String,
     graph: &Name,
     refusal: &Refusal,
@@ -51,7 +51,11 @@ fn push_redoes(sentence: &mut String, reached: Moment) -> Result<(), AllocError>
 }
 
 // What the schedule says beside it.
-pub fn change_rest(alloc: Global, graph: &Name, refusal: &Refusal) -> Result<Rest, AllocError> {
+pub(crate) fn change_rest(
+    alloc: Global,
+    graph: &Name,
+    refusal: &Refusal,
+) -> Result<Rest, AllocError> {
     match refusal {
         Refusal::UnknownGraph => near_graph(alloc, graph.as_str()),
         Refusal::InFlight(serial) => Ok(Rest::Try(*serial)),
@@ -66,7 +70,7 @@ fn old_slots(alloc: Global, graph: &Name, task: &Name) -> Result<Rest, AllocErro
 }
 
 // Adds the number of slots that a task has by the text that its graph has.
-pub fn push_old_slots(
+pub(crate) fn push_old_slots(
     sentence: &mut String,
     schedule: &Schedule,
     graph: &Name,
@@ -88,7 +92,7 @@ pub fn push_old_slots(
 }
 
 // Adds up to which moment a graph has runs, where it has some, and what another text leaves of those that have finished.
-pub fn push_reach(
+pub(crate) fn push_reach(
     sentence: &mut String,
     schedule: &Schedule,
     graph: &Name,

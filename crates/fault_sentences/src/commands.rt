@@ -11,7 +11,7 @@ use script_commands::{CommandFault, SourceFault};
 use std::alloc::{AllocError, Global};
 
 // Adds why a line is no command, or has no text.
-pub fn push_command(
+pub(crate) fn push_command(
     sentence: &mut String,
     asked: Asked<'_>,
     fault: CommandFault,

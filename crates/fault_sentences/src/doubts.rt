@@ -106,7 +106,7 @@ const WEEK: u64 = 604_800;
 const MANY_RUNS: u32 = 10_080;
 
 // Adds what a graph has and cannot mean: the first that is found, or nothing.
-pub fn push_doubt(sentence: &mut String, spec: &GraphSpec) -> Result<(), AllocError> {
+pub(crate) fn push_doubt(sentence: &mut String, spec: &GraphSpec) -> Result<(), AllocError> {
     for task in spec.tasks.as_slice() {
         if let Some(said) = doubt_on(task) {
             let id = task.task_id.as_str();
@@ -117,7 +117,7 @@ pub fn push_doubt(sentence: &mut String, spec: &GraphSpec) -> Result<(), AllocEr
 }
 
 // Whether a task shows one of the signs.
-pub fn has_doubt(task: &TaskSpec) -> bool {
+pub(crate) fn has_doubt(task: &TaskSpec) -> bool {
     doubt_on(task).is_some()
 }
 
@@ -252,7 +252,7 @@ fn may_stand_still(spec: &GraphSpec, most: u32) -> bool {
 }
 
 // Whether a task of a graph has `depends_on_past`.
-pub fn looks_back(spec: &GraphSpec) -> bool {
+pub(crate) fn looks_back(spec: &GraphSpec) -> bool {
     for task in spec.tasks.as_slice() {
         if task.depends_on_past {
             return true;

@@ -12,7 +12,7 @@ use std::alloc::{AllocError, Global};
 const MANY_RUNS: u32 = 1_000;
 
 // The runs that a tick has made.
-pub fn runs_of(alloc: Global, answer: &Answer) -> Result<Vec<RunId>, AllocError> {
+pub(crate) fn runs_of(alloc: Global, answer: &Answer) -> Result<Vec<RunId>, AllocError> {
     let mut runs = Vec::new(alloc);
     for run in answer.made.as_slice() {
         runs.push(run.copy(alloc)?)?;
@@ -21,7 +21,7 @@ pub fn runs_of(alloc: Global, answer: &Answer) -> Result<Vec<RunId>, AllocError>
 }
 
 // Adds which graph a tick has begun to make many runs of, where it has.
-pub fn push_begun(
+pub(crate) fn push_begun(
     sentence: &mut String,
     schedule: &Schedule,
     runs: &[RunId],
@@ -38,7 +38,11 @@ pub fn push_begun(
 }
 
 // Adds that the next ticks make many runs of a graph that has none, where they do.
-pub fn push_due(sentence: &mut String, schedule: &Schedule, id: &Name) -> Result<(), AllocError> {
+pub(crate) fn push_due(
+    sentence: &mut String,
+    schedule: &Schedule,
+    id: &Name,
+) -> Result<(), AllocError> {
     let Some(graph) = schedule.graph_of(id) else {
         return Ok(());
     };
@@ -80,7 +84,7 @@ fn push_many(sentence: &mut String, spec: &GraphSpec) -> Result<(), AllocError> 
 }
 
 // Whether more than so many intervals of a timetable that has ticks start from one moment to another.
-pub fn has_more(timetable: &Timetable, from: Moment, to: Moment, most: u32) -> bool {
+pub(crate) fn has_more(timetable: &Timetable, from: Moment, to: Moment, most: u32) -> bool {
     let mut from = from;
     for _ in 0..most.saturating_add(1) {
         match behind_next(timetable, from, to) {

@@ -53,7 +53,11 @@ static FIELDS: [Field; 5] = [
 ];
 
 // Adds what is said of the first field of an expression that has this fault; where none has it alone, what is said of the whole.
-pub fn push_fault(sentence: &mut String, cron: &str, fault: CronFault) -> Result<(), AllocError> {
+pub(crate) fn push_fault(
+    sentence: &mut String,
+    cron: &str,
+    fault: CronFault,
+) -> Result<(), AllocError> {
     let words = words_of_line(*sentence.allocator(), cron)?;
     push_fault_of(sentence, words.as_slice(), fault)
 }

@@ -13,7 +13,7 @@ use std::alloc::AllocError;
 use toml::Table;
 
 // Adds why a text is no graph file.
-pub fn push_graph(
+pub(crate) fn push_graph(
     sentence: &mut String,
     source: Source<'_>,
     fault: GraphFault,
@@ -138,7 +138,7 @@ fn push_faulty_at(
 }
 
 // Adds why the tasks of a text are no graph without cycles.
-pub fn push_dag(
+pub(crate) fn push_dag(
     sentence: &mut String,
     source: Source<'_>,
     tasks: &[TaskSpec],
@@ -165,7 +165,7 @@ pub fn push_dag(
 }
 
 // Adds that the first task of a text with this pool names one that is not there.
-pub fn push_pool(
+pub(crate) fn push_pool(
     sentence: &mut String,
     source: Source<'_>,
     tasks: &[TaskSpec],
@@ -275,7 +275,11 @@ fn push_circle(sentence: &mut String, names: &[Name]) -> Result<(), AllocError> 
 
 // Adds what a text that was taken in cannot mean; what the schedule says beside it: of a pool that is too small, and that many runs are due; and of one
 // that was put in the place of another, up to which moment there are runs.
-pub fn push_taken(sentence: &mut String, text: &str, is_change: bool) -> Result<Rest, AllocError> {
+pub(crate) fn push_taken(
+    sentence: &mut String,
+    text: &str,
+    is_change: bool,
+) -> Result<Rest, AllocError> {
     match read_graph(*sentence.allocator(), text) {
         Ok(spec) => push_read(sentence, &spec, is_change),
         Err(_) => Ok(Rest::Nothing),

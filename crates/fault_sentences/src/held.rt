@@ -20,7 +20,7 @@ const HELD: &str =
 
 /// What a command was to do with the runs of a graph from one date to another.
 #[derive(Drop)]
-pub struct Done {
+pub(crate) struct Done {
     pub(crate) graph: Name,
     pub(crate) from: Moment,
     pub(crate) to: Moment,

@@ -14,7 +14,7 @@ use std::alloc::{AllocError, Global};
 
 // What a command does with the runs of a graph.
 #[derive(Clone, Copy)]
-pub enum Work {
+pub(crate) enum Work {
     // Those that are not there are made.
     Backfill,
     // Those that are not there are made, and the others are set back.
@@ -42,7 +42,7 @@ impl Work {
 }
 
 // What the schedule says beside a backfill or a clear that was done: why it has changed nothing, or what holds its runs back.
-pub fn done_rest(alloc: Global, event: &Event, answer: &Answer) -> Result<Rest, AllocError> {
+pub(crate) fn done_rest(alloc: Global, event: &Event, answer: &Answer) -> Result<Rest, AllocError> {
     let Some((graph, from, to, work)) = work_of(event) else {
         return Ok(Rest::Nothing);
     };

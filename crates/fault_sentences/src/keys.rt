@@ -29,7 +29,7 @@ static SCHEDULES: [&str; 8] = [
 ];
 
 // Adds what is said of a name in the table at a place that is no key there.
-pub fn push_unknown(
+pub(crate) fn push_unknown(
     sentence: &mut String,
     place: Place,
     name: &str,
@@ -110,7 +110,7 @@ fn other_place(place: Place, name: &str) -> Option<&'static str> {
     }
 }
 
-pub fn is_key_of(place: Place, name: &str) -> bool {
+pub(crate) fn is_key_of(place: Place, name: &str) -> bool {
     for key in place.keys() {
         if key.name() == name {
             return true;
@@ -120,7 +120,11 @@ pub fn is_key_of(place: Place, name: &str) -> bool {
 }
 
 // Adds which of these words was probably meant.
-pub fn push_hint(sentence: &mut String, word: &str, words: &[&str]) -> Result<(), AllocError> {
+pub(crate) fn push_hint(
+    sentence: &mut String,
+    word: &str,
+    words: &[&str],
+) -> Result<(), AllocError> {
     match nearest(*sentence.allocator(), word, words)? {
         Some(meant) => say(sentence, "; did you mean \"{}\"?", &[Text(meant)]),
         None => Ok(()),
@@ -128,7 +132,7 @@ pub fn push_hint(sentence: &mut String, word: &str, words: &[&str]) -> Result<()
 }
 
 // The nearest of these words, where few of its letters are others: the first of several.
-pub fn nearest<'a>(
+pub(crate) fn nearest<'a>(
     alloc: Global,
     word: &str,
     words: &[&'a str],
@@ -149,7 +153,7 @@ pub fn nearest<'a>(
 }
 
 // Adds what is said of the value at a key, or of its lack.
-pub fn push_key(
+pub(crate) fn push_key(
     sentence: &mut String,
     fault: GraphFault,
     key: Key,
@@ -185,7 +189,7 @@ fn push_lack(sentence: &mut String, key: Key) -> Result<(), AllocError> {
 }
 
 // Adds why a schedule is refused.
-pub fn push_schedule(
+pub(crate) fn push_schedule(
     sentence: &mut String,
     schedule: &str,
     fault: CronFault,
@@ -324,7 +328,7 @@ fn push_timeout(
     )
 }
 
-pub fn text_of(value: Option<&Value>) -> &str {
+pub(crate) fn text_of(value: Option<&Value>) -> &str {
     match value {
         Some(value) => value.as_str().unwrap_or(""),
         None => "",

@@ -9,7 +9,7 @@ use std::alloc::{AllocError, Global};
 
 // The graphs whose texts a script has taken in.
 #[derive(Drop)]
-pub struct Loads {
+pub(crate) struct Loads {
     rows: Vec<Row>,
 }
 

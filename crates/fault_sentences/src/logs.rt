@@ -13,7 +13,7 @@ const UNOPENED: &str = "{}: its log {} could not be opened, so its program was n
 
 /// A try of a program that failed.
 #[derive(Drop)]
-pub struct Failure {
+pub(crate) struct Failure {
     // Its graph, date and task.
     name: String,
     program: String,
@@ -115,7 +115,7 @@ impl Log {
 }
 
 /// Adds `DAG LOGICAL TASK`.
-pub fn push_name<'a>(
+pub(crate) fn push_name<'a>(
     sentence: &mut String,
     run: &'a Run,
     task: &'a TaskSpec,

@@ -2,10 +2,10 @@
 use moment_core::MomentFault;
 
 // Where the dates of a graph's runs are found, and what is easily missed.
-pub const DATES_HINT: &str = "list runs shows those it has; a day alone is its first second";
+pub(crate) const DATES_HINT: &str = "list runs shows those it has; a day alone is its first second";
 
 // What may stand in the place of a text that is no moment, for this reason.
-pub fn moment_text(fault: Option<MomentFault>) -> &'static str {
+pub(crate) fn moment_text(fault: Option<MomentFault>) -> &'static str {
     match fault {
         Some(MomentFault::NoSuchDate) => {
             "the calendar has no such day, or the clock no such time"

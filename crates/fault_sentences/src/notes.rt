@@ -32,7 +32,7 @@ pub struct Note {
 
 /// What the schedule says beside a sentence.
 #[derive(Drop)]
-pub enum Rest {
+pub(crate) enum Rest {
     /// Nothing.
     Nothing,
     /// The moment that the clock has reached.
@@ -130,19 +130,23 @@ fn trigger_text(answer: &Answer) -> &'static str {
 }
 
 /// What is to be told of a file that the system does not give, for this cause.
-pub fn unreadable_note(alloc: Global, path: &str, cause: &io::Error) -> Result<Note, AllocError> {
+pub(crate) fn unreadable_note(
+    alloc: Global,
+    path: &str,
+    cause: &io::Error,
+) -> Result<Note, AllocError> {
     let text = format!(in alloc; "{path} cannot be read: {cause}")?;
     let rest = Rest::Nothing;
     Ok(Note { text, rest })
 }
 
 // Which graph was probably meant by a word.
-pub fn near_graph(alloc: Global, word: &str) -> Result<Rest, AllocError> {
+pub(crate) fn near_graph(alloc: Global, word: &str) -> Result<Rest, AllocError> {
     Ok(Rest::Near(String::from_str(alloc, word)?))
 }
 
 // Which task of a graph was probably meant by a word.
-pub fn near_task(alloc: Global, graph: &str, word: &str) -> Result<Rest, AllocError> {
+pub(crate) fn near_task(alloc: Global, graph: &str, word: &str) -> Result<Rest, AllocError> {
     let graph = String::from_str(alloc, graph)?;
     Ok(Rest::Tasks(graph, String::from_str(alloc, word)?))
 }
@@ -280,7 +284,7 @@ fn tasks_of<'a>(
 }
 
 // Adds the moment that the clock has reached.
-pub fn push_clock(sentence: &mut String, schedule: &Schedule) -> Result<(), AllocError> {
+pub(crate) fn push_clock(sentence: &mut String, schedule: &Schedule) -> Result<(), AllocError> {
     let now = schedule.now();
     if now.secs() == 0 {
         return sentence.push_str("; the record's clock was never moved: say tick now first");
@@ -297,7 +301,7 @@ fn push_waiting(sentence: &mut String, schedule: &Schedule, id: &Name) -> Result
 }
 
 // Adds that the runs of a graph wait since it is paused.
-pub fn push_paused(sentence: &mut String, id: &Name) -> Result<(), AllocError> {
+pub(crate) fn push_paused(sentence: &mut String, id: &Name) -> Result<(), AllocError> {
     say_more(
         sentence,
         "the graph is paused, so its runs wait until unpause {}",
@@ -353,7 +357,7 @@ fn try_of(instance: &Instance, serial: u64) -> Option<&Try> {
 }
 
 // Adds the first task that needs more slots than its pool has.
-pub fn push_slots(
+pub(crate) fn push_slots(
     sentence: &mut String,
     schedule: &Schedule,
     graph: &Name,
@@ -397,7 +401,7 @@ fn push_need(
 }
 
 // How many slots a pool has.
-pub fn size_of(schedule: &Schedule, pool: &Name) -> u32 {
+pub(crate) fn size_of(schedule: &Schedule, pool: &Name) -> u32 {
     for row in schedule.pools() {
         if row.name.as_str() == pool.as_str() {
             return row.size;

@@ -4,7 +4,7 @@ use std::alloc::AllocError;
 
 // What fills a hole.
 #[derive(Clone, Copy)]
-pub enum Part<'a> {
+pub(crate) enum Part<'a> {
     Text(&'a str),
     Number(u64),
     Date(Moment),
@@ -21,7 +21,7 @@ impl Part<'_> {
 }
 
 // Adds a text, with a part in the place of each of its `{}`.
-pub fn say(sentence: &mut String, text: &str, parts: &[Part<'_>]) -> Result<(), AllocError> {
+pub(crate) fn say(sentence: &mut String, text: &str, parts: &[Part<'_>]) -> Result<(), AllocError> {
     let mut parts = parts.iter();
     for piece in text.split("{}") {
         sentence.push_str(piece)?;
@@ -33,13 +33,17 @@ pub fn say(sentence: &mut String, text: &str, parts: &[Part<'_>]) -> Result<(), 
 }
 
 // The same, behind a `; ` where something stands before it.
-pub fn say_more(sentence: &mut String, text: &str, parts: &[Part<'_>]) -> Result<(), AllocError> {
+pub(crate) fn say_more(
+    sentence: &mut String,
+    text: &str,
+    parts: &[Part<'_>],
+) -> Result<(), AllocError> {
     push_between(sentence, "; ")?;
     say(sentence, text, parts)
 }
 
 // Adds what stands between two parts, where there is one before it.
-pub fn push_between(sentence: &mut String, between: &str) -> Result<(), AllocError> {
+pub(crate) fn push_between(sentence: &mut String, between: &str) -> Result<(), AllocError> {
     if sentence.is_empty() {
         Ok(())
     } else {
@@ -48,7 +52,7 @@ pub fn push_between(sentence: &mut String, between: &str) -> Result<(), AllocErr
 }
 
 // Adds words, with commas between them.
-pub fn push_words(sentence: &mut String, words: &[&str]) -> Result<(), AllocError> {
+pub(crate) fn push_words(sentence: &mut String, words: &[&str]) -> Result<(), AllocError> {
     let mut between = "";
     for word in words {
         sentence.push_str(between)?;

@@ -8,7 +8,7 @@ use toml::Table;
 
 // A graph's text, and the command that has it.
 #[derive(Clone, Copy)]
-pub struct Source<'a> {
+pub(crate) struct Source<'a> {
     pub asked: Asked<'a>,
     pub text: &'a str,
 }
@@ -127,7 +127,7 @@ fn is_of_key(line: &str, key: &str) -> bool {
 }
 
 // The line, from 1, that begins the task at this place, of so many tasks, if each of them stands below a line `[[task]]` and nothing else does.
-pub fn line_of_task(text: &str, count: usize, place: usize) -> Option<usize> {
+pub(crate) fn line_of_task(text: &str, count: usize, place: usize) -> Option<usize> {
     let mut begun = 0_usize;
     let mut found = None;
     for (at, line) in text.lines().enumerate() {

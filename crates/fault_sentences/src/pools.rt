@@ -14,7 +14,7 @@ use trigger_rules::State;
 const FEWEST_LETTERS: usize = 4;
 
 // Adds what comes of the size that a pool has got: how many task instances wait for one without slots, or which pool was probably meant.
-pub fn push_resized(
+pub(crate) fn push_resized(
     sentence: &mut String,
     schedule: &Schedule,
     pool: &Name,

@@ -59,7 +59,7 @@ impl Lack {
 
 /// Where programs are looked for: the system, and the folders of PATH.
 #[derive(Clone, Copy)]
-pub struct Search<'a, R: Files> {
+pub(crate) struct Search<'a, R: Files> {
     pub rt: &'a R,
     pub path: &'a str,
 }
@@ -129,7 +129,7 @@ impl<R: Files> Search<'_, R> {
 }
 
 /// The program of a task, or nothing.
-pub fn program_of(task: &TaskSpec) -> &str {
+pub(crate) fn program_of(task: &TaskSpec) -> &str {
     match (task.action.operator(), task.action.argv().first()) {
         (Operator::Command, Some(program)) => program.as_str(),
         _ => "",

@@ -3,7 +3,7 @@ use script_reader::{ClockFault, ConductFault, StoreFault};
 use std::alloc::AllocError;
 
 // Why a record is not opened or written.
-pub fn push_store(sentence: &mut String, fault: &StoreFault) -> Result<(), AllocError> {
+pub(crate) fn push_store(sentence: &mut String, fault: &StoreFault) -> Result<(), AllocError> {
     match fault {
         StoreFault::Refused(cause) => {
             let cause = cause.error();
@@ -25,7 +25,7 @@ fn store_text(fault: &StoreFault) -> &'static str {
 }
 
 // Why the clock gave no moment.
-pub fn clock_text(fault: ClockFault) -> &'static str {
+pub(crate) fn clock_text(fault: ClockFault) -> &'static str {
     match fault {
         ClockFault::NoClock => "the system has no clock that can be read",
         ClockFault::OutOfRange => {
@@ -36,7 +36,7 @@ pub fn clock_text(fault: ClockFault) -> &'static str {
 }
 
 // Why a run has ended before its script.
-pub fn push_end(sentence: &mut String, fault: &ConductFault) -> Result<(), AllocError> {
+pub(crate) fn push_end(sentence: &mut String, fault: &ConductFault) -> Result<(), AllocError> {
     match fault {
         ConductFault::StoreThrice(cause) => {
             let cause = cause.error();

@@ -13,7 +13,7 @@ use script_reader::ExplainFault;
 use std::alloc::{AllocError, Global};
 
 // Adds why an event is refused; what the schedule says beside it.
-pub fn push_refusal(
+pub(crate) fn push_refusal(
     sentence: &mut String,
     asked: Asked<'_>,
     event: Option<&Event>,
@@ -189,7 +189,7 @@ fn push_missing(sentence: &mut String, name: Option<&Name>, kind: &str) -> Resul
 }
 
 // Adds why a question has no answer; what the schedule says beside it. Its words are `explain DAG LOGICAL TASK`.
-pub fn push_unexplained(
+pub(crate) fn push_unexplained(
     sentence: &mut String,
     asked: Asked<'_>,
     fault: ExplainFault,

@@ -15,7 +15,7 @@ const MOST_NAMES: usize = 3;
 
 /// Which tries had no end when a schedule was looked at, so that their ends are still to be told.
 #[derive(Drop)]
-pub struct Untold {
+pub(crate) struct Untold {
     // The serials of those that were handed out, as many as there are lanes at most.
     in_flight: Vec<u64>,
     // That of the next one.
@@ -42,7 +42,7 @@ fn ended_of(next_serial: u64, in_flight: usize) -> u64 {
 
 /// What is told of tries at a schedule: a sentence or nothing, the tries of programs that it names, and what is still to be told.
 #[derive(Drop)]
-pub struct Told {
+pub(crate) struct Told {
     pub text: String,
     pub failures: Vec<Failure>,
     pub untold: Untold,
@@ -50,7 +50,7 @@ pub struct Told {
 
 /// Which task instances have failed, were lost or wait for a retry, of those whose last try has ended since; `None` where none has ended. Where one has, it goes
 /// over all task instances once. The logs of tries lie below this folder, where they have some.
-pub fn ended_since(
+pub(crate) fn ended_since(
     alloc: Global,
     schedule: &Schedule,
     untold: &Untold,
@@ -65,7 +65,7 @@ pub fn ended_since(
 
 /// Which task instances the restart has lost: those that have a try that was lost at the moment at which the clock stands, whatever became of them since. It goes
 /// over all tries once.
-pub fn lost_at_restart(alloc: Global, schedule: &Schedule) -> Result<Told, AllocError> {
+pub(crate) fn lost_at_restart(alloc: Global, schedule: &Schedule) -> Result<Told, AllocError> {
     tallied(alloc, schedule, &Which::LostAt(schedule.now().secs()), None)
 }
 

@@ -3,7 +3,7 @@ use std::io;
 
 /// Such runs: how many calls came before the failures in the first and the last of them.
 #[derive(Drop)]
-pub struct Alike {
+pub(crate) struct Alike {
     first: u64,
     last: u64,
     printed: String,

@@ -8,7 +8,7 @@ use std::sync::Wait;
 use std::thread::Threads;
 
 /// Writes a line of the page, and behind a question its answer.
-pub fn write_line<T: Threads + Wait + Sync>(
+pub(crate) fn write_line<T: Threads + Wait + Sync>(
     rt: &T,
     host: &HostRuntime,
     line: &str,

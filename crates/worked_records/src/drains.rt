@@ -24,7 +24,10 @@ struct Allowed {
 }
 
 /// Writes what comes of the script where both files fail after 0, 1, 2 .. calls each, up to the first run that meets no failure.
-pub fn write_answers<T: Threads + Wait + Sync>(rt: &T, host: &HostRuntime) -> io::Result<()> {
+pub(crate) fn write_answers<T: Threads + Wait + Sync>(
+    rt: &T,
+    host: &HostRuntime,
+) -> io::Result<()> {
     let Played { accepted, .. } = run_with(rt, host, Writes::all_pass())?;
     let mut alike: Option<Alike> = None;
     for calls in 0..MANY {

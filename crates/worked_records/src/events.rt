@@ -28,7 +28,7 @@ const PLACES: [usize; 4] = [1, 2, 4, 6];
 
 /// Four lanes; a graph that begins in February, taken in on 10 January; its run of 2 January, then those of 1 to 3 January, twice; the
 /// start of the first try. Then a backfill that would set a try in flight back, and one whose span ends before it begins: these are refused.
-pub fn worked_events(alloc: Global) -> Result<Vec<Event>, AllocError> {
+pub(crate) fn worked_events(alloc: Global) -> Result<Vec<Event>, AllocError> {
     let mut events = Vec::new(alloc);
     events.push(Event::Restart(4))?;
     events.push(Event::Load(GraphText::new(alloc, GRAPH)?))?;
@@ -40,7 +40,7 @@ pub fn worked_events(alloc: Global) -> Result<Vec<Event>, AllocError> {
 }
 
 /// Those of the worked events that change rows, once each.
-pub fn changing_events(alloc: Global) -> Result<Vec<Event>, AllocError> {
+pub(crate) fn changing_events(alloc: Global) -> Result<Vec<Event>, AllocError> {
     let mut events = Vec::new(alloc);
     for (place, event) in worked_events(alloc)?.into_iter().enumerate() {
         if PLACES.contains(&place) {
@@ -52,7 +52,7 @@ pub fn changing_events(alloc: Global) -> Result<Vec<Event>, AllocError> {
 
 /// A pool, and a graph with a task in it that is tried again at once; the tick by which its first run is made; the first try of the task, which
 /// fails, so that a second one is handed out; and a run by hand, whose try is handed out too.
-pub fn retried_events(alloc: Global) -> Result<Vec<Event>, AllocError> {
+pub(crate) fn retried_events(alloc: Global) -> Result<Vec<Event>, AllocError> {
     let mut events = Vec::new(alloc);
     if let Some(size) = Slots::new(2) {
         events.push(Event::Resize(name(alloc, "p")?, size))?;
@@ -66,7 +66,7 @@ pub fn retried_events(alloc: Global) -> Result<Vec<Event>, AllocError> {
 }
 
 /// What an event is called.
-pub fn name_of(event: &Event) -> &'static str {
+pub(crate) fn name_of(event: &Event) -> &'static str {
     match event {
         Event::Load(_) => "load",
         Event::Tick(_) => "tick",
@@ -84,7 +84,7 @@ pub fn name_of(event: &Event) -> &'static str {
 }
 
 /// Whether a line may name the event: it is no restart, and no worker reports it.
-pub fn is_of_line(event: &Event) -> bool {
+pub(crate) fn is_of_line(event: &Event) -> bool {
     !matches!(event, Event::Restart(_) | Event::Report(_, _))
 }
 

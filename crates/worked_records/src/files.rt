@@ -9,17 +9,17 @@ use std::alloc::Global;
 use std::io;
 
 /// A file in memory that may fail.
-pub type Faulty = Fuse<Flaky<Memory>>;
+pub(crate) type Faulty = Fuse<Flaky<Memory>>;
 
 /// The files of a record. All records here lie in such files.
-pub type RecordFiles = Files<Faulty>;
+pub(crate) type RecordFiles = Files<Faulty>;
 
 /// A database in such files.
-pub type RecordStore = FileStore<Faulty>;
+pub(crate) type RecordStore = FileStore<Faulty>;
 
 /// Which of the files fail.
 #[derive(Clone, Copy)]
-pub enum Failing {
+pub(crate) enum Failing {
     Log,
     Database,
     Both,
@@ -27,7 +27,7 @@ pub enum Failing {
 
 /// How many writes of the log pass first, and how many are refused after these.
 #[derive(Clone, Copy, Debug, PartialEq, Eq)]
-pub struct Writes {
+pub(crate) struct Writes {
     pub passes: u64,
     pub refusals: u64,
 }
@@ -48,7 +48,7 @@ fn file(memory: Memory, writes: Writes, calls: u64) -> Faulty {
 }
 
 /// Empty files, of which those that fail do so after so many calls each.
-pub fn empty_files(alloc: Global, failing: Failing, calls: u64) -> RecordFiles {
+pub(crate) fn empty_files(alloc: Global, failing: Failing, calls: u64) -> RecordFiles {
     let (log, db) = match failing {
         Failing::Log => (calls, u64::MAX),
         Failing::Database => (u64::MAX, calls),
@@ -61,12 +61,12 @@ pub fn empty_files(alloc: Global, failing: Failing, calls: u64) -> RecordFiles {
 }
 
 /// Empty files that fail no call.
-pub fn sound_files(alloc: Global) -> RecordFiles {
+pub(crate) fn sound_files(alloc: Global) -> RecordFiles {
     empty_files(alloc, Failing::Both, u64::MAX)
 }
 
 /// Empty files, of which the log refuses some writes.
-pub fn flaky_files(alloc: Global, writes: Writes) -> RecordFiles {
+pub(crate) fn flaky_files(alloc: Global, writes: Writes) -> RecordFiles {
     Files {
         log: file(Memory::new(alloc), writes, u64::MAX),
         db: file(Memory::new(alloc), Writes::all_pass(), u64::MAX),
@@ -74,7 +74,7 @@ pub fn flaky_files(alloc: Global, writes: Writes) -> RecordFiles {
 }
 
 /// Files with the same bytes, which fail no call.
-pub fn as_written(alloc: Global, files: &RecordFiles) -> io::Result<RecordFiles> {
+pub(crate) fn as_written(alloc: Global, files: &RecordFiles) -> io::Result<RecordFiles> {
     Ok(Files {
         log: file_as_written(alloc, &files.log)?,
         db: file_as_written(alloc, &files.db)?,
@@ -89,18 +89,18 @@ fn file_as_written(alloc: Global, written: &Faulty) -> io::Result<Faulty> {
 }
 
 /// The machine is stopped and comes back: what was not synced is lost, and no call fails any more.
-pub fn crash(files: &mut RecordFiles) {
+pub(crate) fn crash(files: &mut RecordFiles) {
     files.log.crash();
     files.db.crash();
 }
 
 /// How many writes the log has refused.
-pub fn refused_by(files: &RecordFiles) -> u64 {
+pub(crate) fn refused_by(files: &RecordFiles) -> u64 {
     files.log.inner().refused()
 }
 
 /// Whether one of the files fails each call.
-pub fn is_failing(files: &mut RecordFiles) -> bool {
+pub(crate) fn is_failing(files: &mut RecordFiles) -> bool {
     fails(&mut files.log) || fails(&mut files.db)
 }
 
@@ -110,7 +110,7 @@ fn fails(file: &mut Faulty) -> bool {
 }
 
 /// The database in these files, or what is left of them.
-pub fn open<D: Disk + Drop>(
+pub(crate) fn open<D: Disk + Drop>(
     alloc: Global,
     files: Files<D>,
 ) -> Result<Connection<FileStore<D>>, Files<D>>
@@ -126,6 +126,6 @@ pub fn open<D: Disk + Drop>(
 }
 
 /// The files of a database that is not closed.
-pub fn files_of<D: Disk + Drop>(conn: Connection<FileStore<D>>) -> Files<D> {
+pub(crate) fn files_of<D: Disk + Drop>(conn: Connection<FileStore<D>>) -> Files<D> {
     conn.into_store().close()
 }

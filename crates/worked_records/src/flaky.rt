@@ -8,7 +8,7 @@ use std::io;
 
 /// Passes so many writes on, refuses so many after these, which change nothing, and passes on the rest. All other calls are passed on.
 #[derive(Drop)]
-pub struct Flaky<D: Disk> {
+pub(crate) struct Flaky<D: Disk> {
     inner: D,
     passes: u64,
     refusals: u64,

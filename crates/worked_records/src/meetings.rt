@@ -26,7 +26,7 @@ list tasks
 ";
 
 /// Writes what the script of two tasks prints on a disk that refuses nothing, and how many workers saw the other.
-pub fn write_answer<T: Threads + Wait + Sync>(rt: &T, host: &HostRuntime) -> io::Result<()> {
+pub(crate) fn write_answer<T: Threads + Wait + Sync>(rt: &T, host: &HostRuntime) -> io::Result<()> {
     let (one, two, seen) = Party::pair(host.alloc())?;
     let team = two_workers(host, one, two)?;
     let played = run(rt, host, sound_files(host.alloc()), team, TWO_TASKS)?;

@@ -11,7 +11,7 @@ const TURNS: u32 = 10_000_000;
 
 /// One of the two: its flag, the other's, and the count of those that saw the other's.
 #[derive(Drop)]
-pub struct Party {
+pub(crate) struct Party {
     mine: Arc<AtomicU64, Global>,
     other: Arc<AtomicU64, Global>,
     seen: Arc<AtomicU64, Global>,

@@ -13,7 +13,11 @@ use std::alloc::{AllocError, Global};
 use std::io;
 
 /// Makes a record in these files, opens a director on it, steps the events, and prints what the record holds then.
-pub fn play<D: Disk + Drop, R: Print>(rt: &R, alloc: Global, files: Files<D>) -> io::Result<()> {
+pub(crate) fn play<D: Disk + Drop, R: Print>(
+    rt: &R,
+    alloc: Global,
+    files: Files<D>,
+) -> io::Result<()> {
     match open(alloc, files) {
         Ok(conn) => play_in(rt, alloc, conn),
         Err(_) => Err(io::Error::from(AllocError)),

@@ -3,7 +3,7 @@ use record_rows::{AttemptRow, Rows};
 use std::{fmt, io};
 
 /// Prints the rows of all tables, a row a line, with their columns as sqlite3 prints them.
-pub fn print_rows<R: Print>(rt: &R, rows: &Rows) -> io::Result<()> {
+pub(crate) fn print_rows<R: Print>(rt: &R, rows: &Rows) -> io::Result<()> {
     print_whole(rt, rows)?;
     print_graphs(rt, rows)?;
     print_runs(rt, rows)?;

@@ -11,7 +11,7 @@ use std::thread::Threads;
 const MANY: u64 = 1_000;
 
 /// A script by which one try is handed out and done.
-pub const ONE_TASK: &str = "load inline
+pub(crate) const ONE_TASK: &str = "load inline
 dag_id = \"one\"
 schedule = \"@daily\"
 start_date = \"2024-01-01\"
@@ -23,7 +23,7 @@ list tasks
 ";
 
 /// Writes what the script prints where so many writes are refused, after 0, 1, 2 .. that are not, up to the first run that meets no refusal.
-pub fn write_answers<T: Threads + Wait + Sync>(
+pub(crate) fn write_answers<T: Threads + Wait + Sync>(
     rt: &T,
     host: &HostRuntime,
     refusals: u64,
@@ -60,7 +60,7 @@ fn put_last(host: &HostRuntime, alike: Option<&Alike>, printed: &str) -> io::Res
 }
 
 /// What comes of the script with one worker on such a disk.
-pub fn run_with<T: Threads + Wait + Sync>(
+pub(crate) fn run_with<T: Threads + Wait + Sync>(
     rt: &T,
     host: &HostRuntime,
     writes: Writes,

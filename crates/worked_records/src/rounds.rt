@@ -9,10 +9,10 @@ use sqlite::{Alter, Connection};
 use std::alloc::{AllocError, Global};
 
 /// The lanes with which a record is opened.
-pub const LANES: u32 = 4;
+pub(crate) const LANES: u32 = 4;
 
 /// What a round does, step by step. The last step is done by the files.
-pub fn step_names(alloc: Global, events: &[Event]) -> Result<Vec<&'static str>, AllocError> {
+pub(crate) fn step_names(alloc: Global, events: &[Event]) -> Result<Vec<&'static str>, AllocError> {
     let mut names = Vec::new(alloc);
     names.push("create")?;
     names.push("open")?;
@@ -25,7 +25,7 @@ pub fn step_names(alloc: Global, events: &[Event]) -> Result<Vec<&'static str>, 
 }
 
 /// All steps but the last: the record, or the step that failed, by its place, and the store.
-pub fn run<S: Alter + Drop>(
+pub(crate) fn run<S: Alter + Drop>(
     alloc: Global,
     conn: Connection<S>,
     events: &[Event],
@@ -39,7 +39,7 @@ pub fn run<S: Alter + Drop>(
 }
 
 /// The steps up to the last event.
-pub fn step_all<S: Alter + Drop>(
+pub(crate) fn step_all<S: Alter + Drop>(
     alloc: Global,
     conn: Connection<S>,
     events: &[Event],
@@ -53,7 +53,7 @@ pub fn step_all<S: Alter + Drop>(
 }
 
 /// Makes a record, or gives the store back.
-pub fn create<S: Alter + Drop>(alloc: Global, conn: Connection<S>) -> Result<Store<S>, S>
+pub(crate) fn create<S: Alter + Drop>(alloc: Global, conn: Connection<S>) -> Result<Store<S>, S>
     requires { conn.in_transaction ≡ false }
 {
     match Store::create(alloc, conn) {

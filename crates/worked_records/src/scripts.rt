@@ -25,7 +25,7 @@ const LANES: u32 = 4;
 
 /// What came of a script.
 #[derive(Drop)]
-pub struct Played {
+pub(crate) struct Played {
     /// What it printed, in one line.
     pub printed: String,
     /// The files that it left.
@@ -42,7 +42,7 @@ struct End {
 }
 
 /// Runs a script with this team over these files.
-pub fn run<T: Threads + Wait + Sync>(
+pub(crate) fn run<T: Threads + Wait + Sync>(
     rt: &T,
     host: &HostRuntime,
     files: RecordFiles,

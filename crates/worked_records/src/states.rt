@@ -12,13 +12,13 @@ use std::alloc::{AllocError, Global};
 use std::io;
 
 /// What is opened where there is no record.
-pub const NO_RECORD: &str = "no record";
+pub(crate) const NO_RECORD: &str = "no record";
 
 const NOT_OPENED: &str = "not opened";
 
 /// What a record holds.
 #[derive(PartialEq, Drop)]
-pub struct Held {
+pub(crate) struct Held {
     rows: String,
     /// The rows of the restarted schedule, once a director has opened the record.
     pub opened: String,
@@ -34,7 +34,7 @@ enum Done<'a> {
 }
 
 /// What the record holds before each step of a round that is not stopped, and at its end.
-pub fn states(alloc: Global, events: &[Event]) -> Result<Vec<Held>, AllocError> {
+pub(crate) fn states(alloc: Global, events: &[Event]) -> Result<Vec<Held>, AllocError> {
     let mut states = Vec::new(alloc);
     states.push(state(alloc, Done::Nothing)?)?;
     states.push(state(alloc, Done::Created)?)?;
@@ -47,7 +47,7 @@ pub fn states(alloc: Global, events: &[Event]) -> Result<Vec<Held>, AllocError> 
 }
 
 /// What a sound record holds after these events, and after one more, where one is given.
-pub fn held_by_events(
+pub(crate) fn held_by_events(
     alloc: Global,
     events: &[Event],
     one: Option<&Event>,
@@ -140,7 +140,7 @@ fn held_anew<S: Alter + Drop>(
 }
 
 /// What these files hold as they were written, and after a crash of the machine, which loses what was not synced.
-pub fn held_after_stops(alloc: Global, files: RecordFiles) -> io::Result<(Held, Held)> {
+pub(crate) fn held_after_stops(alloc: Global, files: RecordFiles) -> io::Result<(Held, Held)> {
     let mut files = files;
     let written = found_in(alloc, as_written(alloc, &files)?)?;
     crash(&mut files);

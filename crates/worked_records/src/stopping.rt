@@ -17,7 +17,7 @@ use std::io;
 const MANY: u64 = 10_000;
 
 /// Writes for each step of a round of these events what was found after it was stopped.
-pub fn write_answers<R: Print>(rt: &R, alloc: Global, events: &[Event]) -> io::Result<()> {
+pub(crate) fn write_answers<R: Print>(rt: &R, alloc: Global, events: &[Event]) -> io::Result<()> {
     let names = step_names(alloc, events)?;
     let mut steps = vec![in alloc; Left::none(); names.len()]?;
     stop_steps(alloc, events, &mut steps)?;

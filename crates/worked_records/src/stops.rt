@@ -11,14 +11,19 @@ use std::alloc::Global;
 
 /// Where a round was stopped, and the files that it left.
 #[derive(Drop)]
-pub struct Stop {
+pub(crate) struct Stop {
     /// The place of the step: the record is made, opened, the events, it is opened anew, and the files are closed.
     pub step: usize,
     pub files: RecordFiles,
 }
 
 /// Runs a round of these events over files that fail after so many calls: where it was stopped, if it was.
-pub fn stopped_run(alloc: Global, failing: Failing, calls: u64, events: &[Event]) -> Option<Stop> {
+pub(crate) fn stopped_run(
+    alloc: Global,
+    failing: Failing,
+    calls: u64,
+    events: &[Event],
+) -> Option<Stop> {
     match run_in(alloc, empty_files(alloc, failing, calls), events) {
         Ok(()) => None,
         Err((step, files)) => Some(Stop { step, files }),

@@ -3,7 +3,7 @@ use crate::states::Held;
 
 /// What the stops of a step left, in two readings.
 #[derive(Clone, Copy)]
-pub struct Left {
+pub(crate) struct Left {
     /// Of the files as they were written.
     pub written: Tally,
     /// Of the files without what was not synced.
@@ -22,7 +22,7 @@ impl Left {
 
 /// How often a stop left what was before its step, what is after it, and anything else.
 #[derive(Clone, Copy)]
-pub struct Tally {
+pub(crate) struct Tally {
     pub before: u64,
     pub after: u64,
     pub other: u64,

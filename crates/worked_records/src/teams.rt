@@ -18,7 +18,7 @@ const SCRATCH: &str = "tries";
 
 /// What a worker waits for before each try.
 #[derive(Drop)]
-pub enum Waiting {
+pub(crate) enum Waiting {
     /// For nothing.
     Nothing,
     /// For the other party.
@@ -36,10 +36,10 @@ impl Gate for Waiting {
 }
 
 /// The operators of a worker, and its gate.
-pub type Worker = (Vec<TaskOperator<Program<HostRuntime>>>, Waiting);
+pub(crate) type Worker = (Vec<TaskOperator<Program<HostRuntime>>>, Waiting);
 
 /// A worker that waits for this before each try.
-pub fn worker(host: &HostRuntime, waiting: Waiting) -> Result<Worker, AllocError>
+pub(crate) fn worker(host: &HostRuntime, waiting: Waiting) -> Result<Worker, AllocError>
     ensures { IfOk result (λ w. IsWhole (kind_of (λ _. kinds.Command)) w.0.items) }
 {
     let alloc = host.alloc();
@@ -52,7 +52,7 @@ pub fn worker(host: &HostRuntime, waiting: Waiting) -> Result<Worker, AllocError
 }
 
 /// One worker that waits for nothing.
-pub fn one_worker(host: &HostRuntime) -> Result<Vec<Worker>, AllocError>
+pub(crate) fn one_worker(host: &HostRuntime) -> Result<Vec<Worker>, AllocError>
     ensures count { IfOk result (λ team. length team.items ≡ 1) }
     ensures whole { IfOk result (λ team. All (λ w. IsWhole (kind_of (λ _. kinds.Command)) w.0.items) team.items) }
 {

@@ -9,7 +9,7 @@ use std::alloc::Global;
 use std::io::{self, Write};
 
 /// Does a command, or writes why there is none.
-pub fn answer<S: Alter + Drop, W: Write>(
+pub(crate) fn answer<S: Alter + Drop, W: Write>(
     alloc: Global,
     directed: &mut Directed<S>,
     request: Result<ScriptCommand, CommandFault>,

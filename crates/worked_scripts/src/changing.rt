@@ -18,7 +18,7 @@ enum Loaded {
 }
 
 /// Does these statements to a record that the same events have made, loads it, and writes what it is loaded as. This is done again where memory ran out.
-pub fn load_changed<R: Recorder, W: Write>(
+pub(crate) fn load_changed<R: Recorder, W: Write>(
     alloc: Global,
     recorder: &R,
     directed: &Directed<R::Pages>,

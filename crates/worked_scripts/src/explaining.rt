@@ -7,7 +7,7 @@ use std::alloc::Global;
 use std::io::{self, Write};
 
 /// Writes the answer to a question, which is asked again where memory ran out.
-pub fn answer_question<W: Write>(
+pub(crate) fn answer_question<W: Write>(
     alloc: Global,
     schedule: &Schedule,
     question: &Question,

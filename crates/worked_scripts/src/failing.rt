@@ -4,7 +4,7 @@ use std::io::{self, ErrorKind, Read, Write};
 
 /// How many reads of a script, and how many writes of its answers, do not fail.
 #[derive(Clone, Copy)]
-pub struct Calls {
+pub(crate) struct Calls {
     pub reads: usize,
     pub writes: usize,
 }
@@ -29,7 +29,7 @@ fn call(calls: &mut usize) -> io::Result<()> {
 
 /// A reader of a text whose reads fail after so many.
 #[derive(Drop)]
-pub struct Source<'a> {
+pub(crate) struct Source<'a> {
     pub text: &'a [u8],
     pub calls: usize,
 }
@@ -43,7 +43,7 @@ impl Read for Source<'_> {
 
 /// A writer that takes a byte at each write, and keeps it; its writes fail after so many.
 #[derive(Drop)]
-pub struct Sink {
+pub(crate) struct Sink {
     pub bytes: Vec<u8>,
     pub calls: usize,
 }

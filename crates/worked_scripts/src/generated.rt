@@ -3,7 +3,7 @@ use std::alloc::{AllocError, Global};
 use std::io::{self, Write};
 
 /// The script in which each `~` and the byte before it stand for so many of that byte.
-pub fn long(alloc: Global, script: &[u8], count: usize) -> Result<Vec<u8>, AllocError> {
+pub(crate) fn long(alloc: Global, script: &[u8], count: usize) -> Result<Vec<u8>, AllocError> {
     let mut longer = Vec::new(alloc);
     lengthen(script, count, &mut longer)?;
     Ok(longer)
@@ -24,7 +24,7 @@ fn lengthen(script: &[u8], count: usize, longer: &mut Vec<u8>) -> Result<(), All
 }
 
 /// The script below the load of a graph of so many tasks, each after the one before it.
-pub fn with_chain(alloc: Global, script: &[u8], count: usize) -> io::Result<Vec<u8>> {
+pub(crate) fn with_chain(alloc: Global, script: &[u8], count: usize) -> io::Result<Vec<u8>> {
     let mut longer = Vec::new(alloc);
     put_chain(script, count, &mut longer)?;
     Ok(longer)

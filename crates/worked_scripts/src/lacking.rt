@@ -8,7 +8,7 @@ use script_commands::{CommandFault, SourceFault};
 use std::io::{self, Write};
 
 /// Writes a line of each kind: of an event, of a pool, of words, and of a text.
-pub fn put_lacks<W: Write>(output: &mut W) -> io::Result<()> {
+pub(crate) fn put_lacks<W: Write>(output: &mut W) -> io::Result<()> {
     put(output, Shown::Failure(&Fault::Refused(Refusal::Memory)))?;
     let pool = Fault::Refused(Refusal::PoolFault(PoolFault::Memory));
     put(output, Shown::Failure(&pool))?;

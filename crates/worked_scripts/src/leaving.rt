@@ -5,7 +5,7 @@ use sched_core::{Run, RunPhase, Schedule};
 use std::io::{self, Write};
 
 /// Writes what the schedule holds, in one line.
-pub fn put_left<W: Write>(schedule: &Schedule, output: &mut W) -> io::Result<()> {
+pub(crate) fn put_left<W: Write>(schedule: &Schedule, output: &mut W) -> io::Result<()> {
     put_clock(schedule, output)?;
     for run in schedule.runs() {
         put_run(schedule, run, output)?;
@@ -34,7 +34,7 @@ fn put_run<W: Write>(schedule: &Schedule, run: &Run, output: &mut W) -> io::Resu
 }
 
 /// The name of a phase.
-pub fn phase_name(phase: RunPhase) -> &'static str {
+pub(crate) fn phase_name(phase: RunPhase) -> &'static str {
     match phase {
         RunPhase::Queued => "queued",
         RunPhase::Running => "running",

@@ -4,7 +4,7 @@ use std::str;
 
 /// What a line is.
 #[derive(Drop)]
-pub enum Line<'a> {
+pub(crate) enum Line<'a> {
     /// `== TITLE`: a new record begins, within the greatest limits.
     Title(&'a str),
     /// A comment, or a line without a byte.
@@ -32,7 +32,7 @@ impl Line<'_> {
 }
 
 /// The first line of a text, without its newline, and the text after it.
-pub fn first_line(text: &[u8]) -> (&[u8], &[u8]) {
+pub(crate) fn first_line(text: &[u8]) -> (&[u8], &[u8]) {
     match text.iter().position(|byte| *byte == b'\n') {
         Some(end) => (&text[..end], &text[end + 1..]),
         None => (text, b"".as_slice()),

@@ -7,7 +7,7 @@ use std::alloc::Global;
 
 /// A clock that gives what stands in a list, in its order, and keeps what it gave. Behind the last there is no clock.
 #[derive(Drop)]
-pub struct ListedClock {
+pub(crate) struct ListedClock {
     // The next one last.
     left: Vec<Result<Moment, ClockFault>>,
     given: Vec<Moment>,

@@ -28,7 +28,7 @@ use std::alloc::Global;
 use std::io::{self, Write};
 
 /// Does what the lines of a list say, writes what comes of each, and adds the records of the list to these.
-pub fn put_list<R: Recorder, W: Write>(
+pub(crate) fn put_list<R: Recorder, W: Write>(
     alloc: Global,
     recorder: &R,
     text: &[u8],
@@ -179,10 +179,10 @@ fn request_or_again<'a>(
 }
 
 /// What a command asks for.
-pub type Request = Result<ScriptCommand, CommandFault>;
+pub(crate) type Request = Result<ScriptCommand, CommandFault>;
 
 /// The same, if there is one, and the text after it.
-pub type Asked<'a> = (Option<Request>, &'a [u8]);
+pub(crate) type Asked<'a> = (Option<Request>, &'a [u8]);
 
 // Whether memory ran out for the command, or it could not be read.
 fn lacks_memory(found: &io::Result<Asked<'_>>) -> bool {
@@ -200,7 +200,7 @@ fn is_lack(request: &Option<Request>) -> bool {
 }
 
 /// What the next command of a script asks for, and the text after it.
-pub fn next_request<'a>(
+pub(crate) fn next_request<'a>(
     alloc: Global,
     lines: &mut LineReader,
     text: &'a [u8],

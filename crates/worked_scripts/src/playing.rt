@@ -18,20 +18,20 @@ use std::sync::Wait;
 use std::thread::Threads;
 
 /// Where the tries of `command` have their folders.
-pub const SCRATCH: &str = "tries";
+pub(crate) const SCRATCH: &str = "tries";
 
 /// Where they have their logs, where they have some.
-pub const LOGS: &str = "logs";
+pub(crate) const LOGS: &str = "logs";
 
 /// The folders in which programs are looked for before a person is told of one: those of the system, and one that scripts make.
 const PATH: &str = "made:/usr/bin:/bin";
 
 /// The file that has what a person is told of the script that was run last.
-pub const TOLD: &str = "told";
+pub(crate) const TOLD: &str = "told";
 
 /// With how many lanes and workers a script is run, and where its tries have their logs, if they have some.
 #[derive(Clone, Copy)]
-pub struct Setting<'a> {
+pub(crate) struct Setting<'a> {
     pub lanes: u32,
     pub workers: u32,
     pub logs: Option<&'a str>,
@@ -53,7 +53,7 @@ impl Setting<'_> {
 
 /// What came of a script.
 #[derive(Drop)]
-pub struct Played {
+pub(crate) struct Played {
     /// What it printed.
     pub printed: Vec<u8>,
     /// Its status.
@@ -71,7 +71,7 @@ type WorkedScript<'a> = Script<
 >;
 
 /// Runs a script of which so many reads and writes do not fail.
-pub fn play<R: Recorder, T: Threads + Wait + Sync>(
+pub(crate) fn play<R: Recorder, T: Threads + Wait + Sync>(
     rt: &T,
     host: &HostRuntime,
     recorder: &R,
@@ -89,7 +89,7 @@ pub fn play<R: Recorder, T: Threads + Wait + Sync>(
 /// The same, with the record that it leaves.
 ///
 /// All scripts are run by this, since each type of record and of streams is proved and compiled with all that it stands on.
-pub fn play_and_keep<R: Recorder, T: Threads + Wait + Sync>(
+pub(crate) fn play_and_keep<R: Recorder, T: Threads + Wait + Sync>(
     rt: &T,
     host: &HostRuntime,
     recorder: &R,

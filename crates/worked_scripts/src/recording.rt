@@ -8,7 +8,7 @@ use std::alloc::{AllocError, Global};
 /// What makes new records.
 ///
 /// The store of a record is named where it is made. All else is said of any, since what calls a named one is proved down to its pages.
-pub trait Recorder {
+pub(crate) trait Recorder {
     /// Where a record stands.
     type Pages: Alter + Drop;
 
@@ -18,7 +18,7 @@ pub trait Recorder {
 
 /// It makes records in memory.
 #[derive(Clone, Copy)]
-pub struct InMemory;
+pub(crate) struct InMemory;
 
 impl Recorder for InMemory {
     type Pages = MemStore;

@@ -10,7 +10,7 @@ use std::{io, mem};
 
 /// A schedule and its record, with the events that were done to them.
 #[derive(Drop)]
-pub struct Directed<S: Alter> {
+pub(crate) struct Directed<S: Alter> {
     director: Director<S>,
     limits: Limits,
     events: Vec<Event>,
@@ -121,7 +121,7 @@ impl<S: Alter + Drop> Directed<S> {
 
 /// How many records came to their end, and how many of these were kept.
 #[derive(Clone, Copy)]
-pub struct Tally {
+pub(crate) struct Tally {
     pub ended: u64,
     pub kept: u64,
 }
@@ -146,7 +146,7 @@ impl Tally {
 
 /// The record at hand, and what became of those before it.
 #[derive(Drop)]
-pub struct Records<S: Alter> {
+pub(crate) struct Records<S: Alter> {
     pub directed: Directed<S>,
     tally: Tally,
 }
@@ -197,7 +197,7 @@ fn new_or_again<R: Recorder>(
 }
 
 /// A director with a new record.
-pub fn new_director<R: Recorder>(
+pub(crate) fn new_director<R: Recorder>(
     alloc: Global,
     recorder: &R,
     limits: Limits,

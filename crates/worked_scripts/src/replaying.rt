@@ -12,7 +12,7 @@ use std::alloc::{AllocError, Global};
 use std::io::{self, Write};
 
 /// The record of a director that accepts all of these events.
-pub fn made_by<S: Alter + Drop>(
+pub(crate) fn made_by<S: Alter + Drop>(
     alloc: Global,
     mut director: Director<S>,
     events: &[Event],
@@ -37,7 +37,7 @@ fn are_accepted<S: Alter>(
 }
 
 /// What is shown of a schedule: its graphs, runs, task instances and pools, and what it leaves.
-pub fn shown(alloc: Global, schedule: &Schedule) -> io::Result<Vec<u8>> {
+pub(crate) fn shown(alloc: Global, schedule: &Schedule) -> io::Result<Vec<u8>> {
     let mut text = Vec::new(alloc);
     put_shown(schedule, &mut text)?;
     Ok(text)
@@ -51,7 +51,7 @@ fn put_shown<W: Write>(schedule: &Schedule, output: &mut W) -> io::Result<()> {
 }
 
 /// Whether what is shown of the schedule that the record is read as is this.
-pub fn is_read_as<S: Alter + Drop>(
+pub(crate) fn is_read_as<S: Alter + Drop>(
     alloc: Global,
     store: Store<S>,
     limits: Limits,
@@ -105,7 +105,7 @@ impl Listed {
 
 /// Whether events lead in one list to what is shown. Where memory ran out in it, it is done again, and what it left has to be what those
 /// events lead to that were accepted.
-pub fn are_led_to<R: Recorder>(
+pub(crate) fn are_led_to<R: Recorder>(
     alloc: Global,
     recorder: &R,
     limits: Limits,

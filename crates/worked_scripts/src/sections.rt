@@ -5,14 +5,14 @@ use std::str;
 
 /// A heading, `== WORD TITLE`, and the text below it. Neither has the newline that ends it.
 #[derive(Clone, Copy)]
-pub struct Section<'a> {
+pub(crate) struct Section<'a> {
     pub heading: &'a [u8],
     pub script: &'a [u8],
 }
 
 /// How a script is run.
 #[derive(Clone, Copy, Debug, PartialEq, Eq)]
-pub enum Kind {
+pub(crate) enum Kind {
     /// With so many lanes, of 64 at most.
     Lanes(u32),
     /// With so many lanes, of 16 at most, and as many workers.
@@ -37,7 +37,7 @@ pub enum Kind {
 
 /// What fails.
 #[derive(Clone, Copy, Debug, PartialEq, Eq)]
-pub enum Part {
+pub(crate) enum Part {
     Reads,
     Writes,
 }
@@ -81,7 +81,7 @@ fn counted(word: &str) -> Kind
 }
 
 /// The first section of a text, and the text after it; none where the text is empty. A section ends where a line begins with `== `.
-pub fn next_section(text: &[u8]) -> Option<(Section<'_>, &[u8])> {
+pub(crate) fn next_section(text: &[u8]) -> Option<(Section<'_>, &[u8])> {
     if text.is_empty() {
         return None;
     }
@@ -97,7 +97,7 @@ pub fn next_section(text: &[u8]) -> Option<(Section<'_>, &[u8])> {
 }
 
 /// A script and the commands below it, with a line that is `+` alone between them.
-pub fn script_and_commands(text: &[u8]) -> (&[u8], &[u8]) {
+pub(crate) fn script_and_commands(text: &[u8]) -> (&[u8], &[u8]) {
     match text
         .windows(3)
         .position(|three| three == b"\n+\n".as_slice())

@@ -17,7 +17,7 @@ use std::thread::Threads;
 
 /// Runs a script, and then does each line below it as a command outside of scripts on the record that it left. Writes what each prints, what a person is told of a
 /// command, with `! ` before each line, and each status.
-pub fn put_singles<R: Recorder, T: Threads + Wait + Sync, W: Write>(
+pub(crate) fn put_singles<R: Recorder, T: Threads + Wait + Sync, W: Write>(
     rt: &T,
     host: &HostRuntime,
     recorder: &R,

@@ -12,7 +12,7 @@ use std::io::{self, Write};
 use std::mem;
 
 /// Does an event, and writes its answer, or why it is not done, and what it leaves.
-pub fn step<S: Alter + Drop, W: Write>(
+pub(crate) fn step<S: Alter + Drop, W: Write>(
     alloc: Global,
     directed: &mut Directed<S>,
     event: &Event,
@@ -45,7 +45,7 @@ fn done_or_again<S: Alter + Drop>(
 }
 
 /// Closes the record and opens it again with so many lanes. Writes the answer to the restart by which it is opened, and what that leaves.
-pub fn reopen<R: Recorder, W: Write>(
+pub(crate) fn reopen<R: Recorder, W: Write>(
     alloc: Global,
     recorder: &R,
     directed: &mut Directed<R::Pages>,

@@ -76,7 +76,7 @@ impl Stop {
 }
 
 /// Writes how a script ends where so many reads or writes do not fail, up to the first run that meets no failure.
-pub fn put_stops<R: Recorder, T: Threads + Wait + Sync, W: Write>(
+pub(crate) fn put_stops<R: Recorder, T: Threads + Wait + Sync, W: Write>(
     rt: &T,
     host: &HostRuntime,
     recorder: &R,

@@ -18,7 +18,7 @@ use std::time::{Duration, Instant};
 const UNTIMED: &str = "-";
 
 /// Steps the events of a text, and prints how long those take that are timed.
-pub fn write_times(rt: &HostRuntime, text: &[u8]) -> io::Result<()> {
+pub(crate) fn write_times(rt: &HostRuntime, text: &[u8]) -> io::Result<()> {
     let mut schedule = Schedule::new(rt.alloc(), Limits::full())?;
     let mut lines = LineReader::new(rt.alloc())?;
     time_lines(rt, &mut schedule, &mut lines, text)

@@ -16,7 +16,7 @@ struct Book {
 }
 
 /// Writes the answers to steps.
-pub fn write_answer(rt: &HostRuntime, word: &str, rest: &str) -> io::Result<()> {
+pub(crate) fn write_answer(rt: &HostRuntime, word: &str, rest: &str) -> io::Result<()> {
     let mut book = first_book(rt.alloc())?;
     match word {
         "steps" => write_steps(rt, &mut book, rest),

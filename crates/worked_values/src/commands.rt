@@ -6,7 +6,7 @@ use command_words::{
 use std::io;
 
 /// Writes a command, and the path of its record before it.
-pub fn write_command_line(rt: &HostRuntime, line: &CommandLine) -> io::Result<()> {
+pub(crate) fn write_command_line(rt: &HostRuntime, line: &CommandLine) -> io::Result<()> {
     if let Some(path) = &line.record_path {
         let path = path.as_str();
         print!(rt; "record '{path}' ")?;

@@ -13,7 +13,7 @@ struct Alike {
 }
 
 /// Writes what a file is that is cut off after so many bytes, for each number of them.
-pub fn write_cuts(rt: &HostRuntime, text: &str) -> io::Result<()> {
+pub(crate) fn write_cuts(rt: &HostRuntime, text: &str) -> io::Result<()> {
     let answer = answer_to(rt.alloc(), "")?;
     let mut alike = Alike {
         first: 0,

@@ -15,13 +15,13 @@ const WORDS: [(&str, &str); 4] = [
 const TOP: &str = "dag_id = 'one'\nschedule = 'None'\nstart_date = '2024-01-01'\n";
 
 /// The file of tasks.
-pub fn file_of(alloc: Global, tasks: &str) -> Result<String, AllocError> {
+pub(crate) fn file_of(alloc: Global, tasks: &str) -> Result<String, AllocError> {
     let rows = replaced(alloc, tasks, &WORDS)?;
     format!(in alloc; "{TOP}task = [{{operator = 'noop', task_id = {rows}]}}]\n")
 }
 
 /// So many tasks in layers of so many, the last one first: each comes after all of the layer before.
-pub fn layers(alloc: Global, count: u16, width: u16) -> Result<String, fmt::Error> {
+pub(crate) fn layers(alloc: Global, count: u16, width: u16) -> Result<String, fmt::Error> {
     let mut tasks = String::new(alloc);
     for number in (0..count).rev() {
         let in_layer = number.checked_rem(width).unwrap_or(0);

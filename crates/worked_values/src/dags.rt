@@ -8,7 +8,7 @@ use std::alloc::{AllocError, Global};
 use std::io;
 
 /// Writes the answer to a question about a graph: `WORD TASKS`, `WORD TASK of TASKS`, or `WORD COUNT in layers of WIDTH`.
-pub fn write_answer(rt: &HostRuntime, word: &str, rest: &str) -> io::Result<()> {
+pub(crate) fn write_answer(rt: &HostRuntime, word: &str, rest: &str) -> io::Result<()> {
     match layers_of(rest) {
         Some((count, width)) => {
             let tasks = layers(rt.alloc(), count, width)?;

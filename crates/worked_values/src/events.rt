@@ -6,7 +6,7 @@ use sched_state::Clearing;
 use std::io;
 
 /// Writes an event.
-pub fn write_event(rt: &HostRuntime, event: &Event) -> io::Result<()> {
+pub(crate) fn write_event(rt: &HostRuntime, event: &Event) -> io::Result<()> {
     match event {
         Event::Trigger(graph) => write_named(rt, "trigger", graph),
         Event::Pause(graph) => write_named(rt, "pause", graph),

@@ -7,7 +7,7 @@ use moment_core::Moment;
 use std::io;
 
 /// Writes the answer to a question about cron texts.
-pub fn write_answer(rt: &HostRuntime, word: &str, rest: &str) -> io::Result<()> {
+pub(crate) fn write_answer(rt: &HostRuntime, word: &str, rest: &str) -> io::Result<()> {
     match word {
         "read" => write_read(rt, rest),
         "same" => write_same(rt, rest),
@@ -126,7 +126,7 @@ fn asked_cron(words: &str) -> Option<Timetable> {
 }
 
 /// Writes an interval, or that there is none.
-pub fn write_interval(rt: &HostRuntime, interval: Option<Interval>) -> io::Result<()> {
+pub(crate) fn write_interval(rt: &HostRuntime, interval: Option<Interval>) -> io::Result<()> {
     match interval {
         Some(interval) => {
             let (start, end) = (interval.start, interval.end);

@@ -15,7 +15,7 @@ const TASK: &str = "[[task]]\ntask_id = \"t\"\noperator = \"noop\"\n";
 
 /// Writes the answer to a question about a graph file: of its top (`graph`, and `top` of a file with one task), of its tasks (`tasks` behind a
 /// top, `task` for more lines of one task), whether it is read (`size`, of tasks), or what it is where it is cut off (`cuts`).
-pub fn write_answer(rt: &HostRuntime, word: &str, lines: &str) -> io::Result<()> {
+pub(crate) fn write_answer(rt: &HostRuntime, word: &str, lines: &str) -> io::Result<()> {
     let text = text_of(rt.alloc(), word, lines)?;
     match word {
         "graph" | "top" => write_top(rt, text.as_str()),
@@ -33,7 +33,11 @@ fn text_of(alloc: Global, word: &str, lines: &str) -> Result<String, AllocError>
 }
 
 /// A text in which words stand for others, one pair of them after another.
-pub fn replaced(alloc: Global, text: &str, words: &[(&str, &str)]) -> Result<String, AllocError> {
+pub(crate) fn replaced(
+    alloc: Global,
+    text: &str,
+    words: &[(&str, &str)],
+) -> Result<String, AllocError> {
     let mut text = String::from_str(alloc, text)?;
     for (from, to) in words {
         text = text.as_str().replace(alloc, *from, to)?;

@@ -3,7 +3,7 @@ use moment_core::{END, Moment, date_at, month_end, month_start};
 use std::io;
 
 /// Writes the answer to a question about moments.
-pub fn write_answer(rt: &HostRuntime, word: &str, rest: &str) -> io::Result<()> {
+pub(crate) fn write_answer(rt: &HostRuntime, word: &str, rest: &str) -> io::Result<()> {
     match word {
         "read" => write_read(rt, rest),
         "from_secs" => write_from_secs(rt, rest),
@@ -26,7 +26,7 @@ fn write_read(rt: &HostRuntime, text: &str) -> io::Result<()> {
 }
 
 /// Writes a moment, or that there is none.
-pub fn write_moment(rt: &HostRuntime, moment: Option<Moment>) -> io::Result<()> {
+pub(crate) fn write_moment(rt: &HostRuntime, moment: Option<Moment>) -> io::Result<()> {
     match moment {
         Some(moment) => rt.print(moment),
         None => rt.print("none"),

@@ -6,7 +6,7 @@ use moment_core::{END, Moment};
 
 /// Which way the searches go.
 #[derive(Clone, Copy)]
-pub enum Direction {
+pub(crate) enum Direction {
     Forwards,
     Backwards,
 }
@@ -39,7 +39,7 @@ impl Direction {
 
 /// What a row of searches found. Where no tick is left the row goes on at its first moment.
 #[derive(Clone, Copy)]
-pub struct Row {
+pub(crate) struct Row {
     /// How many searches found a tick.
     pub ticks: u64,
     /// The last tick, or the first moment where the last search found none.

@@ -15,7 +15,7 @@ const COUNTED: u64 = 1_000;
 const TIMED: u64 = 1_000_000;
 
 /// Writes what a thousand searches in a row find.
-pub fn write_found(rt: &HostRuntime, direction: Direction, text: &str) -> io::Result<()> {
+pub(crate) fn write_found(rt: &HostRuntime, direction: Direction, text: &str) -> io::Result<()> {
     match Cron::read(text) {
         Ok(cron) => write_row(rt, COUNTED, Row::of(&cron, direction, COUNTED)),
         Err(_) => rt.print("no expression"),
@@ -30,7 +30,7 @@ fn write_row(rt: &HostRuntime, searches: u64, row: Row) -> io::Result<()> {
 }
 
 /// Writes how many searches are made a second, for a million in a row: a line for each expression and direction.
-pub fn write_rates(rt: &HostRuntime) -> io::Result<()> {
+pub(crate) fn write_rates(rt: &HostRuntime) -> io::Result<()> {
     for expression in EXPRESSIONS {
         if let Ok(cron) = Cron::read(expression) {
             write_rate(rt, expression, &cron, Direction::Forwards)?;

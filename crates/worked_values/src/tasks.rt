@@ -3,7 +3,7 @@ use graph_file::{Action, Name, TaskSpec};
 use std::io;
 
 /// Writes what the tasks say.
-pub fn write_tasks(rt: &HostRuntime, tasks: &[TaskSpec]) -> io::Result<()> {
+pub(crate) fn write_tasks(rt: &HostRuntime, tasks: &[TaskSpec]) -> io::Result<()> {
     for (i, task) in tasks.iter().enumerate() {
         if i > 0 {
             rt.print(" | ")?;
@@ -40,7 +40,7 @@ fn write_action(rt: &HostRuntime, action: &Action) -> io::Result<()> {
 }
 
 /// Writes each name after a blank.
-pub fn write_names(rt: &HostRuntime, names: &[Name]) -> io::Result<()> {
+pub(crate) fn write_names(rt: &HostRuntime, names: &[Name]) -> io::Result<()> {
     for name in names {
         let name = name.as_str();
         print!(rt; " {name}")?;

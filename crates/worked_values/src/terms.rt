@@ -19,7 +19,7 @@ const STATES: [(State, usize); 9] = [
 ];
 
 /// Writes the answer to a question about words.
-pub fn write_answer(rt: &HostRuntime, word: &str, rest: &str) -> io::Result<()> {
+pub(crate) fn write_answer(rt: &HostRuntime, word: &str, rest: &str) -> io::Result<()> {
     match word {
         "trigger_rule" => write_rule(rt, rest),
         "weight_rule" => write_weight_rule(rt, rest),

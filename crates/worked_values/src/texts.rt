@@ -25,7 +25,7 @@ impl Read for Faulty<'_> {
 }
 
 /// Writes the answer to a question about a text.
-pub fn write_answer(rt: &HostRuntime, word: &str, rest: &str) -> io::Result<()> {
+pub(crate) fn write_answer(rt: &HostRuntime, word: &str, rest: &str) -> io::Result<()> {
     let rest = replaced(rt.alloc(), rest, &[("|", "\n"), ("~", "\r")])?;
     match word {
         "words" => write_words(rt, rest.as_str()),

@@ -5,7 +5,7 @@ use moment_core::Moment;
 use std::io;
 
 /// Writes the answer to a question about an instance.
-pub fn write_answer(rt: &HostRuntime, word: &str, rest: &str) -> io::Result<()> {
+pub(crate) fn write_answer(rt: &HostRuntime, word: &str, rest: &str) -> io::Result<()> {
     match word {
         "turns" => write_turns(rt, rest),
         _ => rt.print("no such word"),

@@ -4,7 +4,7 @@ use moment_core::MomentFault;
 use std::io;
 
 /// Writes `usage` with a fault's number and name.
-pub fn write_fault(rt: &HostRuntime, fault: UsageFault) -> io::Result<()> {
+pub(crate) fn write_fault(rt: &HostRuntime, fault: UsageFault) -> io::Result<()> {
     match fault {
         UsageFault::Words => rt.print("usage 1 Words"),
         UsageFault::BadName => rt.print("usage 2 BadName"),

@@ -7,7 +7,7 @@ use std::alloc::{AllocError, Global};
 use std::io;
 
 /// Writes the answer to a question about a list of words.
-pub fn write_answer(rt: &HostRuntime, word: &str, rest: &str) -> io::Result<()> {
+pub(crate) fn write_answer(rt: &HostRuntime, word: &str, rest: &str) -> io::Result<()> {
     match word {
         "none" => write_reading(rt, &[]),
         "read" => write_reading(rt, words_of(rt.alloc(), rest)?.as_slice()),

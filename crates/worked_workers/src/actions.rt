@@ -7,7 +7,7 @@ const HEAD: &str =
     "dag_id = \"page\"\nschedule = \"None\"\nstart_date = \"2024-01-01\"\n[[task]]\ntask_id = \"line\"\n";
 
 /// The action of a task with this operator, and with these arguments as TOML writes an array. `None` where no graph file may have it.
-pub fn read_action(
+pub(crate) fn read_action(
     alloc: Global,
     operator: &str,
     argv: &str,

@@ -22,7 +22,7 @@ const SHELL: &str =
 const BEFORE_BYTES: usize = 71;
 
 /// Writes whether a program gets these arguments, which are TOML's items of an array and its end, as they are.
-pub fn write_answer<R: Files<File = File> + Processes + Print + Alloc + Copy + Drop>(
+pub(crate) fn write_answer<R: Files<File = File> + Processes + Print + Alloc + Copy + Drop>(
     rt: &R,
     alloc: Global,
     base: &str,
@@ -36,7 +36,7 @@ pub fn write_answer<R: Files<File = File> + Processes + Print + Alloc + Copy + D
 }
 
 /// The same of one long argument, by which all have so many bytes.
-pub fn write_long<R: Files<File = File> + Processes + Print + Alloc + Copy + Drop>(
+pub(crate) fn write_long<R: Files<File = File> + Processes + Print + Alloc + Copy + Drop>(
     rt: &R,
     alloc: Global,
     base: &str,

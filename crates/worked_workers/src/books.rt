@@ -5,7 +5,7 @@ use std::alloc::Global;
 use std::io;
 
 /// Writes what comes of each word, and what the book has in the end.
-pub fn write_answer<R: Print>(rt: &R, alloc: Global, words: &str) -> io::Result<()> {
+pub(crate) fn write_answer<R: Print>(rt: &R, alloc: Global, words: &str) -> io::Result<()> {
     let mut book = LimitedBook::<3>::new(alloc);
     write_turns(rt, alloc, &mut book, words)?;
     write_total(rt, book.slots(), &book.into_holds())

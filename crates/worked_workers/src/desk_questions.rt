@@ -9,7 +9,7 @@ use std::sync::Wait;
 use std::thread::Threads;
 
 /// Writes the answer to a question.
-pub fn write_answer<R: Threads + Wait + Print + Sync>(
+pub(crate) fn write_answer<R: Threads + Wait + Print + Sync>(
     rt: &R,
     alloc: Global,
     subject: &str,

@@ -20,7 +20,7 @@ struct Visitor<L: Ledger> {
 }
 
 /// Writes how many holds were entered and left, and what the desk holds in the end.
-pub fn write_answer<R: Threads + Wait + Print + Sync>(
+pub(crate) fn write_answer<R: Threads + Wait + Print + Sync>(
     rt: &R,
     alloc: Global,
     shares: usize,

@@ -24,7 +24,7 @@ struct Turn {
 }
 
 /// Writes what comes of each word, and what the desk holds in the end.
-pub fn write_answer<R: Wait + Print>(
+pub(crate) fn write_answer<R: Wait + Print>(
     rt: &R,
     alloc: Global,
     shares: usize,

@@ -4,7 +4,7 @@ use std::rt::Files;
 use std::{env, fs, io, process};
 
 /// Does a word, if it is one of these, and writes what comes of it.
-pub fn write_turn<R: Files + Print + Alloc>(
+pub(crate) fn write_turn<R: Files + Print + Alloc>(
     rt: &R,
     alloc: Global,
     base: &str,
@@ -36,7 +36,7 @@ fn write_turn_at<R: Files + Print + Alloc>(
 }
 
 /// The path of the base folder: one of this process, under the system's own folder for such files.
-pub fn base_folder(rt: &HostRuntime) -> io::Result<String> {
+pub(crate) fn base_folder(rt: &HostRuntime) -> io::Result<String> {
     let number = process::id(rt.process());
     let above = env::temp_dir(rt)?;
     let above = above.as_str();
@@ -44,7 +44,7 @@ pub fn base_folder(rt: &HostRuntime) -> io::Result<String> {
 }
 
 /// The path of what has this name under the base folder, that of the folder itself where there is no name.
-pub fn path_of(alloc: Global, base: &str, name: &str) -> Result<String, AllocError> {
+pub(crate) fn path_of(alloc: Global, base: &str, name: &str) -> Result<String, AllocError> {
     if name.is_empty() {
         String::from_str(alloc, base)
     } else {

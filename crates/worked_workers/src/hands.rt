@@ -8,7 +8,7 @@ use sched_state::Job;
 
 /// An operator, and the job that it has begun and not performed, so that none is performed that was not begun.
 #[derive(Drop)]
-pub struct Hand<O: Operator> {
+pub(crate) struct Hand<O: Operator> {
     operator: O,
     begun: Option<Job>,
     ghost is_begun: { (job : Job) → begun ≡ Some job

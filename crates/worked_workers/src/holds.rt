@@ -7,13 +7,13 @@ use std::alloc::{AllocError, Global};
 use std::io;
 
 /// The serial and the slots that a word says, if it does.
-pub fn read_hold(word: &str) -> Option<(u64, u32)> {
+pub(crate) fn read_hold(word: &str) -> Option<(u64, u32)> {
     let (serial, slots) = word.split_once(':')?;
     Some((serial.parse().ok()?, slots.parse().ok()?))
 }
 
 /// A hold of `default_pool`.
-pub fn hold_of(alloc: Global, serial: u64, slots: u32) -> Result<Hold, AllocError>
+pub(crate) fn hold_of(alloc: Global, serial: u64, slots: u32) -> Result<Hold, AllocError>
     requires { (1 ≤ slots) × (slots ≤ 1_000) }
 {
     match Name::read(alloc, "default_pool") {
@@ -27,32 +27,32 @@ pub fn hold_of(alloc: Global, serial: u64, slots: u32) -> Result<Hold, AllocErro
 }
 
 /// Writes its serial and its slots.
-pub fn write_hold<R: Print>(rt: &R, hold: &Hold) -> io::Result<()> {
+pub(crate) fn write_hold<R: Print>(rt: &R, hold: &Hold) -> io::Result<()> {
     let serial = hold.serial;
     let slots = hold.slots.get();
     print!(rt; "{serial}:{slots}")
 }
 
 /// Writes a hold behind this word.
-pub fn write_named<R: Print>(rt: &R, word: &str, hold: &Hold) -> io::Result<()> {
+pub(crate) fn write_named<R: Print>(rt: &R, word: &str, hold: &Hold) -> io::Result<()> {
     rt.print(word)?;
     write_hold(rt, hold)
 }
 
 /// Writes why a hold came back, and the hold.
-pub fn write_refused<R: Print>(rt: &R, hold: &Hold, fault: DeskFault) -> io::Result<()> {
+pub(crate) fn write_refused<R: Print>(rt: &R, hold: &Hold, fault: DeskFault) -> io::Result<()> {
     print!(rt; " {fault:?}:")?;
     write_hold(rt, hold)
 }
 
 /// Writes the slots of all holds, and the holds.
-pub fn write_total<R: Print>(rt: &R, slots: u64, holds: &[Hold]) -> io::Result<()> {
+pub(crate) fn write_total<R: Print>(rt: &R, slots: u64, holds: &[Hold]) -> io::Result<()> {
     print!(rt; ", slots: {slots}, holds:")?;
     write_holds(rt, holds)
 }
 
 /// Writes the holds, in their order.
-pub fn write_holds<R: Print>(rt: &R, holds: &[Hold]) -> io::Result<()> {
+pub(crate) fn write_holds<R: Print>(rt: &R, holds: &[Hold]) -> io::Result<()> {
     if holds.is_empty() {
         return rt.print(" none");
     }

@@ -13,7 +13,7 @@ use std::thread::Threads;
 /// that each worker took, in its order.
 ///
 /// Where memory runs out before the workers begin, nobody takes what is sent, and it may wait for ever.
-pub fn run_round<R: Threads + Wait + Sync>(
+pub(crate) fn run_round<R: Threads + Wait + Sync>(
     rt: &R,
     alloc: Global,
     lanes: usize,

@@ -8,7 +8,7 @@ use sched_state::{Job, RunKind};
 use std::alloc::{AllocError, Global};
 
 /// A first try of a task that does nothing, with this serial.
-pub fn numbered_job(alloc: Global, serial: u64) -> Result<Job, AllocError>
+pub(crate) fn numbered_job(alloc: Global, serial: u64) -> Result<Job, AllocError>
     ensures { IfOk result (λ job. job.serial ≡ serial) }
 {
     let action = Action::new(Operator::Noop, Sequence::new(Vec::new(alloc)), None);
@@ -16,7 +16,7 @@ pub fn numbered_job(alloc: Global, serial: u64) -> Result<Job, AllocError>
 }
 
 /// So many jobs, with the serials from 1.
-pub fn numbered_jobs(alloc: Global, count: u64) -> Result<Vec<Job>, AllocError>
+pub(crate) fn numbered_jobs(alloc: Global, count: u64) -> Result<Vec<Job>, AllocError>
     ensures count { IfOk result (λ v. vec_len v ≡ count) }
     ensures serials { IfOk result (λ v. (k : ℕ) (d : _) → k < count → (slice_index_or v.items k d).serial ≡ k + 1) }
 {
@@ -28,7 +28,7 @@ pub fn numbered_jobs(alloc: Global, count: u64) -> Result<Vec<Job>, AllocError>
 }
 
 /// A job with this serial: the try with this number of a task with this action.
-pub fn job_of(
+pub(crate) fn job_of(
     alloc: Global,
     serial: u64,
     try_number: usize,

@@ -5,7 +5,12 @@ use std::alloc::Global;
 use std::io;
 
 /// Writes whether these operators make a kit, or how many are handed back.
-pub fn write_answer(rt: &HostRuntime, alloc: Global, base: &str, words: &str) -> io::Result<()> {
+pub(crate) fn write_answer(
+    rt: &HostRuntime,
+    alloc: Global,
+    base: &str,
+    words: &str,
+) -> io::Result<()> {
     let mut boxes: Vec<BoxedOperator> = Vec::new(alloc);
     for word in words.split(' ') {
         match Kind::read(word) {

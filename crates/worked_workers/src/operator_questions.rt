@@ -10,7 +10,7 @@ use std::thread::Threads;
 use std::{fs, io};
 
 /// Writes the answer to a question.
-pub fn write_answer<R: Threads + Print + Clock + Sync>(
+pub(crate) fn write_answer<R: Threads + Print + Clock + Sync>(
     rt: &R,
     host: &HostRuntime,
     alloc: Global,

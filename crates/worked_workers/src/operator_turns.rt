@@ -16,7 +16,7 @@ use std::process::Processes;
 use std::rt::Files;
 
 /// Writes what comes of each word, and for a command whether its try's folder is left when all is done.
-pub fn write_answer<R: Files<File = File> + Processes + Print + Alloc + Copy + Drop>(
+pub(crate) fn write_answer<R: Files<File = File> + Processes + Print + Alloc + Copy + Drop>(
     rt: &R,
     alloc: Global,
     base: &str,

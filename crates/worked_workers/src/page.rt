@@ -18,7 +18,7 @@ enum Section {
 }
 
 /// Writes the page of standard input.
-pub fn write_page<R: Threads + Wait + Print + Clock + Sync>(
+pub(crate) fn write_page<R: Threads + Wait + Print + Clock + Sync>(
     rt: &R,
     host: &HostRuntime,
 ) -> io::Result<()> {

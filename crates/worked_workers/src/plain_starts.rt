@@ -13,7 +13,7 @@ use std::process::{Command, Processes, Stdio};
 
 /// Starts `true` for each job, without a folder.
 #[derive(Drop)]
-pub struct Plain<R: Processes> {
+pub(crate) struct Plain<R: Processes> {
     progress: Progress,
     rt: R,
     alloc: Global,

@@ -12,7 +12,7 @@ use std::sync::Wait;
 use std::thread::Threads;
 
 /// Writes the answer to a question.
-pub fn write_answer<R: Threads + Wait + Print + Clock + Sync>(
+pub(crate) fn write_answer<R: Threads + Wait + Print + Clock + Sync>(
     rt: &R,
     alloc: Global,
     subject: &str,

@@ -9,7 +9,7 @@ use std::sync::Wait;
 use std::thread::Threads;
 
 /// Writes whether each serial was taken once, and whether each worker took in the order sent.
-pub fn write_answer<R: Threads + Wait + Print + Sync>(
+pub(crate) fn write_answer<R: Threads + Wait + Print + Sync>(
     rt: &R,
     alloc: Global,
     lanes: usize,

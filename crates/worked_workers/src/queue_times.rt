@@ -12,7 +12,7 @@ use std::thread::Threads;
 use std::time::Instant;
 
 /// Writes lines that say how many were taken of so many jobs, in each round, and where they are timed how many a second.
-pub fn write_rounds<R: Threads + Wait + Print + Clock + Sync>(
+pub(crate) fn write_rounds<R: Threads + Wait + Print + Clock + Sync>(
     rt: &R,
     alloc: Global,
     count: u64,

@@ -11,7 +11,7 @@ use std::io;
 use std::sync::Wait;
 
 /// Writes what comes of each word, and what is left in the end.
-pub fn write_answer<R: Wait + Print>(
+pub(crate) fn write_answer<R: Wait + Print>(
     rt: &R,
     alloc: Global,
     lanes: usize,

@@ -9,7 +9,7 @@ use std::sync::Wait;
 use std::thread::Threads;
 
 /// Writes how many reports were heard, whether each worker's are those that it told, in the order told, and how many were left.
-pub fn write_answer<R: Threads + Wait + Print + Sync>(
+pub(crate) fn write_answer<R: Threads + Wait + Print + Sync>(
     rt: &R,
     alloc: Global,
     lanes: usize,

@@ -12,7 +12,7 @@ use std::thread::Threads;
 
 /// What came of a round.
 #[derive(Drop)]
-pub struct ReportRound {
+pub(crate) struct ReportRound {
     /// What was heard, in its order.
     pub heard: Vec<WorkerReport>,
     /// How many reports were left when all threads had ended.
@@ -23,7 +23,7 @@ pub struct ReportRound {
 /// while one thread hears. Where no report is left, what was heard of each worker is just that, in order.
 ///
 /// Where memory runs out before the workers begin, nobody tells what is waited for, and it may wait for ever.
-pub fn run_report_round<R: Threads + Wait + Sync>(
+pub(crate) fn run_report_round<R: Threads + Wait + Sync>(
     rt: &R,
     alloc: Global,
     lanes: usize,

@@ -4,7 +4,7 @@ use ruled_dispatch::{Report, WorkerReport};
 use std::io;
 
 /// The report that a word is, if it is one, and the number of who is to tell it.
-pub fn read_report(word: &str) -> Option<(usize, Report)> {
+pub(crate) fn read_report(word: &str) -> Option<(usize, Report)> {
     let (worker, rest) = word.split_once(':')?;
     let (serial, stage) = rest.split_once(':')?;
     let report = Report {
@@ -15,14 +15,14 @@ pub fn read_report(word: &str) -> Option<(usize, Report)> {
 }
 
 /// Writes who told it, its serial and its stage.
-pub fn write_heard<R: Print>(rt: &R, heard: &WorkerReport) -> io::Result<()> {
+pub(crate) fn write_heard<R: Print>(rt: &R, heard: &WorkerReport) -> io::Result<()> {
     let worker = heard.worker;
     print!(rt; "{worker}:")?;
     write_report(rt, &heard.report)
 }
 
 /// Writes its serial and its stage.
-pub fn write_report<R: Print>(rt: &R, report: &Report) -> io::Result<()> {
+pub(crate) fn write_report<R: Print>(rt: &R, report: &Report) -> io::Result<()> {
     let serial = report.serial;
     let stage = stage_name(report.stage);
     print!(rt; "{serial}:{stage}")

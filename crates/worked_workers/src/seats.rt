@@ -8,7 +8,7 @@ use std::sync::Wait;
 
 /// Lanes with all of their passes.
 #[derive(Drop)]
-pub struct Seats {
+pub(crate) struct Seats {
     lanes: Lanes,
     director: DirectorPass,
     workers: Vec<WorkerPass>,

@@ -14,7 +14,7 @@ use std::time::Instant;
 use std::{fs, io};
 
 /// Writes how many of so many tries of each thread ended with success.
-pub fn write_answer<R: Threads + Print + Clock + Sync>(
+pub(crate) fn write_answer<R: Threads + Print + Clock + Sync>(
     rt: &R,
     host: &HostRuntime,
     alloc: Global,
@@ -29,7 +29,7 @@ pub fn write_answer<R: Threads + Print + Clock + Sync>(
 }
 
 /// Writes lines that say how many of so many tries of each thread ended with success, and where they are timed how many a second.
-pub fn write_starts<R: Threads + Print + Clock + Sync>(
+pub(crate) fn write_starts<R: Threads + Print + Clock + Sync>(
     rt: &R,
     host: &HostRuntime,
     alloc: Global,

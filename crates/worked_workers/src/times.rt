@@ -19,7 +19,7 @@ const JOBS: u64 = 100_000;
 const TRIES: u64 = 300;
 
 /// Writes how many a second, of the jobs, the tries or both: a part is one of `queues` and `operators`.
-pub fn write_times<R: Threads + Wait + Print + Clock + Sync>(
+pub(crate) fn write_times<R: Threads + Wait + Print + Clock + Sync>(
     rt: &R,
     host: &HostRuntime,
     part: Option<String>,
@@ -47,7 +47,7 @@ fn write_start_times<R: Threads + Print + Clock + Sync>(
 }
 
 /// How many a second, where so many took this time.
-pub fn a_second(count: u64, time: Duration) -> u128
+pub(crate) fn a_second(count: u64, time: Duration) -> u128
     ensures { result ≡ count * 1_000_000_000 / max 1 (as_nanos time) }
 {
     u128::from(count) * 1_000_000_000 / time.as_nanos().max(1)

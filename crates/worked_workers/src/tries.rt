@@ -13,13 +13,13 @@ use std::thread::Threads;
 
 /// An operator, and the jobs that it is to perform.
 #[derive(Drop)]
-pub struct Turn<O: Operator> {
+pub(crate) struct Turn<O: Operator> {
     pub operator: O,
     pub jobs: Vec<Job>,
 }
 
 /// So many jobs with this action. No other thread has their serials.
-pub fn jobs_of(
+pub(crate) fn jobs_of(
     alloc: Global,
     action: &Action,
     thread: u64,
@@ -34,7 +34,7 @@ pub fn jobs_of(
 }
 
 /// Has a thread for each of these perform its jobs, and says how many succeeded.
-pub fn perform_all<O: Operator + Send, R: Threads + Sync>(
+pub(crate) fn perform_all<O: Operator + Send, R: Threads + Sync>(
     rt: &R,
     turns: Vec<Turn<O>>,
 ) -> Result<u64, AllocError> {
