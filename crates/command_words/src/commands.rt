@@ -97,7 +97,7 @@ pub enum Command {
     List(Listing),
     /// `explain`: it is said why a task instance stands where it does.
     Explain(Question),
-    /// An event for the schedule: `trigger`, `backfill`, `clear`, `pause`, `unpause` or `resize`.
+    /// An event for the schedule: `trigger`, `backfill`, `clear`, `mark`, `pause`, `unpause` or `resize`.
     Step(Event),
     /// `load` or `replace`, in a script: a graph file is taken in.
     Take(Taking, GraphSource),

@@ -277,6 +277,7 @@ fn push_word(sentence: &mut String, word: Option<&str>, what: &str) -> Result<()
 fn order_of(command: &str) -> &'static str {
     match command {
         "explain" => "; the order is explain DAG LOGICAL TASK",
+        "mark" => "; the order is mark DAG LOGICAL TASK skipped",
         "clear" => "; the order is clear DAG FROM TO",
         "backfill" => "; the order is backfill DAG FROM TO",
         "tick" => ", or now",

@@ -114,6 +114,7 @@ fn push_done(sentence: &mut String, done: &Event, answer: &Answer) -> Result<Res
             sentence.push_str(trigger_text(answer))?;
             Ok(Rest::Waiting(graph.copy(*sentence.allocator())?))
         }
+        Event::Mark { graph, .. } => Ok(Rest::Waiting(graph.copy(*sentence.allocator())?)),
         Event::Resize(pool, _) => Ok(Rest::Pool(pool.copy(*sentence.allocator())?)),
         _ => done_rest(*sentence.allocator(), done, answer),
     }

@@ -5,7 +5,7 @@ use crate::graphs::{push_dag, push_graph, push_pool};
 use crate::moments::DATES_HINT;
 use crate::notes::{Rest, near_graph, near_task};
 use crate::parts::Part::{Date, Text};
-use crate::parts::say;
+use crate::parts::{Part, say};
 use crate::places::Source;
 use graph_file::{GraphSpec, Name, TaskSpec, read_graph};
 use sched_events::{Event, Refusal};
@@ -106,11 +106,9 @@ fn push_of_event(
         (Refusal::UnknownTask, Some(Event::Mark { task, .. })) => {
             push_missing(sentence, Some(task), "task")
         }
-        (Refusal::UnknownRun, Some(Event::Mark { graph, logical, .. })) => say(
-            sentence,
-            "{} has no run of {}: list runs prints the dates of those that it has",
-            &[Text(graph.as_str()), Date(*logical)],
-        ),
+        (Refusal::UnknownRun, Some(Event::Mark { graph, logical, .. })) => {
+            push_no_run(sentence, graph.as_str(), Date(*logical))
+        }
         _ => sentence.push_str(plain(refusal)),
     }
 }
@@ -154,7 +152,7 @@ fn plain(refusal: &Refusal) -> &'static str {
         }
         Refusal::NoInterval => "no interval of the graph's schedule has ended yet",
         Refusal::InFlight(_) => {
-            "wait until it has ended (in a script of your own: drain): a task that runs is not set back"
+            "wait until it has ended (in a script of your own: drain): a task that runs is neither set back nor skipped"
         }
         Refusal::PoolFault(_) => "there are 64 pools, and none is ever taken out",
         Refusal::RecordFull => {
@@ -225,11 +223,7 @@ fn push_unknown<'a>(
 ) -> Result<(), AllocError> {
     match fault {
         ExplainFault::UnknownGraph => say(sentence, "there is no graph \"{}\"", &[Text(graph)]),
-        ExplainFault::UnknownRun => say(
-            sentence,
-            "the graph \"{}\" has no run of the date {}: {}",
-            &[Text(graph), Text(logical), Text(DATES_HINT)],
-        ),
+        ExplainFault::UnknownRun => push_no_run(sentence, graph, Text(logical)),
         ExplainFault::UnknownTask => say(
             sentence,
             "the graph \"{}\" has no task \"{}\"",
@@ -237,4 +231,13 @@ fn push_unknown<'a>(
         ),
         ExplainFault::Memory => Ok(()),
     }
+}
+
+// Adds that the graph has no run of this date.
+fn push_no_run(sentence: &mut String, graph: &str, date: Part<'_>) -> Result<(), AllocError> {
+    say(
+        sentence,
+        "the graph \"{}\" has no run of the date {}: {}",
+        &[Text(graph), date, Text(DATES_HINT)],
+    )
 }
