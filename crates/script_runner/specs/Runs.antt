@@ -31,8 +31,8 @@ use Rattle.script_reader.specs.Done.{FileAnswer}
 use Rattle.script_runner.specs.Named.{AreNamed}
 
 -- A script of these bytes was run with so many lanes and these kits on what a record held before: what the record is now, the minutes, what became of the
--- crews, whether all that was put is written, and the status. The sources and the clock gave what their relations say, or were asked nothing (untouched); the output has grown as its relation
--- says.
+-- crews, whether all that was put is written (told), and the status. The sources and the clock gave what their relations say, or were asked nothing
+-- (untouched); the output has grown as its relation says.
 -- restates: this project's own profile
 pub record IsRun {S G O : Type 0} (look : Held S → State) (shows : Shows O) (bytes : Option (List ℕ)) (sources : List FileAnswer → Type 0) (clock : List (Schedule × Reading) → Type 0) (output : List ℕ → Type 0) (untouched : Type 0) (lanes : ℕ) (kits : List (Kit O)) (before : State) (store : Held S) (minutes : List Event) (ends : List (WorkerEnd G O)) (outcome : Result Total ConductFault) (told : Bool) (status : ℕ) : Type 0 where
   -- the schedule that was opened, without lanes, and the answer to its restart
