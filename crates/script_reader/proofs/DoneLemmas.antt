@@ -9,7 +9,6 @@ use Rattle.sched_model.specs.Schedule.{Schedule}
 use Rattle.sched_model.specs.States.{in_flight}
 use Rattle.sched_events.specs.declared.answers.Answer.{Answer}
 use Rattle.sched_events.specs.declared.events.Event.{Event}
-use Rattle.word_app.specs.App.{Texts}
 use Rattle.command_words.specs.Commands.{taken}
 use Rattle.command_words.specs.declared.takings.Taking.{Taking}
 use Rattle.command_words.specs.declared.takings.Taking.TheVariants as takings
@@ -54,10 +53,6 @@ asked_more done d rest = ap (λ l. l ++ rest) (map-append (λ (x : Done). x.aske
 pub taken_may_be_read : (taking : Taking) (text : List ℕ) → may_be_read (Says.Event (taken taking text)) ≡ true
 taken_may_be_read takings.Load text = refl
 taken_may_be_read takings.Replace text = refl
-
--- words that are read in the same way ask for the same
-next_named : (names other : Texts) → names ≡ other → (known : List ℕ) (asked : Option Request) (left : Option (List ℕ)) → IsNext other known asked left → IsNext names known asked left
-next_named names other same known asked left is = subst (λ (n : Texts). IsNext n known asked left) (sym same) is
 
 pub is_end_none : (E : Type 0) (next : Option Line) → is_none next ≡ is_end {E = E} (Ok next)
 is_end_none E None = refl
@@ -132,32 +127,28 @@ pub closed_drain : (asked : List Request) (texts : List FileAnswer) (a : Schedul
 closed_drain asked texts a heard are idle (one, none) = record { one = Ok Drain; is = one; done = (none, ((a, heard, refl, are, idle), refl, refl)) }
 
 -- ---- the command that comes next: what is given for it, and what is left
-module _ (names : Texts) where
-  pub record Next (first left' : Option (List ℕ)) (done : List Request) (given : Request) : Type 0 where
-    pub wanted : Request
-    pub same : IsGiven wanted given
-    pub read : (known : List ℕ) → first ≡ Some known → (bytes : List ℕ) × (left' ≡ Some bytes) × (commands_in names known ≡ done ++ (wanted ∷ commands_in names bytes))
+pub record Next (first left' : Option (List ℕ)) (done : List Request) (given : Request) : Type 0 where
+  pub wanted : Request
+  pub same : IsGiven wanted given
+  pub read : (known : List ℕ) → first ≡ Some known → (bytes : List ℕ) × (left' ≡ Some bytes) × (commands_in known ≡ done ++ (wanted ∷ commands_in bytes))
 
-  next : (first left left' : Option (List ℕ)) (done : List Request) (given : Request) → ((known : List ℕ) → first ≡ Some known → (bytes : List ℕ) × (left ≡ Some bytes) × (commands_in names known ≡ done ++ commands_in names bytes)) → ((known : List ℕ) → left ≡ Some known → IsNext names known (Some given) left') → Next first left' done given
-  next None left left' done given read is = record { wanted = given; same = inl refl; read = λ known e. cc }
-  next (Some known) left left' done given read is =
-      let at : (bytes : List ℕ) × (left ≡ Some bytes) × (commands_in names known ≡ done ++ commands_in names bytes) = read known refl in
-      let now : IsFirst names (commands_in names at.0) given left' = is at.0 at.1 in
-      record {
-        wanted = now.wanted;
-        same = now.same;
-        read = λ other e.
-            let here : commands_in names other ≡ commands_in names known = cc in
-            (now.left, now.known, here ∙ (at.2 ∙ ap (λ (rs : List Request). done ++ rs) now.first));
-      }
+next : (first left left' : Option (List ℕ)) (done : List Request) (given : Request) → ((known : List ℕ) → first ≡ Some known → (bytes : List ℕ) × (left ≡ Some bytes) × (commands_in known ≡ done ++ commands_in bytes)) → ((known : List ℕ) → left ≡ Some known → IsNext known (Some given) left') → Next first left' done given
+next None left left' done given read is = record { wanted = given; same = inl refl; read = λ known e. cc }
+next (Some known) left left' done given read is =
+    let at : (bytes : List ℕ) × (left ≡ Some bytes) × (commands_in known ≡ done ++ commands_in bytes) = read known refl in
+    let now : IsFirst (commands_in at.0) given left' = is at.0 at.1 in
+    record {
+      wanted = now.wanted;
+      same = now.same;
+      read = λ other e.
+          let here : commands_in other ≡ commands_in known = cc in
+          (now.left, now.known, here ∙ (at.2 ∙ ap (λ (rs : List Request). done ++ rs) now.first));
+    }
 
 module _ {R W F P : Type 0} (remaining : R → Option (List ℕ)) (contents : W → Option (List ℕ)) (gives : F → List FileAnswer → F → Type 0) (s : ScriptReader R W F P) (steps : List RunStep) where
-  abbrev names : Texts
-  names = s.commands.words.names
-
-  -- what a read of the words of this state gives
+  -- what a read gives
   abbrev Reads : CommandInput R → CommandInput R → Option Request → Type 0
-  Reads commands commands' asked = (known : List ℕ) → remaining commands.input ≡ Some known → IsNext commands.words.names known asked (remaining commands'.input)
+  Reads commands commands' asked = (known : List ℕ) → remaining commands.input ≡ Some known → IsNext known asked (remaining commands'.input)
 
   -- ---- the same where more is put, or is told of, and nothing more is done
   pub flushed : {T E : Type 0} (waits : Option Line) (commands : CommandInput R) (answers answers' : Answers W P) (sources : F) (put : Result T E) (is_broken ended : Bool) → (is_broken ≡ false → is_ok put ≡ true) → IsPut contents [] 0 put answers answers'
@@ -170,7 +161,6 @@ module _ {R W F P : Type 0} (remaining : R → Option (List ℕ)) (contents : W 
     opens = h.opens;
     texts = h.texts;
     stepped = h.stepped;
-    words = h.words;
     read = h.read;
     status_is = omega (arith, p.status_is, h.status_is);
     output = λ written. subst (λ l. Appends (contents s.answers.output) (contents answers'.output) l) (append-nil (shown_in h.done)) (put_more contents (contents s.answers.output) [] 0 put answers answers' (shown_in h.done) p h.output written);
@@ -188,7 +178,6 @@ module _ {R W F P : Type 0} (remaining : R → Option (List ℕ)) (contents : W 
     opens = h.opens;
     texts = h.texts;
     stepped = h.stepped;
-    words = h.words;
     read = λ known e. let r = h.read known e in (r.0, r.1, (λ is. r.2 (less is)), r.3);
     status_is = h.status_is;
     output = h.output;
@@ -206,7 +195,6 @@ module _ {R W F P : Type 0} (remaining : R → Option (List ℕ)) (contents : W 
     opens = h.opens;
     texts = h.texts;
     stepped = h.stepped;
-    words = h.words;
     read = h.read;
     status_is = status ∙ h.status_is;
     output = λ is. subst (λ (w : W). Appends (contents s.answers.output) (contents w) (shown_in h.done)) (sym output) (h.output (sym written ∙ is));
@@ -218,15 +206,15 @@ module _ {R W F P : Type 0} (remaining : R → Option (List ℕ)) (contents : W 
     none_open : gives s.sources (texts_in h.done) sources
     none_open = subst (λ l. gives s.sources l sources) (ap (λ l. texts_in h.done ++ l) h.opens.1 ∙ append-nil (texts_in h.done)) h.texts
 
-    none_left : (known : List ℕ) → remaining s.commands.input ≡ Some known → (bytes : List ℕ) × (remaining commands.input ≡ Some bytes) × (commands_in names known ≡ asked_in h.done ++ commands_in names bytes)
+    none_left : (known : List ℕ) → remaining s.commands.input ≡ Some known → (bytes : List ℕ) × (remaining commands.input ≡ Some bytes) × (commands_in known ≡ asked_in h.done ++ commands_in bytes)
     none_left known e =
         let r = h.read known e in
         let b = r.3 refl in
         (b.0, b.1, r.1 ∙ ap (λ l. asked_in h.done ++ (l ++ r.0)) h.opens.0 ∙ ap (λ l. asked_in h.done ++ l) b.2)
 
     -- it could not be read further
-    pub broken : (commands' : CommandInput R) → commands'.words ≡ commands.words → AreDone remaining contents gives s steps None commands' answers sources true false
-    broken commands' same = record {
+    pub broken : (commands' : CommandInput R) → AreDone remaining contents gives s steps None commands' answers sources true false
+    broken commands' = record {
       done = h.done;
       open_asked = [];
       open_texts = [];
@@ -234,17 +222,16 @@ module _ {R W F P : Type 0} (remaining : R → Option (List ℕ)) (contents : W 
       opens = (refl, refl);
       texts = subst (λ l. gives s.sources l sources) (sym (append-nil (texts_in h.done))) none_open;
       stepped = h.stepped;
-      words = ap (λ w. w.names) same ∙ h.words;
-      read = λ known e. let l = none_left known e in (commands_in names l.0, l.2, (λ no. absurd (true≢false (sym no))), λ no. absurd (true≢false no));
+      read = λ known e. let l = none_left known e in (commands_in l.0, l.2, (λ no. absurd (true≢false (sym no))), λ no. absurd (true≢false no));
       status_is = h.status_is;
       output = h.output;
       kept = λ no. absurd (true≢false no);
     }
 
     -- no line is left
-    pub over : (commands' : CommandInput R) → commands'.words ≡ commands.words → Reads commands commands' None → AreDone remaining contents gives s steps None commands' answers sources false true
+    pub over : (commands' : CommandInput R) → Reads commands commands' None → AreDone remaining contents gives s steps None commands' answers sources false true
     unfolding commands_in
-    over commands' same is = record {
+    over commands' is = record {
       done = h.done;
       open_asked = [];
       open_texts = [];
@@ -252,19 +239,18 @@ module _ {R W F P : Type 0} (remaining : R → Option (List ℕ)) (contents : W 
       opens = (refl, refl);
       texts = subst (λ l. gives s.sources l sources) (sym (append-nil (texts_in h.done))) none_open;
       stepped = h.stepped;
-      words = ap (λ w. w.names) same ∙ h.words;
       read = λ known e.
           let l = none_left known e in
-          let n = next_named names commands.words.names (sym h.words) l.0 None (remaining commands'.input) (is l.0 l.1) in
+          let n = is l.0 l.1 in
           ([], l.2 ∙ ap (λ r. asked_in h.done ++ r) n.0, (λ _. refl), λ _. ([], n.1, refl));
       status_is = h.status_is;
       output = h.output;
       kept = λ _. h.kept refl;
     }
 
-    module _ (commands' : CommandInput R) (same : commands'.words ≡ commands.words) (given : Request) (is : Reads commands commands' (Some given)) (sources' : F) (texts : List FileAnswer) (to : AnswersMore gives texts sources sources') where
-      after : Next names (remaining s.commands.input) (remaining commands'.input) (asked_in h.done) given
-      after = next names (remaining s.commands.input) (remaining commands.input) (remaining commands'.input) (asked_in h.done) given none_left (λ known e. next_named names commands.words.names (sym h.words) known (Some given) (remaining commands'.input) (is known e))
+    module _ (commands' : CommandInput R) (given : Request) (is : Reads commands commands' (Some given)) (sources' : F) (texts : List FileAnswer) (to : AnswersMore gives texts sources sources') where
+      after : Next (remaining s.commands.input) (remaining commands'.input) (asked_in h.done) given
+      after = next (remaining s.commands.input) (remaining commands.input) (remaining commands'.input) (asked_in h.done) given none_left is
 
       -- it leaves a line to the run
       line_more : (line : Line) → Leaves given texts line → AreDone remaining contents gives s steps (Some line) commands' answers sources' false false
@@ -278,8 +264,7 @@ module _ {R W F P : Type 0} (remaining : R → Option (List ℕ)) (contents : W 
             opens = subst (λ (r : Request). IsOpen (Some line) (r ∷ []) texts) (leaves_given n.wanted given texts line n.same leaves) (left_to_run given texts line leaves);
             texts = to s.sources (texts_in h.done) none_open;
             stepped = h.stepped;
-            words = ap (λ w. w.names) same ∙ h.words;
-            read = λ known e. let r = n.read known e in (commands_in names r.0, r.2, (λ no. absurd (true≢false (sym no))), λ _. (r.0, r.1, refl));
+            read = λ known e. let r = n.read known e in (commands_in r.0, r.2, (λ no. absurd (true≢false (sym no))), λ _. (r.0, r.1, refl));
             status_is = h.status_is;
             output = h.output;
             kept = λ _. h.kept refl;
@@ -299,8 +284,7 @@ module _ {R W F P : Type 0} (remaining : R → Option (List ℕ)) (contents : W 
             opens = (refl, refl);
             texts = subst (λ l. gives s.sources l sources') (sym (append-nil (texts_in (h.done ++ d ∷ [])) ∙ one_more (λ (x : Done). x.texts) h.done d)) (to s.sources (texts_in h.done) none_open);
             stepped = ap (λ l. l ++ looks 1 a) h.stepped ∙ sym (one_more (λ (x : Done). x.steps) h.done d);
-            words = ap (λ w. w.names) same ∙ h.words;
-            read = λ known e. let r = n.read known e in (commands_in names r.0, r.2 ∙ sym (asked_more h.done d (commands_in names r.0)), (λ no. absurd (true≢false (sym no))), λ _. (r.0, r.1, refl));
+            read = λ known e. let r = n.read known e in (commands_in r.0, r.2 ∙ sym (asked_more h.done d (commands_in r.0)), (λ no. absurd (true≢false (sym no))), λ _. (r.0, r.1, refl));
             status_is = raised s.answers.status answers.status answers'.status h.done d p.status_is h.status_is;
             output = λ written. subst (λ l. Appends (contents s.answers.output) (contents answers'.output) l) (sym (one_more (λ (x : Done). x.shown) h.done d)) (put_more contents (contents s.answers.output) text own put answers answers' (shown_in h.done) p h.output written);
             kept = λ sound. still_written contents text own put answers answers' p (fine sound) ∙ h.kept refl;
@@ -337,7 +321,6 @@ module _ {R W F P : Type 0} (remaining : R → Option (List ℕ)) (contents : W 
         opens = (refl, refl);
         texts = subst (λ l. gives s.sources l sources) (sym (append-nil (texts_in (h.done ++ d ∷ [])) ∙ one_more (λ (x : Done). x.texts) h.done d)) h.texts;
         stepped = ap (λ l. l ++ added) h.stepped ∙ sym (one_more (λ (x : Done). x.steps) h.done d);
-        words = h.words;
         read = λ known e.
             let r = h.read known e in
             (r.0, r.1 ∙ ap (λ l. asked_in h.done ++ (l ++ r.0)) c.is ∙ sym (asked_more h.done d r.0), r.2, λ _. r.3 refl);

@@ -4,7 +4,6 @@ use Rattle.std.proofs.Common.{true≢false, refl, sym, arith, append-nil}
 use Rattle.std.specs.Prelude.{◌≡◌, ◌&&◌, not, ℕ, max, Bool, true, false, List, [], ◌++◌, map, flat_map, All, Option, Some, None, is_some}
 use Rattle.std.specs.Io.KnownBytes.{Appends}
 use Rattle.sched_model.specs.Schedule.{Schedule}
-use Rattle.command_words.specs.Lines.{IsListed}
 use Rattle.script_commands.specs.Commands.{Request, commands_in}
 use Rattle.answer_lines.specs.sessions.History.{looks, Step}
 use Rattle.answer_lines.specs.sessions.declared.line_reading.Line.{Line}
@@ -16,7 +15,6 @@ use Rattle.script_reader.specs.declared.scripts.Script.{Script}
 
 -- a reader of this script, of which nothing is read yet
 pub record IsNew {R W F P : Type 0} (script : Script R W F P) (reader : ScriptReader R W F P) : Type 0 where
-  pub listed : IsListed reader.commands.words.names
   pub input : reader.commands.input ≡ script.input
   pub answers : reader.answers ≡ record { output = script.output; console = script.console; status = 0; is_written = true }
   pub sources : reader.sources ≡ script.sources
@@ -44,10 +42,9 @@ module _ {R W F P : Type 0} (remaining : R → Option (List ℕ)) (contents : W 
     pub opens : IsOpen waits open_asked open_texts
     pub texts : gives s.sources (flat_map (λ d. d.texts) done ++ open_texts) sources
     pub stepped : steps ≡ flat_map (λ d. d.steps) done
-    pub words : commands.words.names ≡ s.commands.words.names
     pub read : (known : List ℕ) → remaining s.commands.input ≡ Some known
-        → (rest : List Request) × (commands_in s.commands.words.names known ≡ map (λ d. d.asked) done ++ (open_asked ++ rest))
-        × (has_ended ≡ true → rest ≡ []) × (is_broken ≡ false → (bytes : List ℕ) × (remaining commands.input ≡ Some bytes) × (rest ≡ commands_in s.commands.words.names bytes))
+        → (rest : List Request) × (commands_in known ≡ map (λ d. d.asked) done ++ (open_asked ++ rest))
+        × (has_ended ≡ true → rest ≡ []) × (is_broken ≡ false → (bytes : List ℕ) × (remaining commands.input ≡ Some bytes) × (rest ≡ commands_in bytes))
     pub status_is : answers.status ≡ max s.answers.status (greatest_status done)
     pub output : answers.is_written ≡ true → Appends (contents s.answers.output) (contents answers.output) (flat_map (λ d. d.shown) done)
     pub kept : is_broken ≡ false → answers.is_written ≡ s.answers.is_written
@@ -74,8 +71,7 @@ module _ {R W F P : Type 0} (remaining : R → Option (List ℕ)) (contents : W 
     opens = (refl, refl);
     texts = none s.sources;
     stepped = refl;
-    words = refl;
-    read = λ known e. (commands_in s.commands.words.names known, refl, (λ ends. absurd (true≢false (not_both s.is_over ends))), λ _. (known, e, refl));
+    read = λ known e. (commands_in known, refl, (λ ends. absurd (true≢false (not_both s.is_over ends))), λ _. (known, e, refl));
     status_is = let zero : greatest_status [] ≡ 0 = refl in omega (arith, zero);
     output = λ _. written (contents s.answers.output);
     kept = λ _. refl;

@@ -1,10 +1,8 @@
 //! The commands of a script, as they are read.
 ghost use Rattle.std.specs.Prelude.{◌≡◌, ℕ, List, true, Some, IfErr, IfOk, IfSome};
-ghost use Rattle.command_words.specs.Lines.{IsListed};
 ghost use Rattle.script_commands.specs.Commands.{IsNext, is_asked};
 
 use crate::console::Spot;
-use command_words::CommandReader;
 use script_commands::{CommandFault, LineReader, ScriptCommand, next_command};
 use std::alloc::Global;
 use std::io::{self, Read};
@@ -13,7 +11,6 @@ use std::io::{self, Read};
 #[derive(Drop)]
 pub(crate) struct CommandInput<R: Read + Drop> {
     pub(crate) alloc: Global,
-    words: CommandReader,
     lines: LineReader,
     pub(crate) input: R,
 }
@@ -21,14 +18,12 @@ pub(crate) struct CommandInput<R: Read + Drop> {
 impl<R: Read + Drop> CommandInput<R> {
     /// Nothing is read yet. Where memory runs out, the input is given back.
     pub(crate) fn new(alloc: Global, input: R) -> Result<CommandInput<R>, R>
-        ensures listed { IfOk result (λ commands. IsListed commands.words.names) }
         ensures input { IfOk result (λ commands. commands.input ≡ input) }
         ensures kept { IfErr result (λ left. left ≡ input) }
     {
         match LineReader::new(alloc) {
             Ok(lines) => Ok(CommandInput {
                 alloc,
-                words: CommandReader::new(),
                 lines,
                 input,
             }),
@@ -39,11 +34,10 @@ impl<R: Read + Drop> CommandInput<R> {
     /// The next command, or why there is none in its place; none at the end.
     pub(crate) fn next(&mut self) -> io::Result<Option<Result<ScriptCommand, CommandFault>>>
         ensures next { IfOk result (λ next. (bytes : List ℕ) → R.remaining self.old.input ≡ Some bytes
-            → IsNext self.old.words.names bytes next (R.remaining self.new.input)) }
+            → IsNext bytes next (R.remaining self.new.input)) }
         ensures asked { IfOk result (λ next. IfSome next (λ request. is_asked request ≡ true)) }
-        ensures words { self.new.words ≡ self.old.words }
     {
-        next_command(self.alloc, &self.words, &mut self.lines, &mut self.input)
+        next_command(self.alloc, &mut self.lines, &mut self.input)
     }
 
     /// Where the command stands that was read last.

@@ -33,8 +33,6 @@ module _ (read known : Option (List ℕ)) (sources files : List FileAnswer → T
       → (m : AreNamed known files times text lanes first minutes outcome told status) × (m.history ≡ n.history)
   named_less lanes first minutes outcome told status n = (
     record {
-      words = n.words;
-      listed = n.listed;
       done = n.done;
       each = n.each;
       waits = n.waits;

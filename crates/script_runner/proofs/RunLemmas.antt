@@ -14,7 +14,6 @@ use Rattle.sched_model.specs.States.{in_flight}
 use Rattle.sched_events.specs.SettledAndSound.{IsSoundAndSaid}
 use Rattle.sched_events.specs.Steps.{steps}
 use Rattle.sched_events.specs.declared.events.Event.{Event}
-use Rattle.command_words.specs.Lines.{IsListed}
 use Rattle.conduct.specs.sessions.director.Directors.{DirectorValue, Keeps, Opens, RestartsIn}
 use Rattle.conduct.proofs.sessions.director.ListLemmas.{stays_open, was_clean}
 use Rattle.minutes.specs.Minutes.{answered}
@@ -99,7 +98,6 @@ pub record IsFresh {R W F P : Type 0} (first : ScriptReader R W F P) : Type 0 wh
   pub over : first.is_over ≡ false
   pub status : first.answers.status ≡ 0
   pub written : first.answers.is_written ≡ true
-  pub listed : IsListed first.commands.words.names
 
 module _ {R W F P : Type 0} (remaining : R → Option (List ℕ)) (contents : W → Option (List ℕ)) (gives : F → List FileAnswer → F → Type 0) where
   pub named : {T : Type 0} (first last : ScriptReader R W F P) (clock : List (Schedule × Reading) → Type 0) (output : W) (steps_told : List Step) (start : Schedule) (minutes : List Event) (waits : Option Line) (told : Bool) (status lanes : ℕ) (outcome : Result T ConductFault)
@@ -113,8 +111,6 @@ module _ {R W F P : Type 0} (remaining : R → Option (List ℕ)) (contents : W 
       let greatest : last.answers.status ≡ greatest_status h.done = omega (arith, h.status_is, fresh.status) in
       let ends : came_to_its_end outcome ≡ true → (last.is_over && not first.is_over) ≡ true = λ came. ap (λ b. b && not first.is_over) (whole came).0 ∙ ap not fresh.over in (
         record {
-          words = first.commands.words.names;
-          listed = fresh.listed;
           done = h.done;
           each = h.each;
           waits = waits;

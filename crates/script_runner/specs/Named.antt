@@ -1,7 +1,5 @@
 -- What a run says beside the lines of its script.
 use Rattle.std.specs.Prelude.{◌≡◌, ℕ, Bool, true, List, [], ◌++◌, map, flat_map, All, Option, Some, None, Result, is_ok}
-use Rattle.word_app.specs.App.{Texts}
-use Rattle.command_words.specs.Lines.{IsListed}
 use Rattle.sched_events.specs.declared.events.Event.{Event}
 use Rattle.script_commands.specs.Commands.{Request, commands_in}
 use Rattle.sched_model.specs.Schedule.{Schedule}
@@ -16,7 +14,7 @@ use Rattle.script_reader.specs.Done.{FileAnswer, Done, IsDone, IsOpen, greatest_
 use Rattle.script_reader.specs.Ends.{end_status, last_text}
 
 -- The events that are answered in these minutes, from this schedule on, are, in order, those that the commands of a script name, of these bytes, where they
--- are known, by the words that `list` takes. A command that is answered when it is read is answered of the schedule of the minutes up to it, and an event
+-- are known. A command that is answered when it is read is answered of the schedule of the minutes up to it, and an event
 -- that was not accepted has its cause there; a drain is answered of the schedule of minutes up to it in which no try is in flight. All of this is behind the
 -- restart. Reports stand in the minutes where a drain waited, before a `tick now`, and behind the last command, and nowhere else. For each `load PATH` and
 -- `replace PATH` the sources were asked once, for its path, and for nothing else: the text that is taken in, or the fault that is shown, is the next that
@@ -26,8 +24,6 @@ use Rattle.script_reader.specs.Ends.{end_status, last_text}
 -- its fault otherwise, and 4 where not all is written; where it is 0, the event of each command is there.
 -- restates: this project's own profile
 pub record AreNamed {T : Type 0} (bytes : Option (List ℕ)) (sources : List FileAnswer → Type 0) (clock : List (Schedule × Reading) → Type 0) (output : List ℕ → Type 0) (lanes : ℕ) (first : Schedule) (minutes : List Event) (outcome : Result T ConductFault) (told : Bool) (status : ℕ) : Type 0 where
-  pub words : Texts
-  pub listed : IsListed words
   pub done : List Done
   pub each : All IsDone done
   -- the command that was read and is not done, if there is one, and what the sources answered for it
@@ -51,7 +47,7 @@ pub record AreNamed {T : Type 0} (bytes : Option (List ℕ)) (sources : List Fil
   pub shown : told ≡ true → output (flat_map (λ d. d.shown) done ++ last_text outcome)
   pub all_told : is_ok outcome ≡ true → told ≡ true
   pub read : (known : List ℕ) → bytes ≡ Some known
-      → (rest : List Request) × (commands_in words known ≡ map (λ d. d.asked) done ++ (open_asked ++ rest))
+      → (rest : List Request) × (commands_in known ≡ map (λ d. d.asked) done ++ (open_asked ++ rest))
       × (came_to_its_end outcome ≡ true → (open_asked ≡ []) × (rest ≡ []))
   pub ended : status ≡ end_status told (greatest_status done) outcome
   pub whole : status ≡ 0 → All (λ d. is_whole d.asked d.steps ≡ true) done

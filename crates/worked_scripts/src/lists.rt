@@ -20,7 +20,6 @@ use crate::put_lines;
 use crate::recording::Recorder;
 use crate::records::{Directed, Records, Tally};
 use crate::stepping::{reopen, step};
-use command_words::CommandReader;
 use sched_core::Limits;
 use script_commands::{CommandFault, LineReader, ScriptCommand, SourceFault, next_command};
 use sqlite::Alter;
@@ -206,6 +205,6 @@ pub(crate) fn next_request<'a>(
     text: &'a [u8],
 ) -> io::Result<Asked<'a>> {
     let mut left = text;
-    let request = next_command(alloc, &CommandReader::new(), lines, &mut left)?;
+    let request = next_command(alloc, lines, &mut left)?;
     Ok((request, left))
 }

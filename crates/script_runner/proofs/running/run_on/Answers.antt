@@ -19,7 +19,7 @@ returns-in-Ok-open-clause-run g c =
     ran (state g.S.Store) (shows g.O.Operator.kind_of g.O.Operator.runs_of g.O.Operator.refused_of g.O.Operator.taken) g.R.Read.remaining g.W.Write.contents g.F.Sources.gives g.C.Clock.gives c.args.options.lanes kits (state g.S.Store c.args.store) c.in-Ok-open.director c.conduct-conducted.result c.in-Ok.reader c.conduct-conducted.new.lines
     c.args.clock.now c.conduct-conducted.new.clock c.conduct-conducted.ensures (let k = rw c.schedule.ensures at c.runs.ensures.kept in k) (let o = rw c.full.ensures at c.in-Ok-open.ensures.opened in o) (let s = rw c.full.ensures at c.in-Ok-open.ensures.stored in s)
     clean_before (c.in-Ok-open.ensures.crash.counts, c.in-Ok-open.ensures.open) c.in-Ok-open.ensures.only
-    (record { over = n.over; status = ap (λ a. a.status) n.answers; written = ap (λ a. a.is_written) n.answers; listed = n.listed })
+    (record { over = n.over; status = ap (λ a. a.status) n.answers; written = ap (λ a. a.is_written) n.answers })
     c.close.result.store (vec_items c.close.result.minutes) (vec_items c.close.result.ends) c.close.result.outcome c.close.result.told c.close.result.status c.close.result.sources c.close.result.output
     (record { store_is = z.store; minutes_are = ap vec_items z.minutes; ends_are = ap vec_items z.ends; outcome_is = z.outcome; told_is = z.told; well_is = z.well; status_is = z.status; sources_are = z.sources })
     in
