@@ -1,5 +1,5 @@
 -- Where the words that `list` takes lie in memory makes no difference to what clap makes of words.
-use Rattle.std.proofs.Common.{◌≡◌, ◌∙◌, ◌&&◌, Bool, true, false, refl, sym, ap, List, [], ◌∷◌, map, Option, Some, None}
+use Rattle.std.proofs.Common.{◌≡◌, ◌∙◌, ◌&&◌, Bool, true, false, true≢false, refl, sym, ap, List, [], ◌∷◌, map, Option, Some, None}
 use Rattle.std.specs.Prelude.{if◌then◌else◌, codes}
 use Rattle.std.specs.List.{list_any}
 use Rattle.std.specs.Str.{bytes_eq}
@@ -37,13 +37,13 @@ and_left false b e = e
 
 and_right : (a b : Bool) → (a && b) ≡ true → b ≡ true
 and_right true b e = e
-and_right false b e = cc
+and_right false b e = absurd (true≢false (sym e))
 
 same_words_are : (xs ys : List Text) → same_words xs ys ≡ true → xs ≡ ys
 unfolding same_words
 same_words_are [] [] e = refl
-same_words_are [] (y ∷ ys) e = cc
-same_words_are (x ∷ xs) [] e = cc
+same_words_are [] (y ∷ ys) e = absurd (true≢false (sym e))
+same_words_are (x ∷ xs) [] e = absurd (true≢false (sym e))
 same_words_are (x ∷ xs) (y ∷ ys) e =
     let first : x ≡ y = (bytes_eq-Decides x y).0 (and_left (bytes_eq x y) (same_words xs ys) e) in
     ap (λ z. z ∷ xs) first ∙ ap (λ zs. y ∷ zs) (same_words_are xs ys (and_right (bytes_eq x y) (same_words xs ys) e))
@@ -85,7 +85,7 @@ takes any_case (vp.Names names) t = go (same_words (texts_of names) row_words) r
         let words : row_words ≡ texts_of names = sym (same_words_are (texts_of names) row_words e) in
         let all : list_any (λ (name : Bor Text). same_text any_case name.now t) listed.now ≡ list_any (λ (name : Bor Text). same_text any_case name.now t) names.now =
         among any_case listed t ∙ ap (λ (ws : List Text). list_any (λ (w : Text). same_text any_case w t) ws) words ∙ sym (among any_case names t) in
-        ap (λ (b : Bool). if b then [] else InvalidValue ∷ []) all
+        ap (λ (b : Bool). let k : Kinds = if b then [] else InvalidValue ∷ [] in k) all
 takes any_case vp.String t = refl
 takes any_case vp.NonEmptyString t = refl
 takes any_case vp.Bool t = refl

@@ -92,19 +92,19 @@ module _ (g : ValueParser → ValueParser) (reads : (p : ValueParser) → readin
   long_same c None v h = refl
   long_same c (Some a) v h = if_same (takes_values a) _ _ _ _ (option_same c a v h) (flag_same c a v h)
 
-  short_same : (c : List Rule) (o : Option Rule) (rest : Text) (h : Held) (then then' : Held → Held × Outcome) → ((x : Held) → then' x ≡ then x)
-      → short_met (map changed c) (option_map changed o) rest h then' ≡ short_met c o rest h then
-  short_same c None rest h then then' same = refl
-  short_same c (Some a) rest h then then' same =
-      if_same (takes_values a) _ _ _ _ (option_same c a (attached_value rest) h) (ap then' (reacted_same c a [] h) ∙ same (reacted c a [] h))
+  short_same : (c : List Rule) (o : Option Rule) (rest : Text) (h : Held) (more more' : Held → Held × Outcome) → ((x : Held) → more' x ≡ more x)
+      → short_met (map changed c) (option_map changed o) rest h more' ≡ short_met c o rest h more
+  short_same c None rest h more more' same = refl
+  short_same c (Some a) rest h more more' same =
+      if_same (takes_values a) _ _ _ _ (option_same c a (attached_value rest) h) (ap more' (reacted_same c a [] h) ∙ same (reacted c a [] h))
 
-  bundle_at : (c : List Rule) (x : Option ℕ) (flags : Text) (skip : ℕ) (so_far : Outcome) (h : Held) (then then' : Text → ℕ → Outcome → Held → Held × Outcome)
-      → ((t : Text) (n : ℕ) (o : Outcome) (y : Held) → then' t n o y ≡ then t n o y) → bundle_step (map changed c) x flags skip so_far h then' ≡ bundle_step c x flags skip so_far h then
-  bundle_at c None flags skip so_far h then then' same = refl
-  bundle_at c (Some x) flags zero so_far h then then' same =
+  bundle_at : (c : List Rule) (x : Option ℕ) (flags : Text) (skip : ℕ) (so_far : Outcome) (h : Held) (more more' : Text → ℕ → Outcome → Held → Held × Outcome)
+      → ((t : Text) (n : ℕ) (o : Outcome) (y : Held) → more' t n o y ≡ more t n o y) → bundle_step (map changed c) x flags skip so_far h more' ≡ bundle_step c x flags skip so_far h more
+  bundle_at c None flags skip so_far h more more' same = refl
+  bundle_at c (Some x) flags zero so_far h more more' same =
       let rest = drop (length (encode_utf8 x)) flags in
-      ap (λ o. short_met (map changed c) o rest h (then' rest 0 done)) (sym (by_short c x)) ∙ short_same c (arg_by_short c x) rest h (then rest 0 done) (then' rest 0 done) (same rest 0 done)
-  bundle_at c (Some x) flags (suc skip) so_far h then then' same = same (drop (length (encode_utf8 x)) flags) skip so_far h
+      ap (λ o. short_met (map changed c) o rest h (more' rest 0 done)) (sym (by_short c x)) ∙ short_same c (arg_by_short c x) rest h (more rest 0 done) (more' rest 0 done) (same rest 0 done)
+  bundle_at c (Some x) flags (suc skip) so_far h more more' same = same (drop (length (encode_utf8 x)) flags) skip so_far h
 
   bundle_same : (c : List Rule) (k : ℕ) (flags : Text) (skip : ℕ) (so_far : Outcome) (h : Held) → bundle_met (map changed c) k flags skip so_far h ≡ bundle_met c k flags skip so_far h
   unfolding bundle_met
@@ -163,13 +163,15 @@ module _ (g : ValueParser → ValueParser) (reads : (p : ValueParser) → readin
   positional_found : (c : List Rule) (o : Option Rule) (word : Text) (w : Walk) (h : Held) → to_positional (map changed c) (option_map changed o) word w h ≡ to_positional c o word w h
   positional_found c None word w h = refl
   positional_found c (Some a) word w h =
-      ap (λ (x : Held). record {
+      let at : Held → Walk =
+      λ x. record {
         held = x;
         waiting = if is_multiple a then positional else idle;
         position = next_position a w.position;
         is_trailing = w.is_trailing || a.trailing_var_arg;
         stopped = None;
-      }) (held_same c a word h)
+      } in
+      ap at (held_same c a word h)
 
   after_step_same : (c : List Rule) (word : Text) (w : Walk) (h : Held) (s : Step) → after_step (map changed c) word w h s ≡ after_step c word w h s
   after_step_same c word w h (next waiting) = refl
@@ -263,20 +265,20 @@ module _ (g : ValueParser → ValueParser) (reads : (p : ValueParser) → readin
   long_fault_same c again (Some a) v h =
       if_same (takes_values a) _ _ _ _ (option_fault_same c again a v h) (if_same (is_some v) _ _ _ _ refl (react_same c again a [] h))
 
-  short_fault_same : (c : List Rule) (again : Bool) (o : Option Rule) (rest : Text) (h : Held) (then then' : Held → Kinds) → ((x : Held) → then' x ≡ then x)
-      → short_fault (map changed c) again (option_map changed o) rest h then' ≡ short_fault c again o rest h then
-  short_fault_same c again None rest h then then' same = refl
-  short_fault_same c again (Some a) rest h then then' same =
+  short_fault_same : (c : List Rule) (again : Bool) (o : Option Rule) (rest : Text) (h : Held) (more more' : Held → Kinds) → ((x : Held) → more' x ≡ more x)
+      → short_fault (map changed c) again (option_map changed o) rest h more' ≡ short_fault c again o rest h more
+  short_fault_same c again None rest h more more' same = refl
+  short_fault_same c again (Some a) rest h more more' same =
       if_same (takes_values a) _ _ _ _ (option_fault_same c again a (attached_value rest) h)
-      (or_same _ _ _ _ (react_same c again a [] h) (ap then' (reacted_same c a [] h) ∙ same (reacted c a [] h)))
+      (or_same _ _ _ _ (react_same c again a [] h) (ap more' (reacted_same c a [] h) ∙ same (reacted c a [] h)))
 
-  flags_at : (c : List Rule) (again : Bool) (x : Option ℕ) (flags : Text) (skip : ℕ) (h : Held) (then then' : Text → ℕ → Held → Kinds)
-      → ((t : Text) (n : ℕ) (y : Held) → then' t n y ≡ then t n y) → bundle_step_fault (map changed c) again x flags skip h then' ≡ bundle_step_fault c again x flags skip h then
-  flags_at c again None flags skip h then then' same = refl
-  flags_at c again (Some x) flags zero h then then' same =
+  flags_at : (c : List Rule) (again : Bool) (x : Option ℕ) (flags : Text) (skip : ℕ) (h : Held) (more more' : Text → ℕ → Held → Kinds)
+      → ((t : Text) (n : ℕ) (y : Held) → more' t n y ≡ more t n y) → bundle_step_fault (map changed c) again x flags skip h more' ≡ bundle_step_fault c again x flags skip h more
+  flags_at c again None flags skip h more more' same = refl
+  flags_at c again (Some x) flags zero h more more' same =
       let rest = drop (length (encode_utf8 x)) flags in
-      ap (λ o. short_fault (map changed c) again o rest h (then' rest 0)) (sym (by_short c x)) ∙ short_fault_same c again (arg_by_short c x) rest h (then rest 0) (then' rest 0) (same rest 0)
-  flags_at c again (Some x) flags (suc skip) h then then' same = same (drop (length (encode_utf8 x)) flags) skip h
+      ap (λ o. short_fault (map changed c) again o rest h (more' rest 0)) (sym (by_short c x)) ∙ short_fault_same c again (arg_by_short c x) rest h (more rest 0) (more' rest 0) (same rest 0)
+  flags_at c again (Some x) flags (suc skip) h more more' same = same (drop (length (encode_utf8 x)) flags) skip h
 
   flags_same : (c : List Rule) (again : Bool) (k : ℕ) (flags : Text) (skip : ℕ) (h : Held) → flags_fault (map changed c) again k flags skip h ≡ flags_fault c again k flags skip h
   unfolding flags_fault
