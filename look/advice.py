@@ -66,9 +66,9 @@ def of_upstream_failed(case):
 
 def of_skipped(case):
     if case.step.is_tried:
-        yield "Its program asked for this, by status 99. To have it tried again all the same:"
+        yield "Its program asked for this, by status 99, or a mark passed it over. To have it tried again all the same:"
     else:
-        yield f"Its trigger rule {case.rule} skips it, or another text added it to a run that had been a success. To have it decided again:"
+        yield f"Its trigger rule {case.rule} skips it, a mark passed it over, or another text added it to a run that had been a success. To have it decided again:"
     yield case.alone()
 
 

@@ -39,7 +39,7 @@ state_not t = go (bytes_eq t (codes "skipped"))
   where
     go : (b : Bool) → NotWords {A = Unit {0}} (if b then Ok tt else Err BadState)
     go true = ok_not tt
-    go false h = cc
+    go false = λ h. cc
 
 some_not : (o : Option Text) → some_name o ≢ Err Words
 some_not None = ok_not None

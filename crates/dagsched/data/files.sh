@@ -16,9 +16,9 @@ answers() {
     fi
 }
 
-# tells TEXT: it told a person this
+# tells LINE: this was a line of what it told a person
 tells() {
-    grep -Fqx "dagsched: $1" told || { echo "it did not tell: $1"; cat told; exit 1; }
+    grep -Fqx "$1" told || { echo "it did not tell: $1"; cat told; exit 1; }
 }
 
 case $1 in
@@ -49,8 +49,8 @@ ok
 refused 6 UnknownGraph
 ok
 END
-    tells 'new.db was not there, so a new record was made'
-    [ "$(cat new-logs/dag_id=daily/run_id=scheduled__2024-03-01T00:00:00+00:00/task_id=write/attempt=1.log)" = new-tries/try-3 ]
+    tells 'dagsched: new.db was not there, so a new record was made'
+    [ "$(cat new-logs/dag_id=daily/run_id=scheduled__2024-03-01T00:00:00+00:00/task_id=write/attempt=1.log)" = "$(pwd -P)/new-tries/try-3" ]
     ;;
 # what it answered is there at the next start, and what a command does at the next but one
 goes-on)
@@ -105,6 +105,17 @@ END
 END
     [ ! -e none.db ]
     ;;
+# a program that has its tries in the folder, as the one that performs this has, holds others back: they make their records, and read no line
+is-held-back)
+    echo 'resize etl 2' > script
+    answers 4 --record held.db run <<'END'
+END
+    tells 'dagsched: another dagsched has its tries in the folder dagsched-scratch, so no script is run: give each a folder of its own, by --scratch DIR'
+    answers 0 --record held.db list pools <<'END'
+default_pool 128 0 128
+ok
+END
+    ;;
 # a file that is no database, and the database of another program, are refused, and stay as they are
 is-refused)
     echo 'a letter' > letter
@@ -131,7 +142,7 @@ keeps-nothing)
     answers 0 resize etl 2 <<'END'
 ok
 END
-    tells 'there is no --record PATH before the command, so it was done on a new record in memory, and nothing is kept'
+    tells 'dagsched: there is no --record PATH before the command, so it was done on a new record in memory, and nothing is kept'
     answers 0 list pools <<'END'
 default_pool 128 0 128
 ok
@@ -140,8 +151,25 @@ END
     answers 0 run --scratch tries <<'END'
 ok
 END
-    answers 2 drain <<'END'
+    # commands that only scripts have, words that are none, and help: no record is made
+    answers 2 --record none.db drain <<'END'
 END
+    tells 'usage 4 NotHere'
+    answers 2 --record none.db frob <<'END'
+END
+    tells "error: unrecognized subcommand 'frob'"
+    answers 0 --record none.db list --help <<'END'
+Prints the graphs, the runs, the task instances or the pools
+
+Usage: dagsched list <ROWS>
+
+Arguments:
+  <ROWS>  What is printed, a line each [possible values: dags, runs, tasks, pools]
+
+Options:
+  -h, --help  Print help
+END
+    answers 0 help list < said
     [ "$(ls)" = "$(printf 'said\nscript\ntold\ntries\nwanted')" ]
     ;;
 *)

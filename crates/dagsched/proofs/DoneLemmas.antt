@@ -1,8 +1,14 @@
 -- What is done on a record, from what the crates below promise.
-use Rattle.std.proofs.Common.{◌≡◌, ℕ, true≢false, List, Option, None, Some, is_some, sym, ap, subst, inl, inr, arith}
+use Rattle.std.proofs.Common.{◌≡◌, ◌∙◌, ◌⊎◌, ◌==◌, ℕ, Bool, true, false, not, true≢false, List, [], ◌∷◌, length, Option, None, Some, is_some, refl, sym, ap, subst, inl, inr, ne_eqb, arith}
 use Rattle.std.specs.Io.KnownBytes.{Appends}
+use Rattle.std.specs.List.{list_any}
+use Rattle.sqlite.specs.Schema.{Schema}
+use Rattle.sqlite.specs.Table.{Table}
 use Rattle.sqlite.specs.Held.{Held}
 use Rattle.sqlite.specs.State.{State, HasCleanDisk}
+use Rattle.meta_store.specs.Faults.{IsOfSqlite}
+use Rattle.meta_store.specs.Stores.{has_record_table}
+use Rattle.meta_store.specs.declared.faults.StoreFault.{StoreFault}
 use Rattle.operators.specs.declared.operators.Operator as operator
 use Rattle.command_words.specs.declared.commands.Command.{Command}
 use Rattle.command_words.specs.declared.commands.Command.TheVariants as says
@@ -10,7 +16,7 @@ use Rattle.command_words.specs.declared.commands.ScriptOptions.{ScriptOptions}
 use Rattle.script_reader.specs.Done.{FileAnswer}
 use Rattle.script_runner.proofs.LessLemmas.{by_team_less}
 use Rattle.dagsched.specs.Commands.{IsCommandDone}
-use Rattle.dagsched.specs.Records.{IsDoneOn}
+use Rattle.dagsched.specs.Records.{has_tables, IsDoneOn}
 use Rattle.dagsched.specs.Scripts.{IsScriptDone, IsScriptOf}
 
 -- nothing is known of bytes that are not known
@@ -25,6 +31,16 @@ script_less look o bytes gives contents options sources output before after stat
     (by_team_less bytes None (λ given. gives sources given later) (λ _. Unit {0}) (λ _. Unit {0}) (λ _. Unit {0}) (λ shown. Appends (contents output) (contents written) shown) (λ _. Unit {0})
     (no_bytes bytes) (λ _ _. tt) (λ _ _. tt) (λ _ _. tt) look o (later ≡ sources) (Unit {0}) (λ _. tt) options.workers options.lanes (look before) after status run)
 script_less look o bytes gives contents options sources output before after status (inr unopened) = inr (inl unopened)
+
+-- no tables: none of these
+none_named : (is_named : Table → Bool) (tables : List Table) → not (length tables == 0) ≡ false → list_any is_named tables ≡ false
+none_named is_named [] none = refl
+none_named is_named (t ∷ ts) none = absurd (true≢false (sym (ap not (ne_eqb (length (t ∷ ts)) 0 (λ e. absurd (omega (arith, e))))) ∙ none))
+
+-- the cause for which no record was made in a database that has no tables
+pub unmade_cause : (fault : StoreFault) (schema : Schema) → has_tables schema ≡ false → IsOfSqlite fault ⊎ (has_record_table schema ≡ true) → IsOfSqlite fault
+unmade_cause fault schema none (inl of_sqlite) = of_sqlite
+unmade_cause fault schema none (inr named) = absurd (true≢false (sym named ∙ none_named _ schema.tables none))
 
 -- ---- a disk that is in order after a command was so before
 module _ {S O : Type 0} (look : Held S → State) (o : operator.Ghosts O) where

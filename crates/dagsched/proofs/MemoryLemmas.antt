@@ -15,7 +15,6 @@ use Rattle.sqlite.specs.Held.{Held}
 use Rattle.sqlite.specs.State.{HasCleanDisk}
 use Rattle.sched_model.specs.Schedule.{empty_schedule}
 use Rattle.sched_state.specs.Limits.{ceilings}
-use Rattle.meta_store.specs.Stores.{has_record_table}
 use Rattle.meta_store.specs.record_tables.Schema.{no_schema}
 use Rattle.director.specs.Directors.{Keeps}
 use Rattle.operators.specs.declared.operators.Operator as operator
@@ -51,10 +50,7 @@ module _ {D : Type 0} {g : disk.Ghosts D} where
       inr (
         unmade.fault,
         unmade.told,
-        elim unmade.cause [
-          | inl of_sqlite ↦ of_sqlite
-          | inr named ↦ absurd (true≢false (sym named ∙ ap has_record_table bare))
-        ],
+        unmade.cause,
         unmade.same,
         unmade.status_is,
       )

@@ -15,7 +15,7 @@ use Rattle.sqlite.specs.WalReads.{AreClean}
 use Rattle.sched_model.specs.Schedule.{empty_schedule}
 use Rattle.sched_state.specs.Limits.{ceilings}
 use Rattle.meta_store.specs.Faults.{IsOfSqlite}
-use Rattle.meta_store.specs.Stores.{Begins, CommitsBy, has_record_table}
+use Rattle.meta_store.specs.Stores.{Begins, CommitsBy}
 use Rattle.meta_store.specs.declared.faults.StoreFault.{StoreFault}
 use Rattle.director.specs.Directors.{Keeps}
 use Rattle.director.specs.Faults.{IsOfStore}
@@ -43,12 +43,14 @@ abbrev pub IsRecordOf : {S : Type 0} → (Held S → State) → Held S → Held 
 IsRecordOf look conn first =
     ((has_tables (look conn).now.schema ≡ true) × (first ≡ conn)) ⊎ ((has_tables (look conn).now.schema ≡ false) × IsMade look conn first)
 
--- no record was made on a connection: the cause, the status, and the database, which is as it was; a crash leaves what it could leave before, or the new record
+-- no record was made on a connection of which the database has no tables, for want of memory or by an error of SQLite: the status, and the database, which is as
+-- it was; a crash leaves what it could leave before, or the new record
 pub record IsUnmade {S : Type 0} (look : Held S → State) (conn after : Held S) (status : ℕ) : Type 0 where
+  pub none : has_tables (look conn).now.schema ≡ false
   pub fault : StoreFault
   pub told : Fault
   pub same : IsOfStore fault told
-  pub cause : IsOfSqlite fault ⊎ (has_record_table (look conn).now.schema ≡ true)
+  pub cause : IsOfSqlite fault
   pub status_is : status ≡ failure_status told
   pub kept : HasCleanDisk (look after) → IsTrue (look after).is_open → ((look after).now ≡ (look conn).now) × ((look after).committed ≡ (look conn).committed)
   pub crash : Survives (look conn) (look after) (CommitsBy Begins (look conn))

@@ -1,6 +1,6 @@
 -- What the program does for words.
 -- restates: this project's own profile
-use Rattle.std.specs.Prelude.{◌≡◌, ◌⊎◌, ℕ, true, false, if◌then◌else◌, List, Option, None, Some, Ok, Err, is_some}
+use Rattle.std.specs.Prelude.{◌≡◌, ◌⊎◌, ℕ, true, false, if◌then◌else◌, List, [], ◌∷◌, ◌++◌, Option, None, Some, Ok, Err, is_some, codes, bytes_eq}
 use Rattle.sqlite_disk.specs.declared.Disk as disk
 use Rattle.sqlite.specs.Recovery.{Image}
 use Rattle.operators.specs.declared.operators.Operator as operator
@@ -11,6 +11,11 @@ use Rattle.command_words.specs.declared.commands.UsageFault.{UsageFault}
 use Rattle.command_words.specs.declared.commands.UsageFault.TheVariants as usage
 use Rattle.dagsched.specs.Commands.{is_of_scripts, logs_of}
 use Rattle.dagsched.specs.Records.{IsDoneInFile, IsDoneInMemory}
+
+-- what the words after the program's name mean: `help COMMAND` is `COMMAND --help`
+abbrev pub words_meant : List (List ℕ) → List (List ℕ)
+words_meant [] = []
+words_meant (first ∷ rest) = if bytes_eq first (codes "help") then rest ++ codes "--help" ∷ [] else first ∷ rest
 
 -- the status of words that are no command: 0 for those that ask for help, which they get, and else 2
 abbrev pub IsToldOf : UsageFault → List (List ℕ) → ℕ → Type 0
@@ -34,3 +39,7 @@ module _ {M F O : Type 0} (memory : disk.Ghosts M) (file : disk.Ghosts F) (image
   AreWordsDone words status =
       ((line : CommandLine) × (line_of words ≡ Ok line) × IsLineDone line status)
       ⊎ ((fault : UsageFault) × (line_of words ≡ Err fault) × IsToldOf fault words status)
+
+  -- the program ends so: some words were done; or one of its own is not UTF-8: 2; or the system gave an error: 4
+  abbrev pub IsEnd : ℕ → Type 0
+  IsEnd status = ((words : List (List ℕ)) × AreWordsDone words status) ⊎ ((status ≡ 2) ⊎ (status ≡ 4))

@@ -11,10 +11,10 @@
 //! person.
 #![tactic(auto)]
 
-ghost use Rattle.std.specs.Prelude.{◌≡◌, IfOk, map, string_bytes};
+ghost use Rattle.std.specs.Prelude.{◌≡◌, ◌++◌, ◌∷◌, [], IfOk, codes, map, string_bytes};
 ghost use Rattle.sqlite.specs.WalFiles.{image_at};
 ghost use Rattle.dagsched.specs.Commands.{is_of_scripts};
-ghost use Rattle.dagsched.specs.Words.{AreWordsDone, IsLineDone};
+ghost use Rattle.dagsched.specs.Words.{words_meant, AreWordsDone, IsEnd, IsLineDone};
 
 mod records;
 mod scripts;
@@ -42,7 +42,10 @@ fn main(rt: HostRuntime) -> ExitCode {
 }
 
 // Does what the program's words ask for, and answers its status.
-fn status<T: Threads + Wait + Sync>(threads: &T, rt: &HostRuntime) -> u8 {
+fn status<T: Threads + Wait + Sync>(threads: &T, rt: &HostRuntime) -> u8
+    ensures { IsEnd ⟦<Volatile as Disk>⟧ ⟦<File as Disk>⟧ (image_at ⟦<Unknown as Start>⟧)
+        ⟦<OwnOperator as Operator>⟧ result }
+{
     match run_words(threads, rt) {
         Ok(status) => status,
         Err(error) if error.kind() == ErrorKind::OutOfMemory => out_of_memory(rt),
@@ -50,12 +53,17 @@ fn status<T: Threads + Wait + Sync>(threads: &T, rt: &HostRuntime) -> u8 {
     }
 }
 
-fn out_of_memory(rt: &HostRuntime) -> u8 {
+fn out_of_memory(rt: &HostRuntime) -> u8
+    ensures { result ≡ 4 }
+{
     let _ = println!(rt; "memory");
     4
 }
 
-fn run_words<T: Threads + Wait + Sync>(threads: &T, rt: &HostRuntime) -> io::Result<u8> {
+fn run_words<T: Threads + Wait + Sync>(threads: &T, rt: &HostRuntime) -> io::Result<u8>
+    ensures { IfOk result (λ status. IsEnd ⟦<Volatile as Disk>⟧ ⟦<File as Disk>⟧
+        (image_at ⟦<Unknown as Start>⟧) ⟦<OwnOperator as Operator>⟧ status) }
+{
     match own_words(rt) {
         Ok(words) => do_words(threads, rt, words),
         Err(error) if error.kind() == ErrorKind::InvalidData => put_unreadable(rt),
@@ -63,22 +71,32 @@ fn run_words<T: Threads + Wait + Sync>(threads: &T, rt: &HostRuntime) -> io::Res
     }
 }
 
-// The words after the program's name. Those of `help COMMAND` are given as `COMMAND --help`.
+// What the words after the program's name mean.
 fn own_words(rt: &HostRuntime) -> io::Result<Vec<String>> {
     let mut words = env::args(rt)?;
     let _program = words.next();
     let words = words.collect::<Vec<String>>(rt.alloc())?;
-    if matches!(words.as_slice(), [first, ..] if first.as_str() == "help") {
-        Ok(help_of(rt.alloc(), words.as_slice())?)
-    } else {
-        Ok(words)
+    Ok(words_meant(rt.alloc(), words)?)
+}
+
+// What words mean: those of `help COMMAND` are `COMMAND --help`.
+fn words_meant(alloc: Global, words: Vec<String>) -> Result<Vec<String>, AllocError>
+    ensures { IfOk result (λ meant. map string_bytes meant.items
+        ≡ words_meant (map string_bytes words.items)) }
+{
+    match words.as_slice() {
+        [first, command @ ..] if first.as_str() == "help" => help_of(alloc, command),
+        _ => Ok(words),
     }
 }
 
-// The words that ask for the help of the command behind the first word.
-fn help_of(alloc: Global, words: &[String]) -> Result<Vec<String>, AllocError> {
+// The words that ask for the help of this command.
+fn help_of(alloc: Global, command: &[String]) -> Result<Vec<String>, AllocError>
+    ensures { IfOk result (λ asked. map string_bytes asked.items
+        ≡ map string_bytes command.now ++ codes "--help" ∷ []) }
+{
     let mut asked = Vec::new(alloc);
-    for word in words.iter().skip(1) {
+    for word in command {
         asked.push(String::from_str(alloc, word.as_str())?)?;
     }
     asked.push(String::from_str(alloc, "--help")?)?;

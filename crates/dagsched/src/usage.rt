@@ -22,7 +22,8 @@ pub fn put_fault(rt: &HostRuntime, fault: UsageFault, words: &[String]) -> io::R
         UsageFault::BadName
         | UsageFault::BadMoment(_)
         | UsageFault::NotHere
-        | UsageFault::BadLine => put_usage(rt, fault, words),
+        | UsageFault::BadLine
+        | UsageFault::BadState => put_usage(rt, fault, words),
     }
 }
 
@@ -40,7 +41,9 @@ fn put_refusal(rt: &HostRuntime, words: &[String]) -> io::Result<u8>
 }
 
 /// Says on standard error that a word is not UTF-8; the status.
-pub fn put_unreadable(rt: &HostRuntime) -> io::Result<u8> {
+pub fn put_unreadable(rt: &HostRuntime) -> io::Result<u8>
+    ensures { IfOk result (λ s. s ≡ 2) }
+{
     let fault_line = CommandFault::Usage(UsageFault::Words);
     put(&mut rt.stderr(), Shown::NoCommand(fault_line))?;
     tell(rt, "dagsched: a word is not UTF-8");

@@ -54,7 +54,7 @@ pub(crate) fn open_log<R: Files<File = File>>(
 }
 
 /// Starts the program and waits for it to end. What it writes goes to the end of the log, in the order in which it is written. Where it
-/// does not end with the status 0, the log then says how it ended, and whether its time was over, or that it could not be started.
+/// does not end with the status 0, the log then says how it ended, and whether so as when its time is over, or that it could not be started.
 pub(crate) fn logged_status<R: Processes>(
     rt: &R,
     command: &mut Command,
@@ -90,15 +90,15 @@ fn write_end(
     }
 }
 
-// What is said beside a status of `timeout`: 124 where the time was over, and KILL, which ends `timeout` with its process group ten seconds
-// later, and which others can send too.
+// What is said beside how a program with a time ended. Where the time was over `timeout` ends with 124, or ten seconds later by KILL with its
+// process group. The program may end with 124 by itself, and others can send KILL, so no more is said than what a time that is over looks like.
 fn ending(status: ExitStatus, has_timeout: bool) -> &'static str {
     if !has_timeout {
         ""
     } else if status.code() == Some(124) {
-        ", since its execution_timeout was over"
+        ", as when its execution_timeout is over"
     } else if status.signal() == Some(9) {
-        ", which also ends it ten seconds after its execution_timeout"
+        ", as ten seconds after its execution_timeout"
     } else {
         ""
     }

@@ -11,7 +11,7 @@ use Rattle.sched_model.specs.Handout.{in_instance}
 use Rattle.sched_model.specs.Lists.{at}
 use Rattle.sched_model.specs.Schedule.{Schedule}
 use Rattle.sched_model.specs.States.{is_open}
-use Rattle.sched_clearing.proofs.SetBackLemmas.{at_get, at_at, at_same, at_none}
+use Rattle.sched_clearing.proofs.SettingLemmas.{at_get, at_at, at_same, at_none}
 use Rattle.run_lists.specs.Positions.{has_open}
 
 -- ---- the first k elements are changed

@@ -31,6 +31,7 @@ impl Schedule {
             (Mark graph.now logical task.now)) }
     {
         let mut draft = self.draft(alloc, None, false);
+        let _limit = self.limits.runs();
         pass_over(alloc, &mut draft, graph, logical, task)?;
         Ok(self.finish(alloc, draft, GraphChange::Same, quiet_answer(alloc))?)
     }

@@ -12,7 +12,7 @@ use Rattle.sched_model.specs.Schedule.{Schedule, dag_named}
 use Rattle.sched_draft.specs.Parts.{with_instances}
 use Rattle.sched_clearing.specs.Spans.{AreRunsOf}
 use Rattle.sched_clearing.proofs.ClearLemmas.{written_at, written_get, written_long, written_passed}
-use Rattle.sched_clearing.proofs.SetBackLemmas.{at_same}
+use Rattle.sched_clearing.proofs.SettingLemmas.{at_same}
 use Rattle.sched_clearing.proofs.SpanLemmas.{other_before, other_behind, own_inside}
 use Rattle.sched_replacing.specs.Fitting.{with_fitted_from}
 

@@ -2,6 +2,7 @@ use Rattle.std.proofs.Common.{◌≡◌, ◌∙◌, true, false, sym, inl, inr}
 use Rattle.std.proofs.lemmas.Result.{IfOk-weaker}
 use Rattle.sqlite.specs.Held.{state}
 use Rattle.dagsched.specs.Records.{has_tables}
+use Rattle.dagsched.proofs.DoneLemmas.{unmade_cause}
 use Rattle.dagsched.proofs.records.on_connection.Goals as goal
 
 pub returns-then-has_tables-clause-done : goal.returns-then-has_tables-clause-done
@@ -17,11 +18,13 @@ returns-in-Ok-clause-done g c =
 
 pub returns-in_ok-status-in-Err-clause-done : goal.returns-in_ok-status-in-Err-clause-done
 returns-in_ok-status-in-Err-clause-done g c =
+    let none : has_tables (state g.S.Store c.args.conn).now.schema ≡ false = sym c.has_tables.ensures ∙ c.if-has_tables.false in
     inr (record {
+      none = none;
       fault = c.in-Err.fault;
       told = c.from.result;
       same = c.from.ensures;
-      cause = c.in-Err.ensures.fault;
+      cause = unmade_cause _ _ none c.in-Err.ensures.fault;
       status_is = c.in_ok-status-in-Err.ensures;
       kept = c.in-Err.ensures.kept;
       crash = c.in-Err.ensures.err_crash;
