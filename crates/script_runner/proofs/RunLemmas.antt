@@ -26,7 +26,7 @@ use Rattle.conduct.specs.sessions.declared.faults.ConductFault.{ConductFault}
 use Rattle.conduct.specs.sessions.declared.faults.ConductFault.TheVariants as fault
 use Rattle.conduct.specs.sessions.declared.line_reading.Line.{Line}
 use Rattle.conduct.specs.sessions.declared.line_reading.LineFault.{LineFault}
-use Rattle.conduct.specs.Faults.{EndsRun, came_to_its_end, is_unstarted}
+use Rattle.conduct.specs.Faults.{came_to_its_end, is_unstarted}
 use Rattle.conduct.specs.Run.{IsConducted}
 use Rattle.conduct.specs.Served.{IsHistory}
 use Rattle.conduct.specs.declared.conducting.Conducted.{Conducted}
