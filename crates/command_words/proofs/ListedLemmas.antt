@@ -1,14 +1,14 @@
 -- Where the words that `list` takes lie in memory makes no difference to what clap makes of words.
-use Rattle.std.proofs.Common.{◌≡◌, ◌∙◌, ◌&&◌, Bool, true, false, true≢false, refl, sym, ap, List, [], ◌∷◌, map, Option, Some, None}
-use Rattle.std.specs.Prelude.{if◌then◌else◌, codes}
+use Rattle.std.proofs.Common.{◌≡◌, ◌∙◌, ◌&&◌, Bool, true, false, true≢false, refl, sym, ap, List, [], ◌∷◌, map, Option, Some}
+use Rattle.std.specs.Prelude.{if◌then◌else◌}
 use Rattle.std.specs.List.{list_any}
 use Rattle.std.specs.Str.{bytes_eq}
 use Rattle.std.specs.Borrow.{Bor}
 use Rattle.std.proofs.lemmas.Slice.Eq.{bytes_eq-Decides}
-use Rattle.clap.specs.Words.{App, Rule, Row, Shape, Text, Kinds, built, fault_of, matches_of, subcommand_of}
+use Rattle.clap.specs.Words.{App, Rule, Shape, Text, Kinds, built, fault_of, matches_of, subcommand_of}
 use Rattle.clap.specs.Kinds.{value_kinds}
 use Rattle.clap.specs.Values.{reading_of, same_text}
-use Rattle.clap.specs.Walk.{nothing_held, stop_after}
+use Rattle.clap.specs.Walk.{nothing_held, rows_after, stop_after}
 use Rattle.clap.specs.Simple.{entered, names_of}
 use Rattle.clap.specs.Faults.{built_fault}
 use Rattle.clap.specs.declared.error.kind.ErrorKind.{ErrorKind}
@@ -120,9 +120,9 @@ listed_as names is = ap (λ (ws : List Text). if same_words ws row_words then vp
 same_app : (names : Texts) → IsListed names → built dagsched ≡ app as_listed reads takes (built (dagsched_at names))
 same_app names is = sym as_it_is ∙ ap (λ p. put_in p (built dagsched)) (sym (listed_as names is)) ∙ sym (as_changed names)
 
-pub matches_listed : (names : Texts) (words : List Text) → matches_of dagsched words ≡ matches_of (dagsched_at names) words
-unfolding clap_on_literals
-matches_listed names words = refl
+pub matches_listed : (names : Texts) → IsListed names → (words : List Text) → matches_of dagsched words ≡ matches_of (dagsched_at names) words
+matches_listed names is words =
+    ap (λ (a : App). rows_after a.top.rules (names_of a) words) (same_app names is) ∙ matches_same as_listed reads takes (built (dagsched_at names)) words
 
 pub subcommand_listed : (names : Texts) → IsListed names → (words : List Text) → subcommand_of dagsched words ≡ subcommand_of (dagsched_at names) words
 subcommand_listed names is words =

@@ -14,7 +14,7 @@ returns c =
     let parse = c.try_get_matches_from in
     let words : List Text = map string_bytes c.args.words.now in
     record {
-      rows = IfOk-weaker parse.result _ _ (λ m h. (h (ap is_simple e ∙ simple names)).0 ∙ ap (λ (a : App). matches_of a words) e ∙ sym (matches_listed names words)) parse.ensures.matches;
+      rows = IfOk-weaker parse.result _ _ (λ m h. (h (ap is_simple e ∙ simple names)).0 ∙ ap (λ (a : App). matches_of a words) e ∙ sym (matches_listed names c.listed.ensures words)) parse.ensures.matches;
       subcommand = IfOk-weaker parse.result _ _
           (λ m h. (h (ap is_simple e ∙ simple names)).1 ∙ ap (λ (a : App). subcommand_of a words) e ∙ sym (subcommand_listed names c.listed.ensures words)) parse.ensures.matches;
       kinds = subst (λ (k : Kinds). FailsBy k parse.result) (sym (fault_listed names c.listed.ensures words))
