@@ -1,6 +1,6 @@
 -- What one event does to a record, and what is told of it.
 -- restates: this project's own profile
-use Rattle.std.specs.Prelude.{◌≡◌, ◌⊎◌, ◌++◌, ℕ, List, Option, Result, IsTrue}
+use Rattle.std.specs.Prelude.{◌≡◌, ◌⊎◌, ◌++◌, ℕ, Bool, List, Option, Result, IsTrue}
 use Rattle.sqlite.specs.Effect.{Database}
 use Rattle.sqlite.specs.Held.{Held}
 use Rattle.sqlite.specs.State.{State, HasCleanDisk, Survives}
@@ -55,7 +55,7 @@ HasCome look before e (Stepped d written) = IsStepped look (look before) e (came
 HasCome look before e (Unopened store fault) = IsUnopened look (look before) fault store
 
 -- what came of an event is told: its answer, or why it was not stepped, or why the record was not opened
-abbrev pub IsEventDone : {S : Type 0} → (Held S → State) → Held S → Event → Option (List ℕ) → Option (List ℕ) → Held S → ℕ → Type 0
-IsEventDone look before e old new store status =
-    ((came : Result Answer Fault) × (after : Schedule) × IsStepped look (look before) e came after store × IsWritten (shown_for e came) (status_of came) old new status)
-    ⊎ ((fault : Fault) × IsUnopened look (look before) fault store × IsWritten (failure_text fault) (failure_status fault) old new status)
+abbrev pub IsEventDone : {S : Type 0} → (Held S → State) → Held S → Event → Option (List ℕ) → Option (List ℕ) → Held S → Bool → ℕ → Type 0
+IsEventDone look before e old new store told status =
+    ((came : Result Answer Fault) × (after : Schedule) × IsStepped look (look before) e came after store × IsWritten (shown_for e came) (status_of came) old new told status)
+    ⊎ ((fault : Fault) × IsUnopened look (look before) fault store × IsWritten (failure_text fault) (failure_status fault) old new told status)

@@ -3,7 +3,7 @@ ghost use Rattle.sqlite.specs.Held.{state};
 ghost use Rattle.command_runner.specs.Commands.{IsDone};
 
 use crate::doing::{Came, read_schedule, step_event};
-use crate::telling::{status_after, tell_event, tell_failure, tell_reasons, tell_rows};
+use crate::telling::{Told, tell_event, tell_failure, tell_reasons, tell_rows, told_by};
 use command_words::{Command, UsageFault};
 use director::Store;
 use script_commands::CommandFault;
@@ -12,7 +12,18 @@ use sqlite::Alter;
 use std::alloc::Global;
 use std::io::Write;
 
-/// Does one command on a record, writes its answer, and gives the record back, with the status: that of the answer, and 4 where it was not written.
+/// What a command left.
+#[derive(Drop)]
+pub struct Answered<S: Alter> {
+    /// The record.
+    pub store: Store<S>,
+    /// The status of the answer, and 4 where that is not written.
+    pub status: u8,
+    /// Whether the answer is written.
+    pub told: bool,
+}
+
+/// Does one command on a record, writes its answer, and gives the record back, with the status and whether the answer is written.
 ///
 /// `trigger`, `backfill`, `clear`, `mark`, `pause`, `unpause` and `resize` open the record within the greatest limits, without lanes, which makes one of
 /// version 1 one of version 2, and step their event. `list` and `explain` look at what the record holds, of either version, and leave it as it is. `run` is the
@@ -24,35 +35,54 @@ pub fn run_command<S: Alter + Drop, W: Write, P: Console>(
     command: &Command,
     output: &mut W,
     console: &mut P,
-) -> (Store<S>, u8)
-    ensures { IsDone (state S.Store) store command.now (W.contents output.old) (W.contents output.new) result.0 result.1 }
+) -> Answered<S>
+    ensures { IsDone (state S.Store) store command.now (W.contents output.old) (W.contents output.new) result.store result.told result.status }
+{
+    let (store, told) = do_command(alloc, store, command, output, console);
+    let Told { status, is_written } = told;
+    Answered {
+        store,
+        status,
+        told: is_written,
+    }
+}
+
+// Does one command, and gives the record back with what became of its answer.
+fn do_command<S: Alter + Drop, W: Write, P: Console>(
+    alloc: Global,
+    store: Store<S>,
+    command: &Command,
+    output: &mut W,
+    console: &mut P,
+) -> (Store<S>, Told)
+    ensures { IsDone (state S.Store) store command.now (W.contents output.old) (W.contents output.new) result.0 result.1.is_written result.1.status }
 {
     let mut store = store;
     match command {
         Command::Step(event) => match step_event(alloc, store, event) {
             Came::Stepped(director, came) => {
-                let status = tell_event(event, &came, director.schedule(), output, console);
-                (director.close(), status)
+                let told = tell_event(event, &came, director.schedule(), output, console);
+                (director.close(), told)
             }
             Came::Unopened(store, fault) => {
-                let status = tell_failure(&fault, Some(event), None, output, console);
-                (store, status)
+                let told = tell_failure(&fault, Some(event), None, output, console);
+                (store, told)
             }
         },
         Command::List(listing) => {
             let read = read_schedule(alloc, &mut store);
-            let status = tell_rows(&read, *listing, output, console);
-            (store, status)
+            let told = tell_rows(&read, *listing, output, console);
+            (store, told)
         }
         Command::Explain(question) => {
             let read = read_schedule(alloc, &mut store);
-            let status = tell_reasons(alloc, &read, question, output, console);
-            (store, status)
+            let told = tell_reasons(alloc, &read, question, output, console);
+            (store, told)
         }
         Command::Run(_) | Command::Take(_, _) | Command::Tick(_) | Command::Drain => {
             let fault = CommandFault::Usage(UsageFault::NotHere);
             let put = put(output, Shown::NoCommand(fault));
-            (store, status_after(2, put))
+            (store, told_by(2, put))
         }
     }
 }

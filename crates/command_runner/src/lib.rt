@@ -1,7 +1,7 @@
 //! Commands that stand outside of scripts, each on a record of its own: an event, rows, or why a task instance stands where it does.
 //!
 //! ```text
-//! let (store, status) = run_command(alloc, store, &command, &mut output, &mut console);
+//! let Answered { store, status, told } = run_command(alloc, store, &command, &mut output, &mut console);
 //! ```
 //!
 //! Easy to get wrong: an event opens the record without lanes, as a restart of the scheduler does: tries without an end are lost, and none is handed
@@ -12,4 +12,4 @@ mod commands;
 mod doing;
 mod telling;
 
-pub use commands::run_command;
+pub use commands::{Answered, run_command};

@@ -1,5 +1,5 @@
 //! What is told of a command, with its status. Nothing here has a record.
-ghost use Rattle.std.specs.Prelude.{◌≡◌, MatchResult};
+ghost use Rattle.std.specs.Prelude.{◌≡◌, true, false, MatchResult};
 ghost use Rattle.director.specs.Written.{came_of};
 ghost use Rattle.script_reader.specs.answer_lines.RecordFaults.{failure_text};
 ghost use Rattle.script_reader.specs.Statuses.{shown_for, status_of};
@@ -16,6 +16,13 @@ use script_reader::{
 use std::alloc::Global;
 use std::io::{self, Write};
 
+// What became of an answer: its status, and whether it is written.
+#[derive(Clone, Copy, Debug)]
+pub(crate) struct Told {
+    pub(crate) status: u8,
+    pub(crate) is_written: bool,
+}
+
 // Tells the answer to an event that stands in the record, or why it does not, with the schedule after it.
 pub(crate) fn tell_event<S, W: Write, P: Console>(
     event: &Event,
@@ -23,9 +30,9 @@ pub(crate) fn tell_event<S, W: Write, P: Console>(
     schedule: &Schedule,
     output: &mut W,
     console: &mut P,
-) -> u8
+) -> Told
     ensures { IsWritten (shown_for event.now (came_of came.now)) (status_of (came_of came.now))
-        (W.contents output.old) (W.contents output.new) result }
+        (W.contents output.old) (W.contents output.new) result.is_written result.status }
 {
     match came {
         Ok(written) => {
@@ -33,7 +40,7 @@ pub(crate) fn tell_event<S, W: Write, P: Console>(
             console.put(None, Some(event), answer);
             let put = put(output, answer);
             console.tell(Some(schedule));
-            status_after(0, put)
+            told_by(0, put)
         }
         Err(fault) => tell_failure(fault, Some(event), Some(schedule), output, console),
     }
@@ -45,13 +52,13 @@ pub(crate) fn tell_rows<W: Write, P: Console>(
     listing: Listing,
     output: &mut W,
     console: &mut P,
-) -> u8
-    ensures { AreRowsTold read.now listing (W.contents output.old) (W.contents output.new) result }
+) -> Told
+    ensures { AreRowsTold read.now listing (W.contents output.old) (W.contents output.new) result.is_written result.status }
 {
     match read {
         Ok(schedule) => {
             let put = put_listing(output, schedule, listing);
-            status_after(0, put)
+            told_by(0, put)
         }
         Err(fault) => tell_failure(fault, None, None, output, console),
     }
@@ -64,8 +71,8 @@ pub(crate) fn tell_reasons<W: Write, P: Console>(
     question: &Question,
     output: &mut W,
     console: &mut P,
-) -> u8
-    ensures { AreReasonsTold read.now question.now (W.contents output.old) (W.contents output.new) result }
+) -> Told
+    ensures { AreReasonsTold read.now question.now (W.contents output.old) (W.contents output.new) result.is_written result.status }
 {
     let schedule = match read {
         Ok(schedule) => schedule,
@@ -79,13 +86,13 @@ pub(crate) fn tell_reasons<W: Write, P: Console>(
     match explain(alloc, schedule, graph, *logical, task) {
         Ok(reasons) => {
             let put = put_reasons(output, reasons.as_slice());
-            status_after(0, put)
+            told_by(0, put)
         }
         Err(fault) => {
             let put = put(output, Shown::Unexplained(fault));
             console.put(None, None, Shown::Unexplained(fault));
             console.tell(None);
-            status_after(explain_status(fault), put)
+            told_by(explain_status(fault), put)
         }
     }
 }
@@ -97,21 +104,27 @@ pub(crate) fn tell_failure<W: Write, P: Console>(
     schedule: Option<&Schedule>,
     output: &mut W,
     console: &mut P,
-) -> u8
-    ensures { IsWritten (failure_text fault.now) (statuses.failure_status fault.now) (W.contents output.old) (W.contents output.new) result }
+) -> Told
+    ensures { IsWritten (failure_text fault.now) (statuses.failure_status fault.now) (W.contents output.old) (W.contents output.new) result.is_written result.status }
 {
     let put = put(output, Shown::Failure(fault));
     console.put(None, event, Shown::Failure(fault));
     console.tell(schedule);
-    status_after(failure_status(fault), put)
+    told_by(failure_status(fault), put)
 }
 
-// The status of an answer that was written so: 4 where it was not.
-pub(crate) fn status_after(status: u8, put: io::Result<()>) -> u8
-    ensures { MatchResult put (λ _. result ≡ status) (λ _. result ≡ 4) }
+// An answer with this status that was put so: where it is not written the status is 4.
+pub(crate) fn told_by(status: u8, put: io::Result<()>) -> Told
+    ensures { MatchResult put (λ _. result ≡ record { status = status; is_written = true }) (λ _. result ≡ record { status = 4; is_written = false }) }
 {
     match put {
-        Ok(()) => status,
-        Err(_) => 4,
+        Ok(()) => Told {
+            status,
+            is_written: true,
+        },
+        Err(_) => Told {
+            status: 4,
+            is_written: false,
+        },
     }
 }

@@ -10,7 +10,7 @@ use Rattle.clap.specs.Facts.{explicit_source}
 use Rattle.clap.specs.Simple.{argument_words, built, entered, label_of, names_of, rows_at}
 use Rattle.clap.specs.Walk.{Held, Names, answers_to, finished, nothing_held, settled, stop_after, walk, walk_from}
 use Rattle.clap.proofs.OnLiterals.{clap_on_literals}
-use Rattle.word_app.specs.App.{Texts, dagsched}
+use Rattle.word_app.specs.App.{dagsched}
 use Rattle.command_words.specs.Values.{after}
 use Rattle.command_words.specs.Commands.{command_in, is_of_words, kind_named}
 use Rattle.command_words.specs.Lines.{command_of_kind, line_at, line_of, line_unless}
@@ -51,9 +51,9 @@ stopped_named : (a : App) (P : Text → Bool) (stop : Option (Text × List Text)
 stopped_named a P None q all h = cc
 stopped_named a P (Some p) q all h = entered_named a.subs P p.0 p.1 q all h
 
-all_named : (names : Texts) → list_all (λ s. is_command s.name) (built (dagsched names)).subs ≡ true
+all_named : list_all (λ s. is_command s.name) (built dagsched).subs ≡ true
 unfolding clap_on_literals is_command
-all_named names = refl
+all_named = refl
 
 level_nil : (s : Shape) (names : Names) (h : Held) (words : List Text) (has : Bool) (below : Kinds) → level_fault s names h words has below ≡ []
     → check_fault s (finished s.rules (walk s.rules names h words).held) has ≡ []
@@ -84,9 +84,9 @@ entered_any a words required e =
     let rows = finished a.top.rules (walk a.top.rules (names_of a) nothing_held words).held in
     wanted a.top rows (is_some (entered a stop)) required (level_nil a.top (names_of a) nothing_held words (is_some (entered a stop)) (entered_fault a stop) e)
 
-required : (names : Texts) → (built (dagsched names)).top.subcommand_required ≡ true
+required : (built dagsched).top.subcommand_required ≡ true
 unfolding clap_on_literals
-required names = refl
+required = refl
 
 abbrev line_with : List Row → Command → Result CommandLine UsageFault
 line_with rows command = Ok (record { record_path = first_of (codes "record") rows; command = command })
@@ -106,24 +106,24 @@ read_not rows (Some q) some named = go (kind_named q.0) (named q refl)
     go None bad = λ h. cc
     go (Some kind) is = line_not rows (command_in kind q.1) (command_fine kind q.1)
 
-words_faulty : (names : Texts) (words : List Text) → line_of names words ≡ Err Words → fault_of (dagsched names) words ≢ []
-words_faulty names words said none =
-    let a = built (dagsched names) in
-    let args = argument_words (dagsched names) words in
+words_faulty : (words : List Text) → line_of words ≡ Err Words → fault_of dagsched words ≢ []
+words_faulty words said none =
+    let a = built dagsched in
+    let args = argument_words dagsched words in
     let stop = stop_after a.top.rules (names_of a) args in
-    read_not (matches_of (dagsched names) words) (subcommand_of (dagsched names) words)
-    (entered_any a args (required names) none)
-    (λ q is. stopped_named a is_command stop q (all_named names) is)
+    read_not (matches_of dagsched words) (subcommand_of dagsched words)
+    (entered_any a args required none)
+    (λ q is. stopped_named a is_command stop q all_named is)
     (rw none at said)
 
 faulty_words : (kinds : Kinds) (rows : List Row) (sub : Option (Text × List Row)) → kinds ≢ [] → line_unless kinds rows sub ≡ Err Words
 faulty_words [] rows sub some = absurd (some refl)
 faulty_words (kind ∷ kinds) rows sub some = refl
 
-pub words_from_clap : (names : Texts) (words : List Text) → (line_of names words ≡ Err Words) ↔ (fault_of (dagsched names) words ≢ [])
-words_from_clap names words = (
-  words_faulty names words,
-  faulty_words (fault_of (dagsched names) words) (matches_of (dagsched names) words) (subcommand_of (dagsched names) words),
+pub words_from_clap : (words : List Text) → (line_of words ≡ Err Words) ↔ (fault_of dagsched words ≢ [])
+words_from_clap words = (
+  words_faulty words,
+  faulty_words (fault_of dagsched words) (matches_of dagsched words) (subcommand_of dagsched words),
 )
 
 line_fine : (rows : List Row) (r : Result Command UsageFault) (line : CommandLine) → IsFine r → after r (line_with rows) ≡ Ok line
@@ -146,6 +146,6 @@ unless_fine : (kinds : Kinds) (rows : List Row) (sub : Option (Text × List Row)
 unless_fine [] rows sub line said = at_fine rows sub line said
 unless_fine (kind ∷ kinds) rows sub line said = cc
 
-pub line_of_words : (names : Texts) (words : List Text) (line : CommandLine) → line_of names words ≡ Ok line → is_of_words line.command ≡ true
-line_of_words names words line said =
-    unless_fine (fault_of (dagsched names) words) (matches_of (dagsched names) words) (subcommand_of (dagsched names) words) line said
+pub line_of_words : (words : List Text) (line : CommandLine) → line_of words ≡ Ok line → is_of_words line.command ≡ true
+line_of_words words line said =
+    unless_fine (fault_of dagsched words) (matches_of dagsched words) (subcommand_of dagsched words) line said

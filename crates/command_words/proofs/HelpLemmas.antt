@@ -20,7 +20,7 @@ use Rattle.clap.specs.declared.builder.value_parser.ValueParser.{ValueParser}
 use Rattle.clap.specs.declared.error.Error.{Error}
 use Rattle.clap.specs.declared.error.kind.ErrorKind.{ErrorKind}
 use Rattle.clap.specs.declared.error.kind.ErrorKind.TheVariants as kind
-use Rattle.word_app.specs.App.{Texts, dagsched}
+use Rattle.word_app.specs.App.{dagsched}
 use Rattle.command_words.specs.Lines.{asks_for_help, is_help, shows_help}
 use Rattle.command_words.proofs.AppLemmas.{no_help_command, no_help_commands}
 
@@ -245,12 +245,12 @@ entered_clear : (a : App) (stop : Option (Text × List Text)) → list_all (λ s
 entered_clear a stop all = some_clear (λ p. option_map_or (λ s. level_fault s [] nothing_held p.1 false []) (find (λ s. answers_to p.0 (label_of s)) a.subs) [])
     stop (λ p. found_clear a.subs p.0 p.1 all)
 
-fault_clear : (names : Texts) (words : List Text) → IsClear (fault_of (dagsched names) words)
-fault_clear names words =
-    let a = built (dagsched names) in
+fault_clear : (words : List Text) → IsClear (fault_of dagsched words)
+fault_clear words =
+    let a = built dagsched in
     let stop = (walk a.top.rules (names_of a) nothing_held words).stopped in
-    level_clear a.top (names_of a) nothing_held words (is_some (entered a stop)) (entered_fault a stop) (no_help_command names)
-    (entered_clear a stop (no_help_commands names))
+    level_clear a.top (names_of a) nothing_held words (is_some (entered a stop)) (entered_fault a stop) no_help_command
+    (entered_clear a stop no_help_commands)
 
 -- ---- an error that comes from among the kinds
 
@@ -265,9 +265,9 @@ among_help (x ∷ y ∷ ks) k clear among = go (shows_help k) refl
         let all : x ∷ y ∷ ks ≡ k ∷ [] = clear k e among in
         cc
 
-pub asked : (names : Texts) (words : List Text) (e : Error) → HasKind (fault_of (dagsched names) words) e → kind_of e ≢ kind.OutOfMemory
-    → shows_help (kind_of e) ≡ asks_for_help names words
-asked names words e among other = elim among [
+pub asked : (words : List Text) (e : Error) → HasKind (fault_of dagsched words) e → kind_of e ≢ kind.OutOfMemory
+    → shows_help (kind_of e) ≡ asks_for_help words
+asked words e among other = elim among [
   | inl memory ↦ absurd (other memory)
-  | inr is ↦ among_help (fault_of (dagsched names) words) (kind_of e) (fault_clear names words) is
+  | inr is ↦ among_help (fault_of dagsched words) (kind_of e) (fault_clear words) is
 ]

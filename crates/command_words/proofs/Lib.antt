@@ -5,3 +5,5 @@ mod WordsLemmas
 mod ReadingLemmas
 mod EnteredLemmas
 mod HelpLemmas
+mod ParserLemmas
+mod ListedLemmas

@@ -1,10 +1,10 @@
 -- The command line that words say, or their fault.
-use Rattle.std.specs.Prelude.{◌≡◌, ◌≢◌, Bool, true, false, List, [], ◌∷◌, map, codes, Option, Some, None, Result, Ok, Err, MatchResult}
+use Rattle.std.specs.Prelude.{◌≡◌, ◌≢◌, Bool, true, false, List, [], ◌∷◌, codes, Option, Some, None, Result, Ok, Err, MatchResult}
 use Rattle.clap.specs.Words.{Row, Text, first_of, matches_of, subcommand_of, fault_of}
 use Rattle.clap.specs.Kinds.{Kinds}
 use Rattle.clap.specs.declared.error.kind.ErrorKind.{ErrorKind}
 use Rattle.clap.specs.declared.error.kind.ErrorKind.TheVariants.{DisplayHelp, DisplayVersion, OutOfMemory}
-use Rattle.word_app.specs.App.{Texts, dagsched}
+use Rattle.word_app.specs.App.{dagsched}
 use Rattle.command_words.specs.declared.commands.UsageFault.{UsageFault}
 use Rattle.command_words.specs.declared.commands.UsageFault.TheVariants.{Words, Memory}
 use Rattle.command_words.specs.declared.commands.Command.{Command}
@@ -12,10 +12,6 @@ use Rattle.command_words.specs.declared.commands.CommandLine.{CommandLine}
 use Rattle.command_words.specs.declared.kinds.CommandKind.{CommandKind}
 use Rattle.command_words.specs.Values.{after}
 use Rattle.command_words.specs.Commands.{command_in, kind_named}
-
--- the words that `list` takes, wherever they lie in memory
-abbrev pub IsListed : Texts → Type 0
-IsListed names = map (λ name. name.now) names.now ≡ codes "dags" ∷ codes "runs" ∷ codes "tasks" ∷ codes "pools" ∷ []
 
 -- restates: clap 4: `Command::try_get_matches_from`
 abbrev pub command_of_kind : Option CommandKind → List Row → Result Command UsageFault
@@ -40,8 +36,8 @@ line_unless (kind ∷ kinds) rows entered = Err Words
 
 -- the command line that words say, or their fault: Words where clap refuses them, and else the first name or moment that is none
 -- restates: clap 4: `Command::try_get_matches_from`
-abbrev pub line_of : Texts → List Text → Result CommandLine UsageFault
-line_of names words = line_unless (fault_of (dagsched names) words) (matches_of (dagsched names) words) (subcommand_of (dagsched names) words)
+abbrev pub line_of : List Text → Result CommandLine UsageFault
+line_of words = line_unless (fault_of dagsched words) (matches_of dagsched words) (subcommand_of dagsched words)
 
 -- the fault of words that clap refuses, by its cause
 abbrev pub usage_of : ErrorKind → UsageFault
@@ -49,8 +45,8 @@ usage_of OutOfMemory = Memory
 usage_of _ = Words
 
 -- what is read is what the words say, but for want of memory
-abbrev pub IsRead : Texts → List Text → Result CommandLine UsageFault → Type 0
-IsRead names words read = MatchResult read (λ line. line_of names words ≡ Ok line) (λ fault. fault ≢ Memory → line_of names words ≡ Err fault)
+abbrev pub IsRead : List Text → Result CommandLine UsageFault → Type 0
+IsRead words read = MatchResult read (λ line. line_of words ≡ Ok line) (λ fault. fault ≢ Memory → line_of words ≡ Err fault)
 
 -- clap refuses the words
 -- restates: clap 4
@@ -60,8 +56,8 @@ is_faulty (kind ∷ kinds) = true
 
 -- clap finds a fault in the words
 -- restates: clap 4
-abbrev pub is_refused : Texts → List Text → Bool
-is_refused names words = is_faulty (fault_of (dagsched names) words)
+abbrev pub is_refused : List Text → Bool
+is_refused words = is_faulty (fault_of dagsched words)
 
 -- an error of this kind has the help, or the version, as its text
 -- restates: clap 4: `ErrorKind::DisplayHelp`, `DisplayVersion`
@@ -78,5 +74,5 @@ is_help _ = false
 
 -- clap answers the words by help or by the version: they ask for it, and clap finds no fault before it comes to the word that does
 -- restates: clap 4: `ErrorKind::DisplayHelp`, `DisplayVersion`
-abbrev pub asks_for_help : Texts → List Text → Bool
-asks_for_help names words = is_help (fault_of (dagsched names) words)
+abbrev pub asks_for_help : List Text → Bool
+asks_for_help words = is_help (fault_of dagsched words)

@@ -4,10 +4,9 @@
 //! `line_of` of `specs/Lines.antt` says what words ask for, as a function of the words alone, and reading gives exactly that.
 //!
 //! ```text
-//! let reader = CommandReader::new();
-//! match reader.read(alloc, words) {
+//! match read_command(alloc, words) {
 //!     Ok(line) => perform(line.record_path, line.command),
-//!     Err(fault) => refuse(fault, reader.refusal_text(alloc, words)),
+//!     Err(fault) => refuse(fault, refusal_text(alloc, words)),
 //! }
 //! ```
 //!
@@ -30,5 +29,5 @@ pub use commands::{
 };
 pub use laws::{words_ask_for_no_report, words_come_from_clap};
 pub use paths::FilePath;
-pub use readers::{CommandReader, help_text, read_command, refusal_text};
+pub use readers::{help_text, read_command, refusal_text};
 pub use takings::Taking;

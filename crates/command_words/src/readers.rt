@@ -4,9 +4,9 @@
 //! command, so it is built for each list of words.
 ghost use Rattle.std.specs.Prelude.{◌≡◌, ◌≢◌, IfOk, is_some, map, string_bytes, true};
 ghost use Rattle.clap.specs.Words.{found_of, rows_of, subcommand_rows_of, matches_of, subcommand_of, fault_of, kind_of, FailsBy};
-ghost use Rattle.word_app.specs.App.{Texts, dagsched};
+ghost use Rattle.word_app.specs.App.{IsListed, dagsched};
 ghost use Rattle.command_words.specs.Lines as spec;
-ghost use Rattle.command_words.specs.Lines.{IsListed, IsRead, asks_for_help, is_refused};
+ghost use Rattle.command_words.specs.Lines.{IsRead, asks_for_help, is_refused};
 
 use crate::commands::{CommandLine, UsageFault};
 use crate::lines::line_in;
@@ -16,64 +16,39 @@ use std::alloc::{AllocError, Global};
 
 static LISTED: [&str; 4] = ["dags", "runs", "tasks", "pools"];
 
-/// Reads the words of commands. Contracts speak of `names`, the words that `list` takes, wherever they lie in memory.
-#[derive(Clone, Copy, Debug)]
-pub struct CommandReader {
-    names: &'static [&'static str],
-    ghost listed: { IsListed names },
-}
-
-impl CommandReader {
-    /// A reader. It takes no memory.
-    pub fn new() -> CommandReader
-        ensures { IsListed result.names }
-    {
-        CommandReader { names: listed() }
-    }
-
-    /// What the words ask for, without the program's name before them.
-    ///
-    /// `Words` is answered exactly where clap refuses the words; else the first word that should be a name or a moment and is none is
-    /// answered, in the order of the command's words. `NotHere` and `BadLine` never come from here. `Memory` may come in the place of any answer.
-    pub fn read(&self, alloc: Global, words: &[String]) -> Result<CommandLine, UsageFault>
-        ensures { IsRead self.now.names (map string_bytes words.now) result }
-    {
-        read_by(alloc, self.names, words)
-    }
-
-    /// clap's text for words that it refuses, as it is shown to a user, with a newline at its end; `None` exactly where it takes them. An `Err` says
-    /// that memory ran out.
-    pub fn refusal_text(
-        &self,
-        alloc: Global,
-        words: &[String],
-    ) -> Result<Option<String>, AllocError>
-        ensures { IfOk result (λ text. is_some text ≡ is_refused self.now.names (map string_bytes words.now)) }
-    {
-        refusal_by(alloc, self.names, words)
-    }
-}
-
-/// What the words ask for, as [`CommandReader::read`] has it.
+/// What the words ask for, without the program's name before them.
+///
+/// `Words` is answered exactly where clap refuses the words; else the first word that should be a name or a moment and is none is
+/// answered, in the order of the command's words. `NotHere` and `BadLine` never come from here. `Memory` may come in the place of any answer.
 pub fn read_command(alloc: Global, words: &[String]) -> Result<CommandLine, UsageFault>
-    ensures { (names : Texts) × IsListed names × IsRead names (map string_bytes words.now) result }
+    ensures { IsRead (map string_bytes words.now) result }
 {
-    read_by(alloc, listed(), words)
+    match parsed(alloc, words) {
+        Ok(matches) => line_in(alloc, &matches),
+        Err(error) => Err(usage_of(error.kind())),
+    }
 }
 
-/// clap's text for words that it refuses, as [`CommandReader::refusal_text`] has it.
+/// clap's text for words that it refuses, as it is shown to a user, with a newline at its end; `None` exactly where it takes them. An `Err` says
+/// that memory ran out.
 pub fn refusal_text(alloc: Global, words: &[String]) -> Result<Option<String>, AllocError>
-    ensures { (names : Texts) × IsListed names × IfOk result (λ text. is_some text ≡ is_refused names (map string_bytes words.now)) }
+    ensures { IfOk result (λ text. is_some text ≡ is_refused (map string_bytes words.now)) }
 {
-    refusal_by(alloc, listed(), words)
+    match parsed(alloc, words) {
+        Ok(_) => Ok(None),
+        Err(error) => shown(alloc, &error),
+    }
 }
 
 /// clap's text where it answers the words by help or by the version, as `--help`, `-h`, `--version` and `-V` ask for it, with a newline at its end;
 /// `None` exactly where it does not. An `Err` says that memory ran out.
 pub fn help_text(alloc: Global, words: &[String]) -> Result<Option<String>, AllocError>
-    ensures { (names : Texts) × IsListed names × IfOk result (λ text. is_some text ≡ asks_for_help names (map string_bytes words.now)) }
+    ensures { IfOk result (λ text. is_some text ≡ asks_for_help (map string_bytes words.now)) }
 {
-    help_by(alloc, listed(), words)
+    match parsed(alloc, words) {
+        Ok(_) => Ok(None),
+        Err(error) => help_in(alloc, &error),
+    }
 }
 
 // The words that `list` takes.
@@ -81,26 +56,6 @@ fn listed() -> &'static [&'static str]
     ensures { IsListed result }
 {
     LISTED.as_slice()
-}
-
-// What the words ask for, where these are the words that `list` takes.
-fn read_by(alloc: Global, names: &[&str], words: &[String]) -> Result<CommandLine, UsageFault>
-    ensures { IsRead names.entry (map string_bytes words.now) result }
-{
-    match parsed(alloc, names, words) {
-        Ok(matches) => line_in(alloc, &matches),
-        Err(error) => Err(usage_of(error.kind())),
-    }
-}
-
-// clap's text for the words, where it refuses them.
-fn refusal_by(alloc: Global, names: &[&str], words: &[String]) -> Result<Option<String>, AllocError>
-    ensures { IfOk result (λ text. is_some text ≡ is_refused names.entry (map string_bytes words.now)) }
-{
-    match parsed(alloc, names, words) {
-        Ok(_) => Ok(None),
-        Err(error) => shown(alloc, &error),
-    }
 }
 
 // The text of a refusal that has another cause than memory.
@@ -113,16 +68,6 @@ fn shown(alloc: Global, error: &Error) -> Result<Option<String>, AllocError>
             let text = format!(in alloc; "{error}")?;
             Ok(Some(text))
         }
-    }
-}
-
-// clap's text for the words, where it answers them by help or by the version.
-fn help_by(alloc: Global, names: &[&str], words: &[String]) -> Result<Option<String>, AllocError>
-    ensures { IfOk result (λ text. is_some text ≡ asks_for_help names.entry (map string_bytes words.now)) }
-{
-    match parsed(alloc, names, words) {
-        Ok(_) => Ok(None),
-        Err(error) => help_in(alloc, &error),
     }
 }
 
@@ -141,16 +86,12 @@ fn help_in(alloc: Global, error: &Error) -> Result<Option<String>, AllocError>
 }
 
 // What clap makes of the words.
-fn parsed<'a>(
-    alloc: Global,
-    names: &'a [&'a str],
-    words: &'a [String],
-) -> Result<ArgMatches<'a>, Error>
-    ensures rows { IfOk result (λ m. rows_of (found_of m) ≡ matches_of (dagsched names.entry) (map string_bytes words.entry.now)) }
-    ensures subcommand { IfOk result (λ m. subcommand_rows_of m ≡ subcommand_of (dagsched names.entry) (map string_bytes words.entry.now)) }
-    ensures kinds { FailsBy (fault_of (dagsched names.entry) (map string_bytes words.entry.now)) result }
+fn parsed<'a>(alloc: Global, words: &'a [String]) -> Result<ArgMatches<'a>, Error>
+    ensures rows { IfOk result (λ m. rows_of (found_of m) ≡ matches_of dagsched (map string_bytes words.entry.now)) }
+    ensures subcommand { IfOk result (λ m. subcommand_rows_of m ≡ subcommand_of dagsched (map string_bytes words.entry.now)) }
+    ensures kinds { FailsBy (fault_of dagsched (map string_bytes words.entry.now)) result }
 {
-    let command = word_app::command(alloc, names)?;
+    let command = word_app::command(alloc, listed())?;
     command.try_get_matches_from(words)
 }
 

@@ -12,7 +12,7 @@ use Rattle.dagsched.specs.Scripts.{IsScriptDone}
 -- a command outside of scripts, of whose output nothing is known; the status is its own, or 4 where its answer was not written out
 abbrev pub IsSingleDone : {S : Type 0} → (Held S → State) → Command → Held S → Held S → ℕ → Type 0
 IsSingleDone look c before after status =
-    (old : Option (List ℕ)) × (new : Option (List ℕ)) × (said : ℕ) × IsDone look before c old new after said × ((status ≡ said) ⊎ (status ≡ 4))
+    (old : Option (List ℕ)) × (new : Option (List ℕ)) × (told : Bool) × (said : ℕ) × IsDone look before c old new after told said × ((status ≡ said) ⊎ (status ≡ 4))
 
 -- a command on a record: `run` runs a script
 abbrev pub IsCommandDone : {S O : Type 0} → (Held S → State) → operator.Ghosts O → Command → Held S → Held S → ℕ → Type 0

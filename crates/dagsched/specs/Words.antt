@@ -4,7 +4,7 @@ use Rattle.std.specs.Prelude.{◌≡◌, ◌⊎◌, ℕ, true, false, if◌then�
 use Rattle.sqlite_disk.specs.declared.Disk as disk
 use Rattle.sqlite.specs.Recovery.{Image}
 use Rattle.operators.specs.declared.operators.Operator as operator
-use Rattle.command_words.specs.Lines.{IsListed, asks_for_help, line_of}
+use Rattle.command_words.specs.Lines.{asks_for_help, line_of}
 use Rattle.command_words.specs.declared.commands.Command.{Command}
 use Rattle.command_words.specs.declared.commands.CommandLine.{CommandLine}
 use Rattle.command_words.specs.declared.commands.UsageFault.{UsageFault}
@@ -19,7 +19,7 @@ words_meant (first ∷ rest) = if bytes_eq first (codes "help") then rest ++ cod
 
 -- the status of words that are no command: 0 for those that ask for help, which they get, and else 2
 abbrev pub IsToldOf : UsageFault → List (List ℕ) → ℕ → Type 0
-IsToldOf usage.Words words status = (names : _) × IsListed names × (status ≡ (if asks_for_help names words then 0 else 2))
+IsToldOf usage.Words words status = status ≡ (if asks_for_help words then 0 else 2)
 IsToldOf fault words status = status ≡ 2
 
 module _ {M F O : Type 0} (memory : disk.Ghosts M) (file : disk.Ghosts F) (image : Image) (o : operator.Ghosts O) where
@@ -37,8 +37,8 @@ module _ {M F O : Type 0} (memory : disk.Ghosts M) (file : disk.Ghosts F) (image
   -- words were done: the command line that they say, or the fault that they have
   abbrev pub AreWordsDone : List (List ℕ) → ℕ → Type 0
   AreWordsDone words status =
-      ((names : _) × IsListed names × (line : CommandLine) × (line_of names words ≡ Ok line) × IsLineDone line status)
-      ⊎ ((names : _) × IsListed names × (fault : UsageFault) × (line_of names words ≡ Err fault) × IsToldOf fault words status)
+      ((line : CommandLine) × (line_of words ≡ Ok line) × IsLineDone line status)
+      ⊎ ((fault : UsageFault) × (line_of words ≡ Err fault) × IsToldOf fault words status)
 
   -- the program ends so: some words were done; or one of its own is not UTF-8: 2; or the system gave an error: 4
   abbrev pub IsEnd : ℕ → Type 0

@@ -14,7 +14,7 @@ use crate::telling::{
 };
 use crate::volatile::Volatile;
 use answer_lines::{Shown, put};
-use command_runner::run_command;
+use command_runner::{Answered, run_command};
 use command_words::Command;
 use director::{Fault, open_database};
 use fault_sentences::SentenceConsole;
@@ -277,7 +277,13 @@ fn run_single<S: Alter + Drop>(
     let alloc = rt.alloc();
     let mut output = BufWriter::new(alloc, rt.stdout())?;
     let mut console = SentenceConsole::in_memory(*rt, alloc, words);
-    let (store, status) = run_command(alloc, store, command, &mut output, &mut console);
+    let Answered { store, status, .. } = run_command(
+        alloc,
+        store,
+        command,
+        &mut output,
+        &mut console,
+    );
     let flushed = output.flush();
     // a sentence follows the answer
     let _ = rt.stderr().write_all(console.into_output().as_slice());

@@ -6,13 +6,12 @@ use Rattle.std.specs.Str.{is_utf8}
 use Rattle.std.proofs.Math.Bool.{or-true}
 use Rattle.text_words.specs.Words.{is_blank, words}
 use Rattle.text_words.proofs.WordLemmas.{words-blank, words-some}
-use Rattle.script_lines.specs.Lines.{line_limit}
+use Rattle.script_commands.specs.Lines.{line_limit}
 use Rattle.script_commands.specs.Meanings.{meaning_by}
 use Rattle.script_commands.specs.Commands.{meaning_of, is_bad, is_comment, is_skipped}
 use Rattle.script_commands.specs.declared.meanings.LineMeaning.{LineMeaning}
 use Rattle.script_commands.specs.declared.meanings.LineMeaning.TheVariants.{Nothing, Fault}
 use Rattle.command_words.specs.declared.commands.UsageFault.TheVariants.{BadLine}
-use Rattle.word_app.specs.App.{Texts}
 
 -- a beginning tells a comment
 pub comment-take : (n : ℕ) (line : List ℕ) → is_comment (take (suc n) line) ≡ is_comment line
@@ -36,28 +35,27 @@ bad-at false true x y z h k = refl
 bad-at false false x y z h k = absurd (true≢false (sym k))
 
 -- ---- what a line asks for
-module _ (names : Texts) where
-  -- a line that is passed over asks for nothing
-  pub asked-skipped : (line : List ℕ) → is_skipped line ≡ true → Nothing ≡ meaning_of names line
-  asked-skipped line h = skipped-at (is_skipped line) (is_bad line) Nothing (Fault BadLine) (meaning_by names (words line)) h
+-- a line that is passed over asks for nothing
+pub asked-skipped : (line : List ℕ) → is_skipped line ≡ true → Nothing ≡ meaning_of line
+asked-skipped line h = skipped-at (is_skipped line) (is_bad line) Nothing (Fault BadLine) (meaning_by (words line)) h
 
-  pub asked-comment : (line : List ℕ) → is_comment line ≡ true → Nothing ≡ meaning_of names line
-  asked-comment line h = asked-skipped line (ap (λ (b : Bool). b || (length (words line) == 0)) h)
+pub asked-comment : (line : List ℕ) → is_comment line ≡ true → Nothing ≡ meaning_of line
+asked-comment line h = asked-skipped line (ap (λ (b : Bool). b || (length (words line) == 0)) h)
 
-  pub asked-blank : (line : List ℕ) → list_all is_blank line ≡ true → Nothing ≡ meaning_of names line
-  asked-blank line h =
-      let none : (length (words line) == 0) ≡ true = ap (λ (ws : List (List ℕ)). length ws == 0) (words-blank line h) in
-      asked-skipped line (ap (λ (b : Bool). is_comment line || b) none ∙ or-true (is_comment line))
+pub asked-blank : (line : List ℕ) → list_all is_blank line ≡ true → Nothing ≡ meaning_of line
+asked-blank line h =
+    let none : (length (words line) == 0) ≡ true = ap (λ (ws : List (List ℕ)). length ws == 0) (words-blank line h) in
+    asked-skipped line (ap (λ (b : Bool). is_comment line || b) none ∙ or-true (is_comment line))
 
-  some-at : (n : ℕ) → 0 < n → (n == 0) ≡ false
-  some-at n h = ne_eqb n 0 (λ e. absurd (omega arith))
+some-at : (n : ℕ) → 0 < n → (n == 0) ≡ false
+some-at n h = ne_eqb n 0 (λ e. absurd (omega arith))
 
-  -- a bad line that isn't passed over is refused
-  pub asked-bad : (line : List ℕ) → is_comment line ≡ false → list_all is_blank line ≡ false → is_bad line ≡ true → Fault BadLine ≡ meaning_of names line
-  asked-bad line h k bad =
-      let some : (length (words line) == 0) ≡ false = some-at (length (words line)) (words-some line k) in
-      let passed : is_skipped line ≡ false = ap (λ (b : Bool). b || (length (words line) == 0)) h ∙ some in
-      bad-at (is_skipped line) (is_bad line) Nothing (Fault BadLine) (meaning_by names (words line)) passed bad
+-- a bad line that isn't passed over is refused
+pub asked-bad : (line : List ℕ) → is_comment line ≡ false → list_all is_blank line ≡ false → is_bad line ≡ true → Fault BadLine ≡ meaning_of line
+asked-bad line h k bad =
+    let some : (length (words line) == 0) ≡ false = some-at (length (words line)) (words-some line k) in
+    let passed : is_skipped line ≡ false = ap (λ (b : Bool). b || (length (words line) == 0)) h ∙ some in
+    bad-at (is_skipped line) (is_bad line) Nothing (Fault BadLine) (meaning_by (words line)) passed bad
 
 -- a line that is not too long is a bad one where it is no UTF-8
 pub good-text : (line : List ℕ) → length line ≤ line_limit → is_utf8 line ≡ true → is_bad line ≡ false

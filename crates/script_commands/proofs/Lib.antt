@@ -1,4 +1,5 @@
 pub mod AskLemmas
+pub mod LineLemmas
 pub mod MeaningLemmas
 pub mod RequestLemmas
 pub mod ScriptLemmas

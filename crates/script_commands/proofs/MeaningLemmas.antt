@@ -2,7 +2,6 @@
 use Rattle.std.proofs.Common.{◌≡◌, ◌∙◌, List, Result, Ok, Err, IfOk, sym, ap}
 use Rattle.std.specs.Prelude.{◌≢◌}
 use Rattle.clap.specs.Words.{Text}
-use Rattle.word_app.specs.App.{Texts}
 use Rattle.command_words.specs.Lines.{line_of}
 use Rattle.command_words.specs.declared.commands.CommandLine.{CommandLine}
 use Rattle.command_words.specs.declared.commands.UsageFault.{UsageFault}
@@ -11,16 +10,16 @@ use Rattle.script_commands.specs.Meanings.{IsReadAs, meaning_by, of_line, of_rea
 use Rattle.script_commands.specs.declared.meanings.LineMeaning.{LineMeaning}
 use Rattle.script_commands.specs.declared.meanings.LineMeaning.TheVariants.{Fault}
 
-module _ (names : Texts) (words : List Text) where
-  pub read_line : (line : CommandLine) → line_of names words ≡ Ok line → of_line line ≡ meaning_by names words
+module _ (words : List Text) where
+  pub read_line : (line : CommandLine) → line_of words ≡ Ok line → of_line line ≡ meaning_by words
   unfolding meaning_by
   read_line line said = sym (ap of_reading said)
 
-  pub read_fault : (fault : UsageFault) → line_of names words ≡ Err fault → Fault fault ≡ meaning_by names words
+  pub read_fault : (fault : UsageFault) → line_of words ≡ Err fault → Fault fault ≡ meaning_by words
   unfolding meaning_by
   read_fault fault said = sym (ap of_reading said)
 
   pub fault_read : {E : Type 0} (fault : UsageFault) (r : Result LineMeaning E) → IfOk r (λ meaning. (fault ≢ Memory) × (meaning ≡ Fault fault))
-      → (fault ≢ Memory → line_of names words ≡ Err fault) → IsReadAs (meaning_by names words) r
+      → (fault ≢ Memory → line_of words ≡ Err fault) → IsReadAs (meaning_by words) r
   fault_read fault (Ok meaning) (other, same) said = same ∙ read_fault fault (said other)
   fault_read fault (Err lack) none said = tt

@@ -2,7 +2,6 @@
 use Rattle.std.proofs.Common.{◌≡◌, ◌∙◌, ℕ, Bool, true, false, cond, List, Option, Some, None, Result, Ok, Err, IfOk, refl, ap}
 use Rattle.clap.specs.Words.{Text}
 use Rattle.text_words.specs.Words.{words}
-use Rattle.word_app.specs.App.{Texts}
 use Rattle.sched_events.specs.declared.events.Event.{Event}
 use Rattle.sched_events.specs.declared.events.Event.TheVariants.{Report, Restart}
 use Rattle.command_words.specs.Commands.{is_of_words, taken}
@@ -59,17 +58,17 @@ good_reading (Err fault) given = refl
 
 -- words ask for no report, as the law of words has it
 abbrev pub AskForNoReport : Type 0
-AskForNoReport = (names : Texts) (words : List Text) (line : CommandLine) → line_of names words ≡ Ok line → is_of_words line.command ≡ true
+AskForNoReport = (words : List Text) (line : CommandLine) → line_of words ≡ Ok line → is_of_words line.command ≡ true
 
-module _ (law : AskForNoReport) (names : Texts) where
-  good_words : (ws : List Text) → Good (meaning_by names ws)
+module _ (law : AskForNoReport) where
+  good_words : (ws : List Text) → Good (meaning_by ws)
   unfolding meaning_by
-  good_words ws = good_reading (line_of names ws) (law names ws)
+  good_words ws = good_reading (line_of ws) (law ws)
 
-  pub good_line : (line : List ℕ) → Good (meaning_of names line)
+  pub good_line : (line : List ℕ) → Good (meaning_of line)
   good_line line = either (is_skipped line) _ _ refl (either (is_bad line) _ _ refl (good_words (words line)))
 
   -- what is read as a good line
-  pub good_read : {E : Type 0} (line : List ℕ) (r : Result LineMeaning E) → IsReadAs (meaning_of names line) r → IfOk r (λ m. asks_of_script m ≡ true)
+  pub good_read : {E : Type 0} (line : List ℕ) (r : Result LineMeaning E) → IsReadAs (meaning_of line) r → IfOk r (λ m. asks_of_script m ≡ true)
   good_read line (Ok m) is = ap asks_of_script is ∙ good_line line
   good_read line (Err lack) is = tt

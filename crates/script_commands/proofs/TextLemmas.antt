@@ -2,11 +2,10 @@
 use Rattle.std.proofs.Common.{◌≡◌, ◌<◌, ◌∙◌, ℕ, Bool, true, false, cond, List, [], length, Option, Some, None, Err, refl, sym, ap, subst, arith, inl, codes}
 use Rattle.std.proofs.lemmas.Slice.Eq.{bytes_eq-Decides}
 use Rattle.std.proofs.lemmas.Bool.{false_from_ne_true}
-use Rattle.script_lines.specs.Lines.{lines_of, line_limit, IsFirstLine}
+use Rattle.script_commands.specs.Lines.{lines_of, line_limit, IsFirstLine}
 use Rattle.script_commands.specs.Commands.{Request, IsFirst, IsGiven, commands_from, commands_in, ends_text, is_bad, take_of, with_line, with_newline}
 use Rattle.script_commands.specs.Commands.Place.{Inside}
 use Rattle.script_commands.specs.Gathered.{Gathers}
-use Rattle.word_app.specs.App.{Texts}
 use Rattle.command_words.specs.declared.takings.Taking.{Taking}
 use Rattle.script_commands.proofs.AskLemmas.{bad-long}
 use Rattle.script_commands.specs.declared.commands.CommandFault.TheVariants.{Source}
@@ -22,12 +21,12 @@ bad-at true x y h = refl
 bad-at false x y h = cc
 
 -- inside of a graph's text: what is left to read, and the text so far
-pub record Stands (names : Texts) (taking : Taking) (rest : Option (List ℕ)) (g : Gathered) (commands : List Request) : Type 0 where
+pub record Stands (taking : Taking) (rest : Option (List ℕ)) (g : Gathered) (commands : List Request) : Type 0 where
   pub left : List ℕ
   pub known : rest ≡ Some left
   pub text : Option (List ℕ)
   pub gathers : Gathers text g
-  pub same : commands ≡ commands_from names (Inside taking text) (lines_of left)
+  pub same : commands ≡ commands_from (Inside taking text) (lines_of left)
 
 next-at : (b : Bool) (x y : List Request) → b ≡ false → cond b x y ≡ y
 next-at true x y h = cc
@@ -38,36 +37,36 @@ last-at true x y h = refl
 last-at false x y h = cc
 
 -- ---- one line more
-module _ (names : Texts) (taking : Taking) where
+module _ (taking : Taking) where
   -- one more line
-  pub stands-line : (rest rest' : Option (List ℕ)) (g g' : Gathered) (commands : List Request) (line : List ℕ) (s : Stands names taking rest g commands) → IsFirstLine s.left line rest' → ends_text line ≡ false → (Gathers s.text g → Gathers (with_line s.text line) g') → Stands names taking rest' g' commands
+  pub stands-line : (rest rest' : Option (List ℕ)) (g g' : Gathered) (commands : List Request) (line : List ℕ) (s : Stands taking rest g commands) → IsFirstLine s.left line rest' → ends_text line ≡ false → (Gathers s.text g → Gathers (with_line s.text line) g') → Stands taking rest' g' commands
   stands-line rest rest' g g' commands line s first other grown = record {
     left = first.left;
     known = first.known;
     text = with_line s.text line;
     gathers = grown s.gathers;
-    same = s.same ∙ (ap (commands_from names (Inside taking s.text)) first.lines ∙ next-at (ends_text line) _ _ other);
+    same = s.same ∙ (ap (commands_from (Inside taking s.text)) first.lines ∙ next-at (ends_text line) _ _ other);
   }
 
   -- the line that ends the text
-  pub text-ended : (rest rest' : Option (List ℕ)) (g : Gathered) (commands : List Request) (given : Request) (line : List ℕ) (s : Stands names taking rest g commands) → IsFirstLine s.left line rest' → ends_text line ≡ true → ((text : Option (List ℕ)) → Gathers text g → IsGiven (take_of taking text) given) → IsFirst names commands given rest'
+  pub text-ended : (rest rest' : Option (List ℕ)) (g : Gathered) (commands : List Request) (given : Request) (line : List ℕ) (s : Stands taking rest g commands) → IsFirstLine s.left line rest' → ends_text line ≡ true → ((text : Option (List ℕ)) → Gathers text g → IsGiven (take_of taking text) given) → IsFirst commands given rest'
   unfolding commands_in
   text-ended rest rest' g commands given line s first ends takes = record {
     wanted = take_of taking s.text;
     left = first.left;
     known = first.known;
-    first = s.same ∙ (ap (commands_from names (Inside taking s.text)) first.lines ∙ last-at (ends_text line) _ _ ends);
+    first = s.same ∙ (ap (commands_from (Inside taking s.text)) first.lines ∙ last-at (ends_text line) _ _ ends);
     same = takes s.text s.gathers;
   }
 
   -- the end of the script
-  pub text-unended : (rest rest' : Option (List ℕ)) (g : Gathered) (commands : List Request) (s : Stands names taking rest g commands) → s.left ≡ [] → rest' ≡ Some [] → IsFirst names commands (Err (Source NoEnd)) rest'
+  pub text-unended : (rest rest' : Option (List ℕ)) (g : Gathered) (commands : List Request) (s : Stands taking rest g commands) → s.left ≡ [] → rest' ≡ Some [] → IsFirst commands (Err (Source NoEnd)) rest'
   unfolding commands_in
   text-unended rest rest' g commands s none known = record {
     wanted = Err (Source NoEnd);
     left = [];
     known = known;
-    first = s.same ∙ ap (λ (bytes : List ℕ). commands_from names (Inside taking s.text) (lines_of bytes)) none;
+    first = s.same ∙ ap (λ (bytes : List ℕ). commands_from (Inside taking s.text) (lines_of bytes)) none;
     same = inl refl;
   }
 

@@ -2,8 +2,7 @@
 use Rattle.std.specs.Prelude.{◌≡◌, ◌⊎◌, ℕ, Bool, true, not, ◌==◌, ◌&&◌, ◌||◌, nat_lt, if◌then◌else◌, List, [], ◌∷◌, ◌++◌, length, slice_index, codes, Option, Some, None, MatchOption, option_map, Result, Ok, Err}
 use Rattle.std.specs.Str.{bytes_eq, is_utf8}
 use Rattle.text_words.specs.Words.{words}
-use Rattle.script_lines.specs.Lines.{lines_of, line_limit, newline, IsFirstLine}
-use Rattle.word_app.specs.App.{Texts}
+use Rattle.script_commands.specs.Lines.{lines_of, line_limit, newline, IsFirstLine}
 use Rattle.command_words.specs.Commands.{taken}
 use Rattle.command_words.specs.declared.takings.Taking.{Taking}
 use Rattle.command_words.specs.declared.commands.UsageFault.TheVariants.{BadLine}
@@ -37,10 +36,10 @@ is_skipped line = is_comment line || (length (words line) == 0)
 
 -- what a line outside of a graph's text asks for; one that is passed over asks for nothing, be it bad or not
 -- restates: this project's own profile
-abbrev pub meaning_of : Texts → List ℕ → LineMeaning
-meaning_of names line =
+abbrev pub meaning_of : List ℕ → LineMeaning
+meaning_of line =
     if is_skipped line then means.Nothing
-    else (if is_bad line then means.Fault BadLine else meaning_by names (words line))
+    else (if is_bad line then means.Fault BadLine else meaning_by (words line))
 
 -- where a script stands: outside of a graph's text, or inside of one that is taken in so, with what it has so far, or none after a bad line
 pub data Place : Type 0 where
@@ -76,32 +75,32 @@ abbrev pub ends_text : List ℕ → Bool
 ends_text line = bytes_eq line (codes ".")
 
 -- the commands of lines from a place on
-abbrev pub commands_from : Texts → Place → List (List ℕ) → List Request
-commands_from names Outside [] = []
-commands_from names (Inside taking text) [] = Err (Source NoEnd) ∷ []
-commands_from names Outside (l ∷ ls) = given_by (meaning_of names l) (λ place. commands_from names place ls)
-commands_from names (Inside taking text) (l ∷ ls) =
-    if ends_text l then take_of taking text ∷ commands_from names Outside ls else commands_from names (Inside taking (with_line text l)) ls
+abbrev pub commands_from : Place → List (List ℕ) → List Request
+commands_from Outside [] = []
+commands_from (Inside taking text) [] = Err (Source NoEnd) ∷ []
+commands_from Outside (l ∷ ls) = given_by (meaning_of l) (λ place. commands_from place ls)
+commands_from (Inside taking text) (l ∷ ls) =
+    if ends_text l then take_of taking text ∷ commands_from Outside ls else commands_from (Inside taking (with_line text l)) ls
 
--- the commands of a script's bytes, in order, where these are the words that `list` takes
-unfoldable pub commands_in : Texts → List ℕ → List Request
-commands_in names bytes = commands_from names Outside (lines_of bytes)
+-- the commands of a script's bytes, in order
+unfoldable pub commands_in : List ℕ → List Request
+commands_in bytes = commands_from Outside (lines_of bytes)
 
 -- what the next line of bytes asks for, or their end
-abbrev pub IsMeaning : {E : Type 0} → Texts → List ℕ → Option (Result LineMeaning E) → Option (List ℕ) → Type 0
-IsMeaning names bytes next rest = MatchOption next ((bytes ≡ []) × (rest ≡ Some []))
-    (λ asked. (line : List ℕ) × IsFirstLine bytes line rest × IsReadAs (meaning_of names line) asked)
+abbrev pub IsMeaning : {E : Type 0} → List ℕ → Option (Result LineMeaning E) → Option (List ℕ) → Type 0
+IsMeaning bytes next rest = MatchOption next ((bytes ≡ []) × (rest ≡ Some []))
+    (λ asked. (line : List ℕ) × IsFirstLine bytes line rest × IsReadAs (meaning_of line) asked)
 
 -- want of memory can come in the place of a graph's text, and of nothing else
 abbrev pub IsGiven : Request → Request → Type 0
 IsGiven wanted given = (given ≡ wanted) ⊎ ((given ≡ Err (Source Memory)) × ((taking : Taking) × (text : List ℕ) × (wanted ≡ Ok (Step (taken taking text)))))
 
 -- of these commands the first is given; the others are those of the bytes that are left
-pub record IsFirst (names : Texts) (commands : List Request) (given : Request) (rest : Option (List ℕ)) : Type 0 where
+pub record IsFirst (commands : List Request) (given : Request) (rest : Option (List ℕ)) : Type 0 where
   pub wanted : Request
   pub left : List ℕ
   pub known : rest ≡ Some left
-  pub first : commands ≡ wanted ∷ commands_in names left
+  pub first : commands ≡ wanted ∷ commands_in left
   pub same : IsGiven wanted given
 
 -- what a script has is no report of a worker and no restart
@@ -111,5 +110,5 @@ is_asked (Ok command) = is_of_script command
 is_asked (Err fault) = true
 
 -- the next command of bytes, or their end
-abbrev pub IsNext : Texts → List ℕ → Option Request → Option (List ℕ) → Type 0
-IsNext names bytes next rest = MatchOption next ((commands_in names bytes ≡ []) × (rest ≡ Some [])) (λ given. IsFirst names (commands_in names bytes) given rest)
+abbrev pub IsNext : List ℕ → Option Request → Option (List ℕ) → Type 0
+IsNext bytes next rest = MatchOption next ((commands_in bytes ≡ []) × (rest ≡ Some [])) (λ given. IsFirst (commands_in bytes) given rest)

@@ -1,3 +1,4 @@
 pub mod Commands
 pub mod Gathered
+pub mod Lines
 pub mod Meanings

@@ -2,7 +2,6 @@
 -- restates: this project's own profile
 use Rattle.std.specs.Prelude.{◌≡◌, ⊤, Bool, true, false, List, Option, Some, None, Result, Ok, Err}
 use Rattle.clap.specs.Words.{Text}
-use Rattle.word_app.specs.App.{Texts}
 use Rattle.sched_events.specs.declared.events.Event.TheVariants.{Tick, Report, Restart}
 use Rattle.command_words.specs.Lines.{line_of}
 use Rattle.command_words.specs.declared.commands.Command.{Command}
@@ -53,8 +52,8 @@ of_reading (Ok line) = of_line line
 of_reading (Err fault) = Fault fault
 
 -- what words ask for
-unfoldable pub meaning_by : Texts → List Text → LineMeaning
-meaning_by names words = of_reading (line_of names words)
+unfoldable pub meaning_by : List Text → LineMeaning
+meaning_by words = of_reading (line_of words)
 
 -- what is wanted is given, or memory ran out
 abbrev pub IsReadAs : {E : Type 0} → LineMeaning → Result LineMeaning E → Type 0

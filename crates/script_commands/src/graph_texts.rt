@@ -3,18 +3,17 @@
 //! The text is kept while its lines are good. A bad line or want of memory does not end it: the lines up to `.` belong to it
 //! all the same.
 ghost use Rattle.std.specs.Prelude.{◌≡◌, ℕ, true, List, [], ◌∷◌, ◌++◌, ◌≤◌, length, Some, Option, IfOk, string_bytes, OnOk};
-ghost use Rattle.word_app.specs.App.{Texts};
-ghost use Rattle.script_lines.specs.Lines.{line_limit, lines_of};
+ghost use Rattle.script_commands.specs.Lines.{line_limit, lines_of};
 ghost use Rattle.script_commands.specs.Commands as spec;
 ghost use Rattle.script_commands.specs.Commands.{IsFirst, IsGiven, commands_from, is_asked, take_of, with_line, with_newline};
 ghost use Rattle.script_commands.specs.Commands.Place.{Inside};
 ghost use Rattle.script_commands.specs.Gathered.{Gathers};
 
 use crate::commands::{CommandFault, ScriptCommand, SourceFault};
+use crate::lines::{Found, LineReader};
 use crate::requests::{MOST_LINES, text_of};
 use command_words::{Taking, UsageFault};
 use sched_state::GraphText;
-use script_lines::{Found, LineReader};
 use std::alloc::{AllocError, Global};
 use std::io::{self, ErrorKind, Read};
 
@@ -88,8 +87,8 @@ pub(crate) fn read_text<R: Read>(
     input: &mut R,
     taking: Taking,
 ) -> io::Result<Result<ScriptCommand, CommandFault>>
-    ensures first { IfOk result (λ given. (names : Texts) (bytes : List ℕ) → R.remaining input.old ≡ Some bytes
-        → IsFirst names (commands_from names (Inside taking (Some [])) (lines_of bytes)) given (R.remaining input.new)) }
+    ensures first { IfOk result (λ given. (bytes : List ℕ) → R.remaining input.old ≡ Some bytes
+        → IsFirst (commands_from (Inside taking (Some [])) (lines_of bytes)) given (R.remaining input.new)) }
     ensures asked { IfOk result (λ given. is_asked given ≡ true) }
 {
     let mut gathered = Gathered::Text(String::new(alloc));

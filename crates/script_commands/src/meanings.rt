@@ -7,7 +7,7 @@ ghost use Rattle.script_commands.specs.Meanings.{IsReadAs, meaning_by};
 
 use crate::commands::ScriptCommand;
 use command_words::{
-    Command, CommandLine, CommandReader, GraphSource, Taking, TickTime, UsageFault,
+    Command, CommandLine, GraphSource, Taking, TickTime, UsageFault, read_command,
 };
 use sched_events::Event;
 use std::alloc::{AllocError, Global};
@@ -28,15 +28,11 @@ pub(crate) enum LineMeaning {
 }
 
 // What the words of a line ask for.
-pub(crate) fn meaning_of_words(
-    alloc: Global,
-    reader: &CommandReader,
-    line: &str,
-) -> Result<LineMeaning, AllocError>
-    ensures { IsReadAs (meaning_by reader.now.names (words line.now)) result }
+pub(crate) fn meaning_of_words(alloc: Global, line: &str) -> Result<LineMeaning, AllocError>
+    ensures { IsReadAs (meaning_by (words line.now)) result }
 {
     let words = words_of(alloc, line)?;
-    match reader.read(alloc, words.as_slice()) {
+    match read_command(alloc, words.as_slice()) {
         Ok(line) => Ok(meaning_of_line(line)),
         Err(fault) => meaning_of_fault(fault),
     }

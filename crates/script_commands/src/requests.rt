@@ -4,17 +4,16 @@
 ghost use Rattle.std.specs.Prelude.{◌≡◌, ℕ, ◌<◌, ◌≤◌, true, false, nat_lt, List, length, take, Some, MatchOption, IfOk, IfSome};
 ghost use Rattle.std.specs.List.{list_all};
 ghost use Rattle.text_words.specs.Words.{is_blank as is_blank_byte, words};
-ghost use Rattle.word_app.specs.App.{Texts};
-ghost use Rattle.script_lines.specs.Lines.{line_limit};
+ghost use Rattle.script_commands.specs.Lines.{line_limit};
 ghost use Rattle.script_commands.specs.Meanings.{asks_of_script, IsReadAs};
 ghost use Rattle.script_commands.specs.Commands as spec;
 ghost use Rattle.script_commands.specs.Commands.{IsNext, IsMeaning, is_asked, is_bad};
 
 use crate::commands::{CommandFault, ScriptCommand};
 use crate::graph_texts::read_text;
+use crate::lines::{Found, LineReader};
 use crate::meanings::{LineMeaning, meaning_of_words};
-use command_words::{CommandReader, UsageFault, words_ask_for_no_report};
-use script_lines::{Found, LineReader};
+use command_words::{UsageFault, words_ask_for_no_report};
 use std::alloc::{AllocError, Global};
 use std::io::{self, ErrorKind, Read};
 use std::str;
@@ -31,16 +30,15 @@ pub(crate) const MOST_LINES: u64 = 1 << 40;
 /// that was read last. An error is the reader's, or that memory ran out for the words of a line; then a part of the script may be lost.
 pub fn next_command<R: Read>(
     alloc: Global,
-    reader: &CommandReader,
     lines: &mut LineReader,
     input: &mut R,
 ) -> io::Result<Option<Result<ScriptCommand, CommandFault>>>
     ensures next { IfOk result (λ next. (bytes : List ℕ) → R.remaining input.old ≡ Some bytes
-        → IsNext reader.now.names bytes next (R.remaining input.new)) }
+        → IsNext bytes next (R.remaining input.new)) }
     ensures asked { IfOk result (λ next. IfSome next (λ request. is_asked request ≡ true)) }
 {
     for _line in 0..MOST_LINES {
-        match next_meaning(alloc, reader, lines, input)? {
+        match next_meaning(alloc, lines, input)? {
             None => return Ok(None),
             Some(Ok(LineMeaning::Nothing)) => {}
             Some(Ok(LineMeaning::Text(taking))) => {
@@ -57,40 +55,39 @@ pub fn next_command<R: Read>(
 // Reads the next line, and what it asks for.
 fn next_meaning<R: Read>(
     alloc: Global,
-    reader: &CommandReader,
     lines: &mut LineReader,
     input: &mut R,
 ) -> io::Result<Option<Result<LineMeaning, AllocError>>>
     ensures next { IfOk result (λ asked. (bytes : List ℕ) → R.remaining input.old ≡ Some bytes
-        → IsMeaning reader.now.names bytes asked (R.remaining input.new)) }
+        → IsMeaning bytes asked (R.remaining input.new)) }
     ensures asked { IfOk result (λ asked. IfSome asked (λ it. IfOk it (λ meaning. asks_of_script meaning ≡ true))) }
 {
     words_ask_for_no_report();
     match lines.read(input)? {
-        Found::Line => Ok(Some(meaning_of(alloc, reader, lines.line()))),
+        Found::Line => Ok(Some(meaning_of(alloc, lines.line()))),
         Found::LongLine { is_blank } => Ok(Some(Ok(meaning_of_long(lines.line(), is_blank)))),
         Found::End => Ok(None),
     }
 }
 
 // What a line asks for that is not too long.
-fn meaning_of(alloc: Global, reader: &CommandReader, line: &[u8]) -> Result<LineMeaning, AllocError>
+fn meaning_of(alloc: Global, line: &[u8]) -> Result<LineMeaning, AllocError>
     requires { length line.now ≤ line_limit }
-    ensures { IsReadAs (spec.meaning_of reader.now.names line.now) result }
+    ensures { IsReadAs (spec.meaning_of line.now) result }
 {
     if is_skipped(line) {
         return Ok(LineMeaning::Nothing);
     }
     match text_of(line) {
-        Some(text) => meaning_of_words(alloc, reader, text),
+        Some(text) => meaning_of_words(alloc, text),
         None => Ok(LineMeaning::Fault(UsageFault::BadLine)),
     }
 }
 
 // What a line asks for that is too long, of which this is the beginning.
 fn meaning_of_long(start: &[u8], is_blank: bool) -> LineMeaning
-    ensures is { (names : Texts) (line : List ℕ) → line_limit < length line → start.now ≡ take line_limit line
-        → is_blank ≡ list_all is_blank_byte line → result ≡ spec.meaning_of names line }
+    ensures is { (line : List ℕ) → line_limit < length line → start.now ≡ take line_limit line
+        → is_blank ≡ list_all is_blank_byte line → result ≡ spec.meaning_of line }
     ensures asked { asks_of_script result ≡ true }
 {
     if is_comment(start) {

@@ -1,5 +1,5 @@
 -- The statuses of what was done.
-use Rattle.std.proofs.Common.{◌≡◌, ◌∙◌, ◌≢◌, ◌==◌, ◌<◌, inl, inr, ℕ, max, All, true, true≢false, List, [], ◌∷◌, ◌++◌, length, Result, Ok, Err, OnOk, refl, sym, ap, subst, arith}
+use Rattle.std.proofs.Common.{◌≡◌, ◌∙◌, ◌≢◌, ◌==◌, ◌<◌, inl, inr, ℕ, max, All, true, true≢false, List, [], ◌∷◌, ◌++◌, length, Result, Ok, Err, refl, sym, ap, subst, arith}
 use Rattle.std.proofs.lemmas.Grind.{flat_map-append}
 use Rattle.std.proofs.lemmas.List.Elements.{All-cons, All-head, All-nil, All-tail}
 use Rattle.sched_model.specs.Schedule.{Schedule}
@@ -19,11 +19,8 @@ use Rattle.script_commands.specs.declared.commands.SourceFault.TheVariants as so
 use Rattle.script_commands.specs.declared.commands.ScriptCommand.TheVariants.{Step, TakeFile, TickNow, Drain, List as ListRows, Explain}
 use Rattle.answer_lines.specs.sessions.History.{is_polled, looks, told_by, told_in, ArePolled, Asked, Looked, NoneThere, Reported, Restarted, Step as RunStep, Told}
 use Rattle.answer_lines.specs.CommandFaults.{source_text}
-use Rattle.answer_lines.specs.sessions.declared.faults.ConductFault.{ConductFault}
-use Rattle.answer_lines.specs.sessions.declared.faults.ConductFault.TheVariants as ends
-use Rattle.script_reader.specs.Ends.{status_at}
 use Rattle.script_reader.specs.Statuses.{command_status, failure_status, refusal_status, usage_status}
-use Rattle.script_reader.specs.Done.{FileAnswer, Done, IsAnswered, IsDone, IsPerhaps, MayBeDone, greatest_status, is_whole}
+use Rattle.script_reader.specs.Done.{FileAnswer, Done, IsAnswered, IsDone, IsEventAnswered, MayBeDone, greatest_status, is_whole}
 
 -- ---- statuses
 refuses : (r : Refusal) → 0 < refusal_status r
@@ -42,16 +39,6 @@ is_used _ = omega arith
 is_no_command : (f : CommandFault) → 0 < command_status f
 is_no_command (Usage f) = is_used f
 is_no_command (Source f) = omega arith
-
--- the line of a fault was written, where the status is not that of a lost output
-pub told_unless_lost : {E T : Type 0} (status : ℕ) (f : ConductFault) (written : Result T E) (now : ℕ) (P : Type 0) → now ≡ status_at status f written → OnOk written P → now ≢ 4 → P
-told_unless_lost status f (Ok v) now P is told other = told
-told_unless_lost status (ends.StoreThrice error) (Err e) now P is told other = absurd (other is)
-told_unless_lost status ends.NoWorker (Err e) now P is told other = absurd (other is)
-told_unless_lost status ends.SpawnRefused (Err e) now P is told other = absurd (other is)
-told_unless_lost status ends.ReadFault (Err e) now P is told other = absurd (other is)
-told_unless_lost status ends.Memory (Err e) now P is told other = absurd (other is)
-told_unless_lost status ends.Unequal (Err e) now P is told other = absurd (other is)
 
 -- ---- what was done with the status 0 is whole
 polled_by : (x : RunStep) → is_polled x ≡ true → told_by x ≡ []
@@ -74,7 +61,7 @@ after_polls : (polled told : List RunStep) (b : Schedule) (moment : ℕ) (steps 
 after_polls polled told b moment steps is are =
     ap told_in is ∙ flat_map-append told_by polled (Asked b (Ok moment) ∷ told) ∙ ap (λ l. l ++ told_in (Asked b (Ok moment) ∷ told)) (polls_untold polled are)
 
-accepted : (e : Event) (steps : List RunStep) (status : ℕ) (shown : List ℕ) → IsPerhaps e steps status shown → status ≡ 0 → (length (told_in steps) == 1) ≡ true
+accepted : (e : Event) (steps : List RunStep) (status : ℕ) (shown : List ℕ) → IsEventAnswered e steps status shown → status ≡ 0 → (length (told_in steps) == 1) ≡ true
 accepted e steps status shown (Ok answer, is, zero, text) z = ap (λ (xs : List RunStep). length (told_in xs) == 1) is
 accepted e steps status shown (Err fault, is, own, text) z = let some : 0 < failure_status fault = fails fault in absurd (omega arith)
 

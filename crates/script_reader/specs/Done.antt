@@ -1,8 +1,6 @@
--- What was done of the commands of a script, and what is left of it.
+-- What may be done of a command of a script.
 -- restates: this project's own profile
-use Rattle.std.proofs.Common.{inl, true≢false, refl, sym, arith}
-use Rattle.std.specs.Prelude.{◌≡◌, ◌⊎◌, ◌==◌, ◌&&◌, not, ℕ, max, Bool, true, false, List, [], ◌∷◌, ◌++◌, length, map, All, Option, Some, None, Result, Ok, Err}
-use Rattle.std.specs.List.{flat_map}
+use Rattle.std.specs.Prelude.{◌≡◌, ◌≢◌, ◌⊎◌, ◌==◌, ℕ, max, Bool, true, false, List, [], ◌∷◌, ◌++◌, length, Option, Some, None, Result, Ok, Err}
 use Rattle.sched_model.specs.Schedule.{Schedule}
 use Rattle.sched_model.specs.States.{in_flight}
 use Rattle.sched_events.specs.declared.answers.Answer.{Answer}
@@ -11,13 +9,12 @@ use Rattle.sched_events.specs.declared.events.Event.TheVariants.{Tick}
 use Rattle.answer_lines.specs.explain.Reasons.{IsUnexplained, explained}
 use Rattle.answer_lines.specs.explain.declared.reasons.ExplainFault.{ExplainFault}
 use Rattle.answer_lines.specs.explain.declared.reasons.Reason.{Reason}
-use Rattle.word_app.specs.App.{Texts}
 use Rattle.command_words.specs.Commands.{taken}
 use Rattle.command_words.specs.declared.takings.Taking.{Taking}
-use Rattle.script_commands.specs.Commands.{Request, commands_in}
+use Rattle.script_commands.specs.Commands.{Request}
 use Rattle.script_commands.specs.declared.commands.ScriptCommand.TheVariants.{Step, TakeFile, TickNow, Drain, List as ListRows, Explain}
 use Rattle.script_commands.specs.declared.commands.SourceFault.{SourceFault}
-use Rattle.script_commands.specs.declared.commands.SourceFault.TheVariants.{Memory as NoMemory}
+use Rattle.script_commands.specs.declared.commands.SourceFault.TheVariants.{Memory as NoMemory, NoEnd}
 use Rattle.answer_lines.specs.sessions.History.{looks, told_in, ArePolled, AreReported, Asked, Step as RunStep, Told}
 use Rattle.answer_lines.specs.sessions.Faults.{Fault}
 use Rattle.answer_lines.specs.sessions.declared.clocks.ClockFault.{ClockFault}
@@ -35,6 +32,14 @@ use Rattle.script_reader.specs.Statuses.{command_status, explain_status, shown_f
 abbrev pub FileAnswer : Type 0
 FileAnswer = List ℕ × Result (List ℕ) SourceFault
 
+-- from one state of sources to another they answered so, beyond what they had answered before
+abbrev pub AnswersMore : {F : Type 0} → (F → List FileAnswer → F → Type 0) → List FileAnswer → F → F → Type 0
+AnswersMore {F} gives texts old new = (s : F) (given : List FileAnswer) → gives s given old → gives s (given ++ texts) new
+
+-- the sources were asked once, for this path, and gave this fault, which is not that a script ends too early
+abbrev pub IsUnread : List ℕ → SourceFault → List FileAnswer → Type 0
+IsUnread path fault texts = (fault ≢ NoEnd) × (texts ≡ (path, Err fault) ∷ [])
+
 -- What was done of a command: what the sources answered for it, if it asked them, the steps of the run for it, which are its looks at a schedule,
 -- or the event that it names, with what came of it, and before it the reports that were heard and what the clock gave for it; the status of its answer, and the
 -- bytes that show it.
@@ -46,27 +51,27 @@ pub record Done : Type 0 where
   pub shown : List ℕ
 
 -- an event was answered: it was accepted, or it was not; the status and the text are those of the answer
-abbrev pub IsPerhaps : Event → List RunStep → ℕ → List ℕ → Type 0
-IsPerhaps e steps status shown =
+abbrev pub IsEventAnswered : Event → List RunStep → ℕ → List ℕ → Type 0
+IsEventAnswered e steps status shown =
     (answer : Result Answer Fault) × (steps ≡ Told e answer ∷ []) × (status ≡ status_of answer) × (shown ≡ shown_for e answer)
 
 -- the text that a line takes in could not be had, for want of memory, so the line was answered when it was read
-abbrev pub IsUnhad : Event → List RunStep → ℕ → List ℕ → Type 0
-IsUnhad e steps status shown =
+abbrev pub IsTextLacking : Event → List RunStep → ℕ → List ℕ → Type 0
+IsTextLacking e steps status shown =
     (taking : Taking) × (text : List ℕ) × (e ≡ taken taking text) × ((a : Schedule) × (steps ≡ looks 1 a)) × (status ≡ 4) × (shown ≡ source_text NoMemory)
 
 -- the sources were asked once, for this path: they gave a text, and the event that takes it in was accepted or not; or they gave a fault, and the command
 -- was answered with it when it was read
-abbrev pub IsTakePerhaps : Taking → List ℕ → List FileAnswer → List RunStep → ℕ → List ℕ → Type 0
-IsTakePerhaps taking path texts steps status shown =
-    ((fault : SourceFault) × (texts ≡ (path, Err fault) ∷ []) × ((a : Schedule) × (steps ≡ looks 1 a)) × (status ≡ 4) × (shown ≡ source_text fault))
-    ⊎ ((text : List ℕ) × (texts ≡ (path, Ok text) ∷ []) × IsPerhaps (taken taking text) steps status shown)
+abbrev pub IsFileTaken : Taking → List ℕ → List FileAnswer → List RunStep → ℕ → List ℕ → Type 0
+IsFileTaken taking path texts steps status shown =
+    ((fault : SourceFault) × IsUnread path fault texts × ((a : Schedule) × (steps ≡ looks 1 a)) × (status ≡ 4) × (shown ≡ source_text fault))
+    ⊎ ((text : List ℕ) × (texts ≡ (path, Ok text) ∷ []) × IsEventAnswered (taken taking text) steps status shown)
 
 -- the reports that were there were heard, and then the clock was asked: it gave none; or it gave a moment, and then the tick at it was accepted or not
-abbrev pub IsTickPerhaps : List RunStep → ℕ → List ℕ → Type 0
-IsTickPerhaps steps status shown =
+abbrev pub IsTickTaken : List RunStep → ℕ → List ℕ → Type 0
+IsTickTaken steps status shown =
     ((b : Schedule) × (fault : ClockFault) × (polled : List RunStep) × (steps ≡ polled ++ Asked b (Err fault) ∷ []) × ArePolled polled × (status ≡ 4) × (shown ≡ clock_text fault))
-    ⊎ ((b : Schedule) × (moment : ℕ) × (polled told : List RunStep) × (steps ≡ polled ++ (Asked b (Ok moment) ∷ told)) × ArePolled polled × IsPerhaps (Tick moment) told status shown)
+    ⊎ ((b : Schedule) × (moment : ℕ) × (polled told : List RunStep) × (steps ≡ polled ++ (Asked b (Ok moment) ∷ told)) × ArePolled polled × IsEventAnswered (Tick moment) told status shown)
 
 -- a drain was answered: reports were heard, and then a schedule was looked at for it, in which no try is in flight
 abbrev pub IsDrained : List RunStep → ℕ → List ℕ → Type 0
@@ -82,7 +87,7 @@ IsAnswered a (Ok (Explain q)) texts status shown =
     (texts ≡ [])
     × (((reasons : List Reason) × (explained a q.graph q.logical q.task ≡ Ok reasons) × (status ≡ 0) × (shown ≡ reasons_text reasons))
     ⊎ ((fault : ExplainFault) × IsUnexplained a q.graph q.logical q.task fault × (status ≡ explain_status fault) × (shown ≡ explain_fault_text fault)))
-IsAnswered a (Ok (TakeFile taking path)) texts status shown = (fault : SourceFault) × (texts ≡ (path, Err fault) ∷ []) × (status ≡ 4) × (shown ≡ source_text fault)
+IsAnswered a (Ok (TakeFile taking path)) texts status shown = (fault : SourceFault) × IsUnread path fault texts × (status ≡ 4) × (shown ≡ source_text fault)
 IsAnswered a (Ok (Step e)) texts status shown = ⊥
 IsAnswered a (Ok TickNow) texts status shown = ⊥
 IsAnswered a (Ok Drain) texts status shown = ⊥
@@ -91,9 +96,9 @@ IsAnswered a (Err fault) texts status shown = (texts ≡ []) × (status ≡ comm
 -- What may be done of a command, and the status and the text of that. A command that is answered when it is read is answered of the schedule that it
 -- looked at, and so is a drain.
 abbrev pub MayBeDone : Request → List FileAnswer → List RunStep → ℕ → List ℕ → Type 0
-MayBeDone (Ok (Step e)) texts steps status shown = (texts ≡ []) × (IsPerhaps e steps status shown ⊎ IsUnhad e steps status shown)
-MayBeDone (Ok (TakeFile taking path)) texts steps status shown = IsTakePerhaps taking path texts steps status shown
-MayBeDone (Ok TickNow) texts steps status shown = (texts ≡ []) × IsTickPerhaps steps status shown
+MayBeDone (Ok (Step e)) texts steps status shown = (texts ≡ []) × (IsEventAnswered e steps status shown ⊎ IsTextLacking e steps status shown)
+MayBeDone (Ok (TakeFile taking path)) texts steps status shown = IsFileTaken taking path texts steps status shown
+MayBeDone (Ok TickNow) texts steps status shown = (texts ≡ []) × IsTickTaken steps status shown
 MayBeDone (Ok Drain) texts steps status shown = (texts ≡ []) × IsDrained steps status shown
 MayBeDone asked texts steps status shown = (a : Schedule) × (steps ≡ looks 1 a) × IsAnswered a asked texts status shown
 
@@ -121,51 +126,3 @@ IsOpen (Some (Says.Event e)) asked texts =
     ⊎ ((taking : Taking) × (path text : List ℕ) × (asked ≡ Ok (TakeFile taking path) ∷ []) × (texts ≡ (path, Ok text) ∷ []) × (e ≡ taken taking text))
 IsOpen (Some Says.TickNow) asked texts = (asked ≡ Ok TickNow ∷ []) × (texts ≡ [])
 IsOpen (Some Says.Drain) asked texts = (asked ≡ Ok Drain ∷ []) × (texts ≡ [])
-
--- the command of a file that is not read, whose answer was not written, and the fault that the sources gave for its path
-abbrev pub IsUnwritten : List Request → List FileAnswer → Type 0
-IsUnwritten asked texts = (taking : Taking) × (path : List ℕ) × (fault : SourceFault) × (asked ≡ Ok (TakeFile taking path) ∷ []) × (texts ≡ (path, Err fault) ∷ [])
-
--- the command that was read and is not done, if there is one, and what the sources answered for it: it waits for its answer with this line; or, where the
--- script broke off, no line waits, and it is that of a file whose answer was not written
-abbrev pub IsUndone : Bool → Option Line → List Request → List FileAnswer → Type 0
-IsUndone broke_off waits asked texts = IsOpen waits asked texts ⊎ ((broke_off ≡ true) × (waits ≡ None) × IsUnwritten asked texts)
-
--- What was done of a script, of whose bytes these were there at first: commands one after another, with what the sources answered, and with these steps of
--- the run; what was shown of them; this line waits for its answer; and these bytes are left. What is left and what was shown is not said where the script
--- could not be read or answered further; there one command of a file more may have been read, whose answer was not written. Where the script has ended, no
--- command is left. The status is the greatest of what was done and of the one before.
-pub record HasDone (names : Texts) (before : ℕ) (first : Option (List ℕ)) (gives : List FileAnswer → Type 0) (shows : List ℕ → Type 0) (steps : List RunStep) (waits : Option Line) (left : Option (List ℕ)) (status : ℕ) (is_broken has_ended : Bool) : Type 0 where
-  pub done : List Done
-  pub open_asked : List Request
-  pub open_texts : List FileAnswer
-  pub each : All IsDone done
-  pub opens : IsUndone (is_broken && not has_ended) waits open_asked open_texts
-  pub texts : gives (flat_map (λ d. d.texts) done ++ open_texts)
-  pub stepped : steps ≡ flat_map (λ d. d.steps) done
-  pub read : (known : List ℕ) → first ≡ Some known
-      → (rest : List Request) × (commands_in names known ≡ map (λ d. d.asked) done ++ (open_asked ++ rest))
-      × (has_ended ≡ true → rest ≡ []) × (is_broken ≡ false → (bytes : List ℕ) × (left ≡ Some bytes) × (rest ≡ commands_in names bytes))
-  pub status_is : status ≡ max before (greatest_status done)
-  pub output : is_broken ≡ false → shows (flat_map (λ d. d.shown) done)
-
--- where nothing was read, nothing was done
-pub not_both : (b : Bool) → (b && not b) ≡ true → true ≡ false
-not_both true e = sym e
-not_both false e = sym e
-
-pub begun : (names : Texts) (first : Option (List ℕ)) (gives : List FileAnswer → Type 0) (shows : List ℕ → Type 0) (status : ℕ) (broken was_over : Bool) → gives [] → shows []
-    → HasDone names status first gives shows [] None first status broken (was_over && not was_over)
-unfolding greatest_status
-begun names first gives shows status broken was_over none unshown = record {
-  done = [];
-  open_asked = [];
-  open_texts = [];
-  each = λ k d below. absurd (omega arith);
-  opens = inl (refl, refl);
-  texts = none;
-  stepped = refl;
-  read = λ known e. (commands_in names known, refl, (λ ends. absurd (true≢false (not_both was_over ends))), λ _. (known, e, refl));
-  status_is = let none : greatest_status [] ≡ 0 = refl in omega (arith, none);
-  output = λ _. unshown;
-}

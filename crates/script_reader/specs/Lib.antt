@@ -1,7 +1,7 @@
+pub mod Answers
 pub mod Commands
 pub mod Done
 pub mod Ends
 pub mod Readers
-pub mod Shown
 pub mod Statuses
 pub use Rattle.answer_lines.specs as answer_lines

@@ -1,69 +1,29 @@
 //! A script as the lines of a session.
-ghost use Rattle.std.specs.Prelude.{◌≡◌, ◌&&◌, not, is_some, is_err, max, None, Some, Ok, OnOk, MatchResult};
+ghost use Rattle.std.specs.Prelude.{◌≡◌, Some, is_err, MatchResult};
 ghost use Rattle.std.specs.Io.KnownBytes.{Appends};
 ghost use Rattle.answer_lines.specs.RunFaults.{clock_text};
 ghost use Rattle.answer_lines.specs.Shown.{shown_text};
 ghost use Rattle.answer_lines.specs.declared.shown.Shown.TheVariants.{Done};
-ghost use Rattle.answer_lines.specs.sessions.director.Written.{came_of};
-ghost use Rattle.script_reader.specs.Statuses.{shown_for, status_of};
+ghost use Rattle.script_reader.specs.Statuses.{shown_for};
 
-use crate::console::{Console, Spot};
-use crate::reader::ScriptReader;
+use crate::console::Console;
+use crate::reader::{ScriptReader, read_line};
 use crate::sources::Sources;
-use crate::statuses::failure_status;
-use answer_lines::{ClockFault, Fault, Line, LineFault, Lines, Schedule, Shown, Written, put};
+use answer_lines::{ClockFault, Fault, Line, LineFault, Lines, Schedule, Shown, Written};
 use sched_events::Event;
 use std::io::{self, ErrorKind, Read, Write};
 
-impl<R: Read + Drop, W: Write + Drop, F: Sources, P: Console> ScriptReader<R, W, F, P> {
-    // Writes the answer to an event that stands in the record, or why it was not accepted.
-    fn put<S>(&mut self, event: &Event, came: &Result<Written<S>, Fault>) -> io::Result<()>
-        ensures input { self.new.input ≡ self.old.input }
-        ensures words { self.new.words ≡ self.old.words }
-        ensures sources { self.new.sources ≡ self.old.sources }
-        ensures failed { self.new.failed ≡ self.old.failed }
-        ensures over { self.new.is_over ≡ self.old.is_over }
-        ensures status { self.new.status ≡ max self.old.status (status_of (came_of came.now)) }
-        ensures shown { OnOk result (Appends (W.contents self.old.output) (W.contents self.new.output)
-            (shown_for event.now (came_of came.now))) }
-    {
-        match came {
-            Ok(written) => {
-                let answer = written.answer();
-                let spot = Spot::of(&self.lines);
-                self.console
-                    .put(Some(spot), Some(event), Shown::Answer(event, answer));
-                put(&mut self.output, Shown::Answer(event, answer))
-            }
-            Err(fault) => {
-                let spot = Spot::of(&self.lines);
-                self.console
-                    .put(Some(spot), Some(event), Shown::Failure(fault));
-                self.status = self.status.max(failure_status(fault));
-                put(&mut self.output, Shown::Failure(fault))
-            }
-        }
-    }
-
-    // Keeps what the script failed in, if it did.
-    fn end(&mut self, put: io::Result<()>) -> Result<(), LineFault>
-        ensures input { self.new.input ≡ self.old.input }
-        ensures words { self.new.words ≡ self.old.words }
-        ensures sources { self.new.sources ≡ self.old.sources }
-        ensures status { self.new.status ≡ self.old.status }
-        ensures over { self.new.is_over ≡ self.old.is_over }
-        ensures output { self.new.output ≡ self.old.output }
-        ensures ended { is_err result ≡ is_err put }
-        ensures failed { MatchResult result (λ _. self.new.failed ≡ self.old.failed)
-            (λ fault. self.new.failed ≡ Some fault) }
-    {
-        match put {
-            Ok(()) => Ok(()),
-            Err(error) => {
-                let fault = fault_of(&error);
-                self.failed = Some(fault);
-                Err(fault)
-            }
+// Keeps what the script failed in, if its answer was not written.
+fn keep(failed: &mut Option<LineFault>, put: io::Result<()>) -> Result<(), LineFault>
+    ensures ended { is_err result ≡ is_err put }
+    ensures failed { MatchResult result (λ _. failed.new ≡ failed.old) (λ fault. failed.new ≡ Some fault) }
+{
+    match put {
+        Ok(()) => Ok(()),
+        Err(error) => {
+            let fault = fault_of(&error);
+            *failed = Some(fault);
+            Err(fault)
         }
     }
 }
@@ -82,11 +42,11 @@ impl<S, R: Read + Drop, W: Write + Drop, F: Sources, P: Console> Lines<S>
 
     ghost tells = { Tells R.remaining W.contents F.gives };
 
-    ghost shows = { λ s event answer t. Appends (W.contents s.output) (W.contents t.output) (shown_for event answer) };
+    ghost shows = { λ s event answer t. Appends (W.contents s.answers.output) (W.contents t.answers.output) (shown_for event answer) };
 
-    ghost shows_done = { λ s t. Appends (W.contents s.output) (W.contents t.output) (shown_text Done) };
+    ghost shows_done = { λ s t. Appends (W.contents s.answers.output) (W.contents t.answers.output) (shown_text Done) };
 
-    ghost shows_no_clock = { λ s fault t. Appends (W.contents s.output) (W.contents t.output) (clock_text fault) };
+    ghost shows_no_clock = { λ s fault t. Appends (W.contents s.answers.output) (W.contents t.answers.output) (clock_text fault) };
 
     ghost failed = { λ s. s.failed };
 
@@ -95,7 +55,12 @@ impl<S, R: Read + Drop, W: Write + Drop, F: Sources, P: Console> Lines<S>
     ghost begins = { tells_nothing R.remaining W.contents F.gives F.begins };
 
     fn next(&mut self, schedule: &Schedule) -> Result<Option<Line>, LineFault> {
-        match self.read_line(schedule) {
+        match read_line(
+            schedule,
+            &mut self.commands,
+            &mut self.answers,
+            &mut self.sources,
+        ) {
             Ok(next) => {
                 self.is_over = next.is_none();
                 Ok(next)
@@ -115,25 +80,25 @@ impl<S, R: Read + Drop, W: Write + Drop, F: Sources, P: Console> Lines<S>
         event: &Event,
         came: &Result<Written<S>, Fault>,
     ) -> Result<(), LineFault> {
-        let put = self.put(event, came);
-        self.end(put)
+        let spot = self.commands.spot();
+        let put = self.answers.answer(spot, event, came);
+        keep(&mut self.failed, put)
     }
 
     fn drained(&mut self, _schedule: &Schedule) -> Result<(), LineFault> {
-        self.console.wait_is_over();
-        let put = put(&mut self.output, Shown::Done);
-        self.end(put)
+        self.answers.console.wait_is_over();
+        let put = self.answers.write(Shown::Done, 0);
+        keep(&mut self.failed, put)
     }
 
     fn waits(&mut self, schedule: &Schedule) {
-        self.console.waits(schedule);
+        self.answers.console.waits(schedule);
     }
 
     fn no_clock(&mut self, _schedule: &Schedule, fault: ClockFault) -> Result<(), LineFault> {
-        let spot = Spot::of(&self.lines);
-        self.console.put(Some(spot), None, Shown::NoMoment(fault));
-        self.status = self.status.max(4);
-        let put = put(&mut self.output, Shown::NoMoment(fault));
-        self.end(put)
+        let spot = self.commands.spot();
+        let shown = Shown::NoMoment(fault);
+        let put = self.answers.put(Some(spot), None, shown, 4);
+        keep(&mut self.failed, put)
     }
 }

@@ -1,7 +1,7 @@
 //! What a person is told beside the answers.
 use answer_lines::{Schedule, Shown};
 use sched_events::Event;
-use script_lines::LineReader;
+use script_commands::LineReader;
 
 /// Where a command of a script stands.
 #[derive(Clone, Copy, Debug)]

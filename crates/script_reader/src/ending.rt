@@ -1,62 +1,71 @@
 //! The end of a script.
-ghost use Rattle.std.specs.Prelude.{◌≡◌, ◌≢◌, IfErr, OnOk};
+ghost use Rattle.std.specs.Prelude.{◌≡◌, true, OnOk};
 ghost use Rattle.std.specs.Io.KnownBytes.{Appends};
 ghost use Rattle.script_reader.specs.Ends as spec;
-ghost use Rattle.script_reader.specs.Ends.{IsEndStatus, end_text};
+ghost use Rattle.script_reader.specs.Ends.{last_text};
 
+use crate::answers::Answers;
 use crate::console::Console;
 use crate::reader::ScriptReader;
 use crate::sources::Sources;
-use answer_lines::{ConductFault, Schedule, Shown, put};
-use std::io::{self, Read, Write};
+use answer_lines::{ConductFault, Schedule};
+use std::io::{Read, Write};
+
+/// What a script leaves that was run.
+#[derive(Drop)]
+pub struct Closed<F: Sources, W: Write + Drop> {
+    /// Its status: that of its answers, or of the fault that the run ended with; 4 where not all that was put is written.
+    pub status: u8,
+    /// Whether all that was put is written: the answers, and the line of that fault.
+    pub told: bool,
+    /// Where its texts came from.
+    pub sources: F,
+    /// Where the answers went.
+    pub output: W,
+}
 
 impl<R: Read + Drop, W: Write + Drop, F: Sources, P: Console> ScriptReader<R, W, F, P> {
-    /// Ends a script that was run and has left this schedule: its status, the sources and the output. Where the run ended with a fault, its line is
-    /// written: `conduct N Name`, or `memory`. Where that fails, the status is 4.
-    pub fn close<T>(self, schedule: &Schedule, outcome: &Result<T, ConductFault>) -> (u8, F, W)
-        ensures status { IsEndStatus self.status outcome.now result.0 }
-        ensures sources { result.1 ≡ self.sources }
-        ensures output { OnOk outcome.now (result.2 ≡ self.output) }
-        ensures ended { IfErr outcome.now (λ f. result.0 ≢ 4 → Appends (W.contents self.output) (W.contents result.2) (end_text f)) }
+    /// Ends a script that was run and has left this schedule. Where the run ended with a fault, its line is written: `conduct N Name`, or `memory`.
+    pub fn close<T>(self, schedule: &Schedule, outcome: &Result<T, ConductFault>) -> Closed<F, W>
+        ensures told { result.told ≡ true → (self.answers.is_written ≡ true)
+            × Appends (W.contents self.answers.output) (W.contents result.output) (last_text outcome.now) }
+        ensures well { OnOk outcome.now (result.told ≡ self.answers.is_written) }
+        ensures status { result.status ≡ spec.end_status result.told self.answers.status outcome.now }
+        ensures sources { result.sources ≡ self.sources }
     {
         let ScriptReader {
-            mut output,
+            mut answers,
             sources,
-            mut console,
-            status,
             ..
         } = self;
-        console.wait_is_over();
-        match outcome {
-            Ok(_) => {
-                console.tell(Some(schedule));
-                (status, sources, output)
-            }
-            Err(fault) => {
-                let ended = end_with(&mut output, fault);
-                console.put(None, None, Shown::EndedBy(fault));
-                console.tell(Some(schedule));
-                (status_at(status, fault, ended), sources, output)
-            }
+        answers.console.wait_is_over();
+        let _ = answers.end(outcome);
+        answers.console.tell(Some(schedule));
+        let Answers {
+            output,
+            status,
+            is_written,
+            ..
+        } = answers;
+        Closed {
+            status: end_status(is_written, status, outcome),
+            told: is_written,
+            sources,
+            output,
         }
     }
 }
 
-// Writes the line of a fault, and flushes it.
-fn end_with<W: Write>(output: &mut W, fault: &ConductFault) -> io::Result<()>
-    ensures { OnOk result (Appends (W.contents output.old) (W.contents output.new) (end_text fault.now)) }
+// The status of a script, by the greatest of its answers.
+fn end_status<T>(told: bool, answers: u8, outcome: &Result<T, ConductFault>) -> u8
+    ensures { result ≡ spec.end_status told answers outcome.now }
 {
-    put(output, Shown::EndedBy(fault))?;
-    output.flush()?;
-    Ok(())
-}
-
-// The status of a script that ended with a fault whose line was written so.
-fn status_at(status: u8, fault: &ConductFault, ended: io::Result<()>) -> u8
-    ensures { result ≡ spec.status_at status fault.now ended }
-{
-    match (fault, ended) {
-        (ConductFault::StoreThrice(_), Ok(())) => status.max(3),
-        _ => 4,
+    if !told {
+        return 4;
+    }
+    match outcome {
+        Ok(_) => answers,
+        Err(ConductFault::StoreThrice(_)) => answers.max(3),
+        Err(_) => 4,
     }
 }

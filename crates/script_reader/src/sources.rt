@@ -1,7 +1,6 @@
 //! Where the texts of `load PATH` and `replace PATH` come from.
-ghost use Rattle.std.specs.Prelude.{List, ◌∷◌, [], Ok, Err, MatchResult, string_bytes};
-ghost use Rattle.script_reader.specs.Commands.{AnswersMore};
-ghost use Rattle.script_reader.specs.Done.{FileAnswer};
+ghost use Rattle.std.specs.Prelude.{◌≢◌, List, ◌∷◌, [], Ok, Err, IfErr, MatchResult, string_bytes};
+ghost use Rattle.script_reader.specs.Done.{AnswersMore, FileAnswer};
 
 use script_commands::SourceFault;
 
@@ -13,9 +12,10 @@ pub trait Sources: Drop {
     /// Where nothing is done, they gave none.
     ghost begins: { (s : Self) → gives s [] s };
 
-    /// The text of the file at this path, of at most 1,048,576 bytes.
+    /// The text of the file at this path, of at most 1,048,576 bytes. It is never `NoEnd`, which a script alone says.
     fn text(&mut self, path: &str) -> Result<String, SourceFault>
-        ensures { MatchResult result
+        ensures given { MatchResult result
             (λ text. AnswersMore gives ((path.now, Ok (string_bytes text)) ∷ []) self.old self.new)
-            (λ fault. AnswersMore gives ((path.now, Err fault) ∷ []) self.old self.new) };
+            (λ fault. AnswersMore gives ((path.now, Err fault) ∷ []) self.old self.new) }
+        ensures file { IfErr result (λ fault. fault ≢ SourceFault.NoEnd) };
 }

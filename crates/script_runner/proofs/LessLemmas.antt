@@ -1,5 +1,5 @@
 -- What is promised of a run, where less is known of its streams, its sources and its clock.
-use Rattle.std.proofs.Common.{◌≡◌, ◌≢◌, ◌++◌, ℕ, List, length, flat_map, All, Option, Some, Result, Ok, Err, IfErr, refl, sym, subst}
+use Rattle.std.proofs.Common.{◌≡◌, ◌++◌, ℕ, Bool, List, length, All, Option, Some, Result, refl, sym, subst}
 use Rattle.sqlite.specs.Held.{Held}
 use Rattle.sqlite.specs.Effect.{Database}
 use Rattle.sqlite.specs.State.{State}
@@ -19,27 +19,20 @@ use Rattle.conduct.specs.sessions.History.{heard_in, tried_at_end, Step}
 use Rattle.conduct.specs.sessions.Readings.{Reading}
 use Rattle.conduct.specs.sessions.declared.faults.ConductFault.{ConductFault}
 use Rattle.script_reader.specs.Done.{FileAnswer}
-use Rattle.script_reader.specs.Ends.{end_text}
 use Rattle.script_runner.specs.Named.{AreNamed}
 use Rattle.script_runner.specs.Runs.{IsRun}
 use Rattle.script_runner.specs.TaskOperators.{IsFresh}
 use Rattle.script_runner.specs.Teams.{IsRunByTeam, IsTeamRun, IsWhole}
 use Rattle.script_runner.proofs.RunLemmas.{still}
 
-of_faults : {T E : Type 0} (r : Result T E) (P Q : E → Type 0) → ((f : E) → P f → Q f) → IfErr r P → IfErr r Q
-of_faults (Ok v) P Q to is = tt
-of_faults (Err f) P Q to is = to f is
-
 -- what is known of the bytes (read), the sources, the clock and the output becomes this (known, files, times, text)
 module _ (read known : Option (List ℕ)) (sources files : List FileAnswer → Type 0) (clock times : List (Schedule × Reading) → Type 0) (output text : List ℕ → Type 0)
     (to_bytes : (bytes : List ℕ) → known ≡ Some bytes → read ≡ Some bytes) (to_files : (given : List FileAnswer) → sources given → files given)
     (to_times : (moments : List (Schedule × Reading)) → clock moments → times moments) (to_text : (shown : List ℕ) → output shown → text shown) where
-  named_less : {T : Type 0} (lanes : ℕ) (first : Schedule) (minutes : List Event) (outcome : Result T ConductFault) (status : ℕ) → (n : AreNamed read sources clock output lanes first minutes outcome status)
-      → (m : AreNamed known files times text lanes first minutes outcome status) × (m.history ≡ n.history)
-  named_less lanes first minutes outcome status n = (
+  named_less : {T : Type 0} (lanes : ℕ) (first : Schedule) (minutes : List Event) (outcome : Result T ConductFault) (told : Bool) (status : ℕ) → (n : AreNamed read sources clock output lanes first minutes outcome told status)
+      → (m : AreNamed known files times text lanes first minutes outcome told status) × (m.history ≡ n.history)
+  named_less lanes first minutes outcome told status n = (
     record {
-      words = n.words;
-      listed = n.listed;
       done = n.done;
       each = n.each;
       waits = n.waits;
@@ -55,9 +48,8 @@ module _ (read known : Option (List ℕ)) (sources files : List FileAnswer → T
       right = n.right;
       made = n.made;
       answers_are = n.answers_are;
-      shown = λ well. to_text _ (n.shown well);
-      ended_with = of_faults outcome (λ f. status ≢ 4 → output (flat_map (λ d. d.shown) n.done ++ end_text f)) (λ f. status ≢ 4 → text (flat_map (λ d. d.shown) n.done ++ end_text f))
-          (λ f written other. to_text _ (written other)) n.ended_with;
+      shown = λ all. to_text _ (n.shown all);
+      all_told = n.all_told;
       read = λ bytes is. n.read bytes (to_bytes bytes is);
       ended = n.ended;
       whole = n.whole;
@@ -65,12 +57,12 @@ module _ (read known : Option (List ℕ)) (sources files : List FileAnswer → T
     refl,
   )
 
-  module _ {S G O : Type 0} (look : Held S → State) (untouched quiet : Type 0) (to_quiet : untouched → quiet) (lanes : ℕ) (before : State) (store : Held S) (minutes : List Event) (ends : List (WorkerEnd G O)) (outcome : Result Total ConductFault) (status : ℕ) where
+  module _ {S G O : Type 0} (look : Held S → State) (untouched quiet : Type 0) (to_quiet : untouched → quiet) (lanes : ℕ) (before : State) (store : Held S) (minutes : List Event) (ends : List (WorkerEnd G O)) (outcome : Result Total ConductFault) (told : Bool) (status : ℕ) where
     run_less : (shows : Shows O) (kits : List (Kit O))
-        → IsRun look shows read sources clock output untouched lanes kits before store minutes ends outcome status
-        → IsRun look shows known files times text quiet lanes kits before store minutes ends outcome status
+        → IsRun look shows read sources clock output untouched lanes kits before store minutes ends outcome told status
+        → IsRun look shows known files times text quiet lanes kits before store minutes ends outcome told status
     run_less shows kits r =
-        let (named, same) = named_less lanes r.first minutes outcome status r.named in
+        let (named, same) = named_less lanes r.first minutes outcome told status r.named in
         record {
           first = r.first;
           given = r.given;
@@ -100,11 +92,11 @@ module _ (read known : Option (List ℕ)) (sources files : List FileAnswer → T
 
   module _ {S O : Type 0} (look : Held S → State) (o : operator.Ghosts O) (untouched quiet : Type 0) (to_quiet : untouched → quiet) (workers lanes : ℕ) (before : State) (store : Held S) (status : ℕ) where
     -- what `run_team` promises of a team as `operators_for` makes it
-    pub by_team : (operators : List (List O)) (minutes : List Event) (ends : List (WorkerEnd OpenGate O)) (outcome : Result Total ConductFault)
+    pub by_team : (operators : List (List O)) (minutes : List Event) (ends : List (WorkerEnd OpenGate O)) (outcome : Result Total ConductFault) (told : Bool)
         → length operators ≡ workers → All (IsWhole o.kind_of) operators → All (All (IsFresh o.runs_of o.refused_of o.taken)) operators
-        → IsTeamRun look (shows o.kind_of o.runs_of o.refused_of o.taken) read sources clock output untouched lanes operators before store minutes ends outcome status
+        → IsTeamRun look (shows o.kind_of o.runs_of o.refused_of o.taken) read sources clock output untouched lanes operators before store minutes ends outcome told status
         → IsRunByTeam look o known files times text quiet workers lanes before store status
-    by_team operators minutes ends outcome count whole fresh team = record {
+    by_team operators minutes ends outcome told count whole fresh team = record {
       operators = operators;
       count = count;
       whole = whole;
@@ -112,13 +104,14 @@ module _ (read known : Option (List ℕ)) (sources files : List FileAnswer → T
       minutes = minutes;
       ends = ends;
       outcome = outcome;
+      told = told;
       run = record {
         kits = team.kits;
         made = team.made;
-        run = run_less look untouched quiet to_quiet lanes before store minutes ends outcome status (shows o.kind_of o.runs_of o.refused_of o.taken) team.kits team.run;
+        run = run_less look untouched quiet to_quiet lanes before store minutes ends outcome told status (shows o.kind_of o.runs_of o.refused_of o.taken) team.kits team.run;
       };
     }
 
     -- what a team's run promises, where less is known
     pub by_team_less : IsRunByTeam look o read sources clock output untouched workers lanes before store status → IsRunByTeam look o known files times text quiet workers lanes before store status
-    by_team_less r = by_team r.operators r.minutes r.ends r.outcome r.count r.whole r.fresh r.run
+    by_team_less r = by_team r.operators r.minutes r.ends r.outcome r.told r.count r.whole r.fresh r.run

@@ -14,9 +14,6 @@ use Rattle.sched_model.specs.States.{in_flight}
 use Rattle.sched_events.specs.SettledAndSound.{IsSoundAndSaid}
 use Rattle.sched_events.specs.Steps.{steps}
 use Rattle.sched_events.specs.declared.events.Event.{Event}
-use Rattle.word_app.specs.App.{Texts}
-use Rattle.script_commands.specs.Commands.{Request}
-use Rattle.command_words.specs.Lines.{IsListed}
 use Rattle.conduct.specs.sessions.director.Directors.{DirectorValue, Keeps, Opens, RestartsIn}
 use Rattle.conduct.proofs.sessions.director.ListLemmas.{stays_open, was_clean}
 use Rattle.minutes.specs.Minutes.{answered}
@@ -29,13 +26,12 @@ use Rattle.conduct.specs.sessions.declared.faults.ConductFault.{ConductFault}
 use Rattle.conduct.specs.sessions.declared.faults.ConductFault.TheVariants as fault
 use Rattle.conduct.specs.sessions.declared.line_reading.Line.{Line}
 use Rattle.conduct.specs.sessions.declared.line_reading.LineFault.{LineFault}
-use Rattle.conduct.specs.Faults.{EndsRun, came_to_its_end, is_unstarted}
+use Rattle.conduct.specs.Faults.{came_to_its_end, is_unstarted}
 use Rattle.conduct.specs.Run.{IsConducted}
 use Rattle.conduct.specs.Served.{IsHistory}
 use Rattle.conduct.specs.declared.conducting.Conducted.{Conducted}
-use Rattle.script_reader.specs.Done.{FileAnswer, Done, HasDone, IsOpen, IsUndone, greatest_status}
-use Rattle.script_reader.specs.Ends.{IsEndStatus, end_text}
-use Rattle.script_reader.proofs.DoneLemmas.{kept_open}
+use Rattle.script_reader.specs.Done.{FileAnswer, Done, IsOpen, greatest_status}
+use Rattle.script_reader.specs.Ends.{end_status, last_text}
 use Rattle.script_reader.proofs.ShownLemmas.{appends_then}
 use Rattle.script_reader.proofs.StatusLemmas.{all_whole}
 use Rattle.slot_desk.specs.declared.desk.Total.{Total}
@@ -43,68 +39,19 @@ use Rattle.workers.specs.declared.crews.WorkerEnd.{WorkerEnd}
 use Rattle.workers.specs.Shows.{Shows}
 use Rattle.script_reader.specs.Readers.{Tells}
 use Rattle.script_reader.specs.declared.reader.ScriptReader.{ScriptReader}
-use Rattle.script_runner.specs.Named.{AreNamed, may_break_off}
+use Rattle.script_runner.specs.Named.{AreNamed}
 use Rattle.script_runner.specs.Runs.{IsRun}
 
 -- ---- the status
-ends_well : {T : Type 0} (answers status : ℕ) (outcome : Result T ConductFault) → IsEndStatus answers outcome status → status ≡ 0 → (is_ok outcome ≡ true) × (answers ≡ 0)
-ends_well answers status (Ok v) is z = (refl, sym is ∙ z)
-ends_well answers status (Err (fault.StoreThrice e)) (inl is) z = absurd (omega arith)
-ends_well answers status (Err (fault.StoreThrice e)) (inr is) z = absurd (omega arith)
-ends_well answers status (Err fault.NoWorker) is z = absurd (omega arith)
-ends_well answers status (Err fault.SpawnRefused) is z = absurd (omega arith)
-ends_well answers status (Err fault.ReadFault) is z = absurd (omega arith)
-ends_well answers status (Err fault.Memory) is z = absurd (omega arith)
-ends_well answers status (Err fault.Unequal) is z = absurd (omega arith)
-
--- ---- the command that was read and is not done
-is_broken : (broken ended : Bool) → (broken && not ended) ≡ true → broken ≡ true
-is_broken true ended broke = refl
-is_broken false ended broke = broke
-
-not_at_end : (broken ended : Bool) → ended ≡ true → (broken && not ended) ≡ false
-not_at_end false ended over = refl
-not_at_end true true over = refl
-not_at_end true false over = absurd (true≢false (sym over))
-
-undone : (off broken ended : Bool) (waits : Option Line) (asked : List Request) (texts : List FileAnswer) → (broken ≡ true → off ≡ true) → IsUndone (broken && not ended) waits asked texts → IsUndone off waits asked texts
-undone off broken ended waits asked texts to (inl opens) = inl opens
-undone off broken ended waits asked texts to (inr (broke, none, lost)) = inr (to (is_broken broken ended broke), none, lost)
-
--- the script breaks off where the run ends by that
-sound : (failed : Option LineFault) (P : Type 0) → failed ≡ None → is_some failed ≡ true → P
-sound failed P none broke = absurd (true≢false (sym broke ∙ ap is_some none))
-
-breaks_off : {T : Type 0} (failed : Option LineFault) (outcome : Result T ConductFault) → MatchResult outcome (λ _. failed ≡ None) (λ f. EndsRun f failed) → is_some failed ≡ true → may_break_off outcome ≡ true
-breaks_off failed (Ok v) none broke = sound failed _ none broke
-breaks_off failed (Err fault.NoWorker) none broke = sound failed _ none broke
-breaks_off failed (Err fault.SpawnRefused) none broke = sound failed _ none broke
-breaks_off failed (Err (fault.StoreThrice e)) of_store broke = sound failed _ of_store.1 broke
-breaks_off failed (Err fault.ReadFault) lost broke = refl
-breaks_off failed (Err fault.Memory) lost broke = refl
-breaks_off failed (Err fault.Unequal) none broke = sound failed _ none broke
-
--- ---- the line of a fault
-whole_script : (T : Type 0) (answers status : ℕ) (f : ConductFault) (failed : Option LineFault) → IsEndStatus {T = T} answers (Err f) status → EndsRun f failed → status ≢ 4 → is_some failed ≡ false
-whole_script T answers status (fault.StoreThrice e) failed is of_store other = ap is_some of_store.1
-whole_script T answers status fault.NoWorker failed is ends other = absurd (other is)
-whole_script T answers status fault.SpawnRefused failed is ends other = absurd (other is)
-whole_script T answers status fault.ReadFault failed is ends other = absurd (other is)
-whole_script T answers status fault.Memory failed is ends other = absurd (other is)
-whole_script T answers status fault.Unequal failed is ends other = absurd (other is)
-
-closing : {T : Type 0} (first last after : Option (List ℕ)) (failed : Option LineFault) (answers status : ℕ) (outcome : Result T ConductFault)
-    → MatchResult outcome (λ _. failed ≡ None) (λ f. EndsRun f failed) → IsEndStatus answers outcome status
-    → IfErr outcome (λ f. status ≢ 4 → Appends last after (end_text f))
-    → IfErr outcome (λ f. status ≢ 4 → (is_some failed ≡ false) × ((xs : List ℕ) → Appends first last xs → Appends first after (xs ++ end_text f)))
-closing {T} first last after failed answers status (Ok v) ends is told = tt
-closing {T} first last after failed answers status (Err f) ends is told = λ other. (whole_script T answers status f failed is ends other, λ xs w. appends_then first last after xs (end_text f) w (told other))
-
-ended : {T : Type 0} (broken : Bool) (status : ℕ) (shows output : List ℕ → Type 0) (text : List ℕ) (outcome : Result T ConductFault)
-    → IfErr outcome (λ f. status ≢ 4 → (broken ≡ false) × ((xs : List ℕ) → shows xs → output (xs ++ end_text f)))
-    → (broken ≡ false → shows text) → IfErr outcome (λ f. status ≢ 4 → output (text ++ end_text f))
-ended broken status shows output text (Ok v) closes written = tt
-ended broken status shows output text (Err f) closes written = λ other. let fine = closes other in fine.1 text (written fine.0)
+ends_well : {T : Type 0} (told : Bool) (answers status : ℕ) (outcome : Result T ConductFault) → status ≡ end_status told answers outcome → status ≡ 0 → (is_ok outcome ≡ true) × (answers ≡ 0)
+ends_well false answers status outcome is z = absurd (omega (arith, is, z))
+ends_well true answers status (Ok v) is z = (refl, sym is ∙ z)
+ends_well true answers status (Err (fault.StoreThrice e)) is z = absurd (omega (arith, is, z))
+ends_well true answers status (Err fault.NoWorker) is z = absurd (omega (arith, is, z))
+ends_well true answers status (Err fault.SpawnRefused) is z = absurd (omega (arith, is, z))
+ends_well true answers status (Err fault.ReadFault) is z = absurd (omega (arith, is, z))
+ends_well true answers status (Err fault.Memory) is z = absurd (omega (arith, is, z))
+ends_well true answers status (Err fault.Unequal) is z = absurd (omega (arith, is, z))
 
 -- ---- what lines were told of a history
 untold : (x : Step) → is_reported x ≡ true → told_by x ≡ []
@@ -146,49 +93,57 @@ left_files [] tried a s t left clean keeps only trees may = elim (left.survives.
 left_files (e ∷ es) tried a s t left clean keeps only trees may = from_made (e ∷ es) tried a s trees keeps (left.gone (λ none. absurd (let n : e ∷ es ≡ [] = none in cc)) clean trees may)
 
 -- ---- the events of the minutes beside the script's lines
-pub named : {T : Type 0} (words : Texts) (before : ℕ) (first : Option (List ℕ)) (gives : List FileAnswer → Type 0) (clock : List (Schedule × Reading) → Type 0) (shows output : List ℕ → Type 0) (told : List Step) (start : Schedule) (minutes : List Event) (waits : Option Line) (left : Option (List ℕ)) (answers status lanes : ℕ) (broken over was_over : Bool) (outcome : Result T ConductFault)
-    → IsListed words → before ≡ 0 → HasDone words before first gives shows told waits left answers broken (over && not was_over) → (is_ok outcome ≡ true → (broken ≡ false) × ((xs : List ℕ) → shows xs → output xs)) → (broken ≡ true → may_break_off outcome ≡ true) → IfErr outcome (λ f. status ≢ 4 → (broken ≡ false) × ((xs : List ℕ) → shows xs → output (xs ++ end_text f)))
-    → (history last : List Step) → IsHistory lanes history told last → AreRight history start → minutes ≡ accepted history → clock (readings_in told) → was_over ≡ false
-    → (came_to_its_end outcome ≡ true → (over ≡ true) × (waits ≡ None)) → IsEndStatus answers outcome status
-    → (n : AreNamed first gives clock output lanes start minutes outcome status) × (n.history ≡ history)
-named words before first gives clock shows output told start minutes waits left answers status lanes broken over was_over outcome listed zero h writes breaks closes history last parts right made given fresh whole is =
-    let greatest : answers ≡ greatest_status h.done = omega (arith, h.status_is, zero) in
-    let ends : came_to_its_end outcome ≡ true → (over && not was_over) ≡ true = λ came. ap (λ b. b && not was_over) (whole came).0 ∙ ap not fresh in (
-      record {
-        words = words;
-        listed = listed;
-        done = h.done;
-        each = h.each;
-        waits = waits;
-        open_asked = h.open_asked;
-        open_texts = h.open_texts;
-        opens = undone (may_break_off outcome) broken (over && not was_over) waits h.open_asked h.open_texts breaks h.opens;
-        none_waits = λ came. (whole came).1;
-        texts = h.texts;
-        readings = subst (λ (xs : List Step). clock (readings_in xs)) h.stepped given;
-        history = history;
-        last = last;
-        parts = subst (λ (xs : List Step). IsHistory lanes history xs last) h.stepped parts;
-        right = right;
-        made = made;
-        answers_are =
-            ap (λ (es : List Event). answered es start) made ∙ right_answered history start right ∙ told_of_parts lanes history told last parts ∙ ap told_in h.stepped ∙ told_of_each (λ (d : Done). d.steps) h.done;
-        shown = λ well. let fine = writes well in fine.1 (flat_map (λ (d : Done). d.shown) h.done) (h.output fine.0);
-        ended_with = ended broken status shows output (flat_map (λ (d : Done). d.shown) h.done) outcome closes h.output;
-        read = λ known e.
-            let r = h.read known e in (
-              r.0,
-              r.1,
-              λ came.
-                  let end = whole came in
-                  let none : IsOpen None h.open_asked h.open_texts = subst (λ (w : Option Line). IsOpen w h.open_asked h.open_texts) end.1 (kept_open (broken && not (over && not was_over)) waits h.open_asked h.open_texts (not_at_end broken (over && not was_over) (ends came)) h.opens) in
-                  (none.0, r.2 (ends came)),
-            );
-        ended = subst (λ n. IsEndStatus n outcome status) greatest is;
-        whole = λ z. all_whole h.done h.each (sym greatest ∙ (ends_well answers status outcome is z).1);
-      },
-      refl,
-    )
+-- a reader of which nothing is read yet
+pub record IsFresh {R W F P : Type 0} (first : ScriptReader R W F P) : Type 0 where
+  pub over : first.is_over ≡ false
+  pub status : first.answers.status ≡ 0
+  pub written : first.answers.is_written ≡ true
+
+module _ {R W F P : Type 0} (remaining : R → Option (List ℕ)) (contents : W → Option (List ℕ)) (gives : F → List FileAnswer → F → Type 0) where
+  pub named : {T : Type 0} (first last : ScriptReader R W F P) (clock : List (Schedule × Reading) → Type 0) (output : W) (steps_told : List Step) (start : Schedule) (minutes : List Event) (waits : Option Line) (told : Bool) (status lanes : ℕ) (outcome : Result T ConductFault)
+      → IsFresh first → Tells remaining contents gives first steps_told waits last
+      → (told ≡ true → (last.answers.is_written ≡ true) × Appends (contents last.answers.output) (contents output) (last_text outcome))
+      → (is_ok outcome ≡ true → (told ≡ last.answers.is_written) × (is_some last.failed ≡ false)) → status ≡ end_status told last.answers.status outcome
+      → (history behind : List Step) → IsHistory lanes history steps_told behind → AreRight history start → minutes ≡ accepted history → clock (readings_in steps_told)
+      → (came_to_its_end outcome ≡ true → (last.is_over ≡ true) × (waits ≡ None))
+      → (n : AreNamed (remaining first.commands.input) (λ given. gives first.sources given last.sources) clock (λ shown. Appends (contents first.answers.output) (contents output) shown) lanes start minutes outcome told status) × (n.history ≡ history)
+  named first last clock output steps_told start minutes waits told status lanes outcome fresh h closes well is history behind parts right made given whole =
+      let greatest : last.answers.status ≡ greatest_status h.done = omega (arith, h.status_is, fresh.status) in
+      let ends : came_to_its_end outcome ≡ true → (last.is_over && not first.is_over) ≡ true = λ came. ap (λ b. b && not first.is_over) (whole came).0 ∙ ap not fresh.over in (
+        record {
+          done = h.done;
+          each = h.each;
+          waits = waits;
+          open_asked = h.open_asked;
+          open_texts = h.open_texts;
+          opens = h.opens;
+          none_waits = λ came. (whole came).1;
+          texts = h.texts;
+          readings = subst (λ (xs : List Step). clock (readings_in xs)) h.stepped given;
+          history = history;
+          last = behind;
+          parts = subst (λ (xs : List Step). IsHistory lanes history xs behind) h.stepped parts;
+          right = right;
+          made = made;
+          answers_are =
+              ap (λ (es : List Event). answered es start) made ∙ right_answered history start right ∙ told_of_parts lanes history steps_told behind parts ∙ ap told_in h.stepped ∙ told_of_each (λ (d : Done). d.steps) h.done;
+          shown = λ all.
+              let end = closes all in
+              appends_then (contents first.answers.output) (contents last.answers.output) (contents output) (flat_map (λ (d : Done). d.shown) h.done) (last_text outcome) (h.output end.0) end.1;
+          all_told = λ ok. let all = well ok in all.0 ∙ h.kept all.1 ∙ fresh.written;
+          read = λ known e.
+              let r = h.read known e in (
+                r.0,
+                r.1,
+                λ came.
+                    let none : IsOpen None h.open_asked h.open_texts = subst (λ (w : Option Line). IsOpen w h.open_asked h.open_texts) (whole came).1 h.opens in
+                    (none.0, r.2 (ends came)),
+              );
+          ended = subst (λ n. status ≡ end_status told n outcome) greatest is;
+          whole = λ z. all_whole h.done h.each (sym greatest ∙ (ends_well told last.answers.status status outcome is z).1);
+        },
+        refl,
+      )
 
 -- ---- the whole run
 where_well : {A : Type 0} (P : Type 0) (r : Result A ConductFault) → (came_to_its_end r ≡ true → P) → OnOk r P
@@ -204,7 +159,7 @@ none_made none made untouched (Ok v) to was = tt
 none_made none made untouched (Err f) to was = λ is. let both = was is in (to both.0, both.1)
 
 module _ {S G O : Type 0} (look : Held S → State) (shows : Shows O) where
-  pub is_run : (bytes : Option (List ℕ)) (gives : List FileAnswer → Type 0) (clock : List (Schedule × Reading) → Type 0) (output : List ℕ → Type 0) (lanes : ℕ) (kits : List (Kit O)) (before : State) (d : DirectorValue S) (conducted : Conducted S G O) (status : ℕ)
+  pub is_run : (bytes : Option (List ℕ)) (gives : List FileAnswer → Type 0) (clock : List (Schedule × Reading) → Type 0) (output : List ℕ → Type 0) (lanes : ℕ) (kits : List (Kit O)) (before : State) (d : DirectorValue S) (conducted : Conducted S G O) (told : Bool) (status : ℕ)
       (are_told : List Step → Option Line → Type 0) (untouched quiet : Type 0) (failed : Option LineFault) (over : Bool)
       → (c : IsConducted look shows lanes kits d conducted are_told untouched failed over) → (untouched → quiet)
       → IsSoundAndSaid d.schedule.content
@@ -213,9 +168,9 @@ module _ {S G O : Type 0} (look : Held S → State) (shows : Shows O) where
       → (HasCleanDisk (look d.store) → HasCleanDisk before)
       → (before.faults ≤ (look d.store).faults) × (HasCleanDisk (look d.store) → IsTrue (look d.store).is_open)
       → (HasCleanDisk (look d.store) → (trees : Trees) → (look d.store).may_leave trees → trees ≡ (look d.store).now.trees)
-      → (named : AreNamed bytes gives clock output lanes d.schedule.content conducted.minutes.items conducted.outcome status) → named.history ≡ c.history
-      → IsRun look shows bytes gives clock output quiet lanes kits before conducted.director.store conducted.minutes.items conducted.ends.items conducted.outcome status
-  is_run bytes gives clock output lanes kits before d conducted status are_told untouched quiet failed over c to sound opened restarted clean_before is_open only named same =
+      → (named : AreNamed bytes gives clock output lanes d.schedule.content conducted.minutes.items conducted.outcome told status) → named.history ≡ c.history
+      → IsRun look shows bytes gives clock output quiet lanes kits before conducted.director.store conducted.minutes.items conducted.ends.items conducted.outcome told status
+  is_run bytes gives clock output lanes kits before d conducted told status are_told untouched quiet failed over c to sound opened restarted clean_before is_open only named same =
       let a = d.schedule.content in
       let es = conducted.minutes.items in
       record {
@@ -238,7 +193,7 @@ module _ {S G O : Type 0} (look : Held S → State) (shows : Shows O) where
             let keeps : Keeps a (look d.store).now = subst (λ (x : Schedule). Keeps x (look d.store).now) (sym (opened first rows has).stepped.after) (restarted first rows has) in
             left_files es (tried_at_end named.history) a (look d.store) (look conducted.director.store)
             (subst (λ (h : List Step). Leaves es (tried_at_end h) a (look d.store) (look conducted.director.store)) (sym same) c.left) clean keeps (only first);
-        well = λ z. (ends_well _ status conducted.outcome named.ended z).0;
+        well = λ z. (ends_well told _ status conducted.outcome named.ended z).0;
         failed = failed;
         fault = c.fault;
         workers = c.workers;
@@ -259,34 +214,17 @@ ok_so : {A : Type 0} (P : Type 0) (r : Result A ConductFault) → OnOk r P → i
 ok_so P (Ok v) p well = p
 ok_so P (Err f) p well = absurd (true≢false (sym well))
 
--- a reader of which nothing is read yet
-pub record IsFresh {R W F P : Type 0} (first : ScriptReader R W F P) : Type 0 where
-  pub over : first.is_over ≡ false
-  pub status : first.status ≡ 0
-  pub listed : IsListed first.words.names
-
 module _ {S G O R W F P C : Type 0} (look : Held S → State) (shows : Shows O) (remaining : R → Option (List ℕ)) (contents : W → Option (List ℕ)) (gives : F → List FileAnswer → F → Type 0) (ticks : C → List (Schedule × Reading) → C → Type 0) where
   -- what comes back of what was conducted, with the last state of the reader
-  pub record ComesBack (conducted : Conducted S G O) (last : ScriptReader R W F P) (store : Held S) (minutes : List Event) (ends : List (WorkerEnd G O)) (outcome : Result Total ConductFault) (status : ℕ) (sources : F) (output : W) : Type 0 where
+  pub record ComesBack (conducted : Conducted S G O) (last : ScriptReader R W F P) (store : Held S) (minutes : List Event) (ends : List (WorkerEnd G O)) (outcome : Result Total ConductFault) (told : Bool) (status : ℕ) (sources : F) (output : W) : Type 0 where
     pub store_is : store ≡ conducted.director.store
     pub minutes_are : minutes ≡ conducted.minutes.items
     pub ends_are : ends ≡ conducted.ends.items
     pub outcome_is : outcome ≡ conducted.outcome
-    pub status_is : IsEndStatus last.status conducted.outcome status
+    pub told_is : told ≡ true → (last.answers.is_written ≡ true) × Appends (contents last.answers.output) (contents output) (last_text conducted.outcome)
+    pub well_is : OnOk conducted.outcome (told ≡ last.answers.is_written)
+    pub status_is : status ≡ end_status told last.answers.status conducted.outcome
     pub sources_are : sources ≡ last.sources
-    pub output_is : OnOk conducted.outcome (output ≡ last.output)
-    pub ended_is : IfErr conducted.outcome (λ f. status ≢ 4 → Appends (contents last.output) (contents output) (end_text f))
-
-  -- what was written, where the run ended well
-  writes : (lanes : ℕ) (kits : List (Kit O)) (d : DirectorValue S) (conducted : Conducted S G O) (first last : ScriptReader R W F P) (clock later : C) (output : W)
-      → IsConducted look shows lanes kits d conducted (λ told waits. Tells remaining contents gives first told waits last × ticks clock (readings_in told) later) ((last ≡ first) × (later ≡ clock)) last.failed last.is_over
-      → OnOk conducted.outcome (output ≡ last.output) → is_ok conducted.outcome ≡ true
-      → (is_some last.failed ≡ false) × ((xs : List ℕ) → Appends (contents first.output) (contents last.output) xs → Appends (contents first.output) (contents output) xs)
-  writes lanes kits d conducted first last clock later output c at well =
-      let same : output ≡ last.output = ok_so (output ≡ last.output) conducted.outcome at well in (
-        ok_sound _ last.failed conducted.outcome c.fault well,
-        λ xs w. subst (λ (o : W). Appends (contents first.output) (contents o) xs) (sym same) w,
-      )
 
   pub ran : (lanes : ℕ) (kits : List (Kit O)) (before : State) (d : DirectorValue S) (conducted : Conducted S G O) (first last : ScriptReader R W F P) (clock later : C)
       → IsConducted look shows lanes kits d conducted (λ told waits. Tells remaining contents gives first told waits last × ticks clock (readings_in told) later) ((last ≡ first) × (later ≡ clock)) last.failed last.is_over
@@ -297,23 +235,24 @@ module _ {S G O R W F P C : Type 0} (look : Held S → State) (shows : Shows O) 
       → (before.faults ≤ (look d.store).faults) × (HasCleanDisk (look d.store) → IsTrue (look d.store).is_open)
       → (HasCleanDisk (look d.store) → (trees : Trees) → (look d.store).may_leave trees → trees ≡ (look d.store).now.trees)
       → IsFresh first
-      → (store : Held S) (minutes : List Event) (ends : List (WorkerEnd G O)) (outcome : Result Total ConductFault) (status : ℕ) (sources : F) (output : W) → ComesBack conducted last store minutes ends outcome status sources output
-      → IsRun look shows (remaining first.input) (λ given. gives first.sources given sources) (λ moments. ticks clock moments later) (λ shown. Appends (contents first.output) (contents output) shown) ((sources ≡ first.sources) × (later ≡ clock)) lanes kits before store minutes ends outcome status
-  ran lanes kits before d conducted first last clock later c sound opened restarted clean_before is_open only fresh store minutes ends outcome status sources output back =
+      → (store : Held S) (minutes : List Event) (ends : List (WorkerEnd G O)) (outcome : Result Total ConductFault) (told : Bool) (status : ℕ) (sources : F) (output : W) → ComesBack conducted last store minutes ends outcome told status sources output
+      → IsRun look shows (remaining first.commands.input) (λ given. gives first.sources given sources) (λ moments. ticks clock moments later) (λ shown. Appends (contents first.answers.output) (contents output) shown) ((sources ≡ first.sources) × (later ≡ clock)) lanes kits before store minutes ends outcome told status
+  ran lanes kits before d conducted first last clock later c sound opened restarted clean_before is_open only fresh store minutes ends outcome told status sources output back =
       let es = conducted.minutes.items in
       let t = c.told in
-      let bytes = remaining first.input in
+      let bytes = remaining first.commands.input in
       let files : List FileAnswer → Type 0 = λ given. gives first.sources given last.sources in
       let times : List (Schedule × Reading) → Type 0 = λ moments. ticks clock moments later in
-      let text : List ℕ → Type 0 = λ shown. Appends (contents first.output) (contents output) shown in
+      let text : List ℕ → Type 0 = λ shown. Appends (contents first.answers.output) (contents output) shown in
       let quiet : Type 0 = (last.sources ≡ first.sources) × (later ≡ clock) in
-      let named_here : (n : AreNamed bytes files times text lanes d.schedule.content es conducted.outcome status) × (n.history ≡ c.history) =
-      named first.words.names first.status bytes files times (Appends (contents first.output) (contents last.output)) text c.steps_told d.schedule.content es c.waits (remaining last.input) last.status status lanes (is_some last.failed) last.is_over first.is_over conducted.outcome
-      fresh.listed fresh.status t.0.1 (writes lanes kits d conducted first last clock later output c back.output_is) (breaks_off last.failed conducted.outcome c.fault) (closing (contents first.output) (contents last.output) (contents output) last.failed last.status status conducted.outcome c.fault back.status_is back.ended_is) c.history c.last c.parts c.right c.minutes t.1 fresh.over (λ came. let end = c.whole came in (end.0, end.1)) back.status_is
+      let named_here : (n : AreNamed bytes files times text lanes d.schedule.content es conducted.outcome told status) × (n.history ≡ c.history) =
+      named remaining contents gives first last times output c.steps_told d.schedule.content es c.waits told status lanes conducted.outcome
+      fresh t.0 back.told_is (λ well. (ok_so (told ≡ last.answers.is_written) conducted.outcome back.well_is well, ok_sound _ last.failed conducted.outcome c.fault well)) back.status_is
+      c.history c.last c.parts c.right c.minutes t.1 (λ came. let end = c.whole came in (end.0, end.1))
       in
-      let here = is_run look shows bytes files times text lanes kits before d conducted status _ ((last ≡ first) × (later ≡ clock)) quiet last.failed last.is_over c (λ same. (ap (λ (r : ScriptReader R W F P). r.sources) same.0, same.1)) sound opened restarted clean_before is_open only named_here.0 named_here.1 in
-      subst (λ (f : F). IsRun look shows bytes (λ given. gives first.sources given f) times text ((f ≡ first.sources) × (later ≡ clock)) lanes kits before store minutes ends outcome status) (sym back.sources_are)
-      (subst (λ (s : Held S). IsRun look shows bytes files times text quiet lanes kits before s minutes ends outcome status) (sym back.store_is)
-      (subst (λ (l : List Event). IsRun look shows bytes files times text quiet lanes kits before conducted.director.store l ends outcome status) (sym back.minutes_are)
-      (subst (λ (l : List (WorkerEnd G O)). IsRun look shows bytes files times text quiet lanes kits before conducted.director.store es l outcome status) (sym back.ends_are)
-      (subst (λ (o : Result Total ConductFault). IsRun look shows bytes files times text quiet lanes kits before conducted.director.store es conducted.ends.items o status) (sym back.outcome_is) here))))
+      let here = is_run look shows bytes files times text lanes kits before d conducted told status _ ((last ≡ first) × (later ≡ clock)) quiet last.failed last.is_over c (λ same. (ap (λ (r : ScriptReader R W F P). r.sources) same.0, same.1)) sound opened restarted clean_before is_open only named_here.0 named_here.1 in
+      subst (λ (f : F). IsRun look shows bytes (λ given. gives first.sources given f) times text ((f ≡ first.sources) × (later ≡ clock)) lanes kits before store minutes ends outcome told status) (sym back.sources_are)
+      (subst (λ (s : Held S). IsRun look shows bytes files times text quiet lanes kits before s minutes ends outcome told status) (sym back.store_is)
+      (subst (λ (l : List Event). IsRun look shows bytes files times text quiet lanes kits before conducted.director.store l ends outcome told status) (sym back.minutes_are)
+      (subst (λ (l : List (WorkerEnd G O)). IsRun look shows bytes files times text quiet lanes kits before conducted.director.store es l outcome told status) (sym back.ends_are)
+      (subst (λ (o : Result Total ConductFault). IsRun look shows bytes files times text quiet lanes kits before conducted.director.store es conducted.ends.items o told status) (sym back.outcome_is) here))))

@@ -1,5 +1,5 @@
 -- What the run of a script promises.
-use Rattle.std.specs.Prelude.{◌≡◌, ◌==◌, ◌++◌, ℕ, ◌<◌, true, List, [], length, Option, None, Result, is_ok, IfErr, IfOk, IsTrue, MatchResult, OnOk}
+use Rattle.std.specs.Prelude.{◌≡◌, ◌==◌, ◌++◌, ℕ, ◌<◌, Bool, true, List, [], length, Option, None, Result, is_ok, IfErr, IfOk, IsTrue, MatchResult, OnOk}
 use Rattle.sqlite.specs.Held.{Held}
 use Rattle.sqlite.specs.Effect.{Database}
 use Rattle.sqlite.specs.State.{State, HasCleanDisk}
@@ -31,10 +31,10 @@ use Rattle.script_reader.specs.Done.{FileAnswer}
 use Rattle.script_runner.specs.Named.{AreNamed}
 
 -- A script of these bytes was run with so many lanes and these kits on what a record held before: what the record is now, the minutes, what became of the
--- crews, and the status. The sources and the clock gave what their relations say, or were asked nothing (untouched); the output has grown as its relation
--- says.
+-- crews, whether all that was put is written (told), and the status. The sources and the clock gave what their relations say, or were asked nothing
+-- (untouched); the output has grown as its relation says.
 -- restates: this project's own profile
-pub record IsRun {S G O : Type 0} (look : Held S → State) (shows : Shows O) (bytes : Option (List ℕ)) (sources : List FileAnswer → Type 0) (clock : List (Schedule × Reading) → Type 0) (output : List ℕ → Type 0) (untouched : Type 0) (lanes : ℕ) (kits : List (Kit O)) (before : State) (store : Held S) (minutes : List Event) (ends : List (WorkerEnd G O)) (outcome : Result Total ConductFault) (status : ℕ) : Type 0 where
+pub record IsRun {S G O : Type 0} (look : Held S → State) (shows : Shows O) (bytes : Option (List ℕ)) (sources : List FileAnswer → Type 0) (clock : List (Schedule × Reading) → Type 0) (output : List ℕ → Type 0) (untouched : Type 0) (lanes : ℕ) (kits : List (Kit O)) (before : State) (store : Held S) (minutes : List Event) (ends : List (WorkerEnd G O)) (outcome : Result Total ConductFault) (told : Bool) (status : ℕ) : Type 0 where
   -- the schedule that was opened, without lanes, and the answer to its restart
   pub first : Schedule
   pub given : Answer
@@ -53,7 +53,7 @@ pub record IsRun {S G O : Type 0} (look : Held S → State) (shows : Shows O) (b
   pub stored : HasCleanDisk (look store) → IsTrue (look store).is_open → (rows : Rows) → HasRows before.now rows → Keeps (steps minutes first) (look store).now
   -- those that are no report and no restart, with their answers, are what the script's lines name; what is shown is of these; and the status is that of what
   -- was done and of the end
-  pub named : AreNamed bytes sources clock output lanes first minutes outcome status
+  pub named : AreNamed bytes sources clock output lanes first minutes outcome told status
   -- whatever shut the record: where it had rows, in either version, a crash leaves of it the schedule after the minutes, or after one event more that was tried
   -- behind them
   pub left : HasCleanDisk (look store) → (rows : Rows) → HasRows before.now rows → (trees : Trees) → (look store).may_leave trees

@@ -1,5 +1,5 @@
 -- Teams: for each worker a list of operators, which become its kit.
-use Rattle.std.specs.Prelude.{◌≡◌, ℕ, true, List, [], ◌∷◌, length, map, All, Option, Result}
+use Rattle.std.specs.Prelude.{◌≡◌, ℕ, Bool, true, List, [], ◌∷◌, length, map, All, Option, Result}
 use Rattle.graph_file.specs.declared.operators.Operator.{Operator as Kind}
 use Rattle.sqlite.specs.Held.{Held}
 use Rattle.sqlite.specs.State.{State}
@@ -36,13 +36,13 @@ module _ {O : Type 0} (kind_of : O → Kind) where
 
 -- what `run_on` promises of a script that workers with these operators ran
 -- restates: this project's own profile
-pub record IsTeamRun {S G O : Type 0} (look : Held S → State) (shows : Shows O) (bytes : Option (List ℕ)) (sources : List FileAnswer → Type 0) (clock : List (Schedule × Reading) → Type 0) (output : List ℕ → Type 0) (untouched : Type 0) (lanes : ℕ) (operators : List (List O)) (before : State) (store : Held S) (minutes : List Event) (ends : List (WorkerEnd G O)) (outcome : Result Total ConductFault) (status : ℕ) : Type 0 where
+pub record IsTeamRun {S G O : Type 0} (look : Held S → State) (shows : Shows O) (bytes : Option (List ℕ)) (sources : List FileAnswer → Type 0) (clock : List (Schedule × Reading) → Type 0) (output : List ℕ → Type 0) (untouched : Type 0) (lanes : ℕ) (operators : List (List O)) (before : State) (store : Held S) (minutes : List Event) (ends : List (WorkerEnd G O)) (outcome : Result Total ConductFault) (told : Bool) (status : ℕ) : Type 0 where
   pub kits : List (Kit O)
   pub made : AreKitsOf shows.kind_of operators kits
-  pub run : IsRun look shows bytes sources clock output untouched lanes kits before store minutes ends outcome status
+  pub run : IsRun look shows bytes sources clock output untouched lanes kits before store minutes ends outcome told status
 
 -- A script was run with so many lanes by a team as `operators_for` makes it: so many workers, each with one operator of each kind, which had performed no try,
--- and with an open gate. The minutes, the ends of the workers and the outcome are some.
+-- and with an open gate. The minutes, the ends of the workers, the outcome and whether all is told are some.
 -- restates: this project's own profile
 pub record IsRunByTeam {S O : Type 0} (look : Held S → State) (o : operator.Ghosts O) (bytes : Option (List ℕ)) (sources : List FileAnswer → Type 0) (clock : List (Schedule × Reading) → Type 0) (output : List ℕ → Type 0) (untouched : Type 0) (workers lanes : ℕ) (before : State) (store : Held S) (status : ℕ) : Type 0 where
   pub operators : List (List O)
@@ -52,4 +52,5 @@ pub record IsRunByTeam {S O : Type 0} (look : Held S → State) (o : operator.Gh
   pub minutes : List Event
   pub ends : List (WorkerEnd OpenGate O)
   pub outcome : Result Total ConductFault
-  pub run : IsTeamRun look (shows o.kind_of o.runs_of o.refused_of o.taken) bytes sources clock output untouched lanes operators before store minutes ends outcome status
+  pub told : Bool
+  pub run : IsTeamRun look (shows o.kind_of o.runs_of o.refused_of o.taken) bytes sources clock output untouched lanes operators before store minutes ends outcome told status

@@ -1,8 +1,8 @@
 //! Files by their paths.
-ghost use Rattle.std.specs.Prelude.{◌≡◌, ◌<◌, ◌≤◌, IfErr, IfOk, IsOk, length, string_bytes};
+ghost use Rattle.std.specs.Prelude.{◌≡◌, ◌≢◌, ◌<◌, ◌≤◌, IfErr, IfOk, IsOk, length, string_bytes};
 ghost use Rattle.std.specs.Str.{IsUtf8};
 ghost use Rattle.std.specs.IoError.{error_kind};
-ghost use Rattle.script_commands.specs.declared.commands.SourceFault.TheVariants.{NotText, TooLong};
+ghost use Rattle.script_commands.specs.declared.commands.SourceFault.TheVariants.{NoEnd, NotText, TooLong};
 ghost use Rattle.script_runner.specs.SystemFaults.{file_fault};
 
 use graph_file::TEXT_LIMIT;
@@ -46,6 +46,7 @@ fn text_of(bytes: Vec<u8>) -> Result<String, SourceFault>
     ensures taken { length bytes.items ≤ 1_048_576 → IsUtf8 bytes.items → IsOk result }
     ensures long { 1_048_576 < length bytes.items → result ≡ Err TooLong }
     ensures fault { length bytes.items ≤ 1_048_576 → IfErr result (λ f. f ≡ NotText) }
+    ensures file { IfErr result (λ f. f ≢ NoEnd) }
 {
     if bytes.len() > TEXT_LIMIT {
         return Err(SourceFault::TooLong);
@@ -58,7 +59,8 @@ fn text_of(bytes: Vec<u8>) -> Result<String, SourceFault>
 
 // Why the system gave no bytes.
 fn fault_of(error: &io::Error) -> SourceFault
-    ensures { result ≡ file_fault (error_kind error.now) }
+    ensures fault { result ≡ file_fault (error_kind error.now) }
+    ensures file { result ≢ NoEnd }
 {
     match error.kind() {
         ErrorKind::OutOfMemory => SourceFault::Memory,

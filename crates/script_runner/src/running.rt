@@ -1,5 +1,5 @@
 //! A script that is run on a record, by workers.
-ghost use Rattle.std.specs.Prelude.{◌≡◌, ◌≢◌, ◌≤◌, All, IfOk, IfErr, IsTrue, OnOk, length, map};
+ghost use Rattle.std.specs.Prelude.{◌≡◌, ◌≤◌, true, All, IfOk, IfErr, IsTrue, OnOk, length, map};
 ghost use Rattle.std.specs.Io.KnownBytes.{Appends};
 ghost use Rattle.sqlite.specs.Held.{state};
 ghost use Rattle.sqlite.specs.State.{HasCleanDisk, Survives};
@@ -9,7 +9,7 @@ ghost use Rattle.conduct.specs.Ends.{AreKept};
 ghost use Rattle.conduct.specs.sessions.director.Directors.{RestartsIn};
 ghost use Rattle.conduct.specs.sessions.director.Faults.{IsOpenFault, IsRefused};
 ghost use Rattle.conduct.specs.sessions.director.meta_store.Stores.{CommitsBy, IsKeptOrMigrated, Migrates, OpensBy};
-ghost use Rattle.script_reader.specs.Ends.{IsEndStatus, end_text};
+ghost use Rattle.script_reader.specs.Ends.{end_status, last_text};
 ghost use Rattle.workers.specs.Shows.{shows};
 ghost use Rattle.script_runner.specs.Runs.{IsRun};
 
@@ -18,7 +18,7 @@ use conduct::{
 };
 use operators::Operator;
 use sched_events::Event;
-use script_reader::{Console, Script, ScriptReader, Sources};
+use script_reader::{Closed, Console, Script, ScriptReader, Sources};
 use slot_desk::Total;
 use sqlite::Alter;
 use std::alloc::Global;
@@ -44,6 +44,8 @@ pub struct Ran<S: Alter, G: Gate, O: Operator, F: Sources, W: Write + Drop> {
     /// How it went: the greatest status of the answers and of the end. 0 where all was accepted, 1 where an event was refused or a question has no
     /// answer, 2 where a line is no command, 3 for a fault of the record, 4 for any other.
     pub status: u8,
+    /// Whether all that was put where the answers go is written: the answers, and the line of the fault that the run ended with.
+    pub told: bool,
     /// The events that were accepted, in their order, from the restart on.
     pub minutes: Kept<Event>,
     /// What became of the crews, in their order, also where the run ended with a fault. Before an event was stepped there may be none.
@@ -97,7 +99,7 @@ pub fn run_on<
     ensures run { IfOk result (λ ran. IsRun (state S.Store) (shows O.kind_of O.runs_of O.refused_of O.taken) (R.Read.remaining script.input)
         (λ given. F.gives script.sources given ran.sources) (λ moments. C.gives clock.old moments clock.new)
         (λ shown. Appends (W.contents script.output) (W.contents ran.output) shown)
-        ((ran.sources ≡ script.sources) × (clock.new ≡ clock.old)) options.lanes (map (λ c. c.kit) crews.items) (state S.Store store) ran.store ran.minutes.items ran.ends.items ran.outcome ran.status) }
+        ((ran.sources ≡ script.sources) × (clock.new ≡ clock.old)) options.lanes (map (λ c. c.kit) crews.items) (state S.Store store) ran.store ran.minutes.items ran.ends.items ran.outcome ran.told ran.status) }
     ensures keep { IfOk result (λ ran. AreKept options.keep ran.minutes ran.ends.items) }
     ensures fault { IfErr result (λ e. HasCleanDisk (state S.Store e.store)
         → IsOpenFault ceilings 0 (state S.Store store).now e.fault) }
@@ -157,13 +159,14 @@ fn close<
     P: Console,
 >(reader: ScriptReader<R, W, F, P>, conducted: Conducted<S, G, O>) -> Ran<S, G, O, F, W>
     ensures store { result.store ≡ conducted.director.store }
-    ensures status { IsEndStatus reader.status conducted.outcome result.status }
+    ensures told { result.told ≡ true → (reader.answers.is_written ≡ true)
+        × Appends (W.contents reader.answers.output) (W.contents result.output) (last_text conducted.outcome) }
+    ensures well { OnOk conducted.outcome (result.told ≡ reader.answers.is_written) }
+    ensures status { result.status ≡ end_status result.told reader.answers.status conducted.outcome }
     ensures minutes { result.minutes ≡ conducted.minutes }
     ensures ends { result.ends ≡ conducted.ends }
     ensures outcome { result.outcome ≡ conducted.outcome }
     ensures sources { result.sources ≡ reader.sources }
-    ensures output { OnOk conducted.outcome (result.output ≡ reader.output) }
-    ensures ended { IfErr conducted.outcome (λ f. result.status ≢ 4 → Appends (W.contents reader.output) (W.contents result.output) (end_text f)) }
 {
     let Conducted {
         director,
@@ -171,10 +174,16 @@ fn close<
         ends,
         outcome,
     } = conducted;
-    let (status, sources, output) = reader.close(director.schedule(), &outcome);
+    let Closed {
+        status,
+        told,
+        sources,
+        output,
+    } = reader.close(director.schedule(), &outcome);
     Ran {
         store: director.close(),
         status,
+        told,
         minutes,
         ends,
         outcome,

@@ -50,7 +50,7 @@ pub fn run_team<
     ensures run { IfOk result (λ ran. IsTeamRun (state S.Store) (shows O.kind_of O.runs_of O.refused_of O.taken) (R.Read.remaining script.input)
         (λ given. F.gives script.sources given ran.sources) (λ moments. C.gives clock.old moments clock.new)
         (λ shown. Appends (W.contents script.output) (W.contents ran.output) shown)
-        ((ran.sources ≡ script.sources) × (clock.new ≡ clock.old)) options.lanes (map (λ w. w.0.items) team.items) (state S.Store store) ran.store ran.minutes.items ran.ends.items ran.outcome ran.status) }
+        ((ran.sources ≡ script.sources) × (clock.new ≡ clock.old)) options.lanes (map (λ w. w.0.items) team.items) (state S.Store store) ran.store ran.minutes.items ran.ends.items ran.outcome ran.told ran.status) }
     ensures keep { IfOk result (λ ran. AreKept options.keep ran.minutes ran.ends.items) }
     ensures fault { IfErr result (λ e. HasCleanDisk (state S.Store e.store)
         → IsOpenFault ceilings 0 (state S.Store store).now e.fault) }

@@ -1,5 +1,5 @@
 -- The command line of the program, as clap reads it: one command with fourteen commands under it.
-use Rattle.std.specs.Prelude.{codes, true, List, []}
+use Rattle.std.specs.Prelude.{◌≡◌, codes, true, List, [], ◌∷◌, map}
 use Rattle.std.specs.Borrow.{Bor}
 use Rattle.clap.specs.Words.{App, Shape, Text, new_app, with_rule, with_subcommand}
 use Rattle.clap.specs.declared.builder.value_parser.ValueParser.TheVariants as parser
@@ -8,6 +8,19 @@ use Rattle.word_app.specs.Rules.{word, checked_word, flag, option, dag_word, poo
 -- texts, wherever they lie in memory
 abbrev pub Texts : Type 0
 Texts = Bor (List (Bor Text))
+
+-- the words that `list` takes, in their order
+-- restates: this project's own profile
+abbrev pub row_words : List Text
+row_words = codes "dags" ∷ codes "runs" ∷ codes "tasks" ∷ codes "pools" ∷ []
+
+-- these are they
+abbrev pub IsListed : Texts → Type 0
+IsListed names = map (λ name. name.now) names.now ≡ row_words
+
+-- a value at one place in memory
+abbrev pub somewhere : {X : Type 0} → X → Bor X
+somewhere x = record { ref_ptr = (0, 0); now = x }
 
 -- `NAME DAG`
 -- restates: this project's own profile
@@ -114,5 +127,10 @@ with_script_words app = with_subcommand (with_subcommand (with_path (with_path a
 
 -- the program's command, where these are the words that `list` takes
 -- restates: clap 4: `Command`
-abbrev pub dagsched : Texts → App
-dagsched names = with_script_words (with_repairs (with_dags (with_looks names)))
+abbrev pub dagsched_at : Texts → App
+dagsched_at names = with_script_words (with_repairs (with_dags (with_looks names)))
+
+-- the program's command; where those words lie makes no difference to what clap makes of words
+-- restates: clap 4: `Command`
+abbrev pub dagsched : App
+dagsched = dagsched_at (somewhere (map somewhere row_words))

@@ -108,7 +108,7 @@ fn with_script_words<'a>(alloc: Global, command: Command<'a>) -> Result<Command<
 ///
 /// An `Err` says that memory ran out.
 pub fn command<'a>(alloc: Global, names: &'a [&'a str]) -> Result<Command<'a>, AllocError>
-    ensures { IfOk result (λ c. app_of c ≡ spec.dagsched names.entry) }
+    ensures { IfOk result (λ c. app_of c ≡ spec.dagsched_at names.entry) }
 {
     let looks = with_looks(alloc, names)?;
     let named = with_dags(alloc, looks)?;

@@ -20,10 +20,8 @@ use crate::put_lines;
 use crate::recording::Recorder;
 use crate::records::{Directed, Records, Tally};
 use crate::stepping::{reopen, step};
-use command_words::CommandReader;
 use sched_core::Limits;
-use script_commands::{CommandFault, ScriptCommand, SourceFault, next_command};
-use script_lines::LineReader;
+use script_commands::{CommandFault, LineReader, ScriptCommand, SourceFault, next_command};
 use sqlite::Alter;
 use std::alloc::Global;
 use std::io::{self, Write};
@@ -207,6 +205,6 @@ pub(crate) fn next_request<'a>(
     text: &'a [u8],
 ) -> io::Result<Asked<'a>> {
     let mut left = text;
-    let request = next_command(alloc, &CommandReader::new(), lines, &mut left)?;
+    let request = next_command(alloc, lines, &mut left)?;
     Ok((request, left))
 }

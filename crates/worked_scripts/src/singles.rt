@@ -97,13 +97,13 @@ fn answer<S: Alter + Drop>(
     let alloc = host.alloc();
     let mut printed = Vec::new(alloc);
     let mut console = SentenceConsole::in_memory(*host, alloc, words);
-    let (record, status) = run_command(alloc, record, command, &mut printed, &mut console);
+    let left = run_command(alloc, record, command, &mut printed, &mut console);
     let answered = Answered {
         printed,
         told: console.into_output(),
-        status,
+        status: left.status,
     };
-    (record, answered)
+    (left.store, answered)
 }
 
 fn words_of(alloc: Global, line: &[u8]) -> Result<Vec<String>, AllocError> {

@@ -1,6 +1,6 @@
 //! Words and lines of texts, also of readers that fail once. `|` stands for a newline and `~` for a carriage return.
 use crate::graphs::replaced;
-use script_lines::{Found, LineReader};
+use script_commands::{Found, LineReader};
 use std::io::{self, ErrorKind, Read};
 use std::str;
 use text_words::next_word;

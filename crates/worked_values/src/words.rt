@@ -2,7 +2,7 @@
 //! an empty text is one empty word.
 use crate::commands::write_command_line;
 use crate::usage_faults::write_fault;
-use command_words::CommandReader;
+use command_words::{read_command, refusal_text};
 use std::alloc::{AllocError, Global};
 use std::io;
 
@@ -18,7 +18,7 @@ pub(crate) fn write_answer(rt: &HostRuntime, word: &str, rest: &str) -> io::Resu
 
 // What words are read as, or why they are no command.
 fn write_reading(rt: &HostRuntime, words: &[String]) -> io::Result<()> {
-    match CommandReader::new().read(rt.alloc(), words) {
+    match read_command(rt.alloc(), words) {
         Ok(line) => write_command_line(rt, &line),
         Err(fault) => write_fault(rt, fault),
     }
@@ -26,7 +26,7 @@ fn write_reading(rt: &HostRuntime, words: &[String]) -> io::Result<()> {
 
 // The lines that a user sees where words are refused, below the question.
 fn write_refusal(rt: &HostRuntime, words: &[String]) -> io::Result<()> {
-    match CommandReader::new().refusal_text(rt.alloc(), words)? {
+    match refusal_text(rt.alloc(), words)? {
         Some(text) => {
             let text = text.as_str();
             print!(rt; "this text:\n{text}")

@@ -18,7 +18,7 @@ returns-in-Ok-clause-known g c =
       c.in-Ok.ran.output,
       by_team (g.R.Read.remaining c.args.script.input) _ _ _ _ (λ _. Unit {0}) _ _ (λ _ is. is) (λ _ given. given) (λ _ _. tt) (λ _ shown. shown)
           (state g.S.Store) _ _ _ (λ both. both.0) c.args.options.now.workers c.args.options.now.lanes (state g.S.Store c.args.store) c.in-Ok.ran.store c.in-Ok.ran.status
-          (map (λ w. w.0.items) team) c.in-Ok.ran.minutes.items (vec_items c.in-Ok.ran.ends) c.in-Ok.ran.outcome
+          (map (λ w. w.0.items) team) c.in-Ok.ran.minutes.items (vec_items c.in-Ok.ran.ends) c.in-Ok.ran.outcome c.in-Ok.ran.told
           (length-map team (λ w. w.0.items) ∙ made.workers ∙ c.get.ensures.value) (All-map (IsWhole _) (λ w. w.0.items) team made.whole) (All-map (All (IsFresh (runs_of _) (refused_by _) (taken_by _))) (λ w. w.0.items) team made.fresh) run,
     )
 

@@ -9,10 +9,10 @@ pub returns-in-Ok : goal.returns-in-Ok
 returns-in-Ok c =
     let same : map string_bytes c.as_slice.result.now ≡ words c.args.line.now = ap (map string_bytes) c.as_slice.ensures.value ∙ c.in_ok-words.ensures in
     c.meaning_of_line.ensures
-    ∙ read_line c.args.reader.now.names (words c.args.line.now) c.in-Ok.line (subst (λ (ws : List Text). line_of c.args.reader.now.names ws ≡ Ok c.in-Ok.line) same c.in-Ok.ensures)
+    ∙ read_line (words c.args.line.now) c.in-Ok.line (subst (λ (ws : List Text). line_of ws ≡ Ok c.in-Ok.line) same c.in-Ok.ensures)
 
 pub returns : goal.returns
 returns c =
     let same : map string_bytes c.as_slice.result.now ≡ words c.args.line.now = ap (map string_bytes) c.as_slice.ensures.value ∙ c.in_ok-words.ensures in
-    fault_read c.args.reader.now.names (words c.args.line.now) c.in-Err.fault c.meaning_of_fault.result c.meaning_of_fault.ensures
-    (λ other. subst (λ (ws : List Text). line_of c.args.reader.now.names ws ≡ Err c.in-Err.fault) same (c.in-Err.ensures other))
+    fault_read (words c.args.line.now) c.in-Err.fault c.meaning_of_fault.result c.meaning_of_fault.ensures
+    (λ other. subst (λ (ws : List Text). line_of ws ≡ Err c.in-Err.fault) same (c.in-Err.ensures other))

@@ -6,4 +6,4 @@ use Rattle.script_commands.proofs.requests.next_command.Given as goal
 -- the commands are those of what is left
 abbrev pub invariant-loop-line : goal.invariant-loop-line
 invariant-loop-line g l = (bytes : List ℕ) → g.R.Read.remaining l.fn.input ≡ Some bytes
-    → Left l.reader.names (g.R.Read.remaining l.input) (commands_in l.reader.names bytes)
+    → Left (g.R.Read.remaining l.input) (commands_in bytes)
