@@ -170,43 +170,27 @@ none_waits : (now m : ℕ) (soonest : Option ℕ) → is_ahead now soonest ≡ t
 none_waits now m None ahead reached l = true≢false (sym reached)
 none_waits now m (Some s) ahead reached l = let i = ltb-true now s ahead in let j = leb-true s m reached in omega (arith, i, j, l)
 
--- what was chosen ranks before all of the kind
-pub kind_behind : (P : Offer → Bool) (a : Schedule) (n : ℕ) (g : Dag) (s : ShelfValue) (kind : ℕ) (first : Option First) (soonest : Option ℕ) (best : Option Best) → IsSound a → IsLoaded a n g s.weights → IsLedBy s kind first → IsSoonest s soonest
-    → is_first_behind first n best ≡ true → is_ahead a.now soonest ≡ true → IsBestOf P a best → IsBestOf (λ x. P x || stands_of a.now g.spec.dag_id s kind x) a best
-kind_behind P a n g s kind first soonest best sound loaded led soon behind ahead h = by first best led behind h
+-- what was chosen ranks before all that the bound leads, of the graph at a position
+pub behind_by : (P Q : Offer → Bool) (a : Schedule) (n : ℕ) (l : LoadedGraph) (first : Option First) (best : Option Best) → IsSound a → slice_get a.graphs n ≡ Some l
+    → ((x : Offer) → IsEligible a x → Q x ≡ true → (is_led x.weight x.logical first ≡ true) × (x.graph ≡ l.dag.spec.dag_id))
+    → is_first_behind first n best ≡ true → IsBestOf P a best → IsBestOf (λ x. P x || Q x) a best
+behind_by P Q a n l first best sound there led behind h = by first best led behind h
   where
-    -- what stands there is ready
-    ready : (x : Offer) (e : IsEligible a x) → stands_of a.now g.spec.dag_id s kind x ≡ true → (f : Option First) → IsLedBy s kind f → is_led x.weight x.logical f ≡ true
-    ready x e on f l =
-        let w = found_parts a.now g.spec.dag_id s x (and_right (is_kind kind (slice_get s.kinds x.place)) _ on) in
-        let k = kind_there kind (slice_get s.kinds x.place) (and_left _ _ on) in
-        let t = task_offer a g x.place (x.logical ∷ []) x loaded.dag e (own_place g.spec.dag_id x w.graph) in
-        let within = place_there a g x loaded.dag w.graph e in
-        let weight : slice_get s.weights x.place ≡ Some (get_or s.weights x.place 0) = slice_get-get_or s.weights x.place 0 (omega (arith, within, loaded.weights.long)) in
-        let is : get_or s.weights x.place 0 ≡ x.weight = loaded.weights.each x.place within ∙ sym t.weight in
-        elim (or_cases (is_in w.queue.ready.keys x.logical) (has_waited a.now w.queue x.logical) w.found) as (λ _. is_led x.weight x.logical f ≡ true) [
-          | inl i ↦ l x.place x.weight x.logical w.queue refl k (weight ∙ ap (λ v. Some v) is) w.queue_is i
-          | inr i ↦ let r = waited_moment a.now x.logical w.queue.waiting.keys i in absurd (none_waits a.now r.0 soonest ahead (soon x.place r.0 w.queue refl w.queue_is r.1.0) r.1.1)
-        ]
+    negated : (q : Bool) → not q ≡ true → q ≡ false
+    negated true i = sym i
+    negated false i = refl
 
-    behind_all : (f : First) (b : Best) → IsGraphAt a.graphs b.graph b.offer.graph → IsLedBy s kind (Some f) → is_first_behind (Some f) n (Some b) ≡ true
-        → (x : Offer) → IsEligible a x → stands_of a.now g.spec.dag_id s kind x ≡ true → ranks_before x b.offer ≡ false
-    behind_all f b placed l c x e on =
-        let w = found_parts a.now g.spec.dag_id s x (and_right (is_kind kind (slice_get s.kinds x.place)) _ on) in
-        let no : comes_first x.weight x.logical f ≡ false = negated (comes_first x.weight x.logical f) (ready x e on (Some f) l) in
+    behind_all : (f : First) (b : Best) → IsGraphAt a.graphs b.graph b.offer.graph → is_first_behind (Some f) n (Some b) ≡ true
+        → (x : Offer) → is_led x.weight x.logical (Some f) ≡ true → x.graph ≡ l.dag.spec.dag_id → ranks_before x b.offer ≡ false
+    behind_all f b placed c x ready graph =
+        let no : comes_first x.weight x.logical f ≡ false = negated (comes_first x.weight x.logical f) ready in
         not_after x b.offer (cases (not_first x.weight x.logical f.weight f.logical no) (behind_cases f n b c))
       where
-        negated : (q : Bool) → not q ≡ true → q ≡ false
-        negated true i = sym i
-        negated false i = refl
-
         names : b.graph < n → name_cmp b.offer.graph x.graph ≡ Less
         names lower =
-            let w = found_parts a.now g.spec.dag_id s x (and_right (is_kind kind (slice_get s.kinds x.place)) _ on) in
-            let before : graph_before placed.loaded loaded.at.loaded.loaded ≡ true = graphs_rise a.graphs b.graph n placed.loaded loaded.at.loaded.loaded sound.graphs_by_id placed.there loaded.at.loaded.there lower in
+            let before : graph_before placed.loaded l ≡ true = graphs_rise a.graphs b.graph n placed.loaded l sound.graphs_by_id placed.there there lower in
             let left : placed.loaded.dag.spec.dag_id ≡ b.offer.graph = same_is placed.loaded.dag.spec.dag_id b.offer.graph placed.named in
-            let right : loaded.at.loaded.loaded.dag.spec.dag_id ≡ x.graph = same_is loaded.at.loaded.loaded.dag.spec.dag_id g.spec.dag_id loaded.at.loaded.named ∙ sym w.graph in
-            ap (λ i. name_cmp i x.graph) (sym left) ∙ (ap (name_cmp placed.loaded.dag.spec.dag_id) (sym right) ∙ less_is (name_cmp placed.loaded.dag.spec.dag_id loaded.at.loaded.loaded.dag.spec.dag_id) before)
+            ap (λ i. name_cmp i x.graph) (sym left) ∙ (ap (name_cmp placed.loaded.dag.spec.dag_id) graph ∙ less_is (name_cmp placed.loaded.dag.spec.dag_id l.dag.spec.dag_id) before)
 
         cases : (x.weight < f.weight) ⊎ ((x.weight ≡ f.weight) × (f.logical ≤ x.logical)) → (f.weight < b.offer.weight) ⊎ ((f.weight ≡ b.offer.weight) × ((b.offer.logical < f.logical) ⊎ ((b.offer.logical ≡ f.logical) × (b.graph < n))))
             → (x.weight < b.offer.weight) ⊎ ((x.weight ≡ b.offer.weight) × ((b.offer.logical < x.logical) ⊎ ((b.offer.logical ≡ x.logical) × (name_cmp b.offer.graph x.graph ≡ Less))))
@@ -218,11 +202,37 @@ kind_behind P a n g s kind first soonest best sound loaded led soon behind ahead
             (λ t. inr (i.0 ∙ j, inl (ltb-true b.offer.logical x.logical t)))
             (λ t. let u = ltb-false b.offer.logical x.logical t in inr (i.0 ∙ j, inr (omega (arith, u, i.1, k.0), names k.1)))
 
-    by : (f : Option First) (b : Option Best) → IsLedBy s kind f → is_first_behind f n b ≡ true → IsBestOf P a b → IsBestOf (λ x. P x || stands_of a.now g.spec.dag_id s kind x) a b
-    by None None l c k = λ x e on. by_bool {C = fits a x ≡ false} (P x) (λ i. k x e i) (λ i. absurd (true≢false (sym (ready x e (sym (ap (λ q. q || stands_of a.now g.spec.dag_id s kind x) i) ∙ on) None l))))
-    by None (Some b) l c k = widen P (stands_of a.now g.spec.dag_id s kind) a b k (λ x e on fit. absurd (true≢false (sym (ready x e on None l))))
+    by : (f : Option First) (b : Option Best) → ((x : Offer) → IsEligible a x → Q x ≡ true → (is_led x.weight x.logical f ≡ true) × (x.graph ≡ l.dag.spec.dag_id)) → is_first_behind f n b ≡ true → IsBestOf P a b → IsBestOf (λ x. P x || Q x) a b
+    by None None l c k = λ x e on. by_bool {C = fits a x ≡ false} (P x) (λ i. k x e i) (λ i. absurd (true≢false (sym ((l x e (sym (ap (λ q. q || Q x) i) ∙ on)).0))))
+    by None (Some b) l c k = widen P Q a b k (λ x e on fit. absurd (true≢false (sym ((l x e on).0))))
     by (Some f) None l c k = absurd (true≢false (sym c))
-    by (Some f) (Some b) l c k = widen P (stands_of a.now g.spec.dag_id s kind) a b k (λ x e on fit. behind_all f b k.placed l c x e on)
+    by (Some f) (Some b) l c k = widen P Q a b k (λ x e on fit. behind_all f b k.placed c x (l x e on).0 (l x e on).1)
+
+-- what stands at its place is ready, where no moment has come, so what leads the place leads it
+pub led_there : (a : Schedule) (n : ℕ) (g : Dag) (s : ShelfValue) (soonest : Option ℕ) (first : Option First) (x : Offer) → IsLoaded a n g s.weights → IsSoonest s soonest → is_ahead a.now soonest ≡ true → IsEligible a x → stands_on a.now g.spec.dag_id s x ≡ true
+    → ((q : Queue) → slice_get s.weights x.place ≡ Some x.weight → slice_get s.queues x.place ≡ Some q → is_in q.ready.keys x.logical ≡ true → is_led x.weight x.logical first ≡ true)
+    → (is_led x.weight x.logical first ≡ true) × (x.graph ≡ g.spec.dag_id)
+led_there a n g s soonest first x loaded soon ahead e on lead =
+    let w = found_parts a.now g.spec.dag_id s x on in
+    let t = task_offer a g x.place (x.logical ∷ []) x loaded.dag e (own_place g.spec.dag_id x w.graph) in
+    let within = place_there a g x loaded.dag w.graph e in
+    let weight : slice_get s.weights x.place ≡ Some (get_or s.weights x.place 0) = slice_get-get_or s.weights x.place 0 (omega (arith, within, loaded.weights.long)) in
+    let is : get_or s.weights x.place 0 ≡ x.weight = loaded.weights.each x.place within ∙ sym t.weight in (
+      elim (or_cases (is_in w.queue.ready.keys x.logical) (has_waited a.now w.queue x.logical) w.found) as (λ _. is_led x.weight x.logical first ≡ true) [
+        | inl i ↦ lead w.queue (weight ∙ ap (λ v. Some v) is) w.queue_is i
+        | inr i ↦ let r = waited_moment a.now x.logical w.queue.waiting.keys i in absurd (none_waits a.now r.0 soonest ahead (soon x.place r.0 w.queue refl w.queue_is r.1.0) r.1.1)
+      ],
+      w.graph,
+    )
+
+-- what was chosen ranks before all of the kind
+pub kind_behind : (P : Offer → Bool) (a : Schedule) (n : ℕ) (g : Dag) (s : ShelfValue) (kind : ℕ) (first : Option First) (soonest : Option ℕ) (best : Option Best) → IsSound a → IsLoaded a n g s.weights → IsLedBy s kind first → IsSoonest s soonest
+    → is_first_behind first n best ≡ true → is_ahead a.now soonest ≡ true → IsBestOf P a best → IsBestOf (λ x. P x || stands_of a.now g.spec.dag_id s kind x) a best
+kind_behind P a n g s kind first soonest best sound loaded led soon behind ahead h = behind_by P (stands_of a.now g.spec.dag_id s kind) a n loaded.at.loaded.loaded first best sound loaded.at.loaded.there
+    (λ x e on.
+    let k = kind_there kind (slice_get s.kinds x.place) (and_left _ _ on) in
+    let l = led_there a n g s soonest first x loaded soon ahead e (and_right (is_kind kind (slice_get s.kinds x.place)) _ on) (λ q w c i. led x.place x.weight x.logical q refl k w c i) in
+    (l.0, l.1 ∙ sym (same_is loaded.at.loaded.loaded.dag.spec.dag_id g.spec.dag_id loaded.at.loaded.named))) behind h
 
 -- ---- places of a kind
 pub places_first : (P : Offer → Bool) (a : Schedule) (id : List ℕ) (s : ShelfValue) (kind : ℕ) (best : Option Best) → IsBestOf P a best → IsBestOf (λ x. P x || stands_before a.now id s kind 0 x) a best

@@ -1,5 +1,5 @@
 -- The choice among what stands on shelves, one graph after another.
-use Rattle.std.proofs.Common.{◌≡◌, ◌∙◌, ◌⊎◌, inl, inr, sym, ap, subst, ℕ, zero, suc, ◌+◌, ◌≤◌, List, [], ◌∷◌, Bool, true, false, cond, ◌&&◌, ◌||◌, length, true≢false, Option, Some, None, option_map, unwrap_or, slice_get, nat_lt, nat_eq, arith}
+use Rattle.std.proofs.Common.{◌≡◌, ◌∙◌, ◌⊎◌, inl, inr, refl, sym, ap, subst, ℕ, zero, suc, ◌+◌, ◌<◌, ◌≤◌, List, [], ◌∷◌, Bool, true, false, cond, ◌&&◌, ◌||◌, length, true≢false, Option, Some, None, IfSome, option_map, unwrap_or, slice_get, nat_lt, nat_eq, arith}
 use Rattle.std.proofs.lemmas.Bool.{and_from, eq-eqb, lt-ltb, ltb-false, ltb-true}
 use Rattle.std.proofs.lemmas.Cmp.{nat_list_cmp_total, tied_itself}
 use Rattle.std.proofs.lemmas.Option.{none-some, same_Some, slice_get-get_or, slice_get_within}
@@ -16,11 +16,12 @@ use Rattle.sched_model.specs.Sound.{IsSound}
 use Rattle.sched_laws.proofs.DecisionLemmas.{by_bool}
 use Rattle.sched_laws.proofs.ListLemmas.{all_get}
 use Rattle.sched_ready.specs.Held.{FitsShelf}
-use Rattle.sched_ready.specs.Shelves.{HasKinds, ShelfValue}
-use Rattle.sched_handout.specs.Shelving.{IsBestOf, IsLoaded, is_kind, is_kind_before, stands_at, stands_of, stands_of_first, stands_on, stands_on_first}
+use Rattle.sched_ready.specs.Shelves.{HasKinds, IsLed, IsSoonest, ShelfValue}
+use Rattle.sched_ready.specs.declared.leading.First.{First}
+use Rattle.sched_handout.specs.Shelving.{IsBestOf, IsLoaded, is_ahead, is_first_behind, is_kind, is_kind_before, stands_at, stands_of, stands_of_first, stands_on, stands_on_first, stands_there}
 use Rattle.sched_handout.specs.declared.shelving.Best.{Best}
-use Rattle.sched_handout.proofs.KindLemmas.{found_parts, join, less}
-use Rattle.sched_handout.proofs.ShelfLemmas.{fewer, widen_none}
+use Rattle.sched_handout.proofs.KindLemmas.{behind_by, found_parts, join, led_there, less}
+use Rattle.sched_handout.proofs.ShelfLemmas.{fewer, two_steps, widen_none}
 
 -- ---- the graph at a position is that with its id
 before_apart : (g h : LoadedGraph) → graph_before g h ≡ true → same g.dag.spec.dag_id h.dag.spec.dag_id ≡ false
@@ -72,6 +73,23 @@ paused_none P a n l s best sound there paused h =
     absurd (true≢false (sym is ∙ (ap (is_paused a) (sym graph) ∙ e.unpaused))))
     (λ off. off)) h)
 
+-- what was chosen ranks before all that stands on the shelf
+pub shelf_behind : (P : Offer → Bool) (a : Schedule) (n : ℕ) (l : LoadedGraph) (s : ShelfValue) (first : Option First) (soonest : Option ℕ) (best : Option Best) → IsSound a → slice_get a.graphs n ≡ Some l → FitsShelf l.dag s → IsLed s first → IsSoonest s soonest
+    → is_first_behind first n best ≡ true → is_ahead a.now soonest ≡ true → IsBestOf P a best → IsBestOf (λ x. P x || stands_at a.now (slice_get a.graphs n) (Some s) x) a best
+shelf_behind P a n l s first soonest best sound there fit led soon behind ahead h =
+    subst (λ o. IsBestOf (λ x. P x || stands_at a.now o (Some s) x) a best) (sym there)
+    (behind_by P (stands_on a.now l.dag.spec.dag_id s) a n l first best sound there
+    (λ x e on. led_there a n l.dag s soonest first x (loaded x e on) soon ahead e on (λ q w c i. led x.place x.weight x.logical q w c i)) behind h)
+  where
+    -- what is offered is of a graph that is not paused
+    loaded : (x : Offer) → IsEligible a x → stands_on a.now l.dag.spec.dag_id s x ≡ true → IsLoaded a n l.dag s.weights
+    loaded x e on =
+        let w = found_parts a.now l.dag.spec.dag_id s x on in
+        let graph : e.run.graph ≡ l.dag.spec.dag_id = sym (ap (λ (o : Offer). o.graph) e.offer_is) ∙ w.graph in
+        let found : graph_among a.graphs l.dag.spec.dag_id ≡ Some l = found_at a.graphs n l sound.graphs_by_id there in
+        let is : is_paused a l.dag.spec.dag_id ≡ l.paused = ap (λ (o : Option LoadedGraph). unwrap_or (option_map (λ (y : LoadedGraph). y.paused) o) false) found in
+        loaded_at a n l l.dag s.weights s sound there refl (sym is ∙ (ap (is_paused a) (sym graph) ∙ e.unpaused)) fit refl
+
 -- ---- kinds of a shelf
 pub kinds_first : (P : Offer → Bool) (a : Schedule) (id : List ℕ) (s : ShelfValue) (best : Option Best) → IsBestOf P a best → IsBestOf (λ x. P x || stands_of_first a.now id s 0 x) a best
 kinds_first P a id s best h = fewer P (λ x. P x || stands_of_first a.now id s 0 x) a best (λ x e on. by_bool {C = P x ≡ true} (P x) (λ i. i) (λ i. absurd (none (slice_get s.kinds x.place) (and_left _ _ (sym (ap (λ q. q || stands_of_first a.now id s 0 x) i) ∙ on))))) h
@@ -105,11 +123,52 @@ kinds_over P a n l g s kind best k more there dag h =
     (subst (λ (d : Dag). IsBestOf (λ x. P x || stands_of_first a.now d.spec.dag_id s kind x) a best) (sym dag) h))
 
 -- ---- shelves
-pub shelf_chosen : (a : Schedule) (ss : List ShelfValue) (n : ℕ) (s : ShelfValue) (best : Option Best) → slice_get ss n ≡ Some s
-    → IsBestOf (λ x. stands_on_first a.now a.graphs ss n x || stands_at a.now (slice_get a.graphs n) (Some s) x) a best → IsBestOf (stands_on_first a.now a.graphs ss (n + 1)) a best
-shelf_chosen a ss n s best there h =
-    subst (λ k. IsBestOf (stands_on_first a.now a.graphs ss k) a best) one
-    (subst (λ o. IsBestOf (λ x. stands_on_first a.now a.graphs ss n x || stands_at a.now (slice_get a.graphs n) o x) a best) (sym there) h)
+-- a position that is there
+pub inside : (ss : List ShelfValue) (o : Option ℕ) (n : ℕ) → o ≡ Some n → IfSome o (λ k. k < length ss) → n < length ss
+inside ss o n e h = subst (λ (p : Option ℕ). IfSome p (λ k. k < length ss)) e h
+
+-- the shelf of the graph at the position is looked at
+pub shelf_there : (a : Schedule) (ss : List ShelfValue) (n : ℕ) (s : ShelfValue) (best : Option Best) → slice_get ss n ≡ Some s
+    → IsBestOf (λ x. false || stands_at a.now (slice_get a.graphs n) (Some s) x) a best → IsBestOf (stands_there a.now a.graphs ss (Some n)) a best
+shelf_there a ss n s best there h = subst (λ o. IsBestOf (λ x. stands_at a.now (slice_get a.graphs n) o x) a best) (sym there) h
+
+or_none : (b : Bool) → (b || false) ≡ true → b ≡ true
+or_none true i = refl
+or_none false i = i
+
+pub shelves_first : (P : Offer → Bool) (a : Schedule) (ss : List ShelfValue) (best : Option Best) → IsBestOf P a best → IsBestOf (λ x. P x || stands_on_first a.now a.graphs ss 0 x) a best
+shelves_first P a ss best h = fewer P (λ x. P x || stands_on_first a.now a.graphs ss 0 x) a best (λ x e on. or_none (P x) on) h
+
+pub shelf_chosen : (P : Offer → Bool) (a : Schedule) (ss : List ShelfValue) (n : ℕ) (s : ShelfValue) (best : Option Best) → slice_get ss n ≡ Some s
+    → IsBestOf (λ x. (P x || stands_on_first a.now a.graphs ss n x) || stands_at a.now (slice_get a.graphs n) (Some s) x) a best → IsBestOf (λ x. P x || stands_on_first a.now a.graphs ss (n + 1) x) a best
+shelf_chosen P a ss n s best there h =
+    subst (λ k. IsBestOf (λ x. P x || stands_on_first a.now a.graphs ss k x) a best) one
+    (two_steps P (stands_on_first a.now a.graphs ss n) (stands_at a.now (slice_get a.graphs n) (slice_get ss n)) a best
+    (subst (λ o. IsBestOf (λ x. (P x || stands_on_first a.now a.graphs ss n x) || stands_at a.now (slice_get a.graphs n) o x) a best) (sym there) h))
   where
     one : suc n ≡ n + 1
     one = omega arith
+
+-- one that was looked at is passed over
+pub shelf_passed : (a : Schedule) (ss : List ShelfValue) (seen : Option ℕ) (n : ℕ) (best : Option Best) → seen ≡ Some n → IsBestOf (λ x. stands_there a.now a.graphs ss seen x || stands_on_first a.now a.graphs ss n x) a best
+    → IsBestOf (λ x. stands_there a.now a.graphs ss seen x || stands_on_first a.now a.graphs ss (n + 1) x) a best
+shelf_passed a ss seen n best is h =
+    subst (λ k. IsBestOf (λ x. stands_there a.now a.graphs ss seen x || stands_on_first a.now a.graphs ss k x) a best) one
+    (subst (λ o. IsBestOf (λ x. stands_there a.now a.graphs ss o x || stands_on_first a.now a.graphs ss (suc n) x) a best) (sym is)
+    (fewer (λ x. stands_there a.now a.graphs ss (Some n) x || stands_on_first a.now a.graphs ss n x) (λ x. stands_there a.now a.graphs ss (Some n) x || stands_on_first a.now a.graphs ss (suc n) x) a best
+    (λ x e on. twice (stands_there a.now a.graphs ss (Some n) x) (stands_on_first a.now a.graphs ss n x) on)
+    (subst (λ o. IsBestOf (λ x. stands_there a.now a.graphs ss o x || stands_on_first a.now a.graphs ss n x) a best) is h)))
+  where
+    one : suc n ≡ n + 1
+    one = omega arith
+
+    twice : (p q : Bool) → (p || (q || p)) ≡ true → (p || q) ≡ true
+    twice true q i = refl
+    twice false q i = or_none q i
+
+pub shelves_over : (P : Offer → Bool) (a : Schedule) (ss : List ShelfValue) (best : Option Best) → IsBestOf (λ x. P x || stands_on_first a.now a.graphs ss (length ss) x) a best → IsBestOf (stands_on_first a.now a.graphs ss (length ss)) a best
+shelves_over P a ss best h = fewer (λ x. P x || stands_on_first a.now a.graphs ss (length ss) x) (stands_on_first a.now a.graphs ss (length ss)) a best (λ x e on. either (P x) _ on) h
+  where
+    either : (p q : Bool) → q ≡ true → (p || q) ≡ true
+    either true q i = refl
+    either false q i = i

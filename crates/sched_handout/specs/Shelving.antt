@@ -126,6 +126,11 @@ abbrev pub stands_on_first : ℕ → List LoadedGraph → List ShelfValue → �
 stands_on_first now gs ss zero x = false
 stands_on_first now gs ss (suc n) x = stands_on_first now gs ss n x || stands_at now (slice_get gs n) (slice_get ss n) x
 
+-- on the shelf of this graph, where there is one
+abbrev pub stands_there : ℕ → List LoadedGraph → List ShelfValue → Option ℕ → Offer → Bool
+stands_there now gs ss None x = false
+stands_there now gs ss (Some n) x = stands_at now (slice_get gs n) (slice_get ss n) x
+
 -- what was chosen ranks before all that the bound leads, of the graph at the position
 abbrev pub is_first_behind : Option First → ℕ → Option Best → Bool
 is_first_behind None n best = true

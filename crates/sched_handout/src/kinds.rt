@@ -1,5 +1,5 @@
 //! The best of what stands on shelves, one kind of task after another.
-ghost use Rattle.std.specs.Prelude.{◌≡◌, ◌^◌, ◌<◌, ◌||◌, Bool, length, nat_lt, slice_get, Some};
+ghost use Rattle.std.specs.Prelude.{◌≡◌, ◌^◌, ◌<◌, ◌||◌, Bool, true, length, nat_lt, slice_get, IfSome, Some};
 ghost use Rattle.dag_check.specs.Graphs.{Dag, task_of};
 ghost use Rattle.sched_model.specs.Handout as model;
 ghost use Rattle.sched_model.specs.Schedule.{bound_of};
@@ -8,9 +8,10 @@ ghost use Rattle.sched_model.specs.Sound.{IsSound};
 ghost use Rattle.sched_state.specs.declared.graphs.LoadedGraph as states;
 ghost use Rattle.sched_ready.specs.Held.{FitShelves, FitsShelf};
 ghost use Rattle.sched_handout.specs.Occupied.{AreOccupied};
-ghost use Rattle.sched_handout.specs.Shelving.{IsBestOf, IsLoaded, IsBoundAt, fits_with, is_ahead, is_first_behind, stands_at, stands_of, stands_on_first};
+ghost use Rattle.sched_handout.specs.Shelving.{IsBestOf, IsLoaded, IsBoundAt, fits_with, is_ahead, is_first_behind, stands_at, stands_of, stands_on_first, stands_there};
 
 use crate::fitting::{has_lane, has_slots};
+use crate::guessing::likely_graph;
 use crate::occupied::Occupied;
 use crate::rooms::has_room;
 use crate::shelving::{Best, choose_at_place};
@@ -113,7 +114,8 @@ fn choose_in_kind<'d>(
     best
 }
 
-// The best of what stands on the shelf of the graph at a position, and of what was chosen before it.
+// The best of what stands on the shelf of the graph at a position, and of what was chosen before it. The graph is looked at only where what
+// was chosen does not rank before all of that.
 fn choose_on_shelf<'d>(
     draft: &'d Draft<'_>,
     taken: &Occupied,
@@ -129,6 +131,12 @@ fn choose_on_shelf<'d>(
     ensures { (P : model.Offer → Bool) → IsBestOf P draft.now.content best.entry
         → IsBestOf (λ x. P x || stands_at draft.now.content.now (slice_get draft.now.content.graphs graph) (Some shelf.now) x) draft.now.content result }
 {
+    if is_first_behind(&shelf.least(), graph, &best) {
+        let now = draft.clock().secs();
+        if is_ahead(now, shelf.soonest()) {
+            return best;
+        }
+    }
     if draft.is_paused_at(graph) {
         return best;
     }
@@ -140,7 +148,61 @@ fn choose_on_shelf<'d>(
     best
 }
 
-/// The best of what stands on shelves.
+// The best of what stands on the shelf of a graph, where there is one.
+fn best_of<'d>(
+    draft: &'d Draft<'_>,
+    taken: &Occupied,
+    shelves: &[Shelf],
+    graph: Option<usize>,
+) -> Option<Best<'d>>
+    requires sound { IsSound draft.now.content }
+    requires taken { AreOccupied draft.now.content taken.now }
+    requires few { taken.now.in_flight < 2 ^ 32 }
+    requires shelves { FitShelves draft.now.content.graphs shelves.now }
+    requires graph { IfSome graph (λ n. n < length shelves.now) }
+    ensures { IsBestOf (stands_there draft.now.content.now draft.now.content.graphs shelves.now graph) draft.now.content result }
+{
+    let Some(at) = graph else {
+        return None;
+    };
+    choose_on_shelf(draft, taken, at, &shelves[at], None)
+}
+
+// Whether the graph at a position is the one that was looked at.
+fn is_seen(looked_at: Option<usize>, graph: usize) -> bool
+    ensures { result ≡ true → looked_at ≡ Some graph }
+{
+    match looked_at {
+        None => false,
+        Some(seen) => seen == graph,
+    }
+}
+
+// The best of what stands on shelves, where this is the best of what stands on the shelf of the graph that was looked at, if there is one.
+fn best_with<'d>(
+    draft: &'d Draft<'_>,
+    taken: &Occupied,
+    shelves: &[Shelf],
+    looked_at: Option<usize>,
+    best: Option<Best<'d>>,
+) -> Option<Best<'d>>
+    requires sound { IsSound draft.now.content }
+    requires taken { AreOccupied draft.now.content taken.now }
+    requires few { taken.now.in_flight < 2 ^ 32 }
+    requires shelves { FitShelves draft.now.content.graphs shelves.now }
+    requires best { IsBestOf (stands_there draft.now.content.now draft.now.content.graphs shelves.now looked_at) draft.now.content best.entry }
+    ensures { IsBestOf (stands_on_first draft.now.content.now draft.now.content.graphs shelves.now (length shelves.now)) draft.now.content result }
+{
+    let mut best = best;
+    for graph in 0..shelves.len() {
+        if !is_seen(looked_at, graph) {
+            best = choose_on_shelf(draft, taken, graph, &shelves[graph], best);
+        }
+    }
+    best
+}
+
+/// The best of what stands on shelves. The graph that seems to have it is looked at first, so that the tasks of others need not be.
 pub(crate) fn best_shelved<'d>(
     draft: &'d Draft<'_>,
     taken: &Occupied,
@@ -152,9 +214,7 @@ pub(crate) fn best_shelved<'d>(
     requires shelves { FitShelves draft.now.content.graphs shelves.now }
     ensures { IsBestOf (stands_on_first draft.now.content.now draft.now.content.graphs shelves.now (length shelves.now)) draft.now.content result }
 {
-    let mut best = None;
-    for graph in 0..shelves.len() {
-        best = choose_on_shelf(draft, taken, graph, &shelves[graph], best);
-    }
-    best
+    let likely = likely_graph(draft, shelves);
+    let best = best_of(draft, taken, shelves, likely);
+    best_with(draft, taken, shelves, likely, best)
 }

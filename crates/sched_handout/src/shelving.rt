@@ -8,7 +8,7 @@ ghost use Rattle.sched_model.specs.Sound.{IsSound};
 ghost use Rattle.sched_handout.specs.Shelving.{IsBestOf, IsFitting, IsLoaded, IsOfferOf, is_behind, stands_among, stands_found, stands_waiting};
 
 use crate::offering::offer_at;
-use crate::ranking::Offer;
+use crate::ranking::{Offer, compare};
 use dag_check::Graph;
 use moment_core::Moment;
 use pool_book::Rank;
@@ -37,7 +37,7 @@ fn is_behind(parts: &Rank<'_>, best: &Option<Best<'_>>) -> bool
 {
     match best {
         None => false,
-        Some(best) => best.offer.parts().compare(parts) == Ordering::Less,
+        Some(best) => compare(&best.offer.parts(), parts) == Ordering::Less,
     }
 }
 

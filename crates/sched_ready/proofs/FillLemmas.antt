@@ -1,5 +1,5 @@
 -- Queues, as dates are put in and moments come.
-use Rattle.std.proofs.Common.{◌≡◌, ◌≢◌, ◌∙◌, inl, inr, refl, sym, ap, subst, ℕ, ◌<◌, ◌≤◌, List, [], ◌∷◌, Bool, true, false, cond, not, ◌&&◌, ◌||◌, filter, length, true≢false, Option, Some, None, slice_get, nat_le, nat_eq, arith}
+use Rattle.std.proofs.Common.{◌≡◌, ◌≢◌, ◌∙◌, inl, inr, refl, sym, ap, subst, ℕ, zero, suc, ◌+◌, ◌<◌, ◌≤◌, List, [], ◌∷◌, Bool, true, false, cond, not, ◌&&◌, ◌||◌, filter, length, take, true≢false, Option, Some, None, slice_get, nat_le, nat_eq, arith}
 use Rattle.std.proofs.lemmas.Bool.{and_from, eqb-true, eq-eqb, le-leb, leb-true, or_cases, or_right}
 use Rattle.std.proofs.lemmas.Bool.Decides.{nat_tests}
 use Rattle.std.proofs.lemmas.Map.Lookups.{CmpEqualImpliesEq, exact_pairs, exact_unsigned}
@@ -15,7 +15,7 @@ use Rattle.dag_check.specs.Orders.{is_in}
 use Rattle.sched_model.proofs.sched_state.OrderLemmas.{and_left, and_right}
 use Rattle.sched_laws.proofs.DecisionLemmas.{by_bool}
 use Rattle.sched_ready.specs.Due.{is_kept, waits_for}
-use Rattle.sched_ready.specs.Patching.{IsAhead}
+use Rattle.sched_ready.specs.Patching.{HasAll, IsAhead, KeepsAll}
 use Rattle.sched_ready.specs.declared.queues.Queue.{Queue}
 use Rattle.sched_ready.proofs.LeadLemmas.{first_moment, pair_cmp, pair_less}
 
@@ -54,6 +54,33 @@ pair_old m d x ks h = any_old pair_cmp (λ (w : ℕ × ℕ). nat_eq w.0 m && nat
 
 pub pair_new : (m d : ℕ) (ks : List (ℕ × ℕ)) → list_any (λ (w : ℕ × ℕ). nat_eq w.0 m && nat_eq w.1 d) (insert_key pair_cmp ks (m, d)) ≡ true
 pair_new m d ks = any_new pair_cmp (exact_pairs nat_cmp nat_cmp exact_unsigned exact_unsigned) (λ (w : ℕ × ℕ). nat_eq w.0 m && nat_eq w.1 d) (m, d) ks (and_from (nat_eq m m) _ (eq-eqb m m refl) (eq-eqb d d refl))
+
+-- ---- dates that are put in one by one
+pub has_first : (keys : List ℕ) → HasAll [] keys
+has_first keys d e = absurd (true≢false (sym e))
+
+pub has_next : (keys copy : List ℕ) (at date : ℕ) → slice_get keys at ≡ Some date → HasAll (take at keys) copy → HasAll (take (at + 1) keys) (insert_key nat_cmp copy date)
+has_next keys copy at date there h d e = by keys at there (λ i. date_old d date copy (h d i)) (ap (λ n. is_in (take n keys) d) one ∙ e)
+  where
+    one : suc at ≡ at + 1
+    one = omega arith
+
+    by : (ks : List ℕ) (n : ℕ) → slice_get ks n ≡ Some date → (is_in (take n ks) d ≡ true → is_in (insert_key nat_cmp copy date) d ≡ true) → is_in (take (suc n) ks) d ≡ true → is_in (insert_key nat_cmp copy date) d ≡ true
+    by [] n f g i = absurd (none-some date f)
+    by (k ∷ ks) zero f g i = elim (or_cases (nat_eq k d) false i) as (λ _. is_in (insert_key nat_cmp copy date) d ≡ true) [
+      | inl j ↦ subst (λ z. is_in (insert_key nat_cmp copy date) z ≡ true) (sym (same_Some k date f) ∙ eqb-true k d j) (date_new date copy)
+      | inr j ↦ absurd (true≢false (sym j))
+    ]
+    by (k ∷ ks) (suc n) f g i = by_bool {C = is_in (insert_key nat_cmp copy date) d ≡ true} (nat_eq k d)
+        (λ j. g (ap (λ b. b || is_in (take n ks) d) j))
+        (λ j. by ks n f (λ l. g (or_right (nat_eq k d) _ l)) (sym (ap (λ b. b || is_in (take (suc n) ks) d) j) ∙ i))
+
+-- a queue with a copy of the ready dates keeps what the queue does
+pub keeps_copied : (now : ℕ) (old mid new : Queue) → HasAll old.ready.keys mid.ready.keys → mid.waiting.keys ≡ old.waiting.keys → KeepsAll now mid new → KeepsAll now old new
+keeps_copied now old mid new ready waiting h before d m l k = h before d m l (by_bool {C = is_kept before mid d m ≡ true} (nat_le m before)
+    (λ t. ap (λ b. cond b (is_in mid.ready.keys d) (waits_for mid m d)) t ∙ ready d (sym (ap (λ b. cond b (is_in old.ready.keys d) (waits_for old m d)) t) ∙ k))
+    (λ t. ap (λ b. cond b (is_in mid.ready.keys d) (waits_for mid m d)) t
+    ∙ (ap (λ (ws : List (ℕ × ℕ)). list_any (λ (w : ℕ × ℕ). nat_eq w.0 m && nat_eq w.1 d) ws) waiting ∙ (sym (ap (λ b. cond b (is_in old.ready.keys d) (waits_for old m d)) t) ∙ k))))
 
 -- ---- a key that is taken out
 -- what passes a test stays, where all that passes it is kept

@@ -11,9 +11,10 @@ use Rattle.std.specs.Ordering.{nat_cmp, ordering_then}
 use Rattle.std.specs.declared.cmp.Ordering.{Ordering}
 use Rattle.std.specs.declared.cmp.Ordering.TheVariants.{Less}
 use Rattle.dag_check.specs.Orders.{is_in}
+use Rattle.sched_model.proofs.sched_state.ElementLemmas.{element_at}
 use Rattle.sched_laws.proofs.DecisionLemmas.{by_bool}
-use Rattle.sched_ready.specs.Leading.{IsLedOn, IsShaped, IsSoonestOn, LeadsOn, comes_first, everywhere, is_led, is_reached, lowered, lowered_to, moments_of}
-use Rattle.sched_ready.specs.Shelves.{Leads, shelf_value}
+use Rattle.sched_ready.specs.Leading.{IsLeast, IsLedOn, IsShaped, IsSoonestOn, LeadsOn, comes_first, everywhere, is_led, is_reached, lowered, lowered_to, moments_of}
+use Rattle.sched_ready.specs.Shelves.{IsLed, Leads, ShelfValue, shelf_value}
 use Rattle.sched_ready.specs.declared.leading.First.{First}
 use Rattle.sched_ready.specs.declared.queues.Queue.{Queue}
 
@@ -98,6 +99,64 @@ lowered_leads w d e (Some f) l = by (comes_first w e f) refl
         later : (w < f.weight) ⊎ ((w ≡ f.weight) × (f.logical ≤ e)) → (w < f.weight) ⊎ ((w ≡ f.weight) × (f.logical ≤ d))
         later (inl a) = inl a
         later (inr a) = inr (a.0, omega (arith, a.1))
+
+-- what is led by what the bound leads is led by the bound
+pub led_through : (w d : ℕ) (f : First) (o : Option First) → is_led w d (Some f) ≡ true → is_led f.weight f.logical o ≡ true → is_led w d o ≡ true
+led_through w d f None h k = absurd (true≢false (sym k))
+led_through w d f (Some e) h k = ap not (is_not_first w d e.weight e.logical (later (not_first w d f.weight f.logical (negated (comes_first w d f) h)) (not_first f.weight f.logical e.weight e.logical (negated (comes_first f.weight f.logical e) k))))
+  where
+    later : (w < f.weight) ⊎ ((w ≡ f.weight) × (f.logical ≤ d)) → (f.weight < e.weight) ⊎ ((f.weight ≡ e.weight) × (e.logical ≤ f.logical)) → (w < e.weight) ⊎ ((w ≡ e.weight) × (e.logical ≤ d))
+    later (inl a) (inl b) = inl (omega (arith, a, b))
+    later (inl a) (inr b) = inl (omega (arith, a, b.0))
+    later (inr a) (inl b) = inl (omega (arith, a.0, b))
+    later (inr a) (inr b) = inr (a.0 ∙ b.0, omega (arith, a.1, b.1))
+
+-- ---- the least of the bounds
+-- of the first ones
+abbrev pub IsLeastTo : ℕ → List (Option First) → Option First → Type 0
+IsLeastTo n fs least = (k : ℕ) (f : First) → k < n → slice_get fs k ≡ Some (Some f) → is_led f.weight f.logical least ≡ true
+
+below_or_at : (k n : ℕ) → k < n + 1 → (k < n) ⊎ (k ≡ n)
+below_or_at k n l = by_bool {C = (k < n) ⊎ (k ≡ n)} (nat_lt k n) (λ e. inl (ltb-true k n e)) (λ e. let m = ltb-false k n e in inr (omega (arith, m, l)))
+
+pub least_more : (n : ℕ) (fs : List (Option First)) (first : First) (least : Option First) → slice_get fs n ≡ Some (Some first) → IsLeastTo n fs least → IsLeastTo (n + 1) fs (lowered least first.weight (Some first.logical))
+least_more n fs first least there h k f l e = elim (below_or_at k n l) as (λ _. is_led f.weight f.logical (lowered least first.weight (Some first.logical)) ≡ true) [
+  | inl i ↦ lowered_keeps f.weight f.logical first.weight least (Some first.logical) (h k f i e)
+  | inr i ↦
+      let is : first ≡ f = same_Some first f (same_Some (Some first) (Some f) (sym there ∙ (ap (slice_get fs) (sym i) ∙ e))) in
+      subst (λ (g : First). is_led g.weight g.logical (lowered least first.weight (Some first.logical)) ≡ true) is (lowered_leads first.weight first.logical first.logical least (omega arith))
+]
+
+pub least_over : (n : ℕ) (fs : List (Option First)) (least : Option First) → slice_get fs n ≡ Some None → IsLeastTo n fs least → IsLeastTo (n + 1) fs least
+least_over n fs least there h k f l e = elim (below_or_at k n l) as (λ _. is_led f.weight f.logical least ≡ true) [
+  | inl i ↦ h k f i e
+  | inr i ↦ absurd (none-some f (same_Some None (Some f) (sym there ∙ (ap (slice_get fs) (sym i) ∙ e))))
+]
+
+-- one of them is lowered, and so is the least
+least_put : (fs : List (Option First)) (kind w : ℕ) (first least : Option First) (date : Option ℕ) → slice_get fs kind ≡ Some first → IsLeast fs least → IsLeast (set fs kind (lowered first w date)) (lowered least w date)
+least_put fs kind w first least date there h k f e = by_bool {C = is_led f.weight f.logical (lowered least w date) ≡ true} (nat_eq k kind)
+    (λ s.
+    let is : lowered first w date ≡ Some f = same_Some _ (Some f) (sym (get_set_same fs kind (lowered first w date) (slice_get_within fs kind first there)) ∙ (ap (slice_get (set fs kind (lowered first w date))) (sym (eqb-true k kind s)) ∙ e)) in
+    by date is)
+    (λ s.
+    let apart : k ≢ kind = λ i. true≢false (sym (eq-eqb k kind i) ∙ s) in
+    lowered_keeps f.weight f.logical w least date (h k f (sym (get_set_other fs kind k (lowered first w date) apart) ∙ e)))
+  where
+    old : first ≡ Some f → is_led f.weight f.logical least ≡ true
+    old i = h kind f (there ∙ ap (λ o. Some o) i)
+
+    by : (d : Option ℕ) → lowered first w d ≡ Some f → is_led f.weight f.logical (lowered least w d) ≡ true
+    by None i = old i
+    by (Some d) i = low first i (λ j. old j)
+      where
+        low : (o : Option First) → lowered o w (Some d) ≡ Some f → (o ≡ Some f → is_led f.weight f.logical least ≡ true) → is_led f.weight f.logical (lowered least w (Some d)) ≡ true
+        low None j was = subst (λ (g : First). is_led g.weight g.logical (lowered least w (Some d)) ≡ true) (same_Some _ f j) (lowered_leads w d d least (omega arith))
+        low (Some g) j was = split (comes_first w d g) (same_Some _ f j)
+          where
+            split : (b : Bool) → cond b (record { weight = w; logical = d }) g ≡ f → is_led f.weight f.logical (lowered least w (Some d)) ≡ true
+            split true c = subst (λ (z : First). is_led z.weight z.logical (lowered least w (Some d)) ≡ true) c (lowered_leads w d d least (omega arith))
+            split false c = lowered_keeps f.weight f.logical w least (Some d) (was (ap (λ z. Some z) c))
 
 sooner_keeps : (m : ℕ) (soonest : Option ℕ) (e : Option (ℕ × ℕ)) → is_reached m soonest ≡ true → is_reached m (lowered_to soonest e) ≡ true
 sooner_keeps m soonest None h = h
@@ -255,12 +314,12 @@ turn_at p q ws ks qs fs soonest later n kind w first low x shape within kind_is 
     (turn p q ws ks qs fs soonest n kind w first x k v queue_is f rise rise2 more h))
 
 -- a queue is put in
-pub put_leads : (ws ks ps : List ℕ) (qs : List Queue) (fs : List (Option First)) (soonest later : Option ℕ) (n kind w : ℕ) (first low : Option First) (x y : Queue)
-    → Leads (shelf_value ws ks ps qs) fs soonest → n < length qs → kind ≡ get_or ks n kind → w ≡ get_or ws n w → first ≡ get_or fs kind first
+pub put_leads : (ws ks ps : List ℕ) (qs : List Queue) (fs : List (Option First)) (soonest later : Option ℕ) (n kind w : ℕ) (first low least less : Option First) (x y : Queue)
+    → Leads (shelf_value ws ks ps qs) fs soonest least → n < length qs → kind ≡ get_or ks n kind → w ≡ get_or ws n w → first ≡ get_or fs kind first
     → IsStrictlySortedBy nat_cmp x.ready.keys → IsStrictlySortedBy pair_cmp x.waiting.keys
-    → low ≡ lowered first w (slice_get x.ready.keys 0) → later ≡ lowered_to soonest (slice_get x.waiting.keys 0) → y ≡ x
-    → Leads (shelf_value ws ks ps (set qs n y)) (set fs kind low) later
-put_leads ws ks ps qs fs soonest later n kind w first low x y h within kind_is weight_is first_is rise rise2 low_is later_is same =
+    → low ≡ lowered first w (slice_get x.ready.keys 0) → later ≡ lowered_to soonest (slice_get x.waiting.keys 0) → less ≡ lowered least w (slice_get x.ready.keys 0) → y ≡ x
+    → Leads (shelf_value ws ks ps (set qs n y)) (set fs kind low) later less
+put_leads ws ks ps qs fs soonest later n kind w first low least less x y h within kind_is weight_is first_is rise rise2 low_is later_is less_is same =
     let long = length-set qs n x in
     let there : slice_get (set qs n x) n ≡ Some x = get_set_same qs n x within in
     let shape : IsShaped ws ks (set qs n x) fs = record {
@@ -268,10 +327,25 @@ put_leads ws ks ps qs fs soonest later n kind w first low x y h within kind_is w
       kinds = h.shaped.kinds ∙ sym long;
       each = h.shaped.each;
     } in
-    subst (λ z. Leads (shelf_value ws ks ps (set qs n z)) (set fs kind low) later) (sym same)
+    let k : slice_get ks n ≡ Some kind = slice_get_read ks (length ks) n kind refl (omega (arith, within, h.shaped.kinds)) kind_is in
+    let f : slice_get fs kind ≡ Some first = slice_get_read fs (length fs) kind first refl (h.shaped.each n kind k) first_is in
+    subst (λ z. Leads (shelf_value ws ks ps (set qs n z)) (set fs kind low) later less) (sym same)
     (record {
       samples = h.samples ∙ sym (length-set fs kind low);
       shaped = shaped_put ws ks qs fs n kind x low h.shaped;
       bounds = turn_at (λ m. not (nat_eq m n)) everywhere ws ks (set qs n x) fs soonest later n kind w first low x shape (omega (arith, long)) kind_is weight_is there first_is rise rise2 low_is later_is
           (λ m on. here_or_other n m) (others n ws ks qs fs soonest x h.bounds);
+      least = subst (λ o. IsLeast (set fs kind low) o) (sym less_is) (subst (λ o. IsLeast (set fs kind o) (lowered least w (slice_get x.ready.keys 0))) (sym low_is) (least_put fs kind w first least (slice_get x.ready.keys 0) f h.least));
     })
+
+-- so the least leads all that is ready
+pub least_leads : (s : ShelfValue) (fs : List (Option First)) (soonest : Option ℕ) (least : Option First) → Leads s fs soonest least → IsLed s least
+least_leads s fs soonest least h n w d q weight queue ready =
+    let within = slice_get_within s.queues n q queue in
+    let k = element_at s.kinds n (omega (arith, within, h.shaped.kinds)) in
+    let f = element_at fs k.0 (h.shaped.each n k.0 k.1) in
+    by k.0 f.0 f.1 (h.bounds.led k.0 f.0 f.1 n w d q refl k.1 weight queue ready)
+  where
+    by : (kind : ℕ) (o : Option First) → slice_get fs kind ≡ Some o → is_led w d o ≡ true → is_led w d least ≡ true
+    by kind None e i = absurd (true≢false (sym i))
+    by kind (Some f) e i = led_through w d f least i (h.least kind f e)

@@ -28,7 +28,7 @@ use Rattle.sched_laws.proofs.KeyLemmas.{date_once}
 use Rattle.sched_ready.specs.Due.{due_at, is_kept}
 use Rattle.sched_ready.specs.Held.{AreShelvesOf, FitShelves, FitsShelf, HoldsPlace, IsLater}
 use Rattle.sched_ready.specs.Patched.{ArePatches, WasDue, is_patched, is_put}
-use Rattle.sched_ready.specs.Patching.{AreAhead, AreFirstPatches, AreMoved, AreNone, AreOfOthers, ArePatchesOn, ArePlacesPatched, AreShelvesBefore, HoldsOn, IsAhead, IsBefore, IsChanging, IsGraphStillOn, IsMoved, IsOfGraph, IsPatchOf, IsPlaceOn, IsPlacePatched, IsStillOn, IsTableOn, IsTurned, KeepsAll, TakesIn, and_run, due_before, is_of}
+use Rattle.sched_ready.specs.Patching.{AreAhead, AreFirstPatches, AreMoved, AreNone, AreOfOthers, ArePatchesOn, ArePlacesPatched, AreShelvesBefore, HoldsOn, IsAhead, IsBefore, IsChanging, IsDueAsBefore, IsGraphStillOn, IsMoved, IsOfGraph, IsPatchOf, IsPlaceOn, IsPlacePatched, IsStillOn, IsTableOn, IsTurned, KeepsAll, TakesIn, and_run, due_before, is_of, is_of_if}
 use Rattle.sched_ready.specs.Shelves.{ShelfValue}
 use Rattle.sched_ready.specs.declared.patches.Patch.{Patch}
 use Rattle.sched_ready.specs.declared.queues.Queue.{Queue}
@@ -157,6 +157,33 @@ takes_unknown b ss j r before ps run_is none P a shelves before_is h = unknown_o
     (λ f. absurd (true≢false (sym (flip r.graph g.dag.spec.dag_id f) ∙ unfound (λ (x : LoadedGraph). same x.dag.spec.dag_id r.graph) b.graphs none n g e)))
     (λ f. f)) h
 
+-- another graph has another id than the graph of the run
+other_id : (b : Schedule) (n m : ℕ) (g f : LoadedGraph) (r : Run) → IsSound b → slice_get b.graphs n ≡ Some g → same g.dag.spec.dag_id r.graph ≡ true → m ≢ n → slice_get b.graphs m ≡ Some f → same r.graph f.dag.spec.dag_id ≡ false
+other_id b n m g f r sound graph_is named apart e = by_bool {C = same r.graph f.dag.spec.dag_id ≡ false} (same r.graph f.dag.spec.dag_id)
+    (λ i. absurd (apart (graph_once b m n f g r.graph sound e graph_is (flip r.graph f.dag.spec.dag_id i) named)))
+    (λ i. i)
+
+-- a run in which the same is due as before, of a graph without a patch
+pub takes_same : (b : Schedule) (ss : List ShelfValue) (j : ℕ) (r : Run) (before : Option Run) (ps : List Patch) (n : ℕ) (g : LoadedGraph) (s : ShelfValue)
+    → IsSound b → slice_get b.runs j ≡ Some r → slice_get b.graphs n ≡ Some g → same g.dag.spec.dag_id r.graph ≡ true → slice_get ss n ≡ Some s → AreOfOthers n ps → IsDueAsBefore g.dag before r
+    → TakesIn b ss j r before ps ps
+takes_same b ss j r before ps n g s sound run_is graph_is named shelf_is none due P a shelves before_is h = record {
+  once = h.once;
+  each = λ k x f u e i l. other_table P a b j r f.dag u x.queues.items run_is (other_id b n x.graph g f r sound graph_is named (none k x e) i) (h.each k x f u e i l);
+  rest = λ m f u apart e i p t q task queue. by_bool {C = IsStillOn (and_run P j) a b f.dag.spec.dag_id t p q} (nat_eq m n)
+      (λ c.
+      let at : m ≡ n = eqb-true m n c in
+      let own : g ≡ f = same_Some g f (sym graph_is ∙ (ap (slice_get b.graphs) (sym at) ∙ e)) in
+      let shelf : s ≡ u = same_Some s u (sym shelf_is ∙ (ap (slice_get ss) (sym at) ∙ i)) in
+      let still : IsStillOn P a b g.dag.spec.dag_id t p q = subst (λ (z : LoadedGraph). IsStillOn P a b z.dag.spec.dag_id t p q) (sym own) (h.rest m f u apart e i p t q task queue) in
+      let task_is : slice_get g.dag.tasks p ≡ Some t = ap (λ (z : LoadedGraph). slice_get z.dag.tasks p) own ∙ task in
+      let queue_is : slice_get s.queues p ≡ Some q = ap (λ (z : ShelfValue). slice_get z.queues p) shelf ∙ queue in
+      let held = (shelf_held a b ss n g s shelves graph_is shelf_is).1 p t q task_is queue_is in
+      subst (λ (z : LoadedGraph). IsStillOn (and_run P j) a b z.dag.spec.dag_id t p q) own
+      (place_on P a b j r before g.dag.spec.dag_id t p q None None sound run_is (flip g.dag.spec.dag_id r.graph named) shelves.later.clock held before_is still (refl, due p t task_is)))
+      (λ c. other_still P a b j r f.dag.spec.dag_id t p q run_is (other_id b n m g f r sound graph_is named (λ k. true≢false (sym (eq-eqb m n k) ∙ c)) e) (h.rest m f u apart e i p t q task queue));
+}
+
 -- ---- the patch of the graph
 pub once_last : (ps : List Patch) (x : Patch) → AreOfOthers x.graph ps → ((k l : ℕ) (y z : Patch) → slice_get ps k ≡ Some y → slice_get ps l ≡ Some z → y.graph ≡ z.graph → k ≡ l)
     → (k l : ℕ) (y z : Patch) → slice_get (ps ++ x ∷ []) k ≡ Some y → slice_get (ps ++ x ∷ []) l ≡ Some z → y.graph ≡ z.graph → k ≡ l
@@ -193,16 +220,23 @@ patch_found n (p ∷ ps) (Some i) e =
     let is : get_or (p ∷ ps) i p ≡ x.0 = get_or_from_slice_get (p ∷ ps) i x.0 p x.1 in
     (x.0, (x.1, eqb-true x.0.graph n (ap (is_of n) (sym is) ∙ f.1)))
 
--- so it is the patch of the graph, which is there or is put behind
-pub patch_there : (n places index : ℕ) (ps qs : List Patch) → Some index ≡ position (is_of n) ps → qs ≡ ps → IsPatchOf n places ps qs index
-patch_there n places index ps qs e same = let f : IsOfGraph n ps index = patch_found n ps (Some index) e in record { patch = f.0; there = ap (λ xs. slice_get xs index) same ∙ f.1.0; graph_is = f.1.1; from = inl same }
+pub patch_at : (n k : ℕ) (ps : List Patch) → is_of_if n (slice_get ps k) ≡ true → IsOfGraph n ps k
+patch_at n k ps h = by (slice_get ps k) refl h
+  where
+    by : (o : Option Patch) → slice_get ps k ≡ o → is_of_if n o ≡ true → IsOfGraph n ps k
+    by None e f = absurd (true≢false (sym f))
+    by (Some x) e f = (x, (e, eqb-true x.graph n f))
 
-pub patch_made : (n places index : ℕ) (ps qs : List Patch) (x : Patch) → None ≡ position (is_of n) ps → index ≡ length ps → x.graph ≡ n → length x.queues.items ≡ places → AreNone x.queues.items → qs ≡ ps ++ x ∷ [] → IsPatchOf n places ps qs index
+-- so it is the patch of the graph, which is there or is put behind
+pub patch_there : (n places index : ℕ) (ps qs : List Patch) → IsOfGraph n ps index → qs ≡ ps → IsPatchOf n places ps qs index
+patch_there n places index ps qs f same = record { patch = f.0; there = ap (λ xs. slice_get xs index) same ∙ f.1.0; graph_is = f.1.1; from = inl same }
+
+pub patch_made : (n places index : ℕ) (ps qs : List Patch) (x : Patch) → AreOfOthers n ps → index ≡ length ps → x.graph ≡ n → length x.queues.items ≡ places → AreNone x.queues.items → qs ≡ ps ++ x ∷ [] → IsPatchOf n places ps qs index
 patch_made n places index ps qs x e at own long none now = record {
   patch = x;
   there = ap (λ xs. slice_get xs index) now ∙ (ap (slice_get (ps ++ x ∷ [])) at ∙ behind ps);
   graph_is = own;
-  from = inr (patch_found n ps None e, (now, (long, none)));
+  from = inr (e, (now, (long, none)));
 }
   where
     behind : (ys : List Patch) → slice_get (ys ++ x ∷ []) (length ys) ≡ Some x
@@ -286,11 +320,8 @@ takes_run b ss j r before old mid n index g s x v sound run_is graph_is named sh
         let d = before_it l z f in
         on.once k l c.0 d.0 c.1.0 d.1.0 (c.1.1 ∙ (i ∙ sym d.1.1))
 
-    -- another graph has another id
     other : (m : ℕ) (f : LoadedGraph) → m ≢ n → slice_get b.graphs m ≡ Some f → same r.graph f.dag.spec.dag_id ≡ false
-    other m f apart e = by_bool {C = same r.graph f.dag.spec.dag_id ≡ false} (same r.graph f.dag.spec.dag_id)
-        (λ i. absurd (apart (graph_once b m n f g r.graph sound e graph_is (flip r.graph f.dag.spec.dag_id i) named)))
-        (λ i. i)
+    other m f apart e = other_id b n m g f r sound graph_is named apart e
 
     each : (k : ℕ) (y : Patch) (f : LoadedGraph) (u : ShelfValue) → slice_get new k ≡ Some y → slice_get b.graphs y.graph ≡ Some f → slice_get ss y.graph ≡ Some u → IsTableOn (and_run P j) a b f.dag u y.queues.items
     each k y f u e there_graph there_shelf = elim (set_get mid index (with_table x v) k y e) as (λ _. IsTableOn (and_run P j) a b f.dag u y.queues.items) [

@@ -1,5 +1,5 @@
 -- New queues of the places of a graph, one place after another.
-use Rattle.std.proofs.Common.{◌≡◌, ◌≢◌, ◌∙◌, ◌⊎◌, inl, inr, refl, sym, ap, subst, ℕ, zero, suc, ◌+◌, ◌<◌, ◌≤◌, List, [], ◌∷◌, ◌++◌, Bool, true, false, length, true≢false, Option, Some, None, slice_get, slice_set, nat_le, nat_lt, nat_eq, arith}
+use Rattle.std.proofs.Common.{◌≡◌, ◌≢◌, ◌∙◌, ◌⊎◌, inl, inr, refl, sym, ap, subst, ℕ, zero, suc, ◌+◌, ◌<◌, ◌≤◌, List, [], ◌∷◌, ◌++◌, Bool, true, false, length, true≢false, Option, Some, None, is_some, slice_get, slice_set, nat_le, nat_lt, nat_eq, arith}
 use Rattle.std.proofs.lemmas.Bool.{eqb-true, eq-eqb, ltb-true, ltb-false}
 use Rattle.std.proofs.lemmas.List.{length-set}
 use Rattle.std.proofs.lemmas.Option.{none-some, same_Some, slice_get_within}
@@ -56,11 +56,43 @@ set_twice [] n x y = refl
 set_twice (z ∷ xs) zero x y = refl
 set_twice (z ∷ xs) (suc n) x y = ap (λ ys. z ∷ ys) (set_twice xs n x y)
 
+-- a place that stays as it is
+pub patched_same : (n now : ℕ) (g : Dag) (s : ShelfValue) (before : Option Run) (r : Run) (old mid : List (Option Queue)) (x : Option Queue) (t : TaskSpec) (q : Queue) → n < length mid → slice_get g.tasks n ≡ Some t → slice_get s.queues n ≡ Some q → slice_get mid n ≡ Some x
+    → x ≡ None → due_before before t n ≡ due_at r t n → ArePatchedTo n now g s before r old mid → ArePatchedTo (n + 1) now g s before r old mid
+patched_same n now g s before r old mid x t q within task queue slot none same h =
+    subst (ArePatchedTo (n + 1) now g s before r old) (set_own mid n None (slot ∙ ap (λ o. Some o) none))
+    (patched_more n now g s before r old mid x None t q within task queue slot (none, same) h)
+  where
+    set_own : {X : Type 0} (xs : List X) (k : ℕ) (y : X) → slice_get xs k ≡ Some y → slice_set xs k y ≡ xs
+    set_own [] k y e = refl
+    set_own (z ∷ xs) zero y e = ap (λ w. w ∷ xs) (sym (same_Some z y e))
+    set_own (z ∷ xs) (suc k) y e = ap (λ ys. z ∷ ys) (set_own xs k y e)
+
 pub patched_all : (n now : ℕ) (g : Dag) (s : ShelfValue) (before : Option Run) (r : Run) (old new : List (Option Queue)) → ((p : ℕ) → p < length g.tasks → p < length s.queues → p < length new → p < n) → ArePatchedTo n now g s before r old new → ArePlacesPatched now g s before r old new
 patched_all n now g s before r old new all h = record {
   long = h.long;
   each = λ p t q o m a b c d. h.each p t q o m (all p (slice_get_within g.tasks p t a) (slice_get_within s.queues p q b) (slice_get_within new p m d)) a b c d;
 }
+
+-- ---- where nothing is to change
+pub none_put : (o : Option Queue) → is_some o ≡ false → o ≡ None
+none_put None e = refl
+none_put (Some q) e = absurd (true≢false e)
+
+-- at the places before one
+abbrev pub IsDueTo : ℕ → Dag → Option Run → Run → Type 0
+IsDueTo n g before r = (p : ℕ) (t : TaskSpec) → p < n → slice_get g.tasks p ≡ Some t → due_before before t p ≡ due_at r t p
+
+pub due_more : (n : ℕ) (g : Dag) (before : Option Run) (r : Run) (t : TaskSpec) → slice_get g.tasks n ≡ Some t → due_before before t n ≡ due_at r t n → IsDueTo n g before r → IsDueTo (n + 1) g before r
+due_more n g before r t there same h p u l task = by_bool {C = due_before before u p ≡ due_at r u p} (nat_eq p n)
+    (λ e.
+    let i : p ≡ n = eqb-true p n e in
+    let is : t ≡ u = same_Some t u (sym there ∙ (ap (slice_get g.tasks) (sym i) ∙ task)) in
+    subst (λ k. due_before before u k ≡ due_at r u k) (sym i) (subst (λ (v : TaskSpec). due_before before v n ≡ due_at r v n) is same))
+    (λ e. h p u (below l (λ i. true≢false (sym (eq-eqb p n i) ∙ e))) task)
+  where
+    below : p < n + 1 → p ≢ n → p < n
+    below m apart = by_bool {C = p < n} (nat_lt p n) (λ e. ltb-true p n e) (λ e. let k = ltb-false p n e in absurd (apart (omega (arith, k, m))))
 
 -- ---- moments that have come
 pub record AreMovedTo (n now : ℕ) (old : List Queue) (new : List (Option Queue)) : Type 0 where

@@ -1,5 +1,5 @@
 -- How patches are made, one run after another.
-use Rattle.std.specs.Prelude.{◌≡◌, ◌≢◌, ℕ, ◌<◌, ◌≤◌, ◌++◌, ◌==◌, ◌⊎◌, Bool, true, ◌||◌, List, [], ◌∷◌, length, Option, None, Some, slice_get}
+use Rattle.std.specs.Prelude.{◌≡◌, ◌≢◌, ℕ, ◌<◌, ◌≤◌, ◌++◌, ◌==◌, ◌⊎◌, Bool, true, false, ◌||◌, List, [], ◌∷◌, length, Option, None, Some, slice_get}
 use Rattle.graph_file.specs.declared.task_specs.TaskSpec.{TaskSpec}
 use Rattle.dag_check.specs.Graphs.{Dag}
 use Rattle.dag_check.specs.Orders.{is_in}
@@ -16,6 +16,10 @@ use Rattle.sched_ready.specs.declared.patches.Patch.{Patch}
 use Rattle.sched_ready.specs.declared.queues.Queue.{Queue}
 
 -- ---- one queue
+-- each of these dates is one of those
+abbrev pub HasAll : List ℕ → List ℕ → Type 0
+HasAll these those = (d : ℕ) → is_in these d ≡ true → is_in those d ≡ true
+
 -- no moment that waits has come
 abbrev pub IsAhead : ℕ → Queue → Type 0
 IsAhead now q = (m : ℕ) → is_in (moments_of q) m ≡ true → now < m
@@ -66,10 +70,19 @@ pub record ArePlacesPatched (now : ℕ) (g : Dag) (s : ShelfValue) (before : Opt
   pub each : (p : ℕ) (t : TaskSpec) (q : Queue) (o n : Option Queue) → slice_get g.tasks p ≡ Some t → slice_get s.queues p ≡ Some q → slice_get old p ≡ Some o → slice_get new p ≡ Some n
       → IsPlacePatched now q (due_before before t p) (due_at r t p) r.logical o n
 
+-- at each place the same is due in the run as in the run before
+abbrev pub IsDueAsBefore : Dag → Option Run → Run → Type 0
+IsDueAsBefore g before r = (p : ℕ) (t : TaskSpec) → slice_get g.tasks p ≡ Some t → due_before before t p ≡ due_at r t p
+
 -- ---- the patches
 -- a patch is of the graph at the position
 abbrev pub is_of : ℕ → Patch → Bool
 is_of n x = x.graph == n
+
+-- there is one, and it is of it
+abbrev pub is_of_if : ℕ → Option Patch → Bool
+is_of_if n None = false
+is_of_if n (Some x) = is_of n x
 
 -- none of them is of it
 abbrev pub AreOfOthers : ℕ → List Patch → Type 0

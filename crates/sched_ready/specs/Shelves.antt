@@ -1,6 +1,7 @@
 -- What is ready of one graph, by place.
-use Rattle.std.specs.Prelude.{◌≡◌, ℕ, ◌<◌, List, [], length, Option, Some, slice_get}
-use Rattle.sched_ready.specs.Leading.{IsLedOn, IsShaped, IsSoonestOn, LeadsOn, everywhere}
+use Rattle.std.specs.Prelude.{◌≡◌, ℕ, ◌<◌, true, List, [], length, Option, Some, slice_get}
+use Rattle.dag_check.specs.Orders.{is_in}
+use Rattle.sched_ready.specs.Leading.{IsLeast, IsLedOn, IsShaped, IsSoonestOn, LeadsOn, everywhere, is_led}
 use Rattle.sched_ready.specs.declared.leading.First.{First}
 use Rattle.sched_ready.specs.declared.queues.Queue.{Queue}
 
@@ -11,11 +12,12 @@ pub record ShelfValue : Type 0 where
   pub samples : List ℕ
   pub queues : List Queue
 
--- what a shelf keeps: the bounds are right for all places, and there is one for each kind
-pub record Leads (s : ShelfValue) (fs : List (Option First)) (soonest : Option ℕ) : Type 0 where
+-- what a shelf keeps: the bounds are right for all places, there is one for each kind, and none of them ranks before the least
+pub record Leads (s : ShelfValue) (fs : List (Option First)) (soonest : Option ℕ) (least : Option First) : Type 0 where
   pub samples : length s.samples ≡ length fs
   pub shaped : IsShaped s.weights s.kinds s.queues fs
   pub bounds : LeadsOn everywhere s.weights s.kinds s.queues fs soonest
+  pub least : IsLeast fs least
 
 abbrev pub shelf_value : List ℕ → List ℕ → List ℕ → List Queue → ShelfValue
 shelf_value ws ks ps qs = record { weights = ws; kinds = ks; samples = ps; queues = qs }
@@ -23,6 +25,10 @@ shelf_value ws ks ps qs = record { weights = ws; kinds = ks; samples = ps; queue
 -- no ready date of the kind ranks before the bound
 abbrev pub IsLedBy : ShelfValue → ℕ → Option First → Type 0
 IsLedBy s kind first = IsLedOn everywhere s.weights s.kinds s.queues kind first
+
+-- no ready date of the shelf ranks before the bound
+abbrev pub IsLed : ShelfValue → Option First → Type 0
+IsLed s first = (n w d : ℕ) (q : Queue) → slice_get s.weights n ≡ Some w → slice_get s.queues n ≡ Some q → is_in q.ready.keys d ≡ true → is_led w d first ≡ true
 
 -- no moment that waits is before the bound
 abbrev pub IsSoonest : ShelfValue → Option ℕ → Type 0

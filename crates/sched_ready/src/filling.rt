@@ -2,11 +2,11 @@
 ghost use Rattle.std.specs.Prelude.{◌≡◌, ◌≢◌, ◌≤◌, ℕ, true, false, length, IfOk, OnOk};
 ghost use Rattle.std.specs.Option.{option_copied};
 ghost use Rattle.sched_ready.specs.Due.{due_at, due_in, is_kept};
-ghost use Rattle.sched_ready.specs.Patching.{IsAhead, IsTurned, KeepsAll, due_before};
+ghost use Rattle.sched_ready.specs.Patching.{HasAll, IsAhead, IsTurned, KeepsAll, due_before};
 
 use crate::queues::Queue;
 use graph_file::TaskSpec;
-use instance_machine::Instance;
+use instance_machine::{Dirty, Instance};
 use moment_core::Moment;
 use sched_state::{Run, RunPhase};
 use std::alloc::{AllocError, Global};
@@ -19,10 +19,17 @@ fn due_in(run: &Run, task: &TaskSpec, instance: &Instance) -> Option<u64>
     if !matches!(run.phase, RunPhase::Running) {
         return None;
     }
-    if matches!(instance.state(task), State::Scheduled) {
-        return Some(0);
+    match instance.state(task) {
+        State::Scheduled => Some(0),
+        State::UpForRetry => instance.retry_at(task),
+        State::None
+        | State::Queued
+        | State::Running
+        | State::Success
+        | State::Failed
+        | State::Skipped
+        | State::UpstreamFailed => None,
     }
-    instance.retry_at(task)
 }
 
 /// The same of the instance at a place of a run, where there is one.
@@ -110,12 +117,34 @@ fn move_up(queue: &mut Queue, now: u64)
     }
 }
 
+// How many dates are few.
+const FEW: usize = 64;
+
+// The dates once more, with room for so many more. Few of them are put in one by one, so that they take just the memory that they need.
+fn copied(alloc: Global, dates: &Dirty<Moment>, more: usize) -> Result<Dirty<Moment>, AllocError>
+    ensures dates { IfOk result (λ copy. HasAll dates.now.keys copy.keys) }
+    ensures room { IfOk result (λ copy. more ≤ copy.room) }
+{
+    if FEW < dates.len().max(more) {
+        let many = dates.copy(alloc, more)?;
+        return Ok(many);
+    }
+    let mut copy = Dirty::new(alloc);
+    copy.reserve(dates.len() + more)?;
+    for at in 0..dates.len() {
+        if let Some(date) = dates.get(at) {
+            copy.mark(date);
+        }
+    }
+    Ok(copy)
+}
+
 /// A copy of the queue, in which the dates are ready whose moments have come.
 pub fn moved(alloc: Global, queue: &Queue, now: u64) -> Result<Queue, AllocError>
     ensures { IfOk result (KeepsAll now queue.now) }
 {
     let more = queue.waiting.len().max(1);
-    let ready = queue.ready.copy(alloc, more)?;
+    let ready = copied(alloc, &queue.ready, more)?;
     let waiting = queue.waiting.copy(alloc, 0)?;
     let mut copy = Queue { ready, waiting };
     move_up(&mut copy, now);

@@ -1,15 +1,16 @@
 //! The patches of an event, made from the runs that it touches.
-ghost use Rattle.std.specs.Prelude.{◌≡◌, ◌<◌, length, position, slice_get, IfOk, OnOk, Some};
+ghost use Rattle.std.specs.Prelude.{◌≡◌, ◌<◌, true, length, position, slice_get, IfOk, MatchOption, OnOk, Some};
 ghost use Rattle.std.specs.Option.{option_copied};
 ghost use Rattle.sched_model.specs.Sound.{IsSound};
 ghost use Rattle.sched_state.specs.declared.runs.Run.{Run};
 ghost use Rattle.sched_ready.specs.Held.{AreShelvesOf, IsLater};
 ghost use Rattle.sched_ready.specs.Patched.{ArePatches};
-ghost use Rattle.sched_ready.specs.Patching.{AreFirstPatches, IsPatchOf, TakesIn, is_of};
+ghost use Rattle.sched_ready.specs.Patching.{AreFirstPatches, AreOfOthers, IsDueAsBefore, IsOfGraph, IsPatchOf, TakesIn, is_of, is_of_if};
 
 use crate::patches::Patch;
-use crate::places::{moved_queues, no_queues, patch_places};
+use crate::places::{is_due_as_before, moved_queues, no_queues, patch_places};
 use crate::shelves::Shelf;
+use dag_check::Graph;
 use sched_draft::Draft;
 use sched_state::Run;
 use std::alloc::{AllocError, Global};
@@ -55,6 +56,9 @@ pub fn patch_run(
         return Ok(());
     };
     let dag = draft.dag_at(graph);
+    if is_left_alone(patches, graph, dag, run, before) {
+        return Ok(());
+    }
     let index = patch_of(alloc, graph, dag.len(), patches)?;
     let now = draft.clock().secs();
     let shelf = &shelves[graph];
@@ -62,14 +66,51 @@ pub fn patch_run(
     patch_places(alloc, now, dag, shelf, run, before, queues)
 }
 
-// Where the patch of the graph at a position stands.
-fn find(patches: &[Patch], graph: usize) -> Option<usize>
+// Whether the patch at an index, if there is one, is of the graph at a position.
+fn is_patch_at(patches: &[Patch], index: usize, graph: usize) -> bool
+    ensures { result ≡ is_of_if graph (slice_get patches.now index) }
+{
+    match patches.get(index) {
+        None => false,
+        Some(patch) => patch.graph == graph,
+    }
+}
+
+// Where the first patch of the graph at a position stands.
+fn find_first(patches: &[Patch], graph: usize) -> Option<usize>
     ensures { result ≡ position (is_of graph) patches.now }
 {
     patches.iter().position(|patch| patch.graph == graph)
 }
 
-// The same, where one with no queue is put behind them if there is none.
+// Where a patch of the graph at a position stands. The last one is looked at first, since runs of one graph stand together.
+fn find(patches: &[Patch], graph: usize) -> Option<usize>
+    ensures { MatchOption result (AreOfOthers graph patches.now) (IsOfGraph graph patches.now) }
+{
+    let last = patches.len().saturating_sub(1);
+    if is_patch_at(patches, last, graph) {
+        return Some(last);
+    }
+    find_first(patches, graph)
+}
+
+// Whether the graph at a position has no patch and needs none for this run, which may have been there as it was before.
+fn is_left_alone(
+    patches: &[Patch],
+    graph: usize,
+    dag: &Graph,
+    run: &Run,
+    before: Option<&Run>,
+) -> bool
+    ensures { result ≡ true → AreOfOthers graph patches.now × IsDueAsBefore dag.now (option_copied before.entry) run.now }
+{
+    if let Some(_index) = find(patches, graph) {
+        return false;
+    }
+    is_due_as_before(dag, run, before)
+}
+
+// Where the patch of a graph stands, of which one with no queue is put behind them if there is none.
 fn patch_of(
     alloc: Global,
     graph: usize,

@@ -1,7 +1,7 @@
 //! New queues of the places of a graph.
-ghost use Rattle.std.specs.Prelude.{◌≡◌, IfOk, OnOk, length};
+ghost use Rattle.std.specs.Prelude.{◌≡◌, true, false, IfOk, None, OnOk, length};
 ghost use Rattle.std.specs.Option.{option_copied};
-ghost use Rattle.sched_ready.specs.Patching.{AreMoved, AreNone, ArePlacesPatched, IsChanging, IsMoved, IsPlacePatched};
+ghost use Rattle.sched_ready.specs.Patching.{AreMoved, AreNone, ArePlacesPatched, IsChanging, IsDueAsBefore, IsMoved, IsPlacePatched};
 
 use crate::filling::{due_at, due_before, has_come, moved, turned};
 use crate::queues::Queue;
@@ -10,6 +10,23 @@ use dag_check::Graph;
 use moment_core::Moment;
 use sched_state::Run;
 use std::alloc::{AllocError, Global};
+
+// Whether these are the same.
+fn is_same(was: Option<u64>, due: Option<u64>) -> bool
+    ensures { result ≡ true → was ≡ due }
+{
+    was == due
+}
+
+// Whether the queue of a place is to change: it has changed already, or a date was due from one moment on and is due from another.
+fn is_changing(was: Option<u64>, due: Option<u64>, slot: &Option<Queue>) -> bool
+    ensures { result ≡ false → (slot.now ≡ None) × (was ≡ due) }
+{
+    if is_same(was, due) {
+        return slot.is_some();
+    }
+    true
+}
 
 // The queue that is to change, where a date was due from one moment on and is due from another: the new one so far, or a copy of the old one.
 fn changing(
@@ -53,6 +70,21 @@ fn patched_place(
     }
 }
 
+/// Whether what is due at each place in a run was due before, in the run as it may have been there.
+pub fn is_due_as_before(dag: &Graph, run: &Run, before: Option<&Run>) -> bool
+    ensures { result ≡ true → IsDueAsBefore dag.now (option_copied before.entry) run.now }
+{
+    for place in 0..dag.len() {
+        let task = dag.task(place);
+        let was = due_before(before, task, place);
+        let due = due_at(run, task, place);
+        if !is_same(was, due) {
+            return false;
+        }
+    }
+    true
+}
+
 /// The new queues of the places of a graph, after a run of it that may have been there as it was before.
 pub fn patch_places(
     alloc: Global,
@@ -71,9 +103,11 @@ pub fn patch_places(
         let task = dag.task(place);
         let was = due_before(before, task, place);
         let due = due_at(run, task, place);
-        let slot = queues[place].take();
-        let old = shelf.queue(place);
-        queues[place] = patched_place(alloc, old, now, was, due, run.logical, slot)?;
+        if is_changing(was, due, &queues[place]) {
+            let slot = queues[place].take();
+            let old = shelf.queue(place);
+            queues[place] = patched_place(alloc, old, now, was, due, run.logical, slot)?;
+        }
     }
     Ok(())
 }

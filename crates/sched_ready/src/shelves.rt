@@ -1,9 +1,9 @@
 //! What is ready of one graph, by place.
 ghost use Rattle.std.specs.Prelude.{◌≡◌, ℕ, ◌<◌, false, length, slice_get, slice_set, Some, IfOk};
 ghost use Rattle.sched_ready.specs.Patching.{AreAhead};
-ghost use Rattle.sched_ready.specs.Shelves.{AreEmpty, HasKinds, IsLedBy, IsSoonest};
+ghost use Rattle.sched_ready.specs.Shelves.{AreEmpty, HasKinds, IsLed, IsLedBy, IsSoonest};
 
-use crate::leading::{First, lead_by, lowered, lowered_to};
+use crate::leading::{First, Loose, lead_from, least_of, lowered, lowered_to};
 use crate::queues::Queue;
 use moment_core::Moment;
 use std::alloc::{AllocError, Global};
@@ -24,6 +24,10 @@ pub struct Shelf {
     firsts: Vec<Option<First>>,
     // No moment that waits is before it.
     soonest: Option<u64>,
+    // No one of `firsts` ranks before it.
+    least: Option<First>,
+    // Which of these bounds may be too early.
+    loose: Loose,
 }
 
 impl Model for Shelf {
@@ -35,7 +39,7 @@ impl Model for Shelf {
 
     ghost view = { λ s. shelf_value s.weights.items s.kinds.items s.samples.items s.queues.items };
 
-    ghost invariant = { λ s. Leads (shelf_value s.weights.items s.kinds.items s.samples.items s.queues.items) s.firsts.items s.soonest };
+    ghost invariant = { λ s. Leads (shelf_value s.weights.items s.kinds.items s.samples.items s.queues.items) s.firsts.items s.soonest s.least };
 }
 
 // The kinds of the tasks of a graph: the kind of each place, and of each kind a place of it.
@@ -59,6 +63,7 @@ impl Shelf {
         let queues = empty_queues(alloc, weights.len())?;
         let Kinds { kinds, samples } = kinds;
         let firsts = no_firsts(alloc, samples.len())?;
+        let least = least_of(&firsts);
         Ok(Shelf {
             weights,
             kinds,
@@ -66,6 +71,8 @@ impl Shelf {
             samples,
             firsts,
             soonest: None,
+            least,
+            loose: Loose::Nothing,
         })
     }
 
@@ -75,16 +82,33 @@ impl Shelf {
         ensures { self.new ≡ record self.old { queues = slice_set self.old.queues place queue } }
     {
         let kind = self.kinds[place];
-        self.firsts[kind] = lowered(self.firsts[kind], self.weights[place], queue.ready.get(0));
+        let weight = self.weights[place];
+        let date = queue.ready.get(0);
+        self.firsts[kind] = lowered(self.firsts[kind], weight, date);
+        let least = self.least;
+        self.least = lowered(least, weight, date);
         self.soonest = lowered_to(self.soonest, queue.waiting.get(0));
         let _ = mem::replace(&mut self.queues[place], queue);
+        let loose = self.loose;
+        self.loose = loose.with(kind, place);
     }
 
-    /// The bounds are made exact: it goes over all places.
+    /// The bounds are made exact. It goes over all places, unless queues of one kind of task alone were put, and its bound is met.
     pub fn lead(&mut self)
         ensures { self.new ≡ self.old }
     {
-        self.soonest = lead_by(&self.weights, &self.kinds, &self.queues, &mut self.firsts);
+        let soonest = self.soonest;
+        let loose = self.loose;
+        self.soonest = lead_from(
+            &self.weights,
+            &self.kinds,
+            &self.queues,
+            &mut self.firsts,
+            soonest,
+            loose,
+        );
+        self.least = least_of(&self.firsts);
+        self.loose = Loose::Nothing;
     }
 
     /// What no ready date of the kind ranks before.
@@ -93,6 +117,13 @@ impl Shelf {
         ensures { IsLedBy self.now kind result }
     {
         self.firsts[kind]
+    }
+
+    /// What no ready date ranks before.
+    pub fn least(&self) -> Option<First>
+        ensures { IsLed self.now result }
+    {
+        self.least
     }
 
     /// What no moment that waits is before.
