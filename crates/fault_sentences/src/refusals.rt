@@ -7,12 +7,15 @@ use crate::graphs::{push_dag, push_graph, push_pool};
 use crate::moments::DATES_HINT;
 use crate::notes::{Rest, near_graph, near_task};
 use crate::parts::Part::{Date, Text};
-use crate::parts::{Part, say};
+use crate::parts::say;
 use crate::places::Source;
 use graph_file::{GraphSpec, Name, TaskSpec, read_graph};
 use sched_events::{Event, Refusal};
 use script_reader::ExplainFault;
 use std::alloc::{AllocError, Global};
+
+// What is said of a graph without a run of a date, and how such dates are found.
+const NO_RUN: &str = "the graph \"{}\" has no run of the date {}: {}";
 
 // Adds why an event is refused; what the schedule says beside it.
 pub(crate) fn push_refusal(
@@ -108,9 +111,11 @@ fn push_of_event(
         (Refusal::UnknownTask, Some(Event::Mark { task, .. })) => {
             push_missing(sentence, Some(task), "task")
         }
-        (Refusal::UnknownRun, Some(Event::Mark { graph, logical, .. })) => {
-            push_no_run(sentence, graph.as_str(), Date(*logical))
-        }
+        (Refusal::UnknownRun, Some(Event::Mark { graph, logical, .. })) => say(
+            sentence,
+            NO_RUN,
+            &[Text(graph.as_str()), Date(*logical), Text(DATES_HINT)],
+        ),
         _ => sentence.push_str(plain(refusal)),
     }
 }
@@ -225,7 +230,11 @@ fn push_unknown<'a>(
 ) -> Result<(), AllocError> {
     match fault {
         ExplainFault::UnknownGraph => say(sentence, "there is no graph \"{}\"", &[Text(graph)]),
-        ExplainFault::UnknownRun => push_no_run(sentence, graph, Text(logical)),
+        ExplainFault::UnknownRun => say(
+            sentence,
+            NO_RUN,
+            &[Text(graph), Text(logical), Text(DATES_HINT)],
+        ),
         ExplainFault::UnknownTask => say(
             sentence,
             "the graph \"{}\" has no task \"{}\"",
@@ -233,13 +242,4 @@ fn push_unknown<'a>(
         ),
         ExplainFault::Memory => Ok(()),
     }
-}
-
-// Adds that the graph has no run of this date.
-fn push_no_run(sentence: &mut String, graph: &str, date: Part<'_>) -> Result<(), AllocError> {
-    say(
-        sentence,
-        "the graph \"{}\" has no run of the date {}: {}",
-        &[Text(graph), date, Text(DATES_HINT)],
-    )
 }
