@@ -14,9 +14,6 @@ use sched_events::{Event, Refusal};
 use script_reader::ExplainFault;
 use std::alloc::{AllocError, Global};
 
-// What is said of a graph without a run of a date, and how such dates are found.
-const NO_RUN: &str = "the graph \"{}\" has no run of the date {}: {}";
-
 // Adds why an event is refused; what the schedule says beside it.
 pub(crate) fn push_refusal(
     sentence: &mut String,
@@ -111,11 +108,10 @@ fn push_of_event(
         (Refusal::UnknownTask, Some(Event::Mark { task, .. })) => {
             push_missing(sentence, Some(task), "task")
         }
-        (Refusal::UnknownRun, Some(Event::Mark { graph, logical, .. })) => say(
-            sentence,
-            NO_RUN,
-            &[Text(graph.as_str()), Date(*logical), Text(DATES_HINT)],
-        ),
+        (Refusal::UnknownRun, Some(Event::Mark { graph, logical, .. })) => {
+            push_no_run(sentence, graph.as_str())?;
+            write!(sentence, "{logical}: {DATES_HINT}")
+        }
         _ => sentence.push_str(plain(refusal)),
     }
 }
@@ -230,11 +226,10 @@ fn push_unknown<'a>(
 ) -> Result<(), AllocError> {
     match fault {
         ExplainFault::UnknownGraph => say(sentence, "there is no graph \"{}\"", &[Text(graph)]),
-        ExplainFault::UnknownRun => say(
-            sentence,
-            NO_RUN,
-            &[Text(graph), Text(logical), Text(DATES_HINT)],
-        ),
+        ExplainFault::UnknownRun => {
+            push_no_run(sentence, graph)?;
+            write!(sentence, "{logical}: {DATES_HINT}")
+        }
         ExplainFault::UnknownTask => say(
             sentence,
             "the graph \"{}\" has no task \"{}\"",
@@ -242,4 +237,13 @@ fn push_unknown<'a>(
         ),
         ExplainFault::Memory => Ok(()),
     }
+}
+
+// Adds that the graph has no run of a date, which stands behind it.
+fn push_no_run(sentence: &mut String, graph: &str) -> Result<(), AllocError> {
+    say(
+        sentence,
+        "the graph \"{}\" has no run of the date ",
+        &[Text(graph)],
+    )
 }
