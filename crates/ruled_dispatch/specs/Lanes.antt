@@ -67,15 +67,15 @@ JobsWereFull lanes director =
     (held : List JobOrStop) × (length held ≡ job_capacity_of lanes) × AreAmong held (sent_of director)
 
 -- each item was sent as often as it was taken or is left, by every weight
-abbrev pub IsSettled : DirectorPass → List WorkerPass → List JobOrStop → Type 0
-IsSettled director workers left =
+abbrev pub IsAccountedFor : DirectorPass → List WorkerPass → List JobOrStop → Type 0
+IsAccountedFor director workers left =
     (weight : JobOrStop → ℕ)
     → sum_by weight (sent_of director) ≡ sum_by (λ w. sum_by weight (taken_of w)) workers + sum_by weight left
 
 -- so many items are left, and with these all are accounted for
 abbrev pub IsSettledBut : DirectorPass → List WorkerPass → ℕ → Type 0
 IsSettledBut director workers count =
-    (left : List JobOrStop) × (length left ≡ count) × IsSettled director workers left
+    (left : List JobOrStop) × (length left ≡ count) × IsAccountedFor director workers left
 
 -- what each worker told is what was heard of it and then what is left of it, in order
 abbrev pub IsHeard : DirectorPass → List WorkerPass → List WorkerReport → Type 0

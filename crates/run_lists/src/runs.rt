@@ -106,7 +106,7 @@ impl Runs {
     }
 
     /// The positions of the runs that have a try in flight, that is one without an end, in their order.
-    pub fn in_flight(&self) -> &[usize]
+    pub fn with_open_tries(&self) -> &[usize]
         ensures { result.now ≡ positions_where (stands InFlight) self.now.runs }
     {
         self.standing(Standing::InFlight)

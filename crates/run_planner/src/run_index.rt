@@ -99,7 +99,7 @@ impl RunIndex {
     /// Takes over the timetable and the start date of a graph, where they are others, and passes over the starts of that timetable
     /// that have a run, up to the first without one. What the index holds stays as it is; [`due`](crate::due) of a graph with this
     /// timetable and start date begins its walk there. This takes no memory.
-    pub fn settle(&mut self, graph: &Graph)
+    pub fn move_cursor(&mut self, graph: &Graph)
         ensures { self.new ≡ self.old }
     {
         let spec = graph.spec();

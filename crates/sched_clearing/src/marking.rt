@@ -90,7 +90,7 @@ fn pass_over(alloc: Global, draft: &mut Draft<'_>, one: &Clearing) -> Result<(),
 }
 
 // What the clear names is set back. Its graph and its task are there, so it names something or memory runs out.
-fn set_back(alloc: Global, draft: &mut Draft<'_>, after: &Clearing) -> Result<(), MarkFault>
+fn with_set_back(alloc: Global, draft: &mut Draft<'_>, after: &Clearing) -> Result<(), MarkFault>
     requires { IsSound draft.old.content }
     ensures base { OnOk result (draft.new.base ≡ draft.old.base) }
     ensures back { OnOk result (draft.new.content
@@ -125,5 +125,5 @@ pub fn mark(
         only_failed: true,
         ..one
     };
-    set_back(alloc, draft, &after)
+    with_set_back(alloc, draft, &after)
 }

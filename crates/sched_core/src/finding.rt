@@ -87,7 +87,7 @@ impl Schedule {
         ensures kept { IsSoundAndSaid self.now.content }
         ensures counted { IsCounted self.now.content }
     {
-        open_at(&self.runs, self.runs.in_flight(), serial)
+        open_at(&self.runs, self.runs.with_open_tries(), serial)
     }
 
     // What is occupied after a report on the try that was found: a try that ends gives its lane and its slots back.

@@ -23,10 +23,10 @@ ghost use Rattle.sched_laws.specs.sched_model.NamedRuns.{is_for, named_by_backfi
 ghost use Rattle.sched_laws.specs.sched_model.Changes.{set_paused, resize};
 ghost use Rattle.sched_laws.specs.Instances.{state_of_task, IsStillFinished};
 ghost use Rattle.sched_laws.specs.Runs.{runs_named};
-ghost use Rattle.sched_laws.specs.Tries.{GoesOn, try_of};
+ghost use Rattle.sched_laws.specs.Tries.{IsLaterTry, try_of};
 ghost use Rattle.sched_events.specs.Events.{named_by, IsInRange};
 ghost use Rattle.sched_events.specs.Causes.{refused};
-ghost use Rattle.sched_events.specs.Promises.{serials_in, AreDistinct, IsReached, KeepsPromises};
+ghost use Rattle.sched_events.specs.Promises.{serials_in, AreDistinct, LeadsTo, KeepsPromises};
 ghost use Rattle.sched_events.specs.Steps.{step, steps, named_along, handed_along, AreAccepted};
 ghost use Rattle.sched_events.specs.SettledAndSound.{IsSoundAndSaid, IsSettledAndSound};
 ghost use Rattle.sched_events.specs.declared.events.Event.{Event};
@@ -124,11 +124,11 @@ pub fn tries_go_on()
     ensures step { (e : Event) (a : Schedule) (id : List ℕ) (date : ℕ) (task : List ℕ) (n : ℕ)
         (t : Try) → IsInRange e → refused a e ≡ None → IsSoundAndSaid a
         → try_of a id date task n ≡ Some t
-        → (u : Try) × (try_of (step e a) id date task n ≡ Some u) × GoesOn t u }
+        → (u : Try) × (try_of (step e a) id date task n ≡ Some u) × IsLaterTry t u }
     ensures steps { (es : List Event) (a : Schedule) (id : List ℕ) (date : ℕ) (task : List ℕ)
         (n : ℕ) (t : Try) → AreAccepted es a → IsSoundAndSaid a
         → try_of a id date task n ≡ Some t
-        → (u : Try) × (try_of (steps es a) id date task n ≡ Some u) × GoesOn t u }
+        → (u : Try) × (try_of (steps es a) id date task n ≡ Some u) × IsLaterTry t u }
 {}
 
 /// What has finished has still finished after another text for its graph, and all that follows it: by graph, date and task with the state that it
@@ -164,7 +164,7 @@ pub fn each_serial_is_handed_out_once()
 /// A step is its event's own change, with the runs that the event names; then moves, each the first that is possible, until none is; then
 /// hand-outs, each of the first in rank of the eligible that fit, within the bounds, until nothing eligible fits.
 pub fn steps_end_in_hand_outs()
-    ensures { (e : Event) (a : Schedule) → IsReached e a (step e a) }
+    ensures { (e : Event) (a : Schedule) → LeadsTo e a (step e a) }
 {}
 
 /// The promise of the scheduler, one event after another: after each accepted event the runs are those before it and the named ones; the

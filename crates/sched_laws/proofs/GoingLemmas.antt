@@ -23,17 +23,17 @@ use Rattle.sched_model.specs.Schedule.{Schedule, is_at, dag_named, has_runs}
 use Rattle.sched_model.specs.Settle.{move, move_runs, with_runs, settle, moves_left}
 use Rattle.sched_model.specs.Sound.{IsSound, are_new}
 use Rattle.sched_laws.specs.Runs.{named_as}
-use Rattle.sched_laws.specs.Tries.{GoesOn, run_at, try_in, try_at, try_of}
+use Rattle.sched_laws.specs.Tries.{IsLaterTry, run_at, try_in, try_at, try_of}
 use Rattle.sched_laws.proofs.ClearLemmas.{all_keys, all_tries}
 use Rattle.sched_laws.proofs.OnwardLemmas.{IsOnward, AllBy, by_still, by_further, by_first, by_at, by_turns, by_added}
 use Rattle.sched_laws.proofs.RunLemmas.{try_lists, move_kin}
 use Rattle.sched_laws.proofs.SettleLemmas.{map_some}
 
 -- ---- a try
-pub goes_still : (t : Try) → GoesOn t t
+pub goes_still : (t : Try) → IsLaterTry t t
 goes_still t = record { serial = refl; slots = refl; started = λ m e. e; ended = λ x e. e }
 
-pub goes_further : (t u v : Try) → GoesOn t u → GoesOn u v → GoesOn t v
+pub goes_further : (t u v : Try) → IsLaterTry t u → IsLaterTry u v → IsLaterTry t v
 goes_further t u v f g = record {
   serial = g.serial ∙ f.serial;
   slots = g.slots ∙ f.slots;
@@ -45,7 +45,7 @@ abbrev made_try : ℕ → ℕ → Option ℕ → Option End → Try
 made_try s k b e = record { serial = s; slots = k; started = b; ended = e }
 
 -- what has not begun, or has not ended
-begins : (s k now : ℕ) → GoesOn (made_try s k None None) (made_try s k (Some now) None)
+begins : (s k now : ℕ) → IsLaterTry (made_try s k None None) (made_try s k (Some now) None)
 begins s k now = record {
   serial = refl;
   slots = refl;
@@ -53,7 +53,7 @@ begins s k now = record {
   ended = λ x e. absurd (let c : ◌≡◌ {A = Option End} None (Some x) = e in cc);
 }
 
-ends : (s k : ℕ) (b : Option ℕ) (y : End) → GoesOn (made_try s k b None) (made_try s k b (Some y))
+ends : (s k : ℕ) (b : Option ℕ) (y : End) → IsLaterTry (made_try s k b None) (made_try s k b (Some y))
 ends s k b y = record {
   serial = refl;
   slots = refl;
@@ -61,7 +61,7 @@ ends s k b y = record {
   ended = λ x e. absurd (let c : ◌≡◌ {A = Option End} None (Some x) = e in cc);
 }
 
-reports : (stage : Stage) (now s k : ℕ) (b : Option ℕ) (e : Option End) → GoesOn (made_try s k b e) (unwrap_or (report_try stage now (made_try s k b e)) (made_try s k b e))
+reports : (stage : Stage) (now s k : ℕ) (b : Option ℕ) (e : Option End) → IsLaterTry (made_try s k b e) (unwrap_or (report_try stage now (made_try s k b e)) (made_try s k b e))
 reports stage now s k b (Some x) = goes_still (made_try s k b (Some x))
 reports Started now s k None None = begins s k now
 reports Started now s k (Some m) None = goes_still (made_try s k (Some m) None)
@@ -71,25 +71,25 @@ reports (Ended Failed) now s k (Some m) None = ends s k (Some m) (record { momen
 reports (Ended Skipped) now s k (Some m) None = ends s k (Some m) (record { moment = now; outcome = Skipped })
 reports (Ended Lost) now s k (Some m) None = goes_still (made_try s k (Some m) None)
 
-goes_if : (b : Bool) (t u : Try) → GoesOn t u → GoesOn t (if b then u else t)
+goes_if : (b : Bool) (t u : Try) → IsLaterTry t u → IsLaterTry t (if b then u else t)
 goes_if true t u g = g
 goes_if false t u g = goes_still t
 
-pub report_goes : (serial : ℕ) (stage : Stage) (now : ℕ) (t : Try) → GoesOn t (reported_try serial stage now t)
+pub report_goes : (serial : ℕ) (stage : Stage) (now : ℕ) (t : Try) → IsLaterTry t (reported_try serial stage now t)
 report_goes serial stage now t = goes_if (t.serial == serial) t (unwrap_or (report_try stage now t) t) (reports stage now t.serial t.slots t.started t.ended)
 
-lost_goes_if : (now s k : ℕ) (b : Option ℕ) (e : Option End) → GoesOn (made_try s k b e) (lost_if now e (made_try s k b e))
+lost_goes_if : (now s k : ℕ) (b : Option ℕ) (e : Option End) → IsLaterTry (made_try s k b e) (lost_if now e (made_try s k b e))
 lost_goes_if now s k b None = ends s k b (record { moment = now; outcome = Lost })
 lost_goes_if now s k b (Some x) = goes_still (made_try s k b (Some x))
 
-pub lost_goes : (now : ℕ) (t : Try) → GoesOn t (lost_try now t)
+pub lost_goes : (now : ℕ) (t : Try) → IsLaterTry t (lost_try now t)
 lost_goes now t = lost_goes_if now t.serial t.slots t.started t.ended
 
 -- ---- a run
 -- q stands where r stood, and each try goes on
 pub record RunGoesOn (r q : Run) : Type 0 where
   pub named : named_as q ≡ named_as r
-  pub tries : (p n : ℕ) (t : Try) → try_in p n r ≡ Some t → (u : Try) × (try_in p n q ≡ Some u) × GoesOn t u
+  pub tries : (p n : ℕ) (t : Try) → try_in p n r ≡ Some t → (u : Try) × (try_in p n q ≡ Some u) × IsLaterTry t u
 
 run_still : (r : Run) → RunGoesOn r r
 run_still r = record { named = refl; tries = λ p n t e. (t, e, goes_still t) }
@@ -125,7 +125,7 @@ mapped_get f p n r = ap (option_and_then (λ (i : InstanceValue). slice_get i.tr
     of_option None = refl
     of_option (Some i) = slice_get-map f i.tries n
 
-changed_tries : (f : Try → Try) → ((t : Try) → GoesOn t (f t)) → (r : Run) → RunGoesOn r (map_tries_of f r)
+changed_tries : (f : Try → Try) → ((t : Try) → IsLaterTry t (f t)) → (r : Run) → RunGoesOn r (map_tries_of f r)
 changed_tries f h r = record { named = refl; tries = λ p n t e. (f t, mapped_get f p n r ∙ ap (option_map f) e, h t) }
 
 -- where one instance gets a further try
@@ -179,7 +179,7 @@ each_goes f h [] = all_still []
 each_goes f h (r ∷ rs) = first_goes r (f r) rs (map f rs) (h r) (each_goes f h rs)
 
 -- ---- the changes of events
-pub tries_go : (f : Try → Try) → ((t : Try) → GoesOn t (f t)) → (a : Schedule) → AllGoOn a.runs (map_all_tries f a).runs
+pub tries_go : (f : Try → Try) → ((t : Try) → IsLaterTry t (f t)) → (a : Schedule) → AllGoOn a.runs (map_all_tries f a).runs
 tries_go f h a = each_goes (map_tries_of f) (changed_tries f h) a.runs
 
 pub set_goes : (v : Option Verdict) (named : Selection) (a : Schedule) → IsSound a → AllGoOn a.runs (set_named v named a).runs
@@ -214,8 +214,8 @@ advance_goes ns a e =
     (by_further RunGoesOn run_onward b.runs (settle b).runs (advance ns a).runs moved.1 handed.1)
 
 -- ---- a try
-pub try_goes : (a b : Schedule) → AllGoOn a.runs b.runs → (id : List ℕ) (date p n : ℕ) (t : Try) → try_at a id date p n ≡ Some t → (u : Try) × (try_at b id date p n ≡ Some u) × GoesOn t u
-try_goes a b h id date p n t e = elim (run_at id date a.runs) as (λ o. run_at id date a.runs ≡ o → option_and_then (try_in p n) o ≡ Some t → (u : Try) × (try_at b id date p n ≡ Some u) × GoesOn t u) [
+pub try_goes : (a b : Schedule) → AllGoOn a.runs b.runs → (id : List ℕ) (date p n : ℕ) (t : Try) → try_at a id date p n ≡ Some t → (u : Try) × (try_at b id date p n ≡ Some u) × IsLaterTry t u
+try_goes a b h id date p n t e = elim (run_at id date a.runs) as (λ o. run_at id date a.runs ≡ o → option_and_then (try_in p n) o ≡ Some t → (u : Try) × (try_at b id date p n ≡ Some u) × IsLaterTry t u) [
   | None ↦ λ f g. absurd (let c : ◌≡◌ {A = Option Try} None (Some t) = g in cc)
   | Some r ↦ λ f g.
       let q = h id date r f in
@@ -241,8 +241,8 @@ try_run a id date p n t e = elim (run_at id date a.runs) as (λ o. run_at id dat
 
 -- where a graph that has runs keeps its tasks
 pub task_goes : (a b : Schedule) → AllGoOn a.runs b.runs → (id : List ℕ) → (has_runs a id ≡ true → (dag_named b id).tasks ≡ (dag_named a id).tasks) → (date : ℕ) (task : List ℕ) (n : ℕ) (t : Try) → try_of a id date task n ≡ Some t
-    → (u : Try) × (try_of b id date task n ≡ Some u) × GoesOn t u
-task_goes a b h id tasks date task n t e = elim (place_of (dag_named a id).tasks task) as (λ o. place_of (dag_named a id).tasks task ≡ o → option_and_then (λ (p : ℕ). try_at a id date p n) o ≡ Some t → (u : Try) × (try_of b id date task n ≡ Some u) × GoesOn t u) [
+    → (u : Try) × (try_of b id date task n ≡ Some u) × IsLaterTry t u
+task_goes a b h id tasks date task n t e = elim (place_of (dag_named a id).tasks task) as (λ o. place_of (dag_named a id).tasks task ≡ o → option_and_then (λ (p : ℕ). try_at a id date p n) o ≡ Some t → (u : Try) × (try_of b id date task n ≡ Some u) × IsLaterTry t u) [
   | None ↦ λ f g. absurd (let c : ◌≡◌ {A = Option Try} None (Some t) = g in cc)
   | Some p ↦ λ f g.
       let u = try_goes a b h id date p n t g in

@@ -8,7 +8,7 @@ use Rattle.sched_model.specs.Schedule.{Schedule, dag_named, is_at}
 use Rattle.sched_model.specs.Clearing.{place_of}
 
 -- a try stays, perhaps begun or ended by now: its serial and its slots are the same, and so are its start and its end once they are there
-pub record GoesOn (t u : Try) : Type 0 where
+pub record IsLaterTry (t u : Try) : Type 0 where
   pub serial : u.serial ≡ t.serial
   pub slots : u.slots ≡ t.slots
   pub started : (moment : ℕ) → t.started ≡ Some moment → u.started ≡ Some moment

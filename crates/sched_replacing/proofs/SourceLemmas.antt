@@ -11,7 +11,7 @@ use Rattle.sched_state.specs.Lists.{same}
 use Rattle.sched_state.specs.declared.runs.Run.{Run}
 use Rattle.sched_model.specs.Replacing.{fitted, fitted_if, kept_as, newcomer}
 use Rattle.sched_laws.proofs.FittedLemmas.{Pair, zip_none}
-use Rattle.sched_replacing.specs.Fitting.{instance_from, source_of, sources_of}
+use Rattle.sched_replacing.specs.Fitting.{instance_from, old_place_of, sources_of}
 
 -- the pair at the place of the first task that passes is the first whose task passes
 placed_from : (p : TaskSpec → Bool) (i : ℕ) (ts : List TaskSpec) (hs : List InstanceValue) (es : List Pair) → ((k : ℕ) → slice_get es (i + k) ≡ slice_get (zip ts hs) k)
@@ -29,7 +29,7 @@ placed_from p i (t ∷ ts) (h ∷ hs) es e = elim (p t) as (λ b. option_and_the
 ]
 
 -- so by the place of its source a task gets what it gets by its id
-pub source_fits : (r : Run) (old : List TaskSpec) (u : TaskSpec) → instance_from r old (source_of old u) u ≡ fitted r.phase (zip old r.instances) u
+pub source_fits : (r : Run) (old : List TaskSpec) (u : TaskSpec) → instance_from r old (old_place_of old u) u ≡ fitted r.phase (zip old r.instances) u
 source_fits r old u =
     let own : TaskSpec → Bool = λ t. same t.task_id u.task_id in
     let es : List Pair = zip old r.instances in
@@ -48,10 +48,10 @@ source_over r old n u over =
     ap (λ (o : Option Pair). fitted_if r.phase o u) (slice_get_past (zip old r.instances) n (omega (arith, long, over)))
 
 -- what is read of the places is the place of the task
-pub source_read : (old news : List TaskSpec) (sources : List (Option ℕ)) (n : ℕ) (o : Option ℕ) (u : TaskSpec) → sources ≡ sources_of old news → slice_get sources n ≡ Some o → slice_get news n ≡ Some u → o ≡ source_of old u
+pub source_read : (old news : List TaskSpec) (sources : List (Option ℕ)) (n : ℕ) (o : Option ℕ) (u : TaskSpec) → sources ≡ sources_of old news → slice_get sources n ≡ Some o → slice_get news n ≡ Some u → o ≡ old_place_of old u
 source_read old news sources n o u is source task =
-    let c : ◌≡◌ {A = Option (Option ℕ)} (Some o) (Some (source_of old u)) =
-    sym source ∙ (ap (λ (xs : List (Option ℕ)). slice_get xs n) is ∙ (slice_get-map (source_of old) news n ∙ ap (option_map (source_of old)) task)) in cc
+    let c : ◌≡◌ {A = Option (Option ℕ)} (Some o) (Some (old_place_of old u)) =
+    sym source ∙ (ap (λ (xs : List (Option ℕ)). slice_get xs n) is ∙ (slice_get-map (old_place_of old) news n ∙ ap (option_map (old_place_of old)) task)) in cc
 
 -- so what is made by it is what the task gets
 pub source_gives : (r : Run) (old news : List TaskSpec) (sources : List (Option ℕ)) (n : ℕ) (o : Option ℕ) (u : TaskSpec) (i : InstanceValue) → sources ≡ sources_of old news → slice_get sources n ≡ Some o → slice_get news n ≡ Some u

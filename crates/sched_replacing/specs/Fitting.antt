@@ -9,12 +9,12 @@ use Rattle.sched_state.specs.declared.runs.Run.{Run}
 use Rattle.sched_model.specs.Replacing.{fitted, fitted_if}
 
 -- the place of the old task with the id of a new one
-abbrev pub source_of : List TaskSpec → TaskSpec → Option ℕ
-source_of old new = position (λ (t : TaskSpec). same t.task_id new.task_id) old
+abbrev pub old_place_of : List TaskSpec → TaskSpec → Option ℕ
+old_place_of old new = position (λ (t : TaskSpec). same t.task_id new.task_id) old
 
 -- and of each of them
 abbrev pub sources_of : List TaskSpec → List TaskSpec → List (Option ℕ)
-sources_of old new = map (source_of old) new
+sources_of old new = map (old_place_of old) new
 
 -- the instance that a task gets of those of a run, where its old task stands at this place
 abbrev pub instance_from : Run → List TaskSpec → Option ℕ → TaskSpec → InstanceValue

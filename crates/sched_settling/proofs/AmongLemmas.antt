@@ -25,7 +25,7 @@ use Rattle.run_lists.proofs.PastLemmas.{rises_pair}
 use Rattle.sched_draft.proofs.SearchLemmas.{parted_by_search}
 use Rattle.sched_settling.specs.Marks.{IsGapFor, IsLine, IsLineAt, has_line, id_before, ids_of}
 use Rattle.sched_settling.specs.Touched.{AreFresh, IsLineAdded}
-use Rattle.sched_settling.specs.declared.lines.Line.{Line}
+use Rattle.sched_settling.specs.declared.lines.GraphRuns.{GraphRuns}
 
 -- ---- ids
 pub less_apart : (k : Ordering) → is_less k ≡ true → is_eq k ≡ false
@@ -54,7 +54,7 @@ ids_differ is m n i j h e f d = elim (cases_lt m n) [
 ]
 
 -- ---- the ids of lines
-abbrev pub line_id : Line → List ℕ
+abbrev pub line_id : GraphRuns → List ℕ
 line_id l = l.id.now
 
 mapped_all : {X Y : Type 0} (p : Y → Bool) (f : X → Y) (xs : List X) → list_all p (map f xs) ≡ list_all (λ x. p (f x)) xs
@@ -65,29 +65,29 @@ mapped_rises : {X Y : Type 0} (b : Y → Y → Bool) (f : X → Y) (xs : List X)
 mapped_rises b f [] = refl
 mapped_rises b f (x ∷ xs) = ap (λ c. c && rises b (map f xs)) (mapped_all (b (f x)) f xs) ∙ ap (λ c. list_all (λ y. b (f x) (f y)) xs && c) (mapped_rises b f xs)
 
-pub lines_rise : (ls : List Line) → rises id_before (ids_of ls) ≡ true → rises (λ (l m : Line). is_less (name_cmp l.id.now m.id.now)) ls ≡ true
+pub lines_rise : (ls : List GraphRuns) → rises id_before (ids_of ls) ≡ true → rises (λ (l m : GraphRuns). is_less (name_cmp l.id.now m.id.now)) ls ≡ true
 lines_rise ls h = sym (mapped_rises id_before line_id ls) ∙ h
 
-pub ids_get : (ls : List Line) (n : ℕ) (l : Line) → slice_get ls n ≡ Some l → slice_get (ids_of ls) n ≡ Some l.id.now
+pub ids_get : (ls : List GraphRuns) (n : ℕ) (l : GraphRuns) → slice_get ls n ≡ Some l → slice_get (ids_of ls) n ≡ Some l.id.now
 ids_get ls n l e = slice_get-map line_id ls n ∙ ap (option_map line_id) e
 
-pub ids_set : (ls : List Line) (p : ℕ) (l m : Line) → slice_get ls p ≡ Some l → m.id.now ≡ l.id.now → ids_of (set ls p m) ≡ ids_of ls
-ids_set [] p l m e f = absurd (let c : ◌≡◌ {A = Option Line} None (Some l) = e in cc)
-ids_set (x ∷ xs) zero l m e f = let c : ◌≡◌ {A = Option Line} (Some x) (Some l) = e in let i : x ≡ l = cc in ap (λ (j : List ℕ). j ∷ ids_of xs) (f ∙ ap line_id (sym i))
+pub ids_set : (ls : List GraphRuns) (p : ℕ) (l m : GraphRuns) → slice_get ls p ≡ Some l → m.id.now ≡ l.id.now → ids_of (set ls p m) ≡ ids_of ls
+ids_set [] p l m e f = absurd (let c : ◌≡◌ {A = Option GraphRuns} None (Some l) = e in cc)
+ids_set (x ∷ xs) zero l m e f = let c : ◌≡◌ {A = Option GraphRuns} (Some x) (Some l) = e in let i : x ≡ l = cc in ap (λ (j : List ℕ). j ∷ ids_of xs) (f ∙ ap line_id (sym i))
 ids_set (x ∷ xs) (suc p) l m e f = ap (λ (js : List (List ℕ)). x.id.now ∷ js) (ids_set xs p l m e f)
 
-ids_put : (ls : List Line) (n : ℕ) (l : Line) → ids_of (insert ls n l) ≡ insert (ids_of ls) n l.id.now
+ids_put : (ls : List GraphRuns) (n : ℕ) (l : GraphRuns) → ids_of (insert ls n l) ≡ insert (ids_of ls) n l.id.now
 ids_put ls zero l = refl
 ids_put [] (suc n) l = refl
 ids_put (x ∷ xs) (suc n) l = ap (λ (js : List (List ℕ)). x.id.now ∷ js) (ids_put xs n l)
 
-pub inside_lines : (ls ks : List Line) (p : ℕ) → ids_of ls ≡ ids_of ks → p < length ks → p < length ls
+pub inside_lines : (ls ks : List GraphRuns) (p : ℕ) → ids_of ls ≡ ids_of ks → p < length ks → p < length ls
 inside_lines ls ks p e l =
     let long : length (ids_of ls) ≡ length (ids_of ks) = ap (λ (js : List (List ℕ)). length js) e in
     omega (arith, l, long, length-map ls line_id, length-map ks line_id)
 
 -- two lines are of different graphs
-pub lines_differ : (ls : List Line) (m n : ℕ) (k l : Line) → rises id_before (ids_of ls) ≡ true → slice_get ls m ≡ Some k → slice_get ls n ≡ Some l → nat_eq n m ≡ false → same k.id.now l.id.now ≡ false
+pub lines_differ : (ls : List GraphRuns) (m n : ℕ) (k l : GraphRuns) → rises id_before (ids_of ls) ≡ true → slice_get ls m ≡ Some k → slice_get ls n ≡ Some l → nat_eq n m ≡ false → same k.id.now l.id.now ≡ false
 lines_differ ls m n k l h e f d = ids_differ (ids_of ls) m n k.id.now l.id.now h (ids_get ls m k e) (ids_get ls n l f) d
 
 -- ---- whether there is a line of a graph
@@ -123,7 +123,7 @@ id_at (x ∷ xs) id e = by_bool {C = IdAt (x ∷ xs) id} (same x id)
 pub has_same : (is : List (List ℕ)) (i j : List ℕ) → same i j ≡ true → among is i ≡ true → among is j ≡ true
 has_same is i j s h = ap (among is) (sym (same_is i j s)) ∙ h
 
-pub line_there : (ls : List Line) (id : List ℕ) (n : ℕ) → IsLineAt ls id n → has_line ls id ≡ true
+pub line_there : (ls : List GraphRuns) (id : List ℕ) (n : ℕ) → IsLineAt ls id n → has_line ls id ≡ true
 line_there ls id n h = has_at (ids_of ls) n h.line.id.now id (ids_get ls n h.line h.there) (ap (λ (j : List ℕ). same j id) h.named ∙ same_itself id)
 
 -- ---- where one would stand that is not there
@@ -145,28 +145,28 @@ put_rises (x ∷ xs) (suc n) id l h b a =
     and_from (list_all (id_before x) (insert xs n id)) _ (all_put (id_before x) xs n id (and_left _ _ h) (b 0 x (omega arith) refl))
     (put_rises xs n id (omega (arith, l)) (and_right (list_all (id_before x) xs) _ h) (λ m i k e. b (suc m) i (omega (arith, k)) e) (λ m i k e. a (suc m) i (omega (arith, k)) e))
 
-abbrev pub IsParted : List Line → List ℕ → ℕ → Type 0
-IsParted ls id n = IsPartitionPoint (λ (l : Line). name_cmp l.id.now id ≡ Less) (λ (l : Line). name_cmp l.id.now id ≡ Greater) ls n
+abbrev pub IsParted : List GraphRuns → List ℕ → ℕ → Type 0
+IsParted ls id n = IsPartitionPoint (λ (l : GraphRuns). name_cmp l.id.now id ≡ Less) (λ (l : GraphRuns). name_cmp l.id.now id ≡ Greater) ls n
 
 -- what stands at a place of the ids
-id_line : (ls : List Line) (m : ℕ) (i : List ℕ) → slice_get (ids_of ls) m ≡ Some i → (l : Line) × (slice_get ls m ≡ Some l) × (l.id.now ≡ i)
+id_line : (ls : List GraphRuns) (m : ℕ) (i : List ℕ) → slice_get (ids_of ls) m ≡ Some i → (l : GraphRuns) × (slice_get ls m ≡ Some l) × (l.id.now ≡ i)
 id_line ls m i e =
     let inside : m < length (ids_of ls) = slice_get_within (ids_of ls) m i e in
     let l = element_at ls m (omega (arith, inside, length-map ls line_id)) in
     let c : ◌≡◌ {A = Option (List ℕ)} (Some (l.0).id.now) (Some i) = sym (ids_get ls m l.0 l.1) ∙ e in
     (l.0, l.1, cc)
 
-less_there : (ls : List Line) (id : List ℕ) (n m : ℕ) (i : List ℕ) → IsParted ls id n → m < n → slice_get (ids_of ls) m ≡ Some i → name_cmp i id ≡ Less
+less_there : (ls : List GraphRuns) (id : List ℕ) (n m : ℕ) (i : List ℕ) → IsParted ls id n → m < n → slice_get (ids_of ls) m ≡ Some i → name_cmp i id ≡ Less
 less_there ls id n m i parts k e =
     let l = id_line ls m i e in
-    ap (λ (j : List ℕ). name_cmp j id) (sym l.2) ∙ (ap (λ (x : Line). name_cmp x.id.now id) (sym (get_or_from_slice_get ls m l.0 l.0 l.1)) ∙ parts.0 m l.0 (omega arith) k)
+    ap (λ (j : List ℕ). name_cmp j id) (sym l.2) ∙ (ap (λ (x : GraphRuns). name_cmp x.id.now id) (sym (get_or_from_slice_get ls m l.0 l.0 l.1)) ∙ parts.0 m l.0 (omega arith) k)
 
-more_there : (ls : List Line) (id : List ℕ) (n m : ℕ) (i : List ℕ) → IsParted ls id n → n ≤ m → slice_get (ids_of ls) m ≡ Some i → name_cmp i id ≡ Greater
+more_there : (ls : List GraphRuns) (id : List ℕ) (n m : ℕ) (i : List ℕ) → IsParted ls id n → n ≤ m → slice_get (ids_of ls) m ≡ Some i → name_cmp i id ≡ Greater
 more_there ls id n m i parts k e =
     let l = id_line ls m i e in
-    ap (λ (j : List ℕ). name_cmp j id) (sym l.2) ∙ (ap (λ (x : Line). name_cmp x.id.now id) (sym (get_or_from_slice_get ls m l.0 l.0 l.1)) ∙ parts.1 m l.0 k (slice_get_within ls m l.0 l.1))
+    ap (λ (j : List ℕ). name_cmp j id) (sym l.2) ∙ (ap (λ (x : GraphRuns). name_cmp x.id.now id) (sym (get_or_from_slice_get ls m l.0 l.0 l.1)) ∙ parts.1 m l.0 k (slice_get_within ls m l.0 l.1))
 
-pub gap_for : (ls : List Line) (id : List ℕ) (n : ℕ) → n ≤ length ls → rises id_before (ids_of ls) ≡ true → IsParted ls id n → IsGapFor ls id n
+pub gap_for : (ls : List GraphRuns) (id : List ℕ) (n : ℕ) → n ≤ length ls → rises id_before (ids_of ls) ≡ true → IsParted ls id n → IsGapFor ls id n
 gap_for ls id n l h parts = record {
   within = l;
   none = any_none (λ (i : List ℕ). same i id) (ids_of ls) (λ m i e. elim (cases_lt m n) [
@@ -179,10 +179,10 @@ gap_for ls id n l h parts = record {
 }
 
 -- what a binary search answers
-pub searched : (ls : List Line) (id : List ℕ) (r : Result ℕ ℕ) → rises id_before (ids_of ls) ≡ true → IsSearchInRange r (length ls) → IsBinarySearchResult (λ (l : Line). name_cmp l.id.now id) ls r → MatchResult r (IsLineAt ls id) (IsGapFor ls id)
+pub searched : (ls : List GraphRuns) (id : List ℕ) (r : Result ℕ ℕ) → rises id_before (ids_of ls) ≡ true → IsSearchInRange r (length ls) → IsBinarySearchResult (λ (l : GraphRuns). name_cmp l.id.now id) ls r → MatchResult r (IsLineAt ls id) (IsGapFor ls id)
 searched ls id (Ok n) h b s =
     let l = element_at ls n b in
-    let tied : name_cmp (l.0).id.now id ≡ Equal = ap (λ (x : Line). name_cmp x.id.now id) (sym (get_or_from_slice_get ls n l.0 l.0 l.1)) ∙ s l.0 in
+    let tied : name_cmp (l.0).id.now id ≡ Equal = ap (λ (x : GraphRuns). name_cmp x.id.now id) (sym (get_or_from_slice_get ls n l.0 l.0 l.1)) ∙ s l.0 in
     record { line = l.0; there = l.1; named = same_is (l.0).id.now id (sym (is_eq-slice_cmp (l.0).id.now id) ∙ ap is_eq tied) }
 searched ls id (Err n) h b s = gap_for ls id n b h (parted_by_search nat_list_cmp_total line_id id ls n (lines_rise ls h) s)
 
@@ -197,15 +197,15 @@ any_put p (x ∷ xs) (suc n) y = ap (λ b. p x || b) (any_put p xs n y) ∙ turn
     turn true false c = refl
     turn false b c = refl
 
-put_each : (P : Line → Type 0) (xs : List Line) (n : ℕ) (y : Line) → P y → ((m : ℕ) (x : Line) → slice_get xs m ≡ Some x → P x) → (m : ℕ) (z : Line) → slice_get (insert xs n y) m ≡ Some z → P z
-put_each P xs zero y p h zero z e = let c : ◌≡◌ {A = Option Line} (Some y) (Some z) = e in let r : y ≡ z = cc in subst P r p
+put_each : (P : GraphRuns → Type 0) (xs : List GraphRuns) (n : ℕ) (y : GraphRuns) → P y → ((m : ℕ) (x : GraphRuns) → slice_get xs m ≡ Some x → P x) → (m : ℕ) (z : GraphRuns) → slice_get (insert xs n y) m ≡ Some z → P z
+put_each P xs zero y p h zero z e = let c : ◌≡◌ {A = Option GraphRuns} (Some y) (Some z) = e in let r : y ≡ z = cc in subst P r p
 put_each P xs zero y p h (suc m) z e = h m z e
-put_each P [] (suc n) y p h zero z e = let c : ◌≡◌ {A = Option Line} (Some y) (Some z) = e in let r : y ≡ z = cc in subst P r p
-put_each P [] (suc n) y p h (suc m) z e = absurd (let c : ◌≡◌ {A = Option Line} None (Some z) = e in cc)
+put_each P [] (suc n) y p h zero z e = let c : ◌≡◌ {A = Option GraphRuns} (Some y) (Some z) = e in let r : y ≡ z = cc in subst P r p
+put_each P [] (suc n) y p h (suc m) z e = absurd (let c : ◌≡◌ {A = Option GraphRuns} None (Some z) = e in cc)
 put_each P (x ∷ xs) (suc n) y p h zero z e = h 0 z e
 put_each P (x ∷ xs) (suc n) y p h (suc m) z e = put_each P xs n y p (λ k w f. h (suc k) w f) m z e
 
-pub added_already : (rs : List Run) (id : List ℕ) (ls : List Line) (n : ℕ) → rises id_before (ids_of ls) ≡ true → IsLineAt ls id n → IsLineAdded rs id ls ls
+pub added_already : (rs : List Run) (id : List ℕ) (ls : List GraphRuns) (n : ℕ) → rises id_before (ids_of ls) ≡ true → IsLineAt ls id n → IsLineAdded rs id ls ls
 added_already rs id ls n rising h = record {
   rising = rising;
   has = λ i. by_bool {C = has_line ls i ≡ (same id i || has_line ls i)} (same id i)
@@ -214,11 +214,11 @@ added_already rs id ls n rising h = record {
   fresh = λ a is f. f;
 }
 
-pub added_new : (rs : List Run) (id : List ℕ) (ls ms : List Line) (n : ℕ) (l : Line) → IsGapFor ls id n → l.id.now ≡ id → ((a : Schedule) → rs ≡ a.runs → IsLine a id l) → l.touched.items ≡ [] → ms ≡ insert ls n l → IsLineAdded rs id ls ms
+pub added_new : (rs : List Run) (id : List ℕ) (ls ms : List GraphRuns) (n : ℕ) (l : GraphRuns) → IsGapFor ls id n → l.id.now ≡ id → ((a : Schedule) → rs ≡ a.runs → IsLine a id l) → l.touched.items ≡ [] → ms ≡ insert ls n l → IsLineAdded rs id ls ms
 added_new rs id ls ms n l gap named line empty made =
     let ids : ids_of ms ≡ insert (ids_of ls) n id = ap ids_of made ∙ (ids_put ls n l ∙ ap (insert (ids_of ls) n) named) in
     record {
       rising = ap (rises id_before) ids ∙ gap.rising;
       has = λ i. ap (λ js. among js i) ids ∙ any_put (λ (j : List ℕ). same j i) (ids_of ls) n id;
-      fresh = λ a is f. subst (AreFresh a) (sym made) (put_each (λ (k : Line). IsLine a k.id.now k × (k.touched.items ≡ [])) ls n l (subst (λ (j : List ℕ). IsLine a j l) (sym named) (line a is), empty) f);
+      fresh = λ a is f. subst (AreFresh a) (sym made) (put_each (λ (k : GraphRuns). IsLine a k.id.now k × (k.touched.items ≡ [])) ls n l (subst (λ (j : List ℕ). IsLine a j l) (sym named) (line a is), empty) f);
     }

@@ -24,7 +24,7 @@ use Rattle.sched_settling.proofs.BeforeLemmas.{earlier_is}
 use Rattle.sched_settling.proofs.TouchedLemmas.{counted_over, line_over, touched_decisions, touched_ends}
 use Rattle.sched_laws.specs.Stages.{IsOrdered, CoversEnds}
 use Rattle.sched_settling.specs.Touched.{Mark, Kept, Changed, Added, Over, is_active, touched_of, replaced_of, positions_of, runs_at, bases_at, with_key, dates_queued, IsCountedIn, IsCountedOff, IsRunCounted, EachLine, AreFresh, AreRecounted, IsCarried, over_runs, is_marked, is_near, IsTouched}
-use Rattle.sched_settling.specs.declared.lines.Line.{Line}
+use Rattle.sched_settling.specs.declared.lines.GraphRuns.{GraphRuns}
 use Rattle.sched_settling.proofs.AmongLemmas.{ids_set, line_id, lines_differ, same_flips}
 use Rattle.sched_settling.proofs.LineLemmas.{same_dates, same_within, same_both, set_there, set_apart, queued_run, run_date}
 use Rattle.sched_laws.proofs.ListLemmas.{all_get}
@@ -148,7 +148,7 @@ runs_more b ps i r l e = ap (runs_at b) (take_more ps i 0 l) ∙ (runs_join b (t
 dates_join : (id : List ℕ) (rs ss : List Run) → dates_queued id (rs ++ ss) ≡ dates_queued id rs ++ dates_queued id ss
 dates_join id rs ss = ap (map (λ (r : Run). r.logical)) (filter-append (λ (r : Run). same r.graph id && is_queued r.phase) rs ss) ∙ map_append (λ (r : Run). r.logical) (filter (λ (r : Run). same r.graph id && is_queued r.phase) rs) (filter (λ (r : Run). same r.graph id && is_queued r.phase) ss)
 
-pub in_more_runs : (id : List ℕ) (rs : List Run) (r : Run) (l m n : Line) → IsCountedIn id rs l m → IsCountedIn id (r ∷ []) m n → IsCountedIn id (rs ++ r ∷ []) l n
+pub in_more_runs : (id : List ℕ) (rs : List Run) (r : Run) (l m n : GraphRuns) → IsCountedIn id rs l m → IsCountedIn id (r ∷ []) m n → IsCountedIn id (rs ++ r ∷ []) l n
 in_more_runs id rs r l m n s t = record {
   active =
       let both : count_by (is_active id) (rs ++ r ∷ []) ≡ count_by (is_active id) rs + count_by (is_active id) (r ∷ []) = sum_by-append (λ x. cond (is_active id x) 1 0) rs (r ∷ []) in
@@ -168,7 +168,7 @@ dates_one : (id : List ℕ) (r : Run) → dates_queued id (r ∷ []) ≡ cond (s
 dates_one id r = elim (same r.graph id && is_queued r.phase) as (λ b. map (λ (x : Run). x.logical) (cond b (r ∷ []) []) ≡ cond b (r.logical ∷ []) []) [ true ↦ refl | false ↦ refl ]
 
 -- of the run's graph, and of another
-pub counted_same : (id : List ℕ) (r : Run) (l m : Line) → same r.graph id ≡ true → IsRunCounted r l m → IsCountedIn id (r ∷ []) l m
+pub counted_same : (id : List ℕ) (r : Run) (l m : GraphRuns) → same r.graph id ≡ true → IsRunCounted r l m → IsCountedIn id (r ∷ []) l m
 counted_same id r l m e s = record {
   active = s.active ∙ ap (λ k. l.active + k) (ap (λ b. cond (b && is_running r.phase) 1 0) (sym e) ∙ sym (count_one_run id r));
   runs = s.runs;
@@ -181,7 +181,7 @@ pub append_none : (xs : List ℕ) → xs ++ [] ≡ xs
 append_none [] = refl
 append_none (x ∷ xs) = ap (λ ys. x ∷ ys) (append_none xs)
 
-pub counted_other : (id : List ℕ) (r : Run) (l : Line) → same r.graph id ≡ false → IsCountedIn id (r ∷ []) l l
+pub counted_other : (id : List ℕ) (r : Run) (l : GraphRuns) → same r.graph id ≡ false → IsCountedIn id (r ∷ []) l l
 counted_other id r l e = record {
   active = let c : count_by (is_active id) (r ∷ []) ≡ 0 = count_one_run id r ∙ ap (λ b. cond (b && is_running r.phase) 1 0) e in omega (arith, c);
   runs = refl;
@@ -190,7 +190,7 @@ counted_other id r l e = record {
   touched = sym (ap (λ xs. l.touched.items ++ xs) (dates_one id r ∙ ap (λ b. cond (b && is_queued r.phase) (r.logical ∷ []) []) e) ∙ append_none l.touched.items);
 }
 
-pub counted_first : (id : List ℕ) (l : Line) → IsCountedIn id [] l l
+pub counted_first : (id : List ℕ) (l : GraphRuns) → IsCountedIn id [] l l
 counted_first id l = record { active = let e : l.active ≡ l.active + 0 = omega arith in e; runs = refl; kept = refl; from = refl; touched = sym (append_none l.touched.items) }
 
 -- ---- counting off
@@ -209,7 +209,7 @@ bases_more a b ps i r l e =
     ap (bases_at a b) (take_more ps i 0 l) ∙ (bases_join a b (take i ps) (get_or ps i 0 ∷ [])
     ∙ ap (λ xs. bases_at a b (take i ps) ++ xs) (runs_append_none (option_to_list (option_and_then (with_key a) (slice_get b (get_or ps i 0)))) ∙ ap (λ o. option_to_list (option_and_then (with_key a) o)) e))
 
-pub off_more_runs : (id : List ℕ) (rs ss : List Run) (l m n : Line) → IsCountedOff id rs l m → IsCountedOff id ss m n → IsCountedOff id (rs ++ ss) l n
+pub off_more_runs : (id : List ℕ) (rs ss : List Run) (l m n : GraphRuns) → IsCountedOff id rs l m → IsCountedOff id ss m n → IsCountedOff id (rs ++ ss) l n
 off_more_runs id rs ss l m n s t = record {
   active =
       let both : count_by (is_active id) (rs ++ ss) ≡ count_by (is_active id) rs + count_by (is_active id) ss = sum_by-append (λ x. cond (is_active id x) 1 0) rs ss in
@@ -222,11 +222,11 @@ off_more_runs id rs ss l m n s t = record {
   touched = t.touched ∙ s.touched;
 }
 
-pub off_none : (id : List ℕ) (l : Line) → IsCountedOff id [] l l
+pub off_none : (id : List ℕ) (l : GraphRuns) → IsCountedOff id [] l l
 off_none id l = record { active = let e : l.active ≡ l.active - 0 = omega arith in e; runs = refl; kept = refl; from = refl; touched = refl }
 
 -- a run that was not running counts for nothing
-pub off_idle : (id : List ℕ) (r : Run) (l : Line) → is_running r.phase ≡ false → IsCountedOff id (r ∷ []) l l
+pub off_idle : (id : List ℕ) (r : Run) (l : GraphRuns) → is_running r.phase ≡ false → IsCountedOff id (r ∷ []) l l
 off_idle id r l e = record {
   active =
       let off : (same r.graph id && is_running r.phase) ≡ false = by_bool {C = (same r.graph id && is_running r.phase) ≡ false} (same r.graph id) (λ f. rw (f, e) refl) (λ f. rw f refl) in
@@ -238,7 +238,7 @@ off_idle id r l e = record {
   touched = refl;
 }
 
-pub off_one : (id : List ℕ) (r : Run) (l : Line) → is_running r.phase ≡ true → IsCountedOff id (r ∷ []) l (cond (same r.graph id) (one_fewer l) l)
+pub off_one : (id : List ℕ) (r : Run) (l : GraphRuns) → is_running r.phase ≡ true → IsCountedOff id (r ∷ []) l (cond (same r.graph id) (one_fewer l) l)
 off_one id r l e = by_bool {C = IsCountedOff id (r ∷ []) l (cond (same r.graph id) (one_fewer l) l)} (same r.graph id)
     (λ f.
     let c : count_by (is_active id) (r ∷ []) ≡ 1 = count_one_run id r ∙ (ap (λ b. cond (b && is_running r.phase) 1 0) f ∙ ap (λ b. cond b 1 0) e) in
@@ -248,7 +248,7 @@ off_one id r l e = by_bool {C = IsCountedOff id (r ∷ []) l (cond (same r.graph
     rw f (record { active = omega (arith, c); runs = refl; kept = refl; from = refl; touched = refl }))
 
 -- ---- all lines
-pub each_then : (P Q S : List ℕ → Line → Line → Type 0) → ((id : List ℕ) (l m n : Line) → P id l m → Q id m n → S id l n) → (ls ms ns : List Line) → EachLine P ls ms → EachLine Q ms ns → EachLine S ls ns
+pub each_then : (P Q S : List ℕ → GraphRuns → GraphRuns → Type 0) → ((id : List ℕ) (l m n : GraphRuns) → P id l m → Q id m n → S id l n) → (ls ms ns : List GraphRuns) → EachLine P ls ms → EachLine Q ms ns → EachLine S ls ns
 each_then P Q S f ls ms ns s t = (
   t.0 ∙ s.0,
   λ i n x.
@@ -257,27 +257,27 @@ each_then P Q S f ls ms ns s t = (
       (v.0, (v.1.0, (u.1.1.0 ∙ v.1.1.0, f (v.0).id.now v.0 u.0 n v.1.1.1 (subst (λ (j : List ℕ). Q j u.0 n) v.1.1.0 u.1.1.1)))),
 )
 
-pub each_same : (P : List ℕ → Line → Line → Type 0) → (ls : List Line) → ((n : ℕ) (l : Line) → slice_get ls n ≡ Some l → P l.id.now l l) → EachLine P ls ls
+pub each_same : (P : List ℕ → GraphRuns → GraphRuns → Type 0) → (ls : List GraphRuns) → ((n : ℕ) (l : GraphRuns) → slice_get ls n ≡ Some l → P l.id.now l l) → EachLine P ls ls
 each_same P ls f = (refl, λ n m x. (m, (x, (refl, f n m x))))
 
 -- one line is another
-pub each_set : (P : List ℕ → Line → Line → Type 0) → (ls : List Line) (p : ℕ) (l m : Line) → rises id_before (ids_of ls) ≡ true → slice_get ls p ≡ Some l → m.id.now ≡ l.id.now → P l.id.now l m
-    → ((k : Line) → same l.id.now k.id.now ≡ false → P k.id.now k k) → EachLine P ls (set ls p m)
+pub each_set : (P : List ℕ → GraphRuns → GraphRuns → Type 0) → (ls : List GraphRuns) (p : ℕ) (l m : GraphRuns) → rises id_before (ids_of ls) ≡ true → slice_get ls p ≡ Some l → m.id.now ≡ l.id.now → P l.id.now l m
+    → ((k : GraphRuns) → same l.id.now k.id.now ≡ false → P k.id.now k k) → EachLine P ls (set ls p m)
 each_set P ls p l m r f named here others =
     let inside : p < length ls = slice_get_within ls p l f in (
       ids_set ls p l m f named,
-      λ i n x. by_bool {C = (k : Line) × ((slice_get ls i ≡ Some k) × ((n.id.now ≡ k.id.now) × P k.id.now k n))} (nat_eq i p)
+      λ i n x. by_bool {C = (k : GraphRuns) × ((slice_get ls i ≡ Some k) × ((n.id.now ≡ k.id.now) × P k.id.now k n))} (nat_eq i p)
           (λ u.
           let j : i ≡ p = eqb-true i p u in
-          let c : ◌≡◌ {A = Option Line} (Some m) (Some n) = sym (set_there ls p m inside) ∙ (ap (slice_get (set ls p m)) (sym j) ∙ x) in
+          let c : ◌≡◌ {A = Option GraphRuns} (Some m) (Some n) = sym (set_there ls p m inside) ∙ (ap (slice_get (set ls p m)) (sym j) ∙ x) in
           let n_is : m ≡ n = cc in
-          (l, (ap (slice_get ls) j ∙ f, (ap line_id (sym n_is) ∙ named, subst (λ (z : Line). P l.id.now l z) n_is here))))
+          (l, (ap (slice_get ls) j ∙ f, (ap line_id (sym n_is) ∙ named, subst (λ (z : GraphRuns). P l.id.now l z) n_is here))))
           (λ u.
           let old : slice_get ls i ≡ Some n = sym (set_apart ls p i m u) ∙ x in
           (n, (old, (refl, others n (lines_differ ls p i l n r f old u))))),
     )
 
-pub off_each : (r : Run) (ls ms : List Line) → is_running r.phase ≡ true → IsCountedDown r.graph ls ms → EachLine (λ id. IsCountedOff id (r ∷ [])) ls ms
+pub off_each : (r : Run) (ls ms : List GraphRuns) → is_running r.phase ≡ true → IsCountedDown r.graph ls ms → EachLine (λ id. IsCountedOff id (r ∷ [])) ls ms
 off_each r ls ms e s = (
   s.ids,
   λ g m x.
@@ -285,7 +285,7 @@ off_each r ls ms e s = (
       (u.0, (u.1.0, (ap line_id u.1.1 ∙ fewer_id (same r.graph (u.0).id.now) u.0, subst (IsCountedOff (u.0).id.now (r ∷ []) u.0) (sym u.1.1) (off_one (u.0).id.now r u.0 e)))),
 )
   where
-    fewer_id : (b : Bool) (l : Line) → line_id (cond b (one_fewer l) l) ≡ l.id.now
+    fewer_id : (b : Bool) (l : GraphRuns) → line_id (cond b (one_fewer l) l) ≡ l.id.now
     fewer_id true l = refl
     fewer_id false l = refl
 
@@ -359,7 +359,7 @@ only_kept : (b : Bool) → (b || false) ≡ true → b ≡ true
 only_kept true e = refl
 only_kept false e = e
 
-pub carried : (a b : Schedule) (ms : List Mark) (id : List ℕ) (l m n : Line) → rises run_before b.runs ≡ true → Over ms a.runs b.runs → IsLine a id l → l.touched.items ≡ [] → IsCountedIn id (touched_of ms b.runs) l m → IsCountedOff id (replaced_of ms a.runs) m n
+pub carried : (a b : Schedule) (ms : List Mark) (id : List ℕ) (l m n : GraphRuns) → rises run_before b.runs ≡ true → Over ms a.runs b.runs → IsLine a id l → l.touched.items ≡ [] → IsCountedIn id (touched_of ms b.runs) l m → IsCountedOff id (replaced_of ms a.runs) m n
     → IsCarried a b ms id l n
 carried a b ms id l m n h o s fresh t u =
     let dates : n.touched.items ≡ dates_queued id (touched_of ms b.runs) = u.touched ∙ (t.touched ∙ ap (λ xs. xs ++ dates_queued id (touched_of ms b.runs)) fresh) in
@@ -387,7 +387,7 @@ carried a b ms id l m n h o s fresh t u =
           ∙ in_at id (touched_of ms b.runs) e.0 v.run e.1 (and_from (same (v.run).graph id) _ v.of v.queued));
     }
 
-pub carried_lines : (b : Schedule) (rs : List Run) (ms : List Mark) (ls ks ns : List Line) → rises run_before b.runs ≡ true → Over ms rs b.runs → AreFresh (over_runs b rs) ls
+pub carried_lines : (b : Schedule) (rs : List Run) (ms : List Mark) (ls ks ns : List GraphRuns) → rises run_before b.runs ≡ true → Over ms rs b.runs → AreFresh (over_runs b rs) ls
     → EachLine (λ id. IsCountedIn id (touched_of ms b.runs)) ls ks → EachLine (λ id. IsCountedOff id (replaced_of ms rs)) ks ns → AreRecounted b ls ns
 carried_lines b rs ms ls ks ns h o fresh t u = record {
   ids = u.0 ∙ t.0;

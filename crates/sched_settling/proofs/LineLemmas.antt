@@ -34,7 +34,7 @@ use Rattle.sched_laws.proofs.DecisionLemmas.{by_bool, change_first, change_quiet
 use Rattle.run_lists.specs.Orders as lists
 use Rattle.run_lists.proofs.OrderLemmas.{less_only}
 use Rattle.sched_settling.specs.Marks.{DatesRise, HasLineOf, has_line, id_before, ids_of, are_within, date_in, dates_from, kept_dates, IsNextDate, IsQueuedOn, IsRunAt, NoneQueuedOn, IsTouchedFirst, is_waiting, comes_first, before_kept, date_at, IsQueue, IsFirstQueued, IsLine, AreLines, IsCountedDown, IsStartIn, NoStartIn, NoneBefore, NoneQueued, is_queued_run, is_queued_at, one_fewer}
-use Rattle.sched_settling.specs.declared.lines.Line.{Line}
+use Rattle.sched_settling.specs.declared.lines.GraphRuns.{GraphRuns}
 use Rattle.sched_settling.proofs.MarkLemmas.{first_low, in_tail}
 use Rattle.sched_settling.specs.Touched.{HaveLinesOfAll}
 use Rattle.sched_settling.proofs.AmongLemmas.{among, has_at, has_same, id_at, ids_get, ids_set, less_apart, line_id, lines_differ, none_at, same_flips}
@@ -104,15 +104,15 @@ set_long [] (suc i) y = refl
 set_long (x ∷ xs) zero y = refl
 set_long (x ∷ xs) (suc i) y = ap suc (set_long xs i y)
 
-pub counted_some : (id : List ℕ) (ls : List Line) (p : ℕ) (l : Line) → rises id_before (ids_of ls) ≡ true → slice_get ls p ≡ Some l → l.id.now ≡ id → IsCountedDown id ls (set ls p (one_fewer l))
+pub counted_some : (id : List ℕ) (ls : List GraphRuns) (p : ℕ) (l : GraphRuns) → rises id_before (ids_of ls) ≡ true → slice_get ls p ≡ Some l → l.id.now ≡ id → IsCountedDown id ls (set ls p (one_fewer l))
 counted_some id ls p l r f named =
     let inside : p < length ls = slice_get_within ls p l f in
     record {
       ids = ids_set ls p l (one_fewer l) f refl;
-      each = λ i m x. by_bool {C = (k : Line) × ((slice_get ls i ≡ Some k) × (m ≡ cond (same id k.id.now) (one_fewer k) k))} (nat_eq i p)
+      each = λ i m x. by_bool {C = (k : GraphRuns) × ((slice_get ls i ≡ Some k) × (m ≡ cond (same id k.id.now) (one_fewer k) k))} (nat_eq i p)
           (λ u.
           let j : i ≡ p = eqb-true i p u in
-          let c : ◌≡◌ {A = Option Line} (Some (one_fewer l)) (Some m) = sym (set_there ls p (one_fewer l) inside) ∙ (ap (slice_get (set ls p (one_fewer l))) (sym j) ∙ x) in
+          let c : ◌≡◌ {A = Option GraphRuns} (Some (one_fewer l)) (Some m) = sym (set_there ls p (one_fewer l) inside) ∙ (ap (slice_get (set ls p (one_fewer l))) (sym j) ∙ x) in
           let m_is : one_fewer l ≡ m = cc in
           let t : same id l.id.now ≡ true = ap (same id) named ∙ same_itself id in
           (l, (ap (slice_get ls) j ∙ f, sym m_is ∙ sym (ap (λ b. cond b (one_fewer l) l) t))))
@@ -122,7 +122,7 @@ counted_some id ls p l r f named =
           (m, (old, sym (ap (λ b. cond b (one_fewer m) m) t))));
     }
 
-pub counted_none : (id : List ℕ) (ls : List Line) → has_line ls id ≡ false → IsCountedDown id ls ls
+pub counted_none : (id : List ℕ) (ls : List GraphRuns) → has_line ls id ≡ false → IsCountedDown id ls ls
 counted_none id ls e = record {
   ids = refl;
   each = λ i m x.
@@ -207,7 +207,7 @@ not_queued_here a id d n t h e k f = by_bool {C = nat_eq (date_at a k) d ≡ fal
     (λ g. g)
 
 -- ---- the first queued run
-pub queued_first : (a : Schedule) (id : List ℕ) (l m : Line) (d n : ℕ) → rises run_before a.runs ≡ true → IsQueue a id l → IsNextDate l m d → IsQueuedOn a id d n → IsFirstQueued a id m n
+pub queued_first : (a : Schedule) (id : List ℕ) (l m : GraphRuns) (d n : ℕ) → rises run_before a.runs ≡ true → IsQueue a id l → IsNextDate l m d → IsQueuedOn a id d n → IsFirstQueued a id m n
 queued_first a id l m d n h q t f =
     let u = queued_run a id n f.queued in
     let date : date_at a n ≡ d = f.date in
@@ -324,7 +324,7 @@ queued_off phase.Running e = absurd (true≢false (sym e))
 queued_off phase.Success e = refl
 queued_off phase.Failed e = refl
 
-pub start_line : (a : Schedule) (n : ℕ) (w : Run) (id : List ℕ) (l m : Line) → slice_get a.runs n ≡ Some w → same w.graph id ≡ true → is_queued w.phase ≡ true → IsLine a id l → IsFirstQueued a id m n
+pub start_line : (a : Schedule) (n : ℕ) (w : Run) (id : List ℕ) (l m : GraphRuns) → slice_get a.runs n ≡ Some w → same w.graph id ≡ true → is_queued w.phase ≡ true → IsLine a id l → IsFirstQueued a id m n
     → DatesRise m → m.active ≡ l.active + 1 → IsLine (phase_at phase.Running n a) id m
 start_line a n w id l m e s q t f up is =
     let off : is_running w.phase ≡ false = queued_off w.phase q in
@@ -342,7 +342,7 @@ start_line a n w id l m e s q t f up is =
     }
 
 -- the lines of the other graphs
-other_line : (a : Schedule) (n : ℕ) (w : Run) (id : List ℕ) (l : Line) → slice_get a.runs n ≡ Some w → same w.graph id ≡ false → IsLine a id l → IsLine (phase_at phase.Running n a) id l
+other_line : (a : Schedule) (n : ℕ) (w : Run) (id : List ℕ) (l : GraphRuns) → slice_get a.runs n ≡ Some w → same w.graph id ≡ false → IsLine a id l → IsLine (phase_at phase.Running n a) id l
 other_line a n w id l e s t =
     let count = phase_active phase.Running n a w id e in
     let c : active_runs (phase_at phase.Running n a) id + 0 ≡ active_runs a id + 0 =
@@ -354,7 +354,7 @@ other_line a n w id l e s t =
     }
 
 -- where the lines are of the same graphs and of one more, what can start is of them too
-more_startings : (a : Schedule) (id : List ℕ) (ls ms : List Line) → ids_of ms ≡ ids_of ls → CoversStarts (also_graph id (has_line ls)) a → ((m : ℕ) (r : Run) → slice_get a.runs m ≡ Some r → can_start a r ≡ true → same id r.graph ≡ true → has_line ls r.graph ≡ true)
+more_startings : (a : Schedule) (id : List ℕ) (ls ms : List GraphRuns) → ids_of ms ≡ ids_of ls → CoversStarts (also_graph id (has_line ls)) a → ((m : ℕ) (r : Run) → slice_get a.runs m ≡ Some r → can_start a r ≡ true → same id r.graph ≡ true → has_line ls r.graph ≡ true)
     → CoversStarts (has_line ms) a
 more_startings a id ls ms ids s one m r q there f =
     let can : can_start a r ≡ true = (when_some (can_start a r) (record r { phase = Running }) q f).0 in
@@ -363,7 +363,7 @@ more_startings a id ls ms ids s one m r q there f =
     (λ e. or_first (has_line ls r.graph) (same id r.graph) (s m r q there f) e) in
     ap (λ js. among js r.graph) ids ∙ old
 
-pub start_lines : (a b : Schedule) (p n : ℕ) (ls : List Line) (k l : Line) → slice_get ls p ≡ Some k → l.id.now ≡ k.id.now → AreLines ls a → IsStartIn k.id.now l a b n → AreLines (set ls p l) b
+pub start_lines : (a b : Schedule) (p n : ℕ) (ls : List GraphRuns) (k l : GraphRuns) → slice_get ls p ≡ Some k → l.id.now ≡ k.id.now → AreLines ls a → IsStartIn k.id.now l a b n → AreLines (set ls p l) b
 start_lines a b p n ls k l e named s t =
     let inside : p < length ls = slice_get_within ls p k e in
     let id_is : t.run.graph ≡ k.id.now = same_is t.run.graph k.id.now t.of in
@@ -374,9 +374,9 @@ start_lines a b p n ls k l e named s t =
       each = λ i m x. by_bool {C = IsLine (phase_at phase.Running n a) m.id.now m} (nat_eq i p)
           (λ u.
           let j : i ≡ p = eqb-true i p u in
-          let c : ◌≡◌ {A = Option Line} (Some l) (Some m) = sym (set_there ls p l inside) ∙ (ap (slice_get (set ls p l)) (sym j) ∙ x) in
+          let c : ◌≡◌ {A = Option GraphRuns} (Some l) (Some m) = sym (set_there ls p l inside) ∙ (ap (slice_get (set ls p l)) (sym j) ∙ x) in
           let m_is : l ≡ m = cc in
-          subst (λ (z : Line). IsLine (phase_at phase.Running n a) z.id.now z) m_is (subst (λ (i : List ℕ). IsLine (phase_at phase.Running n a) i l) (sym named) here))
+          subst (λ (z : GraphRuns). IsLine (phase_at phase.Running n a) z.id.now z) m_is (subst (λ (i : List ℕ). IsLine (phase_at phase.Running n a) i l) (sym named) here))
           (λ u.
           let old : slice_get ls i ≡ Some m = sym (set_apart ls p i l u) ∙ x in
           other_line a n t.run m.id.now m t.run_is (ap (λ (z : List ℕ). same z m.id.now) id_is ∙ lines_differ ls p i k m s.rising e old u) (s.each i m old));
@@ -384,7 +384,7 @@ start_lines a b p n ls k l e named s t =
           (λ m r there can f. has_at (ids_of ls) p k.id.now r.graph (ids_get ls p k e) (ap (λ (i : List ℕ). same i r.graph) (sym id_is) ∙ f));
     })
 
-pub same_lines : (a b : Schedule) (p : ℕ) (ls : List Line) (k l : Line) → slice_get ls p ≡ Some k → l.id.now ≡ k.id.now → AreLines ls a → NoStartIn k.id.now l a b → AreLines (set ls p l) b
+pub same_lines : (a b : Schedule) (p : ℕ) (ls : List GraphRuns) (k l : GraphRuns) → slice_get ls p ≡ Some k → l.id.now ≡ k.id.now → AreLines ls a → NoStartIn k.id.now l a b → AreLines (set ls p l) b
 same_lines a b p ls k l e named s t =
     let inside : p < length ls = slice_get_within ls p k e in
     let ids : ids_of (set ls p l) ≡ ids_of ls = ids_set ls p k l e named in
@@ -393,9 +393,9 @@ same_lines a b p ls k l e named s t =
       each = λ i m x. by_bool {C = IsLine a m.id.now m} (nat_eq i p)
           (λ u.
           let j : i ≡ p = eqb-true i p u in
-          let c : ◌≡◌ {A = Option Line} (Some l) (Some m) = sym (set_there ls p l inside) ∙ (ap (slice_get (set ls p l)) (sym j) ∙ x) in
+          let c : ◌≡◌ {A = Option GraphRuns} (Some l) (Some m) = sym (set_there ls p l inside) ∙ (ap (slice_get (set ls p l)) (sym j) ∙ x) in
           let m_is : l ≡ m = cc in
-          subst (λ (z : Line). IsLine a z.id.now z) m_is (subst (λ (i : List ℕ). IsLine a i l) (sym named) t.line))
+          subst (λ (z : GraphRuns). IsLine a z.id.now z) m_is (subst (λ (i : List ℕ). IsLine a i l) (sym named) t.line))
           (λ u. s.each i m (sym (set_apart ls p i l u) ∙ x));
       startings = λ m r q there f. ap (λ js. among js r.graph) ids ∙ s.startings m r q there f;
     })
@@ -437,7 +437,7 @@ id_first r q i j s t e =
     ap (λ z. is_less (ordering_then z (nat_cmp r.logical q.logical))) k
 
 -- of runs before that which starts none can start
-first_starts : (a b : Schedule) (is : List (List ℕ)) (p n : ℕ) (id : List ℕ) (l : Line) → rises run_before a.runs ≡ true → rises id_before is ≡ true → CoversStarts (among is) a → slice_get is p ≡ Some id → NoneIn a is p
+first_starts : (a b : Schedule) (is : List (List ℕ)) (p n : ℕ) (id : List ℕ) (l : GraphRuns) → rises run_before a.runs ≡ true → rises id_before is ≡ true → CoversStarts (among is) a → slice_get is p ≡ Some id → NoneIn a is p
     → IsStartIn id l a b n → (k : ℕ) (q : Run) → k < n → slice_get a.runs k ≡ Some q → can_start a q ≡ false
 first_starts a b is p n id l r o covers e none t k q below there = by_bool {C = can_start a q ≡ false} (can_start a q)
     (λ can. absurd (
@@ -458,7 +458,7 @@ first_starts a b is p n id l r o covers e none t k q below there = by_bool {C = 
     ]))
     (λ can. can)
 
-pub start_there : (a b : Schedule) (is : List (List ℕ)) (p n : ℕ) (id : List ℕ) (l : Line) → rises run_before a.runs ≡ true → rises id_before is ≡ true → CoversStarts (among is) a → slice_get is p ≡ Some id → NoneIn a is p
+pub start_there : (a b : Schedule) (is : List (List ℕ)) (p n : ℕ) (id : List ℕ) (l : GraphRuns) → rises run_before a.runs ≡ true → rises id_before is ≡ true → CoversStarts (among is) a → slice_get is p ≡ Some id → NoneIn a is p
     → IsStartIn id l a b n → start_one a ≡ Some b
 start_there a b is p n id l r o covers e none t =
     let first : first_change (start_run a) a.runs ≡ Some (at (λ z. in_phase Running t.run) n a.runs) =
@@ -493,7 +493,7 @@ none_unknown a id n e k q l there of = by_bool {C = can_start a q ≡ false} (ca
     (λ can. can)
 
 -- ---- lines under an end
-pub end_lines : (a b : Schedule) (n : ℕ) (w : Run) (ph : RunPhase) (ls ms : List Line) → slice_get a.runs n ≡ Some w → finish_run a w ≡ Some (in_phase ph w) → b ≡ phase_at ph n a
+pub end_lines : (a b : Schedule) (n : ℕ) (w : Run) (ph : RunPhase) (ls ms : List GraphRuns) → slice_get a.runs n ≡ Some w → finish_run a w ≡ Some (in_phase ph w) → b ≡ phase_at ph n a
     → AreLines ls a → HasLineOf a w.graph ls → IsCountedDown w.graph ls ms → AreLines ms b
 end_lines a b n w ph ls ms e f is s has d =
     let t = end_facts a w ph f in
@@ -511,18 +511,18 @@ end_lines a b n w ph ls ms e f is s has d =
           has_same (ids_of ls) w.graph r.graph g (has p.graph (ap (graph_named a) same_graph ∙ p.found)));
     })
   where
-    fewer_id : (b : Bool) (l : Line) → line_id (cond b (one_fewer l) l) ≡ l.id.now
+    fewer_id : (b : Bool) (l : GraphRuns) → line_id (cond b (one_fewer l) l) ≡ l.id.now
     fewer_id true l = refl
     fewer_id false l = refl
 
 -- there is a line of each graph of which a run can start, where there is one of each graph
-pub all_startings : (a : Schedule) (ls ms : List Line) → ids_of ms ≡ ids_of ls → HaveLinesOfAll a.graphs ls → CoversStarts (has_line ms) a
+pub all_startings : (a : Schedule) (ls ms : List GraphRuns) → ids_of ms ≡ ids_of ls → HaveLinesOfAll a.graphs ls → CoversStarts (has_line ms) a
 all_startings a ls ms ids all m r q there f =
     let can : can_start a r ≡ true = (when_some (can_start a r) (record r { phase = Running }) q f).0 in
     let p = start_place a r can in
     ap (λ js. among js r.graph) ids ∙ has_same (ids_of ls) p.graph.dag.spec.dag_id r.graph (same_flips p.graph.dag.spec.dag_id r.graph ∙ p.of) (all p.place p.graph p.there)
 
-pub all_has : (gs : List LoadedGraph) (ls : List Line) (id : List ℕ) (g : LoadedGraph) → HaveLinesOfAll gs ls → graph_among gs id ≡ Some g → has_line ls id ≡ true
+pub all_has : (gs : List LoadedGraph) (ls : List GraphRuns) (id : List ℕ) (g : LoadedGraph) → HaveLinesOfAll gs ls → graph_among gs id ≡ Some g → has_line ls id ≡ true
 all_has gs ls id g all e =
     let t = find_place (λ (h : LoadedGraph). same h.dag.spec.dag_id id) gs g e in
     has_same (ids_of ls) g.dag.spec.dag_id id (find_passes (λ (h : LoadedGraph). same h.dag.spec.dag_id id) gs g e) (all t.0 g t.1)
@@ -549,7 +549,7 @@ pub not_below : (n m : ℕ) → m ≤ n → nat_lt n m ≡ false
 not_below n m l = by_bool {C = nat_lt n m ≡ false} (nat_lt n m) (λ e. let k : n < m = ltb-true n m e in absurd (omega arith)) (λ e. e)
 
 -- ---- what a look at one graph gives
-pub not_started : (a : Schedule) (id : List ℕ) (l m : Line) → IsLine a id l → m.active ≡ l.active → NoneQueued a id → DatesRise m → NoStartIn id m a a
+pub not_started : (a : Schedule) (id : List ℕ) (l m : GraphRuns) → IsLine a id l → m.active ≡ l.active → NoneQueued a id → DatesRise m → NoStartIn id m a a
 not_started a id l m s e none up = record {
   none = none_queued a id (length a.runs) (λ k low. none k);
   same = refl;
@@ -559,7 +559,7 @@ not_started a id l m s e none up = record {
   };
 }
 
-pub started_in : (a b : Schedule) (p n : ℕ) (g : LoadedGraph) (l m : Line) → rises graph_before a.graphs ≡ true → slice_get a.graphs p ≡ Some g → IsLine a g.dag.spec.dag_id l
+pub started_in : (a b : Schedule) (p n : ℕ) (g : LoadedGraph) (l m : GraphRuns) → rises graph_before a.graphs ≡ true → slice_get a.graphs p ≡ Some g → IsLine a g.dag.spec.dag_id l
     → IsFirstQueued a g.dag.spec.dag_id m n → DatesRise m → m.active ≡ l.active + 1 → g.paused ≡ false → active_runs a g.dag.spec.dag_id < g.dag.spec.max_active_runs
     → b ≡ phase_at phase.Running n a → IsStartIn g.dag.spec.dag_id m a b n
 started_in a b p n g l m o e s f up more awake room is =
@@ -575,17 +575,17 @@ started_in a b p n g l m o e s f up more awake room is =
     }
 
 -- ---- the dates of a line that keeps what another keeps
-pub same_dates : (l m : Line) → m.runs ≡ l.runs → m.kept ≡ l.kept → m.from ≡ l.from → kept_dates m ≡ kept_dates l
+pub same_dates : (l m : GraphRuns) → m.runs ≡ l.runs → m.kept ≡ l.kept → m.from ≡ l.from → kept_dates m ≡ kept_dates l
 same_dates l m r k f =
     ap (λ (i : ℕ). dates_from m i) f ∙ (ap (λ x. map (date_in m.runs.now.runs) (drop l.from x.now)) k ∙ ap (λ x. map (date_in x.now.runs) (drop l.from l.kept.now)) r)
 
-pub same_within : (l m : Line) → m.runs ≡ l.runs → m.kept ≡ l.kept → m.from ≡ l.from → are_within (length l.runs.now.runs) (drop l.from l.kept.now) ≡ true → are_within (length m.runs.now.runs) (drop m.from m.kept.now) ≡ true
+pub same_within : (l m : GraphRuns) → m.runs ≡ l.runs → m.kept ≡ l.kept → m.from ≡ l.from → are_within (length l.runs.now.runs) (drop l.from l.kept.now) ≡ true → are_within (length m.runs.now.runs) (drop m.from m.kept.now) ≡ true
 same_within l m r k f h =
     ap (λ (i : ℕ). are_within (length m.runs.now.runs) (drop i m.kept.now)) f
     ∙ (ap (λ x. are_within (length m.runs.now.runs) (drop l.from x.now)) k ∙ (ap (λ x. are_within (length x.now.runs) (drop l.from l.kept.now)) r ∙ h))
 
 -- ---- the dates behind the first kept one
-pub rest_rise : (l : Line) (d : ℕ) → DatesRise l → l.from < length l.kept.now → kept_dates l ≡ d ∷ dates_from l (l.from + 1) → DatesRise (record l { from = l.from + 1 })
+pub rest_rise : (l : GraphRuns) (d : ℕ) → DatesRise l → l.from < length l.kept.now → kept_dates l ≡ d ∷ dates_from l (l.from + 1) → DatesRise (record l { from = l.from + 1 })
 rest_rise l d s inside is = record {
   within =
       let next : l.from + 1 ≡ suc l.from = omega arith in
@@ -596,7 +596,7 @@ rest_rise l d s inside is = record {
 }
 
 -- ---- one date is taken
-pub next_touched : (l m : Line) (d : ℕ) → DatesRise l → IsTouchedFirst l d → m.runs ≡ l.runs → m.kept ≡ l.kept → m.from ≡ l.from → m.touched.items ≡ drop 1 l.touched.items → IsNextDate l m d
+pub next_touched : (l m : GraphRuns) (d : ℕ) → DatesRise l → IsTouchedFirst l d → m.runs ≡ l.runs → m.kept ≡ l.kept → m.from ≡ l.from → m.touched.items ≡ drop 1 l.touched.items → IsNextDate l m d
 next_touched l m d s t r k f u =
     let ks : List ℕ = kept_dates l in
     let left : kept_dates m ≡ ks = same_dates l m r k f in
@@ -609,7 +609,7 @@ next_touched l m d s t r k f u =
           ∙ (ap (λ xs. is_in ks e || is_in xs e) rest ∙ left_touched ks t.rest d e apart (ap (λ xs. is_in ks e || is_in xs e) (sym t.touched) ∙ w));
     }
 
-pub next_kept : (l m : Line) (d : ℕ) → DatesRise l → before_kept (kept_dates l) l.touched.items ≡ false → kept_dates l ≡ d ∷ dates_from l (l.from + 1)
+pub next_kept : (l m : GraphRuns) (d : ℕ) → DatesRise l → before_kept (kept_dates l) l.touched.items ≡ false → kept_dates l ≡ d ∷ dates_from l (l.from + 1)
     → m.runs ≡ l.runs → m.kept ≡ l.kept → m.from ≡ l.from + 1 → m.touched.items ≡ l.touched.items → IsNextDate l m d
 next_kept l m d s t is r k f u =
     let ks : List ℕ = dates_from l (l.from + 1) in

@@ -26,7 +26,7 @@ use Rattle.sched_laws.proofs.LookLemmas.{get_at, get_apart}
 use Rattle.sched_laws.proofs.SweepLemmas.{length_at}
 use Rattle.sched_laws.proofs.DecisionLemmas.{by_bool}
 use Rattle.sched_settling.specs.Marks.{IsKeyed, IsEndedAt, IsQueue, IsLine, AreLines, has_line, is_queued_run, is_queued_at, is_waiting, date_at, one_fewer}
-use Rattle.sched_settling.specs.declared.lines.Line.{Line}
+use Rattle.sched_settling.specs.declared.lines.GraphRuns.{GraphRuns}
 use Rattle.sched_settling.proofs.StageLemmas.{phase_keyed}
 use Rattle.sched_settling.proofs.MarkLemmas.{in_tail, places_graphs}
 
@@ -92,14 +92,14 @@ ended_none a b n r k e f is = subst (IsEndedAt n a) (sym is) (record {
 
 -- ---- all ends
 -- w is what ending from start has come to, and what can still end is marked
-pub record IsEnding (start w : Schedule) (marks : List ℕ) (ls : List Line) : Type 0 where
+pub record IsEnding (start w : Schedule) (marks : List ℕ) (ls : List GraphRuns) : Type 0 where
   pub same : finish_every w ≡ finish_every start
   pub keyed : IsKeyed w
   pub long : length w.runs ≡ length start.runs
   pub endings : CoversEnds (is_in marks) w
   pub lines : AreLines ls w
 
-pub ending_next : (start w v : Schedule) (n : ℕ) (rest : List ℕ) (ls ms : List Line) → IsEnding start w (n ∷ rest) ls → IsEndedAt n w v → AreLines ms v → IsEnding start v rest ms
+pub ending_next : (start w v : Schedule) (n : ℕ) (rest : List ℕ) (ls ms : List GraphRuns) → IsEnding start w (n ∷ rest) ls → IsEndedAt n w v → AreLines ms v → IsEnding start v rest ms
 ending_next start w v n rest ls ms s t l = record {
   same = t.same ∙ s.same;
   keyed = t.keyed;
@@ -117,7 +117,7 @@ none_ends a (r ∷ rs) h =
 by_end : {C : Type 0} (o : Option Run) → (o ≡ None → C) → ((q : Run) → o ≡ Some q → C) → C
 by_end {C} o f g = elim o as (λ p. o ≡ p → C) [ None ↦ λ e. f e | Some q ↦ λ e. g q e ] refl
 
-pub ending_last : (start w : Schedule) (ls : List Line) → IsEnding start w [] ls → w ≡ finish_every start
+pub ending_last : (start w : Schedule) (ls : List GraphRuns) → IsEnding start w [] ls → w ≡ finish_every start
 ending_last start w ls s =
     sym (ap (λ rs. record w { runs = rs }) (none_ends w w.runs
     (λ m r e. by_end {C = finish_run w r ≡ None} (finish_run w r) (λ f. f) (λ q f. absurd (true≢false (sym (s.endings m r q e f)))))))
@@ -157,18 +157,18 @@ phase_queued ph n m a id e f = by_bool {C = (nat_eq m n ≡ false) × (is_queued
     absurd (true≢false (sym (ap (is_queued_at (phase_at ph n a) id) (sym i) ∙ f) ∙ off)))
     (λ g. (g, sym (ap (is_queued_run id) (get_apart (in_phase ph) n m a.runs g)) ∙ f))
 
-pub phase_queue : (ph : RunPhase) (n : ℕ) (a : Schedule) (id : List ℕ) (l : Line) → is_queued ph ≡ false → IsQueue a id l → IsQueue (phase_at ph n a) id l
+pub phase_queue : (ph : RunPhase) (n : ℕ) (a : Schedule) (id : List ℕ) (l : GraphRuns) → is_queued ph ≡ false → IsQueue a id l → IsQueue (phase_at ph n a) id l
 phase_queue ph n a id l e s = record {
   rise = s.rise;
   queued = λ m f. let u = phase_queued ph n m a id e f in ap (is_waiting l) (phase_date ph n m a u.0) ∙ s.queued m u.1;
 }
 
 -- the same dates are left
-one_queue : (a : Schedule) (id : List ℕ) (l : Line) → IsQueue a id l → IsQueue a id (one_fewer l)
+one_queue : (a : Schedule) (id : List ℕ) (l : GraphRuns) → IsQueue a id l → IsQueue a id (one_fewer l)
 one_queue a id l s = record { rise = record { within = s.rise.within; kept = s.rise.kept; touched = s.rise.touched }; queued = s.queued }
 
 -- ---- lines under an end
-pub end_line : (a : Schedule) (n : ℕ) (w : Run) (ph : RunPhase) (id : List ℕ) (l : Line) → slice_get a.runs n ≡ Some w → Ends w ph → IsLine a id l → IsLine (phase_at ph n a) id (cond (same w.graph id) (one_fewer l) l)
+pub end_line : (a : Schedule) (n : ℕ) (w : Run) (ph : RunPhase) (id : List ℕ) (l : GraphRuns) → slice_get a.runs n ≡ Some w → Ends w ph → IsLine a id l → IsLine (phase_at ph n a) id (cond (same w.graph id) (one_fewer l) l)
 end_line a n w ph id l e t s =
     let count = phase_active ph n a w id e in
     let was : is_running w.phase ≡ true = t.was in
@@ -238,7 +238,7 @@ same_date (Some r) (Some q) e =
     let i : phased r ≡ phased q = cc in
     ap (λ (x : Phased). Some x.logical) i
 
-line_by : (a b : Schedule) (id : List ℕ) (l : Line) → map phased b.runs ≡ map phased a.runs → IsLine a id l → IsLine b id l
+line_by : (a b : Schedule) (id : List ℕ) (l : GraphRuns) → map phased b.runs ≡ map phased a.runs → IsLine a id l → IsLine b id l
 line_by a b id l e s =
     let test : Phased → Bool = λ (r : Phased). same r.graph id && is_running r.phase in
     let count : active_runs b id ≡ active_runs a id = sym (count_map test phased b.runs) ∙ (ap (count_by test) e ∙ count_map test phased a.runs) in
@@ -275,7 +275,7 @@ starts_by marked a b graphs e s m r q there f =
     ∙ (ap (λ gs. can_as gs (active_runs a r.graph) (phased r)) (sym graphs) ∙ (ap (λ n. can_as b.graphs n (phased r)) (sym count) ∙ can))) in
     ap marked (sym graph) ∙ s m w.0 (record w.0 { phase = phase.Running }) w.1 (ap (λ c. when c (record w.0 { phase = phase.Running })) was)
 
-pub sweep_lines : (a : Schedule) (ls : List Line) → AreLines ls a → AreLines ls (sweep a)
+pub sweep_lines : (a : Schedule) (ls : List GraphRuns) → AreLines ls a → AreLines ls (sweep a)
 sweep_lines a ls s = record {
   rising = s.rising;
   each = λ n l x. line_by a (sweep a) l.id.now l (runs_phased a.runs 0 a) (s.each n l x);

@@ -13,7 +13,7 @@ use Rattle.run_lists.proofs.GraphLemmas.{first_dropped}
 use Rattle.sched_laws.proofs.DecisionLemmas.{by_bool}
 use Rattle.sched_settling.specs.Marks.{IsLine, are_within, date_at, date_in, dates_from}
 use Rattle.sched_settling.specs.Touched.{dates_queued}
-use Rattle.sched_settling.specs.declared.lines.Line.{Line}
+use Rattle.sched_settling.specs.declared.lines.GraphRuns.{GraphRuns}
 use Rattle.sched_settling.proofs.CarryLemmas.{dates_rise_too, in_at}
 use Rattle.sched_settling.proofs.LineLemmas.{queued_run, run_date}
 
@@ -55,7 +55,7 @@ dates_there p all (x ∷ xs) i d =
     (λ off. rw off t)
 
 -- ---- the line
-pub line_is : (a : Schedule) (id : List ℕ) (l : Line) → rises run_before a.runs ≡ true → l.runs.now.runs ≡ a.runs → l.active ≡ length (positions_where (stands_in id Running) a.runs)
+pub line_is : (a : Schedule) (id : List ℕ) (l : GraphRuns) → rises run_before a.runs ≡ true → l.runs.now.runs ≡ a.runs → l.active ≡ length (positions_where (stands_in id Running) a.runs)
     → l.kept.now ≡ positions_where (stands_in id Queued) a.runs → l.from ≡ 0 → l.touched.items ≡ [] → IsLine a id l
 line_is a id l rise runs active kept from fresh =
     let left : drop l.from l.kept.now ≡ positions_where (stands_in id Queued) a.runs = ap (λ (i : ℕ). drop i l.kept.now) from ∙ kept in
@@ -80,8 +80,8 @@ line_is a id l rise runs active kept from fresh =
     }
 
 -- ---- lines that are made one after another
-pub pushed_at : (P : ℕ → Line → Type 0) (xs : List Line) (x : Line) → ((g : ℕ) (k : Line) → slice_get xs g ≡ Some k → P g k) → P (length xs) x → (g : ℕ) (k : Line) → slice_get (xs ++ x ∷ []) g ≡ Some k → P g k
-pushed_at P [] x h p zero k e = let c : ◌≡◌ {A = Option Line} (Some x) (Some k) = e in let is : x ≡ k = cc in subst (P 0) is p
-pushed_at P [] x h p (suc g) k e = absurd (let c : ◌≡◌ {A = Option Line} None (Some k) = e in cc)
+pub pushed_at : (P : ℕ → GraphRuns → Type 0) (xs : List GraphRuns) (x : GraphRuns) → ((g : ℕ) (k : GraphRuns) → slice_get xs g ≡ Some k → P g k) → P (length xs) x → (g : ℕ) (k : GraphRuns) → slice_get (xs ++ x ∷ []) g ≡ Some k → P g k
+pushed_at P [] x h p zero k e = let c : ◌≡◌ {A = Option GraphRuns} (Some x) (Some k) = e in let is : x ≡ k = cc in subst (P 0) is p
+pushed_at P [] x h p (suc g) k e = absurd (let c : ◌≡◌ {A = Option GraphRuns} None (Some k) = e in cc)
 pushed_at P (y ∷ xs) x h p zero k e = h 0 k e
 pushed_at P (y ∷ xs) x h p (suc g) k e = pushed_at (λ j m. P (suc j) m) xs x (λ j m f. h (suc j) m f) p g k e

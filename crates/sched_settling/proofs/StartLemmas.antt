@@ -18,7 +18,7 @@ use Rattle.sched_laws.proofs.DecisionLemmas.{by_bool}
 use Rattle.sched_laws.proofs.SettleLemmas.{when_some}
 use Rattle.sched_settling.specs.Marks.{HasLineOf, has_line, ids_of}
 use Rattle.sched_settling.specs.Touched.{AreFresh, HaveLinesOf, Mark, Kept, Changed, Added, Over, is_active, is_marked, replaced_of, touched_of}
-use Rattle.sched_settling.specs.declared.lines.Line.{Line}
+use Rattle.sched_settling.specs.declared.lines.GraphRuns.{GraphRuns}
 use Rattle.sched_settling.proofs.AmongLemmas.{among, all_from}
 use Rattle.sched_settling.proofs.CarryLemmas.{touched_has}
 use Rattle.sched_settling.proofs.LineLemmas.{start_place}
@@ -79,16 +79,16 @@ touched_startings a b ms marked still o graphs all n r q there f = by_bool {C = 
     cc))
 
 -- where there is a line of the graph of each touched run
-pub these_startings : (a b : Schedule) (ms : List Mark) (ls ks : List Line) → move a ≡ None → Over ms a.runs b.runs → b.graphs ≡ a.graphs → ids_of ks ≡ ids_of ls → HaveLinesOf b (touched_of ms b.runs) ls → CoversStarts (has_line ks) b
+pub these_startings : (a b : Schedule) (ms : List Mark) (ls ks : List GraphRuns) → move a ≡ None → Over ms a.runs b.runs → b.graphs ≡ a.graphs → ids_of ks ≡ ids_of ls → HaveLinesOf b (touched_of ms b.runs) ls → CoversStarts (has_line ks) b
 these_startings a b ms ls ks still o graphs ids all =
     touched_startings a b ms (has_line ks) still o graphs (λ k s e g named. ap (λ js. among js s.graph) ids ∙ all k s e g named)
 
 -- ---- lines that are made one after another
-pub none_fresh : (a : Schedule) (ls : List Line) → ls ≡ [] → AreFresh a ls
-none_fresh a ls empty n l e = absurd (let c : ◌≡◌ {A = Option Line} None (Some l) = sym (ap (λ (ks : List Line). slice_get ks n) empty) ∙ e in cc)
+pub none_fresh : (a : Schedule) (ls : List GraphRuns) → ls ≡ [] → AreFresh a ls
+none_fresh a ls empty n l e = absurd (let c : ◌≡◌ {A = Option GraphRuns} None (Some l) = sym (ap (λ (ks : List GraphRuns). slice_get ks n) empty) ∙ e in cc)
 
 -- of one run more
-pub more_lines : (a : Schedule) (rs : List Run) (r : Run) (ls ms : List Line) → HaveLinesOf a rs ls → ((i : List ℕ) → has_line ls i ≡ true → has_line ms i ≡ true) → HasLineOf a r.graph ms → HaveLinesOf a (rs ++ r ∷ []) ms
+pub more_lines : (a : Schedule) (rs : List Run) (r : Run) (ls ms : List GraphRuns) → HaveLinesOf a rs ls → ((i : List ℕ) → has_line ls i ≡ true → has_line ms i ≡ true) → HasLineOf a r.graph ms → HaveLinesOf a (rs ++ r ∷ []) ms
 more_lines a [] r ls ms all kept here zero q e = let c : ◌≡◌ {A = Option Run} (Some r) (Some q) = e in let is : r ≡ q = cc in subst (λ (x : Run). HasLineOf a x.graph ms) is here
 more_lines a [] r ls ms all kept here (suc n) q e = absurd (let c : ◌≡◌ {A = Option Run} None (Some q) = e in cc)
 more_lines a (x ∷ rs) r ls ms all kept here zero q e = λ g named. kept q.graph (all 0 q e g named)

@@ -24,7 +24,7 @@ use Rattle.sched_laws.proofs.DecisionLemmas.{by_bool}
 use Rattle.sched_laws.proofs.StageLemmas.{move_of, no_decision_at}
 use Rattle.std.proofs.lemmas.List.Sums.{sum_by-cons}
 use Rattle.sched_model.specs.States.{active_runs}
-use Rattle.sched_settling.specs.declared.lines.Line.{Line}
+use Rattle.sched_settling.specs.declared.lines.GraphRuns.{GraphRuns}
 use Rattle.sched_draft.specs.Drafts.{SameDags}
 use Rattle.sched_settling.specs.Touched.{IsCarried, is_active}
 use Rattle.sched_settling.specs.Marks.{IsLine, date_at, is_waiting, is_queued_at, is_queued_run, CoversRuns, IsCovered, are_within, with_next, before_in, before_at}
@@ -157,7 +157,7 @@ counted_over p (Added ∷ ms) a (s ∷ b) o =
     omega (arith, ih, after, new)
 
 -- a line that is carried over from before the touch
-pub line_over : (a b : Schedule) (ms : List Mark) (id : List ℕ) (l m : Line) → Over ms a.runs b.runs → IsLine a id l → IsCarried a b ms id l m → IsLine b id m
+pub line_over : (a b : Schedule) (ms : List Mark) (id : List ℕ) (l m : GraphRuns) → Over ms a.runs b.runs → IsLine a id l → IsCarried a b ms id l m → IsLine b id m
 line_over a b ms id l m o s c = record {
   active =
       let count : active_runs b id + count_by (is_active id) (replaced_of ms a.runs) ≡ active_runs a id + count_by (is_active id) (touched_of ms b.runs) = counted_over (is_active id) ms a.runs b.runs o in

@@ -15,7 +15,7 @@ use Rattle.sched_model.specs.Settle.{finish_run, can_start}
 use Rattle.sched_model.specs.States.{active_runs}
 use Rattle.sched_laws.specs.Sweep.{decision}
 use Rattle.sched_laws.specs.Stages.{IsOrdered, CoversEnds, CoversStarts, finish_every, phase_at}
-use Rattle.sched_settling.specs.declared.lines.Line.{Line}
+use Rattle.sched_settling.specs.declared.lines.GraphRuns.{GraphRuns}
 
 -- the runs stand in the order of their keys, the graphs in that of their ids, and each edge of a graph leads from a lower place to a higher one
 pub record IsKeyed (a : Schedule) : Type 0 where
@@ -71,21 +71,21 @@ abbrev pub date_at : Schedule → ℕ → ℕ
 date_at a n = date_in a.runs n
 
 -- the dates of the runs at the kept positions from this place on, and those that are left
-abbrev pub dates_from : Line → ℕ → List ℕ
+abbrev pub dates_from : GraphRuns → ℕ → List ℕ
 dates_from l n = map (date_in l.runs.now.runs) (drop n l.kept.now)
 
-abbrev pub kept_dates : Line → List ℕ
+abbrev pub kept_dates : GraphRuns → List ℕ
 kept_dates l = dates_from l l.from
 
 -- the date is one of those that are left
-abbrev pub is_waiting : Line → ℕ → Bool
+abbrev pub is_waiting : GraphRuns → ℕ → Bool
 is_waiting l d = is_in (kept_dates l) d || is_in l.touched.items d
 
-abbrev pub dates_left : Line → ℕ
+abbrev pub dates_left : GraphRuns → ℕ
 dates_left l = length (drop l.from l.kept.now) + length l.touched.items
 
 -- the kept positions that are left are those of runs, and the dates of both kinds rise
-pub record DatesRise (l : Line) : Type 0 where
+pub record DatesRise (l : GraphRuns) : Type 0 where
   pub within : are_within (length l.runs.now.runs) (drop l.from l.kept.now) ≡ true
   pub kept : rises nat_lt (kept_dates l) ≡ true
   pub touched : rises nat_lt l.touched.items ≡ true
@@ -98,29 +98,29 @@ abbrev pub before_kept : List ℕ → List ℕ → Bool
 before_kept ks [] = false
 before_kept ks (t ∷ ts) = comes_first t ks
 
-abbrev pub KeptComesFirst : Line → Type 0
+abbrev pub KeptComesFirst : GraphRuns → Type 0
 KeptComesFirst l = before_kept (kept_dates l) l.touched.items ≡ false
 
-pub record IsTouchedFirst (l : Line) (d : ℕ) : Type 0 where
+pub record IsTouchedFirst (l : GraphRuns) (d : ℕ) : Type 0 where
   pub rest : List ℕ
   pub touched : l.touched.items ≡ d ∷ rest
   pub first : comes_first d (kept_dates l) ≡ true
 
-abbrev pub NoDate : Line → Type 0
+abbrev pub NoDate : GraphRuns → Type 0
 NoDate l = (d : ℕ) → is_waiting l d ≡ false
 
 -- no date that is left comes before this one, and all others stay
-pub record IsNextDate (l m : Line) (d : ℕ) : Type 0 where
+pub record IsNextDate (l m : GraphRuns) (d : ℕ) : Type 0 where
   pub first : (e : ℕ) → is_waiting l e ≡ true → d ≤ e
   pub others : (e : ℕ) → nat_eq e d ≡ false → is_waiting l e ≡ true → is_waiting m e ≡ true
 
 -- the queued runs of the graph stand at dates that are left
-pub record IsQueue (a : Schedule) (id : List ℕ) (l : Line) : Type 0 where
+pub record IsQueue (a : Schedule) (id : List ℕ) (l : GraphRuns) : Type 0 where
   pub rise : DatesRise l
   pub queued : (n : ℕ) → is_queued_at a id n ≡ true → is_waiting l (date_at a n) ≡ true
 
 -- so many runs of the graph are running, and its queued ones stand at these dates
-pub record IsLine (a : Schedule) (id : List ℕ) (l : Line) : Type 0 where
+pub record IsLine (a : Schedule) (id : List ℕ) (l : GraphRuns) : Type 0 where
   pub active : l.active ≡ active_runs a id
   pub queue : IsQueue a id l
 
@@ -129,43 +129,43 @@ abbrev pub id_before : List ℕ → List ℕ → Bool
 id_before i j = is_less (name_cmp i j)
 
 -- the ids of the lines' graphs
-abbrev pub ids_of : List Line → List (List ℕ)
-ids_of ls = map (λ (l : Line). l.id.now) ls
+abbrev pub ids_of : List GraphRuns → List (List ℕ)
+ids_of ls = map (λ (l : GraphRuns). l.id.now) ls
 
 -- one of the lines is of the graph with this id
-abbrev pub has_line : List Line → List ℕ → Bool
+abbrev pub has_line : List GraphRuns → List ℕ → Bool
 has_line ls id = list_any (λ (i : List ℕ). same i id) (ids_of ls)
 
 -- lines by the ids of their graphs, one for each graph of which a run can start
-pub record AreLines (ls : List Line) (a : Schedule) : Type 0 where
+pub record AreLines (ls : List GraphRuns) (a : Schedule) : Type 0 where
   pub rising : rises id_before (ids_of ls) ≡ true
-  pub each : (n : ℕ) (l : Line) → slice_get ls n ≡ Some l → IsLine a l.id.now l
+  pub each : (n : ℕ) (l : GraphRuns) → slice_get ls n ≡ Some l → IsLine a l.id.now l
   pub startings : CoversStarts (has_line ls) a
 
 -- the line of the graph with this id stands at the place
-pub record IsLineAt (ls : List Line) (id : List ℕ) (n : ℕ) : Type 0 where
-  pub line : Line
+pub record IsLineAt (ls : List GraphRuns) (id : List ℕ) (n : ℕ) : Type 0 where
+  pub line : GraphRuns
   pub there : slice_get ls n ≡ Some line
   pub named : line.id.now ≡ id
 
 -- none is of that graph, and at the place one of it would stand in the order
-pub record IsGapFor (ls : List Line) (id : List ℕ) (n : ℕ) : Type 0 where
+pub record IsGapFor (ls : List GraphRuns) (id : List ℕ) (n : ℕ) : Type 0 where
   pub within : n ≤ length ls
   pub none : has_line ls id ≡ false
   pub rising : rises id_before (insert (ids_of ls) n id) ≡ true
 
 -- there is a line of the graph with this id, where that is a graph of the schedule
-abbrev pub HasLineOf : Schedule → List ℕ → List Line → Type 0
+abbrev pub HasLineOf : Schedule → List ℕ → List GraphRuns → Type 0
 HasLineOf a id ls = (g : LoadedGraph) → graph_named a id ≡ Some g → has_line ls id ≡ true
 
 -- the line of the graph, if it is there, counts one running run fewer
-abbrev pub one_fewer : Line → Line
+abbrev pub one_fewer : GraphRuns → GraphRuns
 one_fewer l = record l { active = l.active - 1 }
 
-pub record IsCountedDown (id : List ℕ) (ls ms : List Line) : Type 0 where
+pub record IsCountedDown (id : List ℕ) (ls ms : List GraphRuns) : Type 0 where
   pub ids : ids_of ms ≡ ids_of ls
-  pub each : (n : ℕ) (m : Line) → slice_get ms n ≡ Some m
-      → (l : Line) × ((slice_get ls n ≡ Some l) × (m ≡ cond (same id l.id.now) (one_fewer l) l))
+  pub each : (n : ℕ) (m : GraphRuns) → slice_get ms n ≡ Some m
+      → (l : GraphRuns) × ((slice_get ls n ≡ Some l) × (m ≡ cond (same id l.id.now) (one_fewer l) l))
 
 -- ---- starts
 abbrev pub NoneQueued : Schedule → List ℕ → Type 0
@@ -185,7 +185,7 @@ pub record IsQueuedOn (a : Schedule) (id : List ℕ) (d n : ℕ) : Type 0 where
   pub date : date_at a n ≡ d
 
 -- the graph's first queued run stands at the position, and the others at dates that are left
-pub record IsFirstQueued (a : Schedule) (id : List ℕ) (l : Line) (n : ℕ) : Type 0 where
+pub record IsFirstQueued (a : Schedule) (id : List ℕ) (l : GraphRuns) (n : ℕ) : Type 0 where
   pub here : is_queued_at a id n ≡ true
   pub before : (k : ℕ) → k < n → is_queued_at a id k ≡ false
   pub others : (k : ℕ) → nat_eq k n ≡ false → is_queued_at a id k ≡ true → is_waiting l (date_at a k) ≡ true
@@ -195,13 +195,13 @@ abbrev pub NoneBefore : Schedule → List ℕ → ℕ → Type 0
 NoneBefore a id n = (k : ℕ) (r : Run) → k < n → slice_get a.runs k ≡ Some r → same r.graph id ≡ true → can_start a r ≡ false
 
 -- no run of the graph can start, and nothing has changed
-pub record NoStartIn (id : List ℕ) (l : Line) (a b : Schedule) : Type 0 where
+pub record NoStartIn (id : List ℕ) (l : GraphRuns) (a b : Schedule) : Type 0 where
   pub none : NoneBefore a id (length a.runs)
   pub same : b ≡ a
   pub line : IsLine a id l
 
 -- the first run of the graph that can start has started
-pub record IsStartIn (id : List ℕ) (l : Line) (a b : Schedule) (n : ℕ) : Type 0 where
+pub record IsStartIn (id : List ℕ) (l : GraphRuns) (a b : Schedule) (n : ℕ) : Type 0 where
   pub run : Run
   pub run_is : slice_get a.runs n ≡ Some run
   pub of : same run.graph id ≡ true

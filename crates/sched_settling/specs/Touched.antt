@@ -11,7 +11,7 @@ use Rattle.sched_model.specs.Settle.{move}
 use Rattle.sched_laws.specs.Stages.{IsOrdered}
 use Rattle.sched_draft.specs.Drafts.{SameDags}
 use Rattle.sched_settling.specs.Marks.{DatesRise, HasLineOf, IsLine, has_line, id_before, ids_of, with_next, is_waiting, is_queued_at, date_at}
-use Rattle.sched_settling.specs.declared.lines.Line.{Line}
+use Rattle.sched_settling.specs.declared.lines.GraphRuns.{GraphRuns}
 
 pub data Mark : Type 0 where
   Kept : Mark
@@ -64,7 +64,7 @@ abbrev pub dates_queued : List ℕ → List Run → List ℕ
 dates_queued id rs = map (λ (r : Run). r.logical) (filter (λ (r : Run). same r.graph id && is_queued r.phase) rs)
 
 -- m is l after the touch: it counts what is touched anew, has all its dates, and those of touched queued runs
-pub record IsCarried (a b : Schedule) (ms : List Mark) (id : List ℕ) (l m : Line) : Type 0 where
+pub record IsCarried (a b : Schedule) (ms : List Mark) (id : List ℕ) (l m : GraphRuns) : Type 0 where
   pub active : m.active + count_by (is_active id) (replaced_of ms a.runs) ≡ l.active + count_by (is_active id) (touched_of ms b.runs)
   pub rise : DatesRise m
   pub kept : (d : ℕ) → is_waiting l d ≡ true → is_waiting m d ≡ true
@@ -101,7 +101,7 @@ bases_at a b (p ∷ ps) = option_to_list (option_and_then (with_key a) (slice_ge
 
 -- ---- lines, with the touched runs counted anew
 -- m is l with the run counted in
-pub record IsCountedIn (id : List ℕ) (rs : List Run) (l m : Line) : Type 0 where
+pub record IsCountedIn (id : List ℕ) (rs : List Run) (l m : GraphRuns) : Type 0 where
   pub active : m.active ≡ l.active + count_by (is_active id) rs
   pub runs : m.runs ≡ l.runs
   pub kept : m.kept ≡ l.kept
@@ -109,11 +109,11 @@ pub record IsCountedIn (id : List ℕ) (rs : List Run) (l m : Line) : Type 0 whe
   pub touched : m.touched.items ≡ l.touched.items ++ dates_queued id rs
 
 -- of each line, by the id of its graph
-abbrev pub EachLine : (List ℕ → Line → Line → Type 0) → List Line → List Line → Type 0
-EachLine P ls ms = (ids_of ms ≡ ids_of ls) × ((n : ℕ) (m : Line) → slice_get ms n ≡ Some m → (l : Line) × ((slice_get ls n ≡ Some l) × ((m.id.now ≡ l.id.now) × P l.id.now l m)))
+abbrev pub EachLine : (List ℕ → GraphRuns → GraphRuns → Type 0) → List GraphRuns → List GraphRuns → Type 0
+EachLine P ls ms = (ids_of ms ≡ ids_of ls) × ((n : ℕ) (m : GraphRuns) → slice_get ms n ≡ Some m → (l : GraphRuns) × ((slice_get ls n ≡ Some l) × ((m.id.now ≡ l.id.now) × P l.id.now l m)))
 
 -- m is l with so many runs of the graph counted off
-pub record IsCountedOff (id : List ℕ) (rs : List Run) (l m : Line) : Type 0 where
+pub record IsCountedOff (id : List ℕ) (rs : List Run) (l m : GraphRuns) : Type 0 where
   pub active : m.active ≡ l.active - count_by (is_active id) rs
   pub runs : m.runs ≡ l.runs
   pub kept : m.kept ≡ l.kept
@@ -121,7 +121,7 @@ pub record IsCountedOff (id : List ℕ) (rs : List Run) (l m : Line) : Type 0 wh
   pub touched : m.touched.items ≡ l.touched.items
 
 -- m is l with this run counted in, which is of its graph
-pub record IsRunCounted (r : Run) (l m : Line) : Type 0 where
+pub record IsRunCounted (r : Run) (l m : GraphRuns) : Type 0 where
   pub id : m.id.now ≡ l.id.now
   pub active : m.active ≡ l.active + cond (is_running r.phase) 1 0
   pub runs : m.runs ≡ l.runs
@@ -134,34 +134,34 @@ abbrev pub over_runs : Schedule → List Run → Schedule
 over_runs b rs = record b { runs = rs }
 
 -- they are lines of this schedule, and have no dates of touched runs
-abbrev pub AreFresh : Schedule → List Line → Type 0
-AreFresh a ls = (n : ℕ) (l : Line) → slice_get ls n ≡ Some l → IsLine a l.id.now l × (l.touched.items ≡ [])
+abbrev pub AreFresh : Schedule → List GraphRuns → Type 0
+AreFresh a ls = (n : ℕ) (l : GraphRuns) → slice_get ls n ≡ Some l → IsLine a l.id.now l × (l.touched.items ≡ [])
 
 -- ms are ls with a line of the graph, in their order, where there was none: one of these runs alone
-pub record IsLineAdded (rs : List Run) (id : List ℕ) (ls ms : List Line) : Type 0 where
+pub record IsLineAdded (rs : List Run) (id : List ℕ) (ls ms : List GraphRuns) : Type 0 where
   pub rising : rises id_before (ids_of ms) ≡ true
   pub has : (i : List ℕ) → has_line ms i ≡ (same id i || has_line ls i)
   pub fresh : (a : Schedule) → rs ≡ a.runs → AreFresh a ls → AreFresh a ms
 
 -- the same of a graph of the schedule: what there was stays, and then there is a line of it, if it is one of the schedule's
-pub record IsLineOffered (a : Schedule) (rs : List Run) (id : List ℕ) (ls ms : List Line) : Type 0 where
+pub record IsLineOffered (a : Schedule) (rs : List Run) (id : List ℕ) (ls ms : List GraphRuns) : Type 0 where
   pub rising : rises id_before (ids_of ms) ≡ true
   pub fresh : AreFresh (over_runs a rs) ls → AreFresh (over_runs a rs) ms
   pub kept : (i : List ℕ) → has_line ls i ≡ true → has_line ms i ≡ true
   pub there : HasLineOf a id ms
 
 -- there is a line of each graph
-abbrev pub HaveLinesOfAll : List LoadedGraph → List Line → Type 0
+abbrev pub HaveLinesOfAll : List LoadedGraph → List GraphRuns → Type 0
 HaveLinesOfAll gs ls = (n : ℕ) (g : LoadedGraph) → slice_get gs n ≡ Some g → has_line ls g.dag.spec.dag_id ≡ true
 
 -- and of each run's graph, where that is a graph of the schedule
-abbrev pub HaveLinesOf : Schedule → List Run → List Line → Type 0
+abbrev pub HaveLinesOf : Schedule → List Run → List GraphRuns → Type 0
 HaveLinesOf a rs ls = (n : ℕ) (r : Run) → slice_get rs n ≡ Some r → HasLineOf a r.graph ls
 
 -- ms are lines of the schedule, of the graphs that ls are of
-pub record AreRecounted (a : Schedule) (ls ms : List Line) : Type 0 where
+pub record AreRecounted (a : Schedule) (ls ms : List GraphRuns) : Type 0 where
   pub ids : ids_of ms ≡ ids_of ls
-  pub each : (n : ℕ) (m : Line) → slice_get ms n ≡ Some m → IsLine a m.id.now m
+  pub each : (n : ℕ) (m : GraphRuns) → slice_get ms n ≡ Some m → IsLine a m.id.now m
 
 -- the schedule is one in which no move is possible, in which the runs at the positions are changed, each under its key, and others are added there
 pub record IsTouched (rs : List Run) (ps : List ℕ) (b : Schedule) : Type 0 where

@@ -10,7 +10,7 @@ ghost use Rattle.sched_settling.specs.Marks.{AreLines, IsLine, are_within, id_be
 ghost use Rattle.sched_settling.specs.Touched.{AreFresh, AreRecounted, EachLine, HaveLinesOfAll, HaveLinesOf, IsCountedIn, IsCountedOff, IsLineAdded, IsLineOffered, IsRunCounted, bases_at, over_runs, runs_at, with_key};
 
 use crate::ending::count_down;
-use crate::lines::{Line, place_of};
+use crate::lines::{GraphRuns, place_of};
 use graph_file::Name;
 use run_lists::Runs;
 use sched_draft::Draft;
@@ -19,13 +19,13 @@ use std::alloc::{AllocError, Global};
 use std::collections::VecDeque;
 
 // The line of a graph, of these runs alone. Its running runs are counted, and the dates of its queued ones are left where they stand.
-fn line_in<'a>(alloc: Global, runs: &'a Runs, id: &'a Name) -> Line<'a>
+fn line_in<'a>(alloc: Global, runs: &'a Runs, id: &'a Name) -> GraphRuns<'a>
     requires { rises run_before runs.now.runs ≡ true }
     ensures id { result.id.now ≡ id.now }
     ensures line { (a : Schedule) → runs.now.runs ≡ a.runs → IsLine a id.now result }
     ensures fresh { result.touched.items ≡ [] }
 {
-    Line {
+    GraphRuns {
         id,
         active: runs.running_of(id).len(),
         runs,
@@ -38,7 +38,7 @@ fn line_in<'a>(alloc: Global, runs: &'a Runs, id: &'a Name) -> Line<'a>
 // The line of a graph, of these runs alone, is put in at its place, where it is not there.
 fn add_line<'a>(
     alloc: Global,
-    lines: &mut Vec<Line<'a>>,
+    lines: &mut Vec<GraphRuns<'a>>,
     runs: &'a Runs,
     id: &'a Name,
 ) -> Result<(), AllocError>
@@ -56,7 +56,7 @@ fn add_line<'a>(
 fn add_line_of<'a>(
     alloc: Global,
     draft: &Draft<'a>,
-    lines: &mut Vec<Line<'a>>,
+    lines: &mut Vec<GraphRuns<'a>>,
     id: &Name,
 ) -> Result<(), AllocError>
     requires runs { rises run_before draft.now.base.runs ≡ true }
@@ -70,7 +70,7 @@ fn add_line_of<'a>(
 }
 
 // A line for each graph, of the runs of the schedule under the draft.
-fn lines_below<'a>(alloc: Global, draft: &Draft<'a>) -> Result<Vec<Line<'a>>, AllocError>
+fn lines_below<'a>(alloc: Global, draft: &Draft<'a>) -> Result<Vec<GraphRuns<'a>>, AllocError>
     requires { rises run_before draft.now.base.runs ≡ true }
     ensures rising { IfOk result (λ lines. rises id_before (ids_of lines.items) ≡ true) }
     ensures fresh { IfOk result (λ lines. AreFresh (over_runs draft.now.content draft.now.base.runs) lines.items) }
@@ -90,7 +90,7 @@ fn lines_at<'a>(
     alloc: Global,
     draft: &Draft<'a>,
     positions: &[usize],
-) -> Result<Vec<Line<'a>>, AllocError>
+) -> Result<Vec<GraphRuns<'a>>, AllocError>
     requires runs { rises run_before draft.now.base.runs ≡ true }
     requires within { are_within (length draft.now.content.runs) positions.now ≡ true }
     ensures rising { IfOk result (λ lines. rises id_before (ids_of lines.items) ≡ true) }
@@ -105,7 +105,7 @@ fn lines_at<'a>(
 }
 
 // The run is counted in the line of its graph: as one that is running, or by its date as a queued one.
-fn count_run(line: &mut Line<'_>, run: &Run) -> Result<(), AllocError>
+fn count_run(line: &mut GraphRuns<'_>, run: &Run) -> Result<(), AllocError>
     ensures { OnOk result (IsRunCounted run.now line.old line.new) }
 {
     match run.phase {
@@ -122,7 +122,7 @@ fn count_run(line: &mut Line<'_>, run: &Run) -> Result<(), AllocError>
 }
 
 // The run is counted in, where there is a line of its graph.
-fn count_in(lines: &mut Vec<Line<'_>>, run: &Run) -> Result<(), AllocError>
+fn count_in(lines: &mut Vec<GraphRuns<'_>>, run: &Run) -> Result<(), AllocError>
     requires { rises id_before (ids_of lines.old.items) ≡ true }
     ensures { OnOk result (EachLine (λ id. IsCountedIn id (run.now ∷ [])) lines.old.items lines.new.items) }
 {
@@ -135,7 +135,7 @@ fn count_in(lines: &mut Vec<Line<'_>>, run: &Run) -> Result<(), AllocError>
 // The touched runs are counted in.
 fn count_all_in(
     draft: &Draft<'_>,
-    lines: &mut Vec<Line<'_>>,
+    lines: &mut Vec<GraphRuns<'_>>,
     touched: &[usize],
 ) -> Result<(), AllocError>
     requires within { are_within (length draft.now.content.runs) touched.now ≡ true }
@@ -157,7 +157,7 @@ fn is_running(run: &Run) -> bool
 }
 
 // The run that was there with the key of the one at a position is counted off, if it was running and there is a line of its graph.
-fn count_off(draft: &Draft<'_>, lines: &mut Vec<Line<'_>>, position: usize)
+fn count_off(draft: &Draft<'_>, lines: &mut Vec<GraphRuns<'_>>, position: usize)
     requires runs { rises run_before draft.now.content.runs ≡ true }
     requires within { position < length draft.now.content.runs }
     requires rising { rises id_before (ids_of lines.old.items) ≡ true }
@@ -173,7 +173,7 @@ fn count_off(draft: &Draft<'_>, lines: &mut Vec<Line<'_>>, position: usize)
 }
 
 // The runs that were there with the keys of the touched ones are counted off.
-fn count_all_off(draft: &Draft<'_>, lines: &mut Vec<Line<'_>>, touched: &[usize])
+fn count_all_off(draft: &Draft<'_>, lines: &mut Vec<GraphRuns<'_>>, touched: &[usize])
     requires runs { rises run_before draft.now.content.runs ≡ true }
     requires within { are_within (length draft.now.content.runs) touched.now ≡ true }
     requires rising { rises id_before (ids_of lines.old.items) ≡ true }
@@ -188,7 +188,7 @@ fn count_all_off(draft: &Draft<'_>, lines: &mut Vec<Line<'_>>, touched: &[usize]
 // The touched runs are counted anew in lines of the runs under the draft: no other run is looked at.
 fn recount(
     draft: &Draft<'_>,
-    lines: &mut Vec<Line<'_>>,
+    lines: &mut Vec<GraphRuns<'_>>,
     touched: &[usize],
 ) -> Result<(), AllocError>
     requires touched { AreAllTouched touched.now draft.now.base.runs draft.now.content.runs }
@@ -203,7 +203,10 @@ fn recount(
 }
 
 // A line of each graph of the draft: that of the schedule under it, and of its runs the touched ones alone are looked at.
-pub(crate) fn lines_of<'a>(alloc: Global, draft: &Draft<'a>) -> Result<Vec<Line<'a>>, AllocError>
+pub(crate) fn lines_of<'a>(
+    alloc: Global,
+    draft: &Draft<'a>,
+) -> Result<Vec<GraphRuns<'a>>, AllocError>
     requires runs { rises run_before draft.now.content.runs ≡ true }
     ensures lines { IfOk result (λ lines. AreLines lines.items draft.now.content) }
     ensures all { IfOk result (λ lines. HaveLinesOfAll draft.now.content.graphs lines.items) }
@@ -220,7 +223,7 @@ pub(crate) fn lines_of_touched<'a>(
     alloc: Global,
     draft: &Draft<'a>,
     touched: &[usize],
-) -> Result<Vec<Line<'a>>, AllocError>
+) -> Result<Vec<GraphRuns<'a>>, AllocError>
     requires touched { AreAllTouched touched.now draft.now.base.runs draft.now.content.runs }
     requires runs { rises run_before draft.now.content.runs ≡ true }
     requires still { move draft.now.base ≡ None }

@@ -11,7 +11,7 @@ ghost use Rattle.sched_settling.specs.Marks.{IsKeyed, IsEndedAt, AreLines, HasLi
 ghost use Rattle.sched_settling.specs.States.{states_in};
 
 use crate::counting::lines_of;
-use crate::lines::{Line, place_of};
+use crate::lines::{GraphRuns, place_of};
 use crate::states::{dag_of, state_in};
 use dag_check::Graph;
 use graph_file::Name;
@@ -75,14 +75,14 @@ fn end_of(draft: &Draft<'_>, run: &Run) -> Option<RunPhase>
 }
 
 // One running run fewer.
-fn count_one(line: &mut Line<'_>)
+fn count_one(line: &mut GraphRuns<'_>)
     ensures { line.new ≡ one_fewer line.old }
 {
     line.active = line.active.saturating_sub(1);
 }
 
 // One running run of the graph fewer, where there is a line of it.
-pub(crate) fn count_down(lines: &mut Vec<Line<'_>>, id: &Name)
+pub(crate) fn count_down(lines: &mut Vec<GraphRuns<'_>>, id: &Name)
     requires { rises id_before (ids_of lines.old.items) ≡ true }
     ensures { IsCountedDown id.now lines.old.items lines.new.items }
 {
@@ -95,7 +95,7 @@ pub(crate) fn count_down(lines: &mut Vec<Line<'_>>, id: &Name)
 fn provide_line<'a>(
     alloc: Global,
     draft: &Draft<'a>,
-    lines: &mut Vec<Line<'a>>,
+    lines: &mut Vec<GraphRuns<'a>>,
     id: &Name,
 ) -> Result<(), AllocError>
     requires runs { rises run_before draft.now.content.runs ≡ true }
@@ -114,7 +114,7 @@ fn provide_line<'a>(
 fn end_at<'a>(
     alloc: Global,
     draft: &mut Draft<'a>,
-    lines: &mut Vec<Line<'a>>,
+    lines: &mut Vec<GraphRuns<'a>>,
     position: usize,
 ) -> Result<(), AllocError>
     requires keyed { IsKeyed draft.old.content }
@@ -137,7 +137,7 @@ fn end_at<'a>(
 pub(crate) fn end_marked<'a>(
     alloc: Global,
     draft: &mut Draft<'a>,
-    lines: &mut Vec<Line<'a>>,
+    lines: &mut Vec<GraphRuns<'a>>,
     marks: &[usize],
 ) -> Result<(), AllocError>
     requires keyed { IsKeyed draft.old.content }

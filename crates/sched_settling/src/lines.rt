@@ -12,7 +12,7 @@ use std::collections::VecDeque;
 /// those of touched runs. The kept dates are read where they are needed: they are those of the runs of the schedule under the draft at
 /// the kept positions, from a place on.
 #[derive(Drop)]
-pub(crate) struct Line<'a> {
+pub(crate) struct GraphRuns<'a> {
     pub id: &'a Name,
     pub active: usize,
     pub runs: &'a Runs,
@@ -22,7 +22,7 @@ pub(crate) struct Line<'a> {
 }
 
 // The place of the line of the graph with this id, by a binary search, or the one at which it would stand.
-pub(crate) fn place_of(lines: &[Line<'_>], id: &Name) -> Result<usize, usize>
+pub(crate) fn place_of(lines: &[GraphRuns<'_>], id: &Name) -> Result<usize, usize>
     requires { rises id_before (ids_of lines.now) ≡ true }
     ensures { MatchResult result (IsLineAt lines.now id.now) (IsGapFor lines.now id.now) }
 {
@@ -30,7 +30,7 @@ pub(crate) fn place_of(lines: &[Line<'_>], id: &Name) -> Result<usize, usize>
 }
 
 // The first kept date that is left.
-fn kept_date(line: &Line<'_>) -> Option<Moment>
+fn kept_date(line: &GraphRuns<'_>) -> Option<Moment>
     requires { DatesRise line.now }
     ensures date { MatchOption result (kept_dates line.now ≡ [])
         (λ date. kept_dates line.now ≡ date ∷ dates_from line.now (line.now.from + 1)) }
@@ -41,7 +41,7 @@ fn kept_date(line: &Line<'_>) -> Option<Moment>
 }
 
 // Whether the date comes before the kept ones that are left.
-fn comes_first(line: &Line<'_>, date: Moment) -> bool
+fn comes_first(line: &GraphRuns<'_>, date: Moment) -> bool
     requires { DatesRise line.now }
     ensures { result ≡ comes_first date (kept_dates line.now) }
 {
@@ -52,7 +52,7 @@ fn comes_first(line: &Line<'_>, date: Moment) -> bool
 }
 
 // The first touched date, where it comes before the kept ones that are left.
-fn touched_date(line: &Line<'_>) -> Option<Moment>
+fn touched_date(line: &GraphRuns<'_>) -> Option<Moment>
     requires { DatesRise line.now }
     ensures { MatchOption result (KeptComesFirst line.now) (IsTouchedFirst line.now) }
 {
@@ -65,7 +65,7 @@ fn touched_date(line: &Line<'_>) -> Option<Moment>
 }
 
 // The first of the dates that are left, which is taken out.
-pub(crate) fn take_date(line: &mut Line<'_>) -> Option<Moment>
+pub(crate) fn take_date(line: &mut GraphRuns<'_>) -> Option<Moment>
     requires { DatesRise line.old }
     ensures id { line.new.id.now ≡ line.old.id.now }
     ensures active { line.new.active ≡ line.old.active }

@@ -7,7 +7,7 @@ ghost use Rattle.sched_settling.specs.Marks.{AreLines, IsCovered, IsKeyed};
 
 use crate::deciding::decide_marked;
 use crate::ending::end_marked;
-use crate::lines::Line;
+use crate::lines::GraphRuns;
 use crate::starting::start_first;
 use sched_draft::Draft;
 use std::alloc::{AllocError, Global};
@@ -18,7 +18,7 @@ fn decide_and_end<'a>(
     alloc: Global,
     draft: &mut Draft<'a>,
     marks: VecDeque<usize>,
-    lines: &mut Vec<Line<'a>>,
+    lines: &mut Vec<GraphRuns<'a>>,
 ) -> Result<(), AllocError>
     requires keyed { IsKeyed draft.old.content }
     requires covered { IsCovered marks.items draft.old.content }
@@ -36,7 +36,7 @@ fn decide_and_end_at<'a>(
     alloc: Global,
     draft: &mut Draft<'a>,
     position: usize,
-    lines: &mut Vec<Line<'a>>,
+    lines: &mut Vec<GraphRuns<'a>>,
 ) -> Result<(), AllocError>
     requires keyed { IsKeyed draft.old.content }
     requires covered { IsCovered (position ∷ []) draft.old.content }
@@ -55,7 +55,7 @@ pub(crate) fn settle_from<'a>(
     alloc: Global,
     draft: &mut Draft<'a>,
     marks: VecDeque<usize>,
-    lines: &mut Vec<Line<'a>>,
+    lines: &mut Vec<GraphRuns<'a>>,
 ) -> Result<(), AllocError>
     requires keyed { IsKeyed draft.old.content }
     requires covered { IsCovered marks.items draft.old.content }

@@ -5,7 +5,7 @@ ghost use Rattle.sched_model.specs.Schedule.{is_queued, run_before};
 ghost use Rattle.sched_settling.specs.Marks.{AreLines, DatesRise, IsKeyed, IsLine, IsQueue, IsFirstQueued, IsQueuedOn, NoneQueued, NoneQueuedOn, IsStartIn, NoStartIn, IsStartAt};
 ghost use Rattle.sched_settling.specs.States.{IsFirstStart};
 
-use crate::lines::{Line, take_date};
+use crate::lines::{GraphRuns, take_date};
 use graph_file::Name;
 use moment_core::Moment;
 use sched_draft::Draft;
@@ -35,7 +35,7 @@ fn queued_on(draft: &Draft<'_>, id: &Name, date: Moment) -> Option<usize>
 }
 
 // The first queued run of the graph, whose date is taken out of the line.
-fn take_queued(draft: &Draft<'_>, line: &mut Line<'_>) -> Option<usize>
+fn take_queued(draft: &Draft<'_>, line: &mut GraphRuns<'_>) -> Option<usize>
     requires ordered { rises run_before draft.now.content.runs ≡ true }
     requires queue { IsQueue draft.now.content line.old.id.now line.old }
     ensures id { line.new.id.now ≡ line.old.id.now }
@@ -56,7 +56,7 @@ fn take_queued(draft: &Draft<'_>, line: &mut Line<'_>) -> Option<usize>
 fn start_in(
     alloc: Global,
     draft: &mut Draft<'_>,
-    line: &mut Line<'_>,
+    line: &mut GraphRuns<'_>,
 ) -> Result<Option<usize>, AllocError>
     requires keyed { IsKeyed draft.old.content }
     requires line { IsLine draft.old.content line.old.id.now line.old }
@@ -86,7 +86,7 @@ fn start_in(
 pub(crate) fn start_first(
     alloc: Global,
     draft: &mut Draft<'_>,
-    lines: &mut Vec<Line<'_>>,
+    lines: &mut Vec<GraphRuns<'_>>,
 ) -> Result<Option<usize>, AllocError>
     requires keyed { IsKeyed draft.old.content }
     requires lines { AreLines lines.old.items draft.old.content }

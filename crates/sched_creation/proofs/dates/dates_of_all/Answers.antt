@@ -9,10 +9,10 @@ pub loop-position-preserved : goal.loop-position-preserved
 loop-position-preserved c =
     let a : Schedule = c.args.draft.now.content in
     let all : List Index = c.loop-position.all.items in
-    let index : Index = c.settle.new.self in
+    let index : Index = c.move_cursor.new.self in
     let long : length all ≡ c.loop-position.position = omega (arith, c.loop-position.invariant.long, c.loop-position.all.ok.0) in
     let alike : (d : ℕ) → has_date index.dates d ≡ has_date (dates_of a c.dag_at-dag.result.now.spec.dag_id) d =
-    subst (λ (x : Index). (d : ℕ) → has_date x.dates d ≡ has_date (dates_of a c.dag_at-dag.result.now.spec.dag_id) d) (sym c.settle.ensures)
+    subst (λ (x : Index). (d : ℕ) → has_date x.dates d ≡ has_date (dates_of a c.dag_at-dag.result.now.spec.dag_id) d) (sym c.move_cursor.ensures)
     (subst (λ (s : GraphSpec). (d : ℕ) → has_date c.in_ok-index.index.dates d ≡ has_date (dates_of a s.dag_id) d) c.spec.ensures.spec c.in_ok-index.ensures) in
     record {
       long = omega (arith, c.in_ok-push.ensures.len, c.loop-position.invariant.long);

@@ -5,7 +5,7 @@ use Rattle.sched_model.specs.Lists.{rises}
 use Rattle.sched_model.specs.Schedule.{Schedule}
 use Rattle.sched_settling.specs.Marks.{id_before, ids_of}
 use Rattle.sched_settling.specs.Touched.{HaveLinesOf, over_runs, runs_at}
-use Rattle.sched_settling.specs.declared.lines.Line.{Line}
+use Rattle.sched_settling.specs.declared.lines.GraphRuns.{GraphRuns}
 use Rattle.sched_settling.proofs.CarryLemmas.{runs_more}
 use Rattle.sched_settling.proofs.MarkLemmas.{within_at}
 use Rattle.sched_settling.proofs.StartLemmas.{more_lines, none_fresh}
@@ -13,7 +13,7 @@ use Rattle.sched_settling.proofs.counting.lines_at.Goals as goal
 
 pub loop-position-init : goal.loop-position-init
 loop-position-init c = record {
-  rising = ap (λ (ls : List Line). rises id_before (ids_of ls)) c.new-lines.ensures.items;
+  rising = ap (λ (ls : List GraphRuns). rises id_before (ids_of ls)) c.new-lines.ensures.items;
   fresh = none_fresh (over_runs c.args.draft.now.content c.args.draft.now.base.runs) c.new-lines.result.items c.new-lines.ensures.items;
   these = λ n r e. absurd (let d : ◌≡◌ {A = Option Run} None (Some r) = e in cc);
 }

@@ -9,14 +9,14 @@ use Rattle.sched_model.specs.Schedule.{Schedule}
 use Rattle.sched_model.specs.Lists.{rises}
 use Rattle.sched_settling.specs.Marks.{has_line, id_before, ids_of}
 use Rattle.sched_settling.specs.Touched.{over_runs}
-use Rattle.sched_settling.specs.declared.lines.Line.{Line}
+use Rattle.sched_settling.specs.declared.lines.GraphRuns.{GraphRuns}
 use Rattle.sched_settling.proofs.LineLemmas.{dag_at}
 use Rattle.sched_settling.proofs.StartLemmas.{none_fresh}
 use Rattle.sched_settling.proofs.counting.lines_below.Goals as goal
 
 pub loop-graph-init : goal.loop-graph-init
 loop-graph-init c = record {
-  rising = ap (λ (ls : List Line). rises id_before (ids_of ls)) c.new-lines.ensures.items;
+  rising = ap (λ (ls : List GraphRuns). rises id_before (ids_of ls)) c.new-lines.ensures.items;
   fresh = none_fresh (over_runs c.args.draft.now.content c.args.draft.now.base.runs) c.new-lines.result.items c.new-lines.ensures.items;
   all = λ n g low there. absurd (omega (arith, low));
 }
@@ -25,7 +25,7 @@ pub loop-graph-preserved : goal.loop-graph-preserved
 loop-graph-preserved c =
     let b : Schedule = c.args.draft.now.content in
     let p : ℕ = c.loop-graph.graph in
-    let ms : List Line = c.add_line.new.lines.items in
+    let ms : List GraphRuns = c.add_line.new.lines.items in
     let added = c.in_ok-add_line.ensures in
     record {
       rising = added.rising;

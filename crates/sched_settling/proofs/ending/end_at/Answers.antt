@@ -7,7 +7,7 @@ use Rattle.sched_settling.proofs.PhaseLemmas.{ended_at, ended_none}
 use Rattle.sched_laws.specs.Stages.{phase_at}
 use Rattle.sched_model.specs.Lists.{rises}
 use Rattle.sched_settling.specs.Marks.{AreLines, HasLineOf, IsCountedDown}
-use Rattle.sched_settling.specs.declared.lines.Line.{Line}
+use Rattle.sched_settling.specs.declared.lines.GraphRuns.{GraphRuns}
 use Rattle.sched_settling.proofs.ending.end_at.Goals as goal
 
 pub returns-in_ok-provide_line-clause-ended : goal.returns-in_ok-provide_line-clause-ended
@@ -35,7 +35,7 @@ returns-in_ok-provide_line-clause-lines c =
     let two : ◌≡◌ {A = Option Run} (Some p) (Some r) = sym once ∙ there in
     let it : p ≡ r = cc in
     let set : c.set_phase.new.self.content ≡ phase_at c.in-Some.phase c.args.position a = ap (λ (d : DraftValue). d.content) c.set_phase.ensures ∙ ap (phase_at c.in-Some.phase c.args.position) same in
-    let ls : List Line = c.provide_line.new.lines.items in
+    let ls : List GraphRuns = c.provide_line.new.lines.items in
     let lines : AreLines ls a = subst (AreLines ls) same c.in_ok-provide_line.ensures.lines in
     let has : HasLineOf a r.graph ls = subst (λ (x : Run). HasLineOf a x.graph ls) is (subst (λ (x : Schedule). HasLineOf x q.graph ls) same c.in_ok-provide_line.ensures.there) in
     let counted : IsCountedDown r.graph ls c.count_down.new.lines.items = subst (λ (x : Run). IsCountedDown x.graph ls c.count_down.new.lines.items) it c.count_down.ensures in

@@ -4,7 +4,7 @@ use Rattle.std.proofs.lemmas.List.{length-map}
 use Rattle.std.proofs.lemmas.Option.{slice_get_within}
 use Rattle.sched_model.specs.Schedule.{Schedule}
 use Rattle.sched_settling.specs.Marks.{IsLine, AreLines, IsStartIn, NoStartIn, ids_of}
-use Rattle.sched_settling.specs.declared.lines.Line.{Line}
+use Rattle.sched_settling.specs.declared.lines.GraphRuns.{GraphRuns}
 use Rattle.sched_settling.proofs.StateLemmas.{read_at}
 use Rattle.sched_settling.proofs.AmongLemmas.{ids_get, ids_set, inside_lines}
 use Rattle.sched_settling.proofs.LineLemmas.{start_there, start_none, start_lines, same_lines, none_next}
@@ -16,10 +16,10 @@ loop-place-init c = record { same = refl; base = refl; lines = c.requires.lines;
 pub start_in-requires-clause-line : goal.start_in-requires-clause-line
 start_in-requires-clause-line c =
     let a : Schedule = c.args.draft.now.content in
-    let ls : List Line = c.loop-place.lines.items in
+    let ls : List GraphRuns = c.loop-place.lines.items in
     let is : List (List ℕ) = ids_of c.args.lines.now.items in
     let p : ℕ = c.loop-place.place in
-    let l : Line = c.index_mut.result.now in
+    let l : GraphRuns = c.index_mut.result.now in
     let ids : ids_of ls ≡ is = c.loop-place.invariant.ids in
     let there : slice_get ls p ≡ Some l = read_at ls p l l (inside_lines ls c.args.lines.now.items p ids (let low = c.loop-place-test.true in let end = c.len-place-end.ensures in omega arith)) c.index_mut.ensures.value in
     subst (λ (x : Schedule). IsLine x l.id.now l) (sym c.loop-place.invariant.same) (c.loop-place.invariant.lines.each p l there)
@@ -27,13 +27,13 @@ start_in-requires-clause-line c =
 pub returns-in-Some-clause-first : goal.returns-in-Some-clause-first
 returns-in-Some-clause-first c =
     let a : Schedule = c.args.draft.now.content in
-    let ls : List Line = c.loop-place.lines.items in
+    let ls : List GraphRuns = c.loop-place.lines.items in
     let is : List (List ℕ) = ids_of c.args.lines.now.items in
     let p : ℕ = c.loop-place.place in
-    let l : Line = c.index_mut.result.now in
+    let l : GraphRuns = c.index_mut.result.now in
     let ids : ids_of ls ≡ is = c.loop-place.invariant.ids in
     let there : slice_get ls p ≡ Some l = read_at ls p l l (inside_lines ls c.args.lines.now.items p ids (let low = c.loop-place-test.true in let end = c.len-place-end.ensures in omega arith)) c.index_mut.ensures.value in
-    let m : Line = c.start_in.new.line in
+    let m : GraphRuns = c.start_in.new.line in
     let b : Schedule = c.start_in.new.draft.content in
     let n : ℕ = c.in-Some.position in
     let found : IsStartIn l.id.now m a b n =
@@ -44,13 +44,13 @@ returns-in-Some-clause-first c =
 pub returns-in-Some-clause-started : goal.returns-in-Some-clause-started
 returns-in-Some-clause-started c =
     let a : Schedule = c.args.draft.now.content in
-    let ls : List Line = c.loop-place.lines.items in
+    let ls : List GraphRuns = c.loop-place.lines.items in
     let is : List (List ℕ) = ids_of c.args.lines.now.items in
     let p : ℕ = c.loop-place.place in
-    let l : Line = c.index_mut.result.now in
+    let l : GraphRuns = c.index_mut.result.now in
     let ids : ids_of ls ≡ is = c.loop-place.invariant.ids in
     let there : slice_get ls p ≡ Some l = read_at ls p l l (inside_lines ls c.args.lines.now.items p ids (let low = c.loop-place-test.true in let end = c.len-place-end.ensures in omega arith)) c.index_mut.ensures.value in
-    let m : Line = c.start_in.new.line in
+    let m : GraphRuns = c.start_in.new.line in
     let b : Schedule = c.start_in.new.draft.content in
     let n : ℕ = c.in-Some.position in
     let found : IsStartIn l.id.now m a b n =
@@ -61,13 +61,13 @@ returns-in-Some-clause-started c =
 pub returns-in-Some-clause-lines : goal.returns-in-Some-clause-lines
 returns-in-Some-clause-lines c =
     let a : Schedule = c.args.draft.now.content in
-    let ls : List Line = c.loop-place.lines.items in
+    let ls : List GraphRuns = c.loop-place.lines.items in
     let is : List (List ℕ) = ids_of c.args.lines.now.items in
     let p : ℕ = c.loop-place.place in
-    let l : Line = c.index_mut.result.now in
+    let l : GraphRuns = c.index_mut.result.now in
     let ids : ids_of ls ≡ is = c.loop-place.invariant.ids in
     let there : slice_get ls p ≡ Some l = read_at ls p l l (inside_lines ls c.args.lines.now.items p ids (let low = c.loop-place-test.true in let end = c.len-place-end.ensures in omega arith)) c.index_mut.ensures.value in
-    let m : Line = c.start_in.new.line in
+    let m : GraphRuns = c.start_in.new.line in
     let b : Schedule = c.start_in.new.draft.content in
     let n : ℕ = c.in-Some.position in
     let found : IsStartIn l.id.now m a b n =
@@ -78,13 +78,13 @@ returns-in-Some-clause-lines c =
 pub loop-place-preserved : goal.loop-place-preserved
 loop-place-preserved c =
     let a : Schedule = c.args.draft.now.content in
-    let ls : List Line = c.loop-place.lines.items in
+    let ls : List GraphRuns = c.loop-place.lines.items in
     let is : List (List ℕ) = ids_of c.args.lines.now.items in
     let p : ℕ = c.loop-place.place in
-    let l : Line = c.index_mut.result.now in
+    let l : GraphRuns = c.index_mut.result.now in
     let ids : ids_of ls ≡ is = c.loop-place.invariant.ids in
     let there : slice_get ls p ≡ Some l = read_at ls p l l (inside_lines ls c.args.lines.now.items p ids (let low = c.loop-place-test.true in let end = c.len-place-end.ensures in omega arith)) c.index_mut.ensures.value in
-    let m : Line = c.start_in.new.line in
+    let m : GraphRuns = c.start_in.new.line in
     let b : Schedule = c.start_in.new.draft.content in
     let none : NoStartIn l.id.now m a b =
     subst (λ (x : Schedule). NoStartIn l.id.now m x b) c.loop-place.invariant.same
@@ -102,5 +102,5 @@ returns-clause-first c =
     let a : Schedule = c.args.draft.now.content in
     let over = c.loop-place-test.false in
     let end = c.len-place-end.ensures in
-    let line : Line → List ℕ = λ (l : Line). l.id.now in
+    let line : GraphRuns → List ℕ = λ (l : GraphRuns). l.id.now in
     (start_none a (ids_of c.args.lines.now.items) c.loop-place.place c.requires.lines.startings c.loop-place.invariant.none (omega (arith, over, end, length-map c.args.lines.now.items line)), c.loop-place.invariant.same)

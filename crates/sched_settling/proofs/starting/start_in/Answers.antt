@@ -8,7 +8,7 @@ use Rattle.sched_state.specs.declared.runs.RunPhase.TheVariants as phase
 use Rattle.sched_laws.specs.Stages.{phase_at}
 use Rattle.sched_draft.specs.Drafts.{DraftValue}
 use Rattle.sched_settling.specs.Marks.{IsFirstQueued, IsLine, IsStartIn, NoneBefore}
-use Rattle.sched_settling.specs.declared.lines.Line.{Line}
+use Rattle.sched_settling.specs.declared.lines.GraphRuns.{GraphRuns}
 use Rattle.sched_settling.proofs.LineLemmas.{graph_at, none_paused, none_full, none_unknown, paused_at, dag_at, not_below, queued_run, started_in, not_started}
 use Rattle.sched_settling.proofs.starting.start_in.Goals as goal
 use Rattle.sched_settling.proofs.starting.start_in.Goals.{then-is_paused_at-via-then-is_paused_at, then-is_paused_at-via-else-is_paused_at+then-most-line}
@@ -55,8 +55,8 @@ returns-clause-started c =
     let most : c.get-most.result ≡ h.dag.spec.max_active_runs = c.get-most.ensures.value ∙ (ap (λ s. s.max_active_runs) c.spec.ensures.spec ∙ ap (λ (k : Dag). k.spec.max_active_runs) d) in
     let n : ℕ = c.in-Some-take_queued.position in
     let took = c.in-Some-take_queued.ensures in
-    let m : Line = c.take_queued.new.line in
-    let l : Line = record m { active = m.active + 1 } in
+    let m : GraphRuns = c.take_queued.new.line in
+    let l : GraphRuns = record m { active = m.active + 1 } in
     let more : m.active + 1 ≡ c.args.line.now.active + 1 = ap (λ k. k + 1) took.active in
     let first : IsFirstQueued a h.dag.spec.dag_id m n = subst (λ (i : List ℕ). IsFirstQueued a i m n) (sym g.named) took.found in
     let kept : IsLine a h.dag.spec.dag_id c.args.line.now = subst (λ (i : List ℕ). IsLine a i c.args.line.now) (sym g.named) c.requires.line in
