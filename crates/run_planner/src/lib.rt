@@ -3,7 +3,7 @@
 //!
 //! [`due`] plans: it lists the intervals of a graph that have ended and have no run, the oldest first and no more than a limit.
 //! [`manual`] gives the interval of a run by hand, [`backfill`] the intervals of a span, with and without a run. A [`RunIndex`] is the
-//! set of the logical dates of a graph's runs; where it was [settled](RunIndex::move_cursor) for the graph, `due` passes over the starts
+//! set of the logical dates of a graph's runs; where its [cursor was moved](RunIndex::move_cursor) for the graph, `due` passes over the starts
 //! that have a run. [`makes_anew`] tells whether another text of a graph would make runs of the past.
 //!
 //! ```text

@@ -27,7 +27,7 @@ pub struct Planned {
 /// only the latest that is due.
 ///
 /// `Trigger` has the empty interval at each tick, `Once` the one at `start_date`, and `Never` none. The only error is want of memory.
-/// With an index that was [settled](RunIndex::move_cursor) for the graph, the walk begins past the starts that have a run.
+/// With an index whose [cursor was moved](RunIndex::move_cursor) for the graph, the walk begins past the starts that have a run.
 ///
 /// The rules are those of Airflow 2's page 'DAG Runs'.
 pub fn due(
