@@ -158,7 +158,7 @@ impl<R: Clock + Files + Drop, W: Write + Drop> SentenceConsole<R, W> {
             Shown::NoCommand(CommandFault::Source(SourceFault::Unreadable)) => {
                 self.unread_note(asked, shown)
             }
-            Shown::Answer(Event::Tick(moment), answer) => self.tick_note(*moment, answer),
+            Shown::Answer(Event::Tick(_), answer) => self.tick_note(answer),
             _ => note_of(self.alloc, asked, event, shown),
         }
     }
@@ -174,11 +174,10 @@ impl<R: Clock + Files + Drop, W: Write + Drop> SentenceConsole<R, W> {
         }
     }
 
-    // What is to be told of a tick: that it is far ahead, or that it has begun very many runs.
-    fn tick_note(&self, moment: Moment, answer: &Answer) -> Result<Option<Note>, AllocError> {
+    // What is to be told of a tick that was accepted: that it has begun very many runs.
+    fn tick_note(&self, answer: &Answer) -> Result<Option<Note>, AllocError> {
         let rest = begun_rest(self.alloc, answer)?;
-        let text = if self.is_far(moment) { AHEAD } else { "" };
-        let text = String::from_str(self.alloc, text)?;
+        let text = String::new(self.alloc);
         Ok(Some(Note { text, rest }))
     }
 
@@ -372,6 +371,14 @@ impl<R: Clock + Files + Drop, W: Write + Drop> Console for SentenceConsole<R, W>
     fn wait_is_over(&mut self) {
         if self.written.take().is_some() {
             let _ = self.output.write_all(b"\r\x1b[K");
+        }
+    }
+
+    fn hear(&mut self, spot: Spot<'_>, event: &Event) {
+        if let Event::Tick(moment) = event {
+            if self.is_far(*moment) {
+                let _ = self.put_sentence(Some(spot.number), AHEAD);
+            }
         }
     }
 

@@ -17,6 +17,8 @@ const MOST_BYTES: usize = 256;
 // What is said of a task of a graph, and of a try.
 const OF_TASK: &str = "task \"{}\": its program {} {}{}";
 
+const OF_TIMEOUT: &str = "task \"{}\": {}, by which execution_timeout ends its program, {}{}";
+
 const OF_TRY: &str = "{}: its program {} {}{}";
 
 // The bits of a mode of which one lets somebody run a file.
@@ -67,23 +69,41 @@ pub(crate) struct Search<'a, R: Files> {
 }
 
 impl<R: Files> Search<'_, R> {
-    /// Adds the first of these tasks whose program the system does not start, or nothing. One whose arguments were told of is passed over.
+    /// Adds the first of these tasks whose program the system does not start, or what ends that in time, or nothing. One whose arguments were told of is
+    /// passed over.
     pub fn push_task(&self, sentence: &mut String, tasks: &[TaskSpec]) -> Result<(), AllocError> {
         let mut seen = Vec::new(*sentence.allocator());
         for task in tasks {
-            let program = program_of(task);
-            if !seen.as_slice().contains(&program) {
-                seen.push(program)?;
-                match self.lack_of(*sentence.allocator(), program)? {
-                    Some(lack) if !has_doubt(task) => {
-                        let owner = task.task_id.as_str();
-                        return self.push(sentence, OF_TASK, owner, program, lack);
-                    }
-                    _ => {}
-                }
+            if self.push_new(sentence, &mut seen, OF_TASK, task, program_of(task))? {
+                return Ok(());
+            }
+            if self.push_new(sentence, &mut seen, OF_TIMEOUT, task, timer_of(task))? {
+                return Ok(());
             }
         }
         Ok(())
+    }
+
+    // Adds why the system does not start this program of a task, if it was not looked for yet: whether something is added.
+    fn push_new<'t>(
+        &self,
+        sentence: &mut String,
+        seen: &mut Vec<&'t str>,
+        text: &str,
+        task: &TaskSpec,
+        program: &'t str,
+    ) -> Result<bool, AllocError> {
+        if seen.as_slice().contains(&program) {
+            return Ok(false);
+        }
+        seen.push(program)?;
+        match self.lack_of(*sentence.allocator(), program)? {
+            Some(lack) if !has_doubt(task) => {
+                self.push(sentence, text, task.task_id.as_str(), program, lack)?;
+                Ok(true)
+            }
+            _ => Ok(false),
+        }
     }
 
     /// Adds why the system does not start the program of this try, or nothing.
@@ -135,6 +155,14 @@ pub(crate) fn program_of(task: &TaskSpec) -> &str {
     match (task.action.operator(), task.action.argv().first()) {
         (Operator::Command, Some(program)) => program.as_str(),
         _ => "",
+    }
+}
+
+// The program that ends the program of a task in time, or nothing.
+fn timer_of(task: &TaskSpec) -> &str {
+    match task.action.timeout() {
+        Some(_) => "timeout",
+        None => "",
     }
 }
 

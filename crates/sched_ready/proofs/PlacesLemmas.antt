@@ -50,24 +50,6 @@ patched_more n now g s before r old mid x y t q within task queue slot made h = 
     above : (p m : ℕ) → m + 1 ≤ p → p ≡ m → ⊥
     above p m l i = omega (arith, l, i)
 
--- what is written twice at a place
-pub set_twice : {X : Type 0} (xs : List X) (n : ℕ) (x y : X) → slice_set (slice_set xs n x) n y ≡ slice_set xs n y
-set_twice [] n x y = refl
-set_twice (z ∷ xs) zero x y = refl
-set_twice (z ∷ xs) (suc n) x y = ap (λ ys. z ∷ ys) (set_twice xs n x y)
-
--- a place that stays as it is
-pub patched_same : (n now : ℕ) (g : Dag) (s : ShelfValue) (before : Option Run) (r : Run) (old mid : List (Option Queue)) (x : Option Queue) (t : TaskSpec) (q : Queue) → n < length mid → slice_get g.tasks n ≡ Some t → slice_get s.queues n ≡ Some q → slice_get mid n ≡ Some x
-    → x ≡ None → due_before before t n ≡ due_at r t n → ArePatchedTo n now g s before r old mid → ArePatchedTo (n + 1) now g s before r old mid
-patched_same n now g s before r old mid x t q within task queue slot none same h =
-    subst (ArePatchedTo (n + 1) now g s before r old) (set_own mid n None (slot ∙ ap (λ o. Some o) none))
-    (patched_more n now g s before r old mid x None t q within task queue slot (none, same) h)
-  where
-    set_own : {X : Type 0} (xs : List X) (k : ℕ) (y : X) → slice_get xs k ≡ Some y → slice_set xs k y ≡ xs
-    set_own [] k y e = refl
-    set_own (z ∷ xs) zero y e = ap (λ w. w ∷ xs) (sym (same_Some z y e))
-    set_own (z ∷ xs) (suc k) y e = ap (λ ys. z ∷ ys) (set_own xs k y e)
-
 pub patched_all : (n now : ℕ) (g : Dag) (s : ShelfValue) (before : Option Run) (r : Run) (old new : List (Option Queue)) → ((p : ℕ) → p < length g.tasks → p < length s.queues → p < length new → p < n) → ArePatchedTo n now g s before r old new → ArePlacesPatched now g s before r old new
 patched_all n now g s before r old new all h = record {
   long = h.long;

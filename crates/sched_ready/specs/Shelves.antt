@@ -13,11 +13,11 @@ pub record ShelfValue : Type 0 where
   pub queues : List Queue
 
 -- what a shelf keeps: the bounds are right for all places, there is one for each kind, and none of them ranks before the least
-pub record Leads (s : ShelfValue) (fs : List (Option First)) (soonest : Option ℕ) (least : Option First) : Type 0 where
+pub record Leads (s : ShelfValue) (fs : List (Option First)) (soonest : Option ℕ) (bound : Option First) : Type 0 where
   pub samples : length s.samples ≡ length fs
   pub shaped : IsShaped s.weights s.kinds s.queues fs
   pub bounds : LeadsOn everywhere s.weights s.kinds s.queues fs soonest
-  pub least : IsLeast fs least
+  pub least : IsLeast fs bound
 
 abbrev pub shelf_value : List ℕ → List ℕ → List ℕ → List Queue → ShelfValue
 shelf_value ws ks ps qs = record { weights = ws; kinds = ks; samples = ps; queues = qs }

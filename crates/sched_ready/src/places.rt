@@ -70,6 +70,26 @@ fn patched_place(
     }
 }
 
+// The slot of a place gets the new queue, after a date that was due from one moment on and is due from another. It is left as it is where nothing changes.
+fn patch_place(
+    alloc: Global,
+    old: &Queue,
+    now: u64,
+    was: Option<u64>,
+    due: Option<u64>,
+    date: Moment,
+    slot: &mut Option<Queue>,
+) -> Result<(), AllocError>
+    ensures { OnOk result (IsPlacePatched now old.now was due date slot.old slot.new) }
+{
+    if !is_changing(was, due, slot) {
+        return Ok(());
+    }
+    let queue = slot.take();
+    *slot = patched_place(alloc, old, now, was, due, date, queue)?;
+    Ok(())
+}
+
 /// Whether what is due at each place in a run was due before, in the run as it may have been there.
 pub fn is_due_as_before(dag: &Graph, run: &Run, before: Option<&Run>) -> bool
     ensures { result ≡ true → IsDueAsBefore dag.now (option_copied before.entry) run.now }
@@ -103,11 +123,8 @@ pub fn patch_places(
         let task = dag.task(place);
         let was = due_before(before, task, place);
         let due = due_at(run, task, place);
-        if is_changing(was, due, &queues[place]) {
-            let slot = queues[place].take();
-            let old = shelf.queue(place);
-            queues[place] = patched_place(alloc, old, now, was, due, run.logical, slot)?;
-        }
+        let old = shelf.queue(place);
+        patch_place(alloc, old, now, was, due, run.logical, &mut queues[place])?;
     }
     Ok(())
 }

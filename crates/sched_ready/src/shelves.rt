@@ -83,10 +83,8 @@ impl Shelf {
     {
         let kind = self.kinds[place];
         let weight = self.weights[place];
-        let date = queue.ready.get(0);
-        self.firsts[kind] = lowered(self.firsts[kind], weight, date);
-        let least = self.least;
-        self.least = lowered(least, weight, date);
+        self.firsts[kind] = lowered(self.firsts[kind], weight, queue.ready.get(0));
+        self.least = lowered(self.least, weight, queue.ready.get(0));
         self.soonest = lowered_to(self.soonest, queue.waiting.get(0));
         let _ = mem::replace(&mut self.queues[place], queue);
         let loose = self.loose;

@@ -167,6 +167,23 @@ module _ {R W F P : Type 0} (remaining : R → Option (List ℕ)) (contents : W 
     kept = λ sound. still_written contents [] 0 put answers answers' p (fine sound) ∙ h.kept sound;
   }
 
+  -- the console has heard of what comes
+  pub heard : (waits : Option Line) (commands : CommandInput R) (answers answers' : Answers W P) (sources : F) (is_broken ended : Bool) → answers' ≡ record answers { console = answers'.console }
+      → AreDone remaining contents gives s steps waits commands answers sources is_broken ended → AreDone remaining contents gives s steps waits commands answers' sources is_broken ended
+  heard waits commands answers answers' sources is_broken ended same h = record {
+    done = h.done;
+    open_asked = h.open_asked;
+    open_texts = h.open_texts;
+    each = h.each;
+    opens = h.opens;
+    texts = h.texts;
+    stepped = h.stepped;
+    read = h.read;
+    status_is = ap (λ (a : Answers W P). a.status) same ∙ h.status_is;
+    output = λ written. subst (λ (o : W). Appends (contents s.answers.output) (contents o) (shown_in h.done)) (sym (ap (λ (a : Answers W P). a.output) same)) (h.output (sym (ap (λ (a : Answers W P). a.is_written) same) ∙ written));
+    kept = λ sound. ap (λ (a : Answers W P). a.is_written) same ∙ h.kept sound;
+  }
+
   -- it is not said to have ended where it was not said before
   pub ended_less : (waits : Option Line) (commands : CommandInput R) (answers : Answers W P) (sources : F) (is_broken ended ended' : Bool) → (ended' ≡ true → ended ≡ true)
       → AreDone remaining contents gives s steps waits commands answers sources is_broken ended → AreDone remaining contents gives s steps waits commands answers sources is_broken ended'

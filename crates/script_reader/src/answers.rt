@@ -15,7 +15,7 @@ ghost use Rattle.script_reader.specs.Statuses.{shown_for, status_of};
 use crate::console::{Console, Spot};
 use crate::statuses::{command_status, explain_status, failure_status};
 use answer_lines::{
-    ConductFault, Fault, Schedule, Shown, Written, explain, put, put_listing, put_reasons,
+    ConductFault, Fault, Line, Schedule, Shown, Written, explain, put, put_listing, put_reasons,
 };
 use command_words::{Listing, Question};
 use sched_events::Event;
@@ -42,6 +42,15 @@ impl<W: Write + Drop, P: Console> Answers<W, P> {
             console,
             status: 0,
             is_written: true,
+        }
+    }
+
+    /// Has the console hear of the event that this line takes in, before it is answered.
+    pub(crate) fn announce(&mut self, spot: Spot<'_>, line: &Line)
+        ensures { self.new ≡ record self.old { console = self.new.console } }
+    {
+        if let Line::Event(event) = line {
+            self.console.hear(spot, event);
         }
     }
 

@@ -32,6 +32,9 @@ pub trait Console: Drop {
     /// The wait is over: what was shown of it goes away.
     fn wait_is_over(&mut self);
 
+    /// This event, which the command at this spot asks for, is stepped next: what is to be told of it before its answer.
+    fn hear(&mut self, spot: Spot<'_>, event: &Event);
+
     /// This is put where the answers go, for the command at this spot or for the program's own words; an event is given beside what came of it.
     fn put(&mut self, spot: Option<Spot<'_>>, event: Option<&Event>, shown: Shown<'_>);
 
@@ -47,6 +50,8 @@ impl Console for NoConsole {
     fn waits(&mut self, _schedule: &Schedule) {}
 
     fn wait_is_over(&mut self) {}
+
+    fn hear(&mut self, _spot: Spot<'_>, _event: &Event) {}
 
     fn put(&mut self, _spot: Option<Spot<'_>>, _event: Option<&Event>, _shown: Shown<'_>) {}
 

@@ -105,7 +105,10 @@ pub(crate) fn read_line<R: Read + Drop, W: Write + Drop, F: Sources, P: Console>
                 sources,
             )? {
                 None => {}
-                Some(line) => return Ok(Some(line)),
+                Some(line) => {
+                    answers.announce(commands.spot(), &line);
+                    return Ok(Some(line));
+                }
             },
         }
     }

@@ -15,7 +15,7 @@ use clap::Command;
 use std::alloc::{AllocError, Global};
 
 // What `--version` prints behind the name of the program.
-const VERSION: &str = "0.4.0 (record version 2)";
+const VERSION: &str = "0.4.1 (record version 2)";
 
 // The program's command with no command under it.
 fn start<'a>(alloc: Global) -> Result<Command<'a>, AllocError>

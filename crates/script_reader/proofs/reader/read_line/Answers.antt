@@ -2,7 +2,7 @@ use Rattle.std.proofs.Common.{◌+◌, ◌++◌, List, true, false, true≢false
 use Rattle.std.specs.declared.io.Error.{Error}
 use Rattle.answer_lines.specs.sessions.History.{looks, Step}
 use Rattle.script_reader.specs.Readers.{AreDone}
-use Rattle.script_reader.proofs.DoneLemmas.{as_ok, at_err, broken, ended_less, flushed, left_err, left_line, left_none, one_look_more, over}
+use Rattle.script_reader.proofs.DoneLemmas.{as_ok, at_err, broken, ended_less, flushed, heard, left_err, left_line, left_none, one_look_more, over}
 use Rattle.script_reader.proofs.reader.read_line.Goals as goal
 
 pub loop-command-init : goal.loop-command-init
@@ -65,9 +65,10 @@ returns-in-Some-2-clause-told g c = (
       let was = c.loop-command.invariant.1 s steps e h in
       let now = flushed g.R.Read.remaining g.W.Write.contents g.F.Sources.gives s (steps ++ looks c.loop-command.invariant.0 c.args.schedule.now.content) None _ _ _ _ _ false false (λ _. refl) c.in_ok-flush.ensures was in
       let did = c.in_ok-do_command-in-Some.ensures.does in
-      left_line g.R.Read.remaining g.W.Write.contents g.F.Sources.gives s (steps ++ looks c.loop-command.invariant.0 c.args.schedule.now.content) _ _ _ false now c.next.new.self c.in-Some.request
+      heard g.R.Read.remaining g.W.Write.contents g.F.Sources.gives s (steps ++ looks c.loop-command.invariant.0 c.args.schedule.now.content) _ _ _ c.announce.new.self _ false false c.announce.ensures
+      (left_line g.R.Read.remaining g.W.Write.contents g.F.Sources.gives s (steps ++ looks c.loop-command.invariant.0 c.args.schedule.now.content) _ _ _ false now c.next.new.self c.in-Some.request
       (λ known k. let next = rw c.in-Some.is at (c.in_ok-next.ensures.next known k) in next)
-      c.do_command.new.sources did.0 did.1 {E = Error} c.args.schedule.now.content c.do_command.new.answers (Ok c.in_ok-do_command-in-Some.field-0) did.2 _ (as_ok Error _ _ c.in-Some-2.is),
+      c.do_command.new.sources did.0 did.1 {E = Error} c.args.schedule.now.content c.do_command.new.answers (Ok c.in_ok-do_command-in-Some.field-0) did.2 _ (as_ok Error _ _ c.in-Some-2.is)),
 )
 
 pub loop-command-preserved : goal.loop-command-preserved
