@@ -11,7 +11,6 @@ use Rattle.clap.specs.Values.{reading_of, same_text}
 use Rattle.clap.specs.Walk.{nothing_held, rows_after, stop_after}
 use Rattle.clap.specs.Simple.{entered, names_of}
 use Rattle.clap.specs.Faults.{built_fault}
-use Rattle.clap.specs.declared.error.kind.ErrorKind.{ErrorKind}
 use Rattle.clap.specs.declared.error.kind.ErrorKind.TheVariants.{InvalidValue}
 use Rattle.clap.specs.declared.builder.value_parser.ValueParser.{ValueParser}
 use Rattle.clap.specs.declared.builder.value_parser.ValueParser.TheVariants as vp

@@ -23,7 +23,7 @@ static LISTED: [&str; 4] = ["dags", "runs", "tasks", "pools"];
 pub fn read_command(alloc: Global, words: &[String]) -> Result<CommandLine, UsageFault>
     ensures { IsRead (map string_bytes words.now) result }
 {
-    match parsed(alloc, words) {
+    match parsed(alloc, listed(), words) {
         Ok(matches) => line_in(alloc, &matches),
         Err(error) => Err(usage_of(error.kind())),
     }
@@ -34,7 +34,7 @@ pub fn read_command(alloc: Global, words: &[String]) -> Result<CommandLine, Usag
 pub fn refusal_text(alloc: Global, words: &[String]) -> Result<Option<String>, AllocError>
     ensures { IfOk result (λ text. is_some text ≡ is_refused (map string_bytes words.now)) }
 {
-    match parsed(alloc, words) {
+    match parsed(alloc, listed(), words) {
         Ok(_) => Ok(None),
         Err(error) => shown(alloc, &error),
     }
@@ -45,7 +45,7 @@ pub fn refusal_text(alloc: Global, words: &[String]) -> Result<Option<String>, A
 pub fn help_text(alloc: Global, words: &[String]) -> Result<Option<String>, AllocError>
     ensures { IfOk result (λ text. is_some text ≡ asks_for_help (map string_bytes words.now)) }
 {
-    match parsed(alloc, words) {
+    match parsed(alloc, listed(), words) {
         Ok(_) => Ok(None),
         Err(error) => help_in(alloc, &error),
     }
@@ -85,13 +85,18 @@ fn help_in(alloc: Global, error: &Error) -> Result<Option<String>, AllocError>
     }
 }
 
-// What clap makes of the words.
-fn parsed<'a>(alloc: Global, words: &'a [String]) -> Result<ArgMatches<'a>, Error>
+// What clap makes of the words, where these are the words that `list` takes.
+fn parsed<'a>(
+    alloc: Global,
+    names: &'a [&'a str],
+    words: &'a [String],
+) -> Result<ArgMatches<'a>, Error>
+    requires { IsListed names }
     ensures rows { IfOk result (λ m. rows_of (found_of m) ≡ matches_of dagsched (map string_bytes words.entry.now)) }
     ensures subcommand { IfOk result (λ m. subcommand_rows_of m ≡ subcommand_of dagsched (map string_bytes words.entry.now)) }
     ensures kinds { FailsBy (fault_of dagsched (map string_bytes words.entry.now)) result }
 {
-    let command = word_app::command(alloc, listed())?;
+    let command = word_app::command(alloc, names)?;
     command.try_get_matches_from(words)
 }
 
