@@ -1,5 +1,5 @@
 -- A record that is migrated, read and restarted.
-use Rattle.std.proofs.Common.{◌≡◌, ◌⊎◌, ◌∙◌, ℕ, Bool, true, false, true≢false, Result, Ok, Err, IfErr, MatchResult, inl, inr, refl, sym, subst, arith, IsTrue}
+use Rattle.std.proofs.Common.{◌≡◌, ◌⊎◌, ◌∙◌, ℕ, Bool, true, false, true≢false, Result, Ok, Err, IfErr, inl, inr, refl, sym, subst, arith, IsTrue}
 use Rattle.std.specs.Result.{IsErrAnd}
 use Rattle.std.proofs.lemmas.Result.{err_from_is_err_and}
 use Rattle.sqlite.specs.Effect.{Database}
@@ -20,7 +20,7 @@ use Rattle.meta_store.specs.Faults.{IsOfSqlite}
 use Rattle.meta_store.specs.Loads.{IsReadAs, ReadsAs, IsLoadFault}
 use Rattle.meta_store.specs.Schedules.{has_limits}
 use Rattle.meta_store.specs.Stores.{CommitsBy, HasRows, IsAsBefore, IsKeptOrMigrated, IsNoRecord, Migrates, OpensBy}
-use Rattle.meta_store.specs.Transactions.{Commits, Looks, Transacts, Undone}
+use Rattle.meta_store.specs.Transactions.{Commits, Looks, Undone}
 use Rattle.meta_store.specs.declared.faults.StoreFault.{StoreFault}
 use Rattle.meta_store.specs.declared.faults.StoreFault.TheVariants as store
 use Rattle.meta_store.proofs.BackLemmas.{no_record_back, second_rows}
@@ -180,9 +180,9 @@ module _ (l : Bounds) (lanes : ℕ) where
         (one.was_open before may.0, (may.1.0, inr (b.now, inl refl, restarted), may.1.2)))
         one.crash three
 
-    pub opened_by : {T E : Type 0} (r : Result T E) → Undone IsKeptOrMigrated (CommitsBy Migrates b) b t → (HasCleanDisk t → IsTrue t.is_open → IsAsBefore s t) → Transacts (StepsIn (Restart lanes) a) t u r
-        → MatchResult r (λ _. Commits (RestartsIn l lanes) (CommitsBy (OpensBy (RestartsIn l lanes)) b) b u) (λ _. Undone IsKeptOrMigrated (CommitsBy (OpensBy (RestartsIn l lanes)) b) b u)
-    opened_by (Ok x) one same three = record {
+    pub committed_by : Undone IsKeptOrMigrated (CommitsBy Migrates b) b t → (HasCleanDisk t → IsTrue t.is_open → IsAsBefore s t) → Commits (StepsIn (Restart lanes) a) (CommitsBy (StepsIn (Restart lanes) a) t) t u
+        → Commits (RestartsIn l lanes) (CommitsBy (OpensBy (RestartsIn l lanes)) b) b u
+    committed_by one same three = record {
       stored = λ clean.
           let before : HasCleanDisk t = omega (arith, three.crash.clean) in
           restarts b.now s.now a (migrated (after_migration before)) (read before) t.now u.now (same before (three.is_open clean).0).0 (three.stored clean);
@@ -191,7 +191,10 @@ module _ (l : Bounds) (lanes : ℕ) where
       is_open = λ clean. let before : HasCleanDisk t = omega (arith, three.crash.clean) in (one.was_open before (three.is_open clean).0, (three.is_open clean).1);
       crash = restarts_survive one same three.crash;
     }
-    opened_by (Err e) one same three = record {
+
+    pub undone_by : Undone IsKeptOrMigrated (CommitsBy Migrates b) b t → (HasCleanDisk t → IsTrue t.is_open → IsAsBefore s t) → Undone IsAsBefore (CommitsBy (StepsIn (Restart lanes) a) t) t u
+        → Undone IsKeptOrMigrated (CommitsBy (OpensBy (RestartsIn l lanes)) b) b u
+    undone_by one same three = record {
       kept = λ clean is_open.
           let before : HasCleanDisk t = omega (arith, three.crash.clean) in
           kept_after b t u (one.kept before (three.was_open clean is_open)) (three.kept clean is_open);

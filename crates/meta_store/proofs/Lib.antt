@@ -4,5 +4,6 @@ mod FaultLemmas
 mod AskLemmas
 mod UpgradeLemmas
 pub mod MigrateLemmas
+mod ReadLemmas
 pub mod BackLemmas
 mod LoadLemmas

@@ -1,5 +1,5 @@
 -- Rows of version 1 put as those of version 2.
-use Rattle.std.proofs.Common.{◌≡◌, refl, sym, ap, ap₂, subst, ◌∙◌, pos, List, [], ◌∷◌, map, cond, ◌&&◌, true, IsTrue, Ok, Err, Result, OnOk, arith}
+use Rattle.std.proofs.Common.{◌≡◌, refl, sym, ap, ap₂, subst, ◌∙◌, pos, List, [], ◌∷◌, map, cond, ◌&&◌, true, IsTrue, arith}
 use Rattle.std.specs.List.{list_all}
 use Rattle.sqlite.specs.Effect.{Database}
 use Rattle.sqlite.specs.State.{State, HasCleanDisk}
@@ -63,7 +63,7 @@ upgraded_by_key db rows stored version =
 abbrev Added : (Rows → Rows) → Database → Database → Type 0
 Added f old new = (rows : Rows) → StoresFirst old rows → Stores new (f rows)
 
-upgrades_by : (made : Rows) (a b c : State)
+pub upgrades_by : (made : Rows) (a b c : State)
     → (HasCleanDisk b → IsTrue a.in_transaction → (rows : Rows) → StoresFirst a.now rows → (is_version (pos 1) rows.metas ≡ true) × (made ≡ second_rows rows.metas rows.dags))
     → GoesBy AddsLimits a b → GoesBy (PutsIn (put_rows made)) b c → GoesBy Upgrades a c
 upgrades_by made a b c found p q =
@@ -78,9 +78,3 @@ upgrades_by made a b c found p q =
           let known : Stores c.now (put_rows (second_rows rows.metas rows.dags) rows) = subst (λ (m : Rows). Stores c.now (put_rows m rows)) it.1 (went.changed clean inside rows stored) in
           (it.0, subst (λ (r : Rows). Stores c.now r) (upgraded_is rows a.now stored it.0) known);
     }
-
-pub upgraded_on : {A E : Type 0} (made : Rows) (a b c : State)
-    → (HasCleanDisk b → IsTrue a.in_transaction → (rows : Rows) → StoresFirst a.now rows → (is_version (pos 1) rows.metas ≡ true) × (made ≡ second_rows rows.metas rows.dags))
-    → GoesBy AddsLimits a b → (r : Result A E) → OnOk r (GoesBy (PutsIn (put_rows made)) b c) → OnOk r (GoesBy Upgrades a c)
-upgraded_on made a b c found p (Err e) q = tt
-upgraded_on made a b c found p (Ok x) q = upgrades_by made a b c found p q

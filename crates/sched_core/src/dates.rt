@@ -106,7 +106,7 @@ pub(crate) fn room_for_dates(
     }
 }
 
-// A date of a run of the graph is added, and the index is settled for the graph behind the last one.
+// A date of a run of the graph is added, and behind the last one the cursor of the index is moved.
 fn note_one(index: &mut RunIndex, dag: &Graph, date: Moment, is_last: bool)
     requires { 0 < index.old.room }
     ensures dates { (d : ℕ) → has_date index.new.dates d ≡ ((date == d) || has_date index.old.dates d) }
@@ -114,7 +114,7 @@ fn note_one(index: &mut RunIndex, dag: &Graph, date: Moment, is_last: bool)
 {
     index.add(date);
     if is_last {
-        index.settle(dag);
+        index.move_cursor(dag);
     }
 }
 

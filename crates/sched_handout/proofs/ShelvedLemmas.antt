@@ -13,6 +13,7 @@ use Rattle.sched_model.specs.Handout.{Offer}
 use Rattle.sched_model.specs.Lists.{rises}
 use Rattle.sched_model.specs.Schedule.{Schedule, graph_among, graph_before, is_paused, no_dag}
 use Rattle.sched_model.specs.Sound.{IsSound}
+use Rattle.sched_laws.specs.Offered.{IsEligible}
 use Rattle.sched_laws.proofs.DecisionLemmas.{by_bool}
 use Rattle.sched_laws.proofs.ListLemmas.{all_get}
 use Rattle.sched_ready.specs.Held.{FitsShelf}

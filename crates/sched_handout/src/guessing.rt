@@ -12,7 +12,7 @@ struct Likely {
 }
 
 // Whether what this bound leads may rank before what was found, by weight and date.
-fn may_lead(first: First, likely: Option<Likely>) -> bool {
+fn may_lead(first: &First, likely: &Option<Likely>) -> bool {
     match likely {
         None => true,
         Some(likely) => likely.first.is_behind(first.weight, first.logical),
@@ -27,7 +27,7 @@ pub(crate) fn likely_graph(draft: &Draft<'_>, shelves: &[Shelf]) -> Option<usize
     let mut likely = None;
     for graph in 0..shelves.len() {
         if let Some(first) = shelves[graph].least() {
-            if may_lead(first, likely) && !draft.is_paused_at(graph) {
+            if may_lead(&first, &likely) && !draft.is_paused_at(graph) {
                 likely = Some(Likely { graph, first });
             }
         }

@@ -190,7 +190,7 @@ fn best_with<'d>(
     requires taken { AreOccupied draft.now.content taken.now }
     requires few { taken.now.in_flight < 2 ^ 32 }
     requires shelves { FitShelves draft.now.content.graphs shelves.now }
-    requires best { IsBestOf (stands_there draft.now.content.now draft.now.content.graphs shelves.now looked_at) draft.now.content best.entry }
+    requires best { IsBestOf (stands_there draft.now.content.now draft.now.content.graphs shelves.now looked_at) draft.now.content best }
     ensures { IsBestOf (stands_on_first draft.now.content.now draft.now.content.graphs shelves.now (length shelves.now)) draft.now.content result }
 {
     let mut best = best;

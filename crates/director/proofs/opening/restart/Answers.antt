@@ -7,7 +7,7 @@ use Rattle.meta_store.proofs.CommitLemmas.{failed}
 use Rattle.director.specs.Directors.{RestartsIn}
 use Rattle.director.specs.Faults.{IsOpenFault}
 use Rattle.director.proofs.LimitLemmas.{restarted}
-use Rattle.director.proofs.OpenLemmas.{handed_on, if_refused, load_told, looked_after, opened_by, opens_told, perhaps_migrated, restart_told, unopened}
+use Rattle.director.proofs.OpenLemmas.{committed_by, handed_on, if_refused, load_told, looked_after, opens_told, perhaps_migrated, restart_told, undone_by, unopened}
 use Rattle.director.proofs.opening.restart.Goals as goal
 
 -- ---- not migrated
@@ -56,16 +56,16 @@ returns-in-Err-clause-transacts g c =
     let old = state g.S.Store c.args.store.now in
     let mid = state g.S.Store c.migrate.new.store in
     let read = state g.S.Store c.load.new.self in
-    opened_by c.args.limits c.args.lanes old mid read (state g.S.Store c.step.new.store) c.in_ok-schedule.schedule.content c.in_ok-migrate.ensures.done c.in_ok-schedule.ensures.schedule c.load.ensures.looks.crash c.step.result
-    (looked_after old mid read c.in_ok-migrate.ensures.transacts c.load.ensures.looks) c.load.ensures.looks.kept c.step.ensures.transacts
+    undone_by c.args.limits c.args.lanes old mid read (state g.S.Store c.step.new.store) c.in_ok-schedule.schedule.content c.in_ok-migrate.ensures.done c.in_ok-schedule.ensures.schedule c.load.ensures.looks.crash
+    (looked_after old mid read c.in_ok-migrate.ensures.transacts c.load.ensures.looks) c.load.ensures.looks.kept c.in-Err.ensures.transacts
 
 pub returns-in-Ok-clause-transacts : goal.returns-in-Ok-clause-transacts
 returns-in-Ok-clause-transacts g c =
     let old = state g.S.Store c.args.store.now in
     let mid = state g.S.Store c.migrate.new.store in
     let read = state g.S.Store c.load.new.self in
-    opened_by c.args.limits c.args.lanes old mid read (state g.S.Store c.step.new.store) c.in_ok-schedule.schedule.content c.in_ok-migrate.ensures.done c.in_ok-schedule.ensures.schedule c.load.ensures.looks.crash c.step.result
-    (looked_after old mid read c.in_ok-migrate.ensures.transacts c.load.ensures.looks) c.load.ensures.looks.kept c.step.ensures.transacts
+    committed_by c.args.limits c.args.lanes old mid read (state g.S.Store c.step.new.store) c.in_ok-schedule.schedule.content c.in_ok-migrate.ensures.done c.in_ok-schedule.ensures.schedule c.load.ensures.looks.crash
+    (looked_after old mid read c.in_ok-migrate.ensures.transacts c.load.ensures.looks) c.load.ensures.looks.kept c.in-Ok.ensures.transacts
 
 pub returns-in-Ok-clause-opened : goal.returns-in-Ok-clause-opened
 returns-in-Ok-clause-opened g c =

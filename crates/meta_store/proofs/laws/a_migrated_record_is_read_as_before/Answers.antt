@@ -11,4 +11,4 @@ returns-clause-same c l a b old new rows has migrates before after =
 pub returns-clause-free : goal.returns-clause-free
 returns-clause-free c l a old new rows t n has migrates before fault =
     let stored : Stores new rows = c.migrating_keeps_the_rows.ensures.kept old new rows has migrates in
-    none_stands l rows t n (before.read rows has).free (fault.0 rows stored).1.1
+    none_stands l rows t n (before.read rows has).free (fault.0 rows stored).2

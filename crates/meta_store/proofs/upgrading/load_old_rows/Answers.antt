@@ -1,6 +1,20 @@
 use Rattle.sqlite.specs.Held.{state}
+use Rattle.meta_store.proofs.CommitLemmas.{looked}
 use Rattle.meta_store.proofs.MigrateLemmas.{anyhow_after, stops_after}
+use Rattle.meta_store.proofs.ReadLemmas.{fault_after, list_after}
 use Rattle.meta_store.proofs.upgrading.load_old_rows.Goals as goal
+
+pub returns-clause-list : goal.returns-clause-list
+returns-clause-list g c =
+    let b = state g.S.Store c.add_table.new.tx.conn.now in
+    let d = state g.S.Store c.load_rows.new.tx.conn.now in
+    list_after (state g.S.Store c.args.tx.now.conn.now) b d c.in_ok-add_table.ensures.ok c.load_rows.result (looked _ b d c.load_rows.result c.load_rows.ensures.ok c.load_rows.ensures.err) c.load_rows.ensures.list
+
+pub returns-clause-fault : goal.returns-clause-fault
+returns-clause-fault g c =
+    let b = state g.S.Store c.add_table.new.tx.conn.now in
+    let d = state g.S.Store c.load_rows.new.tx.conn.now in
+    fault_after (state g.S.Store c.args.tx.now.conn.now) b d c.in_ok-add_table.ensures.ok c.load_rows.result (looked _ b d c.load_rows.result c.load_rows.ensures.ok c.load_rows.ensures.err) c.load_rows.ensures.fault
 
 pub returns-clause-ok : goal.returns-clause-ok
 returns-clause-ok g c = anyhow_after _ _ (state g.S.Store c.args.tx.now.conn.now) (state g.S.Store c.add_table.new.tx.conn.now) (state g.S.Store c.load_rows.new.tx.conn.now) c.load_rows.result c.in_ok-add_table.ensures.ok c.load_rows.ensures.ok
