@@ -200,18 +200,18 @@ module _ {S : Type 0} (look : Held S → State) where
     served_or fails ends false first now last p outcome begun refused sound nothing ungiven ended =
         unserved first now last p outcome begun refused.0 refused.1 refused.2 refused.3 (ap fails refused.1 ∙ sound) nothing ungiven ended
 
-    -- and either way it keeps of its minutes what it kept
-    pub keeps_or : {lane_count : ℕ} {l later : L} {c then : C} {failed : Option LineFault} {is_over : Bool} {A B D : Type 0} (are_all : Bool) (first now : Session S) (outcome : Result W ConductFault)
-        → MatchBool are_all (IsFollowed look lane_count tell give first now l later c then failed is_over outcome) ((now ≡ first) × A × B × D) → now.stepper.minutes.keep ≡ first.stepper.minutes.keep
-    keeps_or true first now outcome followed = followed.served.went.keep
-    keeps_or false first now outcome refused = ap (λ (s : Session S). s.stepper.minutes.keep) refused.0
-
 -- it was served, so all were started; else a thread was refused
 pub all_or : {W : Type 0} (P A B C : Type 0) (are_all : Bool) (outcome : Result W ConductFault) → MatchBool are_all P (A × B × C × (outcome ≡ Err fault.SpawnRefused)) → all_started outcome ≡ true → are_all ≡ true
 all_or P A B C true outcome followed started = refl
 all_or P A B C false outcome refused started = absurd (true≢false (sym started ∙ ap all_started refused.3))
 
 module _ {S : Type 0} where
+  -- served or not, of the minutes is kept what was kept, if it is so where it was served
+  pub keeps_or : (P A B C : Type 0) (are_all : Bool) (first now : Session S) → MatchBool are_all P ((now ≡ first) × A × B × C)
+      → (P → now.stepper.minutes.keep ≡ first.stepper.minutes.keep) → now.stepper.minutes.keep ≡ first.stepper.minutes.keep
+  keeps_or P A B C true first now followed keep = keep followed
+  keeps_or P A B C false first now refused keep = ap (λ (s : Session S). s.stepper.minutes.keep) refused.0
+
   pub same_stops : {W : Type 0} {look : Held S → State} {lanes : Lanes} {lane_count : ℕ} {old : DirectorValue S} {pass : DirectorPass} {now : Parted S} {outcome : Result W ConductFault} {are_told : List Step → Option Line → Type 0}
       {untouched : Type 0} {failed : Option LineFault} {is_over : Bool} (n m : ℕ) → n ≡ m
       → IsServed look lanes lane_count n old pass now outcome are_told untouched failed is_over → IsServed look lanes lane_count m old pass now outcome are_told untouched failed is_over

@@ -22,4 +22,4 @@ returns-clause-all g c = all_or _ _ _ _ c.args.started.are_all c.serve_all-outco
 pub returns-clause-keep : goal.returns-clause-keep
 returns-clause-keep g c =
     ap (λ (m : KeptValue Event). m.keep) c.part.ensures.minutes ∙ ap (λ (x : Stepper g.row.S.Denot). x.minutes.keep) c.stop.ensures.stepper
-    ∙ keeps_or (state g.S.Store) g.L.Lines.tells g.C.Clock.gives c.args.started.are_all c.new-session.result c.serve_all-outcome.new.session c.serve_all-outcome.result c.serve_all-outcome.ensures ∙ c.new-session.ensures.keep
+    ∙ keeps_or _ _ _ _ c.args.started.are_all c.new-session.result c.serve_all-outcome.new.session c.serve_all-outcome.ensures (λ f. f.served.went.keep) ∙ c.new-session.ensures.keep
