@@ -185,12 +185,12 @@ module _ {S G O : Type 0} (look : Held S → State) (shows : Shows O) where
         stays = stays_open _ _ before _ _ is_open.0 is_open.1 c.followed;
         stored = λ clean is_open rows has.
             let first = was_clean _ _ _ _ c.followed clean in
-            let keeps : Keeps a (look d.store).now = subst (λ (x : Schedule). Keeps x (look d.store).now) (sym (opened first rows has).stepped.after) (restarted first rows has) in
+            let keeps : Keeps a (look d.store).now = subst (λ (x : Schedule). Keeps x (look d.store).now) (sym (opened first rows has).stepped.after) (restarted first rows has).0 in
             subst (λ (x : Schedule). Keeps x (look conducted.director.store).now) c.stepped (c.followed.stored clean is_open keeps);
         named = named;
         left = λ clean rows has.
             let first = was_clean _ _ _ _ c.followed clean in
-            let keeps : Keeps a (look d.store).now = subst (λ (x : Schedule). Keeps x (look d.store).now) (sym (opened first rows has).stepped.after) (restarted first rows has) in
+            let keeps : Keeps a (look d.store).now = subst (λ (x : Schedule). Keeps x (look d.store).now) (sym (opened first rows has).stepped.after) (restarted first rows has).0 in
             left_files es (tried_at_end named.history) a (look d.store) (look conducted.director.store)
             (subst (λ (h : List Step). Leaves es (tried_at_end h) a (look d.store) (look conducted.director.store)) (sym same) c.left) clean keeps (only first);
         well = λ z. (ends_well told _ status conducted.outcome named.ended z).0;
