@@ -1,4 +1,6 @@
 //! What a person is told on standard error.
+//!
+//! No contract holds this file: `tools/words-in-a-shell` shows what it writes.
 use answer_lines::Shown;
 use command_words::Command;
 use fault_sentences::{Asked, note_of, one_line};

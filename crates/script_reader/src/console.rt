@@ -1,4 +1,6 @@
 //! What a person is told beside the answers.
+//!
+//! No contract says what that is, and no promise rests on it: `fault_sentences` has the words.
 use answer_lines::{Schedule, Shown};
 use sched_events::Event;
 use script_commands::LineReader;
