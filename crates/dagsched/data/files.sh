@@ -172,6 +172,15 @@ END
     answers 0 help list < said
     [ "$(ls)" = "$(printf 'said\nscript\ntold\ntries\nwanted')" ]
     ;;
+# `tick now` is at the system's time, which the refusal of an earlier moment shows
+tells-the-time)
+    printf 'tick now\ntick 2024-03-02\n' > script
+    before=$(date +%s)
+    "$program" run --scratch new-tries < script > said 2> told
+    after=$(date +%s)
+    moment=$(sed -n 's/^refused 8 ClockBack //p' said)
+    second=$(date -d "$moment" +%s) && [ "$(head -n 1 said)" = ok ] && [ "$before" -le "$second" ] && [ "$second" -le "$after" ]
+    ;;
 *)
     exit 2
     ;;
