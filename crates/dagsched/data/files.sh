@@ -181,6 +181,15 @@ tells-the-time)
     moment=$(sed -n 's/^refused 8 ClockBack //p' said)
     second=$(date -d "$moment" +%s) && [ "$(head -n 1 said)" = ok ] && [ "$before" -le "$second" ] && [ "$second" -le "$after" ]
     ;;
+# an answer that cannot be written: the status is 4, of a script and of a command
+is-not-written)
+    echo 'list runs' > script
+    "$program" run --scratch new-tries < script > /dev/full 2> told
+    [ $? = 4 ] || exit 1
+    "$program" --record new.db list runs > /dev/full 2> told
+    [ $? = 4 ] || exit 1
+    tells 'dagsched: the answer could not be written, so look whether the command was done: No space left on device (os error 28)'
+    ;;
 *)
     exit 2
     ;;
