@@ -86,6 +86,12 @@ ok
 ok
 ok
 END
+    # what a script did that ends with the status 4 is there too
+    printf 'resize etl 3\nload no-such-file\n' > script
+    answers 4 --record new.db run --scratch new-tries <<'END'
+ok
+source 1 Unreadable
+END
     answers 0 --record new.db list tasks <<'END'
 daily scheduled__2024-03-01T00:00:00+00:00 one success 1
 daily scheduled__2024-03-01T00:00:00+00:00 two success 1
@@ -97,7 +103,7 @@ ok
 END
     answers 0 --record new.db list pools <<'END'
 default_pool 128 0 128
-etl 2 0 2
+etl 3 0 3
 ok
 END
     # the folder of the logs is made before the record
