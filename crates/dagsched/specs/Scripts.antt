@@ -28,8 +28,12 @@ IsScriptOf {S} {O} {F} {W} look o bytes gives contents options sources output be
 abbrev pub IsHeldBack : {S : Type 0} → Held S → Held S → ℕ → Type 0
 IsHeldBack before after status = (after ≡ before) × (status ≡ 4)
 
--- the same, where nothing is known of streams, sources and clock, as of the system's; or nothing was run
-abbrev pub IsScriptDone : {S O : Type 0} → (Held S → State) → operator.Ghosts O → ScriptOptions → Held S → Held S → ℕ → Type 0
-IsScriptDone look o options before after status =
+-- a script was run, where nothing is known of streams, sources and clock, as of the system's; or the record was not opened
+abbrev pub IsScriptRun : {S O : Type 0} → (Held S → State) → operator.Ghosts O → ScriptOptions → Held S → Held S → ℕ → Type 0
+IsScriptRun look o options before after status =
     IsRunByTeam look o None (λ _. Unit {0}) (λ _. Unit {0}) (λ _. Unit {0}) (Unit {0}) options.workers options.lanes (look before) after status
-    ⊎ (IsNotOpened look before after status ⊎ IsHeldBack before after status)
+    ⊎ IsNotOpened look before after status
+
+-- the same, or nothing was run
+abbrev pub IsScriptDone : {S O : Type 0} → (Held S → State) → operator.Ghosts O → ScriptOptions → Held S → Held S → ℕ → Type 0
+IsScriptDone look o options before after status = IsScriptRun look o options before after status ⊎ IsHeldBack before after status

@@ -42,8 +42,7 @@ returns-in_ok-status-in-Err-clause-known g c =
 
 pub returns-in_ok-status-in-Err-clause-done : goal.returns-in_ok-status-in-Err-clause-done
 returns-in_ok-status-in-Err-clause-done g c =
-    inr
-    (inl (
+    inr (
       c.in-Err.unopened.fault,
       record {
         cause = c.in-Err.ensures.fault;
@@ -52,4 +51,4 @@ returns-in_ok-status-in-Err-clause-done g c =
         refused_crash = c.in-Err.ensures.refused_crash;
       },
       c.in_ok-status-in-Err.ensures,
-    ))
+    )
