@@ -24,13 +24,13 @@ no_bytes : (read : Option (List ℕ)) (bytes : List ℕ) → None ≡ Some bytes
 no_bytes read bytes is = absurd (true≢false (sym (ap is_some is)))
 
 -- a script that was run, where less is known of its streams
-pub script_less : {S O F W : Type 0} (look : Held S → State) (o : operator.Ghosts O) (bytes : Option (List ℕ)) (gives : F → List FileAnswer → F → Type 0) (contents : W → Option (List ℕ)) (options : ScriptOptions) (sources : F) (output : W) (before after : Held S) (status : ℕ)
-    → IsScriptOf look o bytes gives contents options sources output before after status → IsScriptRun look o options before after status
-script_less look o bytes gives contents options sources output before after status (inl (later, written, run)) =
+pub script_less : {S O F W : Type 0} (look : Held S → State) (o : operator.Ghosts O) (bytes : Option (List ℕ)) (gives : F → List FileAnswer → F → Type 0) (contents : W → Option (List ℕ)) (options : ScriptOptions) (sources : F) (output : W) (before after : Held S) (status : ℕ) (later : F) (written : W)
+    → IsScriptOf look o bytes gives contents options sources output before after status later written → IsScriptRun look o options before after status
+script_less look o bytes gives contents options sources output before after status later written (inl run) =
     inl
     (by_team_less bytes None (λ given. gives sources given later) (λ _. Unit {0}) (λ _. Unit {0}) (λ _. Unit {0}) (λ shown. Appends (contents output) (contents written) shown) (λ _. Unit {0})
     (no_bytes bytes) (λ _ _. tt) (λ _ _. tt) (λ _ _. tt) look o (later ≡ sources) (Unit {0}) (λ _. tt) options.workers options.lanes (look before) after status run)
-script_less look o bytes gives contents options sources output before after status (inr unopened) = inr unopened
+script_less look o bytes gives contents options sources output before after status later written (inr (unopened, same, kept)) = inr unopened
 
 -- no tables: none of these
 none_named : (is_named : Table → Bool) (tables : List Table) → not (length tables == 0) ≡ false → list_any is_named tables ≡ false

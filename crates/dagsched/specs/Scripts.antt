@@ -16,13 +16,12 @@ use Rattle.script_runner.specs.Teams.{IsRunByTeam}
 abbrev pub IsNotOpened : {S : Type 0} → (Held S → State) → Held S → Held S → ℕ → Type 0
 IsNotOpened look before after status = (fault : Fault) × IsUnopened look (look before) fault after × (status ≡ failure_status fault)
 
--- A script was run on a record with the workers and the lanes that the options name, its streams and sources being what their contracts know of them; or the
--- record was not opened, and the status is that of the cause.
-abbrev pub IsScriptOf : {S O F W : Type 0} → (Held S → State) → operator.Ghosts O → Option (List ℕ) → (F → List FileAnswer → F → Type 0) → (W → Option (List ℕ)) → ScriptOptions → F → W → Held S → Held S → ℕ → Type 0
-IsScriptOf {S} {O} {F} {W} look o bytes gives contents options sources output before after status =
-    ((later : F) × (written : W)
-    × IsRunByTeam look o bytes (λ given. gives sources given later) (λ _. Unit {0}) (λ shown. Appends (contents output) (contents written) shown) (later ≡ sources) options.workers options.lanes (look before) after status)
-    ⊎ IsNotOpened look before after status
+-- A script was run on a record with the workers and the lanes that the options name, its streams and sources being what their contracts know of them, up to
+-- these sources (later) and this output (written); or the record was not opened, the status is that of the cause, and both are as they were.
+abbrev pub IsScriptOf : {S O F W : Type 0} → (Held S → State) → operator.Ghosts O → Option (List ℕ) → (F → List FileAnswer → F → Type 0) → (W → Option (List ℕ)) → ScriptOptions → F → W → Held S → Held S → ℕ → F → W → Type 0
+IsScriptOf look o bytes gives contents options sources output before after status later written =
+    IsRunByTeam look o bytes (λ given. gives sources given later) (λ _. Unit {0}) (λ shown. Appends (contents output) (contents written) shown) (later ≡ sources) options.workers options.lanes (look before) after status
+    ⊎ (IsNotOpened look before after status × (later ≡ sources) × (written ≡ output))
 
 -- Nothing was run, since another program has its tries in the folder: the record stays.
 abbrev pub IsHeldBack : {S : Type 0} → Held S → Held S → ℕ → Type 0

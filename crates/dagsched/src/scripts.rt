@@ -97,7 +97,15 @@ fn run_own<S: Alter + Drop, T: Threads + Wait + Sync>(
 {
     let script = own_script(rt, words)?;
     let scratch = whole_path(rt, options.scratch.as_str())?;
-    run_by_team(threads, rt, store, options, scratch.as_str(), script)
+    let (store, status, _sources, _output) = run_by_team(
+        threads,
+        rt,
+        store,
+        options,
+        scratch.as_str(),
+        script,
+    )?;
+    Ok((store, status))
 }
 
 // The path of a folder from the root on, where the system says it.
@@ -131,7 +139,7 @@ fn search_path(rt: &HostRuntime) -> io::Result<Option<String>> {
     }
 }
 
-// Runs a script, whatever its streams are, with so many workers as are asked for.
+// Runs a script, whatever its streams are, with so many workers as are asked for, and gives the record, the status, the sources and the output.
 fn run_by_team<
     S: Alter + Drop,
     R: BufRead + Drop,
@@ -146,10 +154,10 @@ fn run_by_team<
     options: &ScriptOptions,
     scratch: &str,
     script: Script<R, W, F, P>,
-) -> io::Result<(Store<S>, u8)>
+) -> io::Result<(Store<S>, u8, F, W)>
     ensures known { IfOk result (λ r. IsScriptOf (state S.Store) ⟦<OwnOperator as Operator>⟧
         (R.Read.remaining script.input) F.gives W.contents options.now script.sources script.output
-        store r.0 r.1) }
+        store r.0 r.1 r.2 r.3) }
     ensures done { IfOk result (λ r. IsScriptRun (state S.Store) ⟦<OwnOperator as Operator>⟧ options.now
         store r.0 r.1) }
 {
@@ -169,10 +177,15 @@ fn run_by_team<
         script,
         &mut clock,
     ) {
-        Ok(ran) => Ok((ran.store, ran.status)),
+        Ok(ran) => Ok((ran.store, ran.status, ran.sources, ran.output)),
         Err(unopened) => {
             let status = put_failure(rt, &unopened.fault)?;
-            Ok((unopened.store, status))
+            let Script {
+                sources,
+                output,
+                ..
+            } = unopened.script;
+            Ok((unopened.store, status, sources, output))
         }
     }
 }
