@@ -255,29 +255,36 @@ def kills(trial, options):
     wanted = sorted((f"g{it}", "success") for it in range(count))
     until(60, lambda: phases() == wanted, lambda: f"each graph has one run, a success: {phases()}\n{trial.said()}")
     expect(trial.ask("list", "pools")[1].count(" 3 0 3\n") == count, "each resize is done")
-    check_clear(trial, phases()[0][0])
+    check_again(trial, phases()[0][0])
     programs.end(trial.folder)  # of tries that a kill cut off
 
 
-def check_clear(trial, name):
-    """A kill before and after a clear was done: it is done once. Leaves no service."""
+def check_again(trial, name):
+    """A kill before and after a clear, or a mark, was done: it is done once. Leaves no service."""
     date = trial.ask("list", "runs", name)[1].split("__")[1].split("+")[0] + "Z"
-    for done in (False, True):
-        before = trial.rows("SELECT sum(since) FROM instance")[0][0]
+    clear, mark = f"clear {name} {date} {date}", f"mark {name} {date} t1 skipped"
+    def becomes(*states):
+        until(20, lambda: [it.split()[3] for it in trial.ask("list", "tasks", name)[1].splitlines()[:-1]] == [*states], f"the tasks are {states}")
+    def set_back():
+        return trial.rows("SELECT sum(since) FROM instance")[0][0]
+    for number, (command, state, done) in enumerate(((clear, "success", False), (clear, "success", True), (mark, "skipped", False), (mark, "skipped", True))):
+        expect(trial.ask(*clear.split())[0] == 0, "a clear")
+        becomes("success", "success")
+        before = set_back()
         if done:
-            expect(trial.ask("clear", name, date, date)[0] == 0, "a clear")
-            until(20, lambda: trial.ask("list", "tasks", name)[1].count(" success ") == 2, "the run is done again")
+            expect(trial.ask(*command.split())[0] == 0, command)
+            becomes("success", state)
         expect(trial.end() == 0, "the end")
-        once = trial.rows("SELECT sum(since) FROM instance")[0][0]
+        once = set_back()
         # what a kill leaves between the answer of the scheduler and the note that it came
-        for file, text in ((f"0,again{done}", f"clear {name} {date} {date}\n"), (".set-back", f"{before} 0,again{done}")):
+        for file, text in ((f"0,again{number}", f"{command}\n"), (".set-back", f"{before} 0,again{number}")):
             with open(trial.folder.at("doing", file), "w") as it:
                 it.write(text)
         trial.begin()
-        until(10, lambda: os.path.exists(trial.folder.at("done", f"again{done}")), "it is done")
-        after = trial.rows("SELECT sum(since) FROM instance")[0][0]
-        expect((after > once) is not done, f"a clear that was {'' if done else 'not '}done: {before}, {once}, {after}")
-        until(20, lambda: trial.ask("list", "tasks", name)[1].count(" success ") == 2, "the run is done again")
+        until(10, lambda: os.path.exists(trial.folder.at("done", f"again{number}")), "it is done")
+        after = set_back()
+        expect((after > once) is not done, f"{command}, which was {'' if done else 'not '}done: {before}, {once}, {after}")
+        becomes("success", state)
     expect(trial.end() == 0, "the end")
 
 
