@@ -383,7 +383,7 @@ def pages(trial, _):
     after = paged.check_site(site)
     expect(time.strftime("%Y-%m-%d %H:%M:%S", time.gmtime(trial.now())) in front.read_text(), "the page is that of the end")
     trial.begin("--page-each=1", environment={"PAGE": trial.beside("nowhere/page")})
-    until(20, lambda: "the page in " in trial.said() and "No such file" in trial.said(), lambda: f"a page that cannot be written is told:\n{trial.said()}")
+    until(60, lambda: "the page in " in trial.said() and "No such file" in trial.said(), lambda: f"a page that cannot be written is told:\n{trial.said()}")
     expect(trial.ask("list", "runs")[0] == 0, "the service goes on")
     night.end(trial)
     return f"{count} pages, {len(after)} at the end"
