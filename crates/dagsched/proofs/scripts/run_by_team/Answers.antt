@@ -39,14 +39,17 @@ returns-in_ok-status-in-Err-clause-done g c =
 
 pub returns-in_ok-status-in-Err-clause-known : goal.returns-in_ok-status-in-Err-clause-known
 returns-in_ok-status-in-Err-clause-known g c =
-    let unopened = (
-      c.in-Err.unopened.fault,
-      record {
-        cause = c.in-Err.ensures.fault;
-        kept = c.in-Err.ensures.kept;
-        crash = c.in-Err.ensures.crash;
-        refused_crash = c.in-Err.ensures.refused_crash;
-      },
-      c.in_ok-status-in-Err.ensures,
-    ) in
-    inr (unopened, c.in-Err.ensures.untouched.2, c.in-Err.ensures.untouched.1)
+    inr (
+      (
+        c.in-Err.unopened.fault,
+        record {
+          cause = c.in-Err.ensures.fault;
+          kept = c.in-Err.ensures.kept;
+          crash = c.in-Err.ensures.crash;
+          refused_crash = c.in-Err.ensures.refused_crash;
+        },
+        c.in_ok-status-in-Err.ensures,
+      ),
+      c.in-Err.ensures.untouched.2,
+      c.in-Err.ensures.untouched.1,
+    )
