@@ -54,13 +54,13 @@ module _ {S O : Type 0} (look : Held S → State) (o : operator.Ghosts O) where
 
   pub done_clean : (c : Command) (before after : Held S) (status : ℕ) → IsCommandDone look o c before after status → HasCleanDisk (look after) → HasCleanDisk (look before)
   done_clean (says.Run options) before after status done clean = script_clean options before after status done clean
-  done_clean (says.Step e) before after status (old, new, written, inl (came, a, stepped, told)) clean = stepped.was_clean clean
-  done_clean (says.Step e) before after status (old, new, written, inr (fault, unopened, told)) clean = omega (arith, unopened.crash.clean, clean)
-  done_clean (says.List listing) before after status (old, new, written, (read, looked, told)) clean = omega (arith, looked.crash.clean, clean)
-  done_clean (says.Explain question) before after status (old, new, written, (read, looked, told)) clean = omega (arith, looked.crash.clean, clean)
-  done_clean (says.Take how source) before after status (old, new, written, told) clean = as_it_was before after told.0 clean
-  done_clean (says.Tick time) before after status (old, new, written, told) clean = as_it_was before after told.0 clean
-  done_clean says.Drain before after status (old, new, written, told) clean = as_it_was before after told.0 clean
+  done_clean (says.Step e) before after status (old, new, (written, inl (came, a, stepped, told))) clean = stepped.was_clean clean
+  done_clean (says.Step e) before after status (old, new, (written, inr (fault, unopened, told))) clean = omega (arith, unopened.crash.clean, clean)
+  done_clean (says.List listing) before after status (old, new, (written, (read, looked, told))) clean = omega (arith, looked.crash.clean, clean)
+  done_clean (says.Explain question) before after status (old, new, (written, (read, looked, told))) clean = omega (arith, looked.crash.clean, clean)
+  done_clean (says.Take how source) before after status (old, new, (written, told)) clean = as_it_was before after told.0 clean
+  done_clean (says.Tick time) before after status (old, new, (written, told)) clean = as_it_was before after told.0 clean
+  done_clean says.Drain before after status (old, new, (written, told)) clean = as_it_was before after told.0 clean
 
   pub on_clean : (c : Command) (conn after : Held S) (status : ℕ) → IsDoneOn look o c conn after status → HasCleanDisk (look after) → HasCleanDisk (look conn)
   on_clean c conn after status (inl (first, inl (some, same), done)) clean = as_it_was conn first same (done_clean c first after status done clean)

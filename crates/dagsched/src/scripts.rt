@@ -12,7 +12,7 @@ use meta_store::Store;
 use operators::{Operator, Program};
 use script_reader::{Console, Script, Sources};
 use script_runner::{
-    FileSources, Keep, RunOptions, SystemClock, TaskOperator, operators_for, run_team,
+    FileSources, Keep, RunOptions, SystemClock, TaskOperator, Unopened, operators_for, run_team,
 };
 use sqlite::Alter;
 use sqlite_disk::{Files, Unknown};
@@ -179,13 +179,18 @@ fn run_by_team<
     ) {
         Ok(ran) => Ok((ran.store, ran.status, ran.sources, ran.output)),
         Err(unopened) => {
-            let status = put_failure(rt, &unopened.fault)?;
+            let Unopened {
+                store,
+                fault,
+                script,
+            } = unopened;
+            let status = put_failure(rt, &fault)?;
             let Script {
                 sources,
                 output,
                 ..
-            } = unopened.script;
-            Ok((unopened.store, status, sources, output))
+            } = script;
+            Ok((store, status, sources, output))
         }
     }
 }
