@@ -139,10 +139,9 @@ impl Schedule {
         ensures settled { OnOk result (draft.new.content ≡ settle draft.old.content) }
     {
         if self.is_settled {
-            settle_touched(alloc, draft)
-        } else {
-            settle(alloc, draft)
+            return settle_touched(alloc, draft);
         }
+        settle(alloc, draft)
     }
 
     // The change that ends in this draft, settled and handed out, with this answer and the tries that are handed out. A text is taken in
