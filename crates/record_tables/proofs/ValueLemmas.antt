@@ -23,7 +23,7 @@ value_fault e fault is ours = go (is_memory e) is
     go false h = refl
 
 -- a fault that a call passes on
-pub told_on : {A : Type 0} (r : Result A LoadFault) (why : LoadFault) (P : LoadFault → Type 0) → IsErrAnd r (λ e. e ≡ why) → P why → IfErr r P
+pub told_on : {A E : Type 0} (r : Result A E) (why : E) (P : E → Type 0) → IsErrAnd r (λ e. e ≡ why) → P why → IfErr r P
 told_on (Ok x) why P h p = tt
 told_on (Err e) why P h p = subst P (sym h) p
 

@@ -2,6 +2,7 @@
 ghost use Rattle.std.specs.Prelude.{◌≡◌, ◌<◌, ◌+◌, OnOk, OnErr};
 ghost use Rattle.sqlite.specs.Held.{state};
 ghost use Rattle.record_tables.specs.Schema as schemas;
+ghost use Rattle.record_tables.specs.Given.{Tells};
 ghost use Rattle.record_tables.specs.Holds.{AddsLimits};
 ghost use Rattle.record_tables.specs.Empties.{Extends};
 ghost use Rattle.record_tables.specs.Puts.{GoesBy, Stops};
@@ -35,6 +36,7 @@ fn define<S: Alter>(tx: &mut Transaction<'_, S>, at: usize) -> Result<usize, Err
         (state S.Store tx.old.conn.now) (state S.Store tx.new.conn.now)) }
     ensures err { OnErr result (Stops (state S.Store tx.old.conn.now)
         (state S.Store tx.new.conn.now)) }
+    ensures given { Tells (state S.Store tx.old.conn.now) (state S.Store tx.new.conn.now) result }
 {
     tx.execute(text_at(at), &[])
 }
@@ -46,6 +48,7 @@ pub fn make_tables<S: Alter>(tx: &mut Transaction<'_, S>) -> Result<(), Error>
         (state S.Store tx.old.conn.now) (state S.Store tx.new.conn.now)) }
     ensures err { OnErr result (Stops (state S.Store tx.old.conn.now)
         (state S.Store tx.new.conn.now)) }
+    ensures given { Tells (state S.Store tx.old.conn.now) (state S.Store tx.new.conn.now) result }
 {
     define(tx, 0)?;
     for at in 1..8 {
@@ -61,6 +64,7 @@ pub fn add_limits<S: Alter>(tx: &mut Transaction<'_, S>) -> Result<usize, Error>
         (state S.Store tx.new.conn.now)) }
     ensures err { OnErr result (Stops (state S.Store tx.old.conn.now)
         (state S.Store tx.new.conn.now)) }
+    ensures given { Tells (state S.Store tx.old.conn.now) (state S.Store tx.new.conn.now) result }
 {
     tx.execute(DagLimitRow::create_text(), &[])
 }

@@ -2,6 +2,7 @@
 ghost use Rattle.std.specs.Prelude.{[], ◌≡◌, ◌≢◌, IfOk, IfErr, OnOk, OnErr};
 ghost use Rattle.sqlite.specs.Held.{state};
 ghost use Rattle.sqlite.specs.State.{HasCleanDisk, Shown};
+ghost use Rattle.record_tables.specs.Given.{IsRecordText, TellsLoad};
 ghost use Rattle.record_tables.specs.Puts.{GoesBy, Stops};
 ghost use Rattle.record_tables.specs.Loads.{Anyhow};
 ghost use Rattle.record_tables.specs.declared.faults.LoadFault.TheVariants as fault;
@@ -21,6 +22,8 @@ pub(crate) fn query_all<S: Alter>(
         text.now [] (state S.Store tx.old.conn.now) (state S.Store tx.new.conn.now) rows.items) }
     ensures err { OnErr result (Stops (state S.Store tx.old.conn.now)
         (state S.Store tx.new.conn.now)) }
+    ensures given { IsRecordText text.now → TellsLoad (state S.Store tx.old.conn.now)
+        (state S.Store tx.new.conn.now) result }
     ensures fault { IfErr result (λ e. e ≢ fault.NotOurs) }
 {
     match tx.query_all(text, &[]) {

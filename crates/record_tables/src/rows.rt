@@ -4,6 +4,7 @@ ghost use Rattle.sqlite.specs.Held.{state};
 ghost use Rattle.sqlite.specs.State.{HasCleanDisk};
 ghost use Rattle.record_rows.specs.Rows.{Rows};
 ghost use Rattle.record_rules.specs.Cells.{AreTexts};
+ghost use Rattle.record_tables.specs.Given.{Tells, TellsLoad};
 ghost use Rattle.record_tables.specs.Holds.{Stores};
 ghost use Rattle.record_tables.specs.Loads.{Loads, Stays};
 ghost use Rattle.record_rules.specs.Changes.{put_rows};
@@ -39,6 +40,7 @@ fn put_table<S: Alter>(tx: &mut Transaction<'_, S>, table: Table, rows: &Rows) -
         (state S.Store tx.old.conn.now) (state S.Store tx.new.conn.now)) }
     ensures err { OnErr result (Stops (state S.Store tx.old.conn.now)
         (state S.Store tx.new.conn.now)) }
+    ensures given { Tells (state S.Store tx.old.conn.now) (state S.Store tx.new.conn.now) result }
 {
     match table {
         Table::Meta => put_all(tx, rows.metas.as_slice()),
@@ -58,6 +60,7 @@ pub fn put_rows<S: Alter>(tx: &mut Transaction<'_, S>, rows: &Rows) -> Result<()
         (state S.Store tx.old.conn.now) (state S.Store tx.new.conn.now)) }
     ensures err { OnErr result (Stops (state S.Store tx.old.conn.now)
         (state S.Store tx.new.conn.now)) }
+    ensures given { Tells (state S.Store tx.old.conn.now) (state S.Store tx.new.conn.now) result }
 {
     for at in 0..7 {
         put_table(tx, table_at(at), rows)?;
@@ -79,6 +82,7 @@ fn load_table<S: Alter>(
         (state S.Store tx.new.conn.now)) }
     ensures err { OnErr result (Stops (state S.Store tx.old.conn.now)
         (state S.Store tx.new.conn.now)) }
+    ensures given { TellsLoad (state S.Store tx.old.conn.now) (state S.Store tx.new.conn.now) result }
 {
     match table {
         Table::Meta => load_into(alloc, tx, &mut rows.metas),
@@ -106,6 +110,7 @@ pub fn load_rows<S: Alter>(alloc: Global, tx: &mut Transaction<'_, S>) -> Result
         (state S.Store tx.new.conn.now)) }
     ensures err { OnErr result (Stops (state S.Store tx.old.conn.now)
         (state S.Store tx.new.conn.now)) }
+    ensures given { TellsLoad (state S.Store tx.old.conn.now) (state S.Store tx.new.conn.now) result }
 {
     let mut rows = Rows {
         metas: Vec::new(alloc),

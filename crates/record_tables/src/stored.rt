@@ -6,6 +6,7 @@ ghost use Rattle.record_rows.specs.declared.tables.Table.{Table as Which};
 ghost use Rattle.record_rules.specs.Cells.{AreText, Cell};
 ghost use Rattle.record_tables.specs.Forms.{first_of, form_of, values_of};
 ghost use Rattle.record_tables.specs.Errors.{is_memory};
+ghost use Rattle.record_tables.specs.Given.{Tells};
 ghost use Rattle.record_tables.specs.Kept.{IsKept};
 ghost use Rattle.record_tables.specs.Loads.{IsRowOf};
 ghost use Rattle.record_tables.specs.Ours.{is_table_of};
@@ -61,6 +62,7 @@ pub fn put_all<S: Alter, X: Stored>(tx: &mut Transaction<'_, S>, rows: &[X]) -> 
         (state S.Store tx.old.conn.now) (state S.Store tx.new.conn.now)) }
     ensures err { OnErr result (Stops (state S.Store tx.old.conn.now)
         (state S.Store tx.new.conn.now)) }
+    ensures given { Tells (state S.Store tx.old.conn.now) (state S.Store tx.new.conn.now) result }
 {
     X::kept();
     for row in rows {

@@ -6,6 +6,8 @@ use Rattle.record_tables.specs.Holds.{Stores}
 use Rattle.record_rules.specs.Changes.{no_rows}
 use Rattle.record_tables.specs.Puts.{take_first, take_of}
 use Rattle.record_tables.specs.declared.faults.LoadFault.TheVariants.{NotOurs}
+use Rattle.record_tables.specs.Given.{IsGivenLoadFault}
+use Rattle.record_tables.proofs.GivenLemmas.{load_then}
 use Rattle.record_tables.proofs.RowsLemmas.{stays_then, before, still, clean_before}
 use Rattle.record_tables.proofs.StepLemmas.{stops_then, next}
 use Rattle.record_tables.proofs.ValueLemmas.{told_on, on_err}
@@ -47,3 +49,11 @@ pub returns-clause-list : goal.returns-clause-list
 returns-clause-list g c clean inside rows stored =
     let all : c.loop-at.at ≡ 7 = search rules in
     c.loop-at.invariant.loaded clean inside rows stored ∙ ap (λ n. take_first n rows no_rows) all
+
+pub returns-in_err-load_table-clause-given : goal.returns-in_err-load_table-clause-given
+returns-in_err-load_table-clause-given g c clean inside =
+    let old = state g.S.Store c.args.tx.now.conn.now in
+    let mid = state g.S.Store c.loop-at.tx.conn.now in
+    let new = state g.S.Store c.load_table.new.tx.conn.now in
+    told_on c.from_residual.result c.in_err-load_table.field-0.0 (IsGivenLoadFault old new) c.from_residual.ensures.1
+    (load_then _ old mid new c.loop-at.invariant.goes c.in_err-load_table.ensures.err c.in_err-load_table.field-0.0 c.in_err-load_table.ensures.given clean inside)
