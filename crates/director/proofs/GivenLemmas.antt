@@ -1,5 +1,5 @@
 -- The errors of the record that a director tells are those that SQLite gave.
-use Rattle.std.proofs.Common.{sym, subst, inl, inr, Result, Ok, Err, IfErr}
+use Rattle.std.proofs.Common.{sym, subst, inl, inr, Result, IfErr}
 use Rattle.std.specs.Result.{IsErrAnd}
 use Rattle.std.proofs.lemmas.Result.{err_from_is_err_and}
 use Rattle.sqlite.specs.State.{State, HasCleanDisk, Survives}

@@ -1,5 +1,5 @@
 -- The errors of statements, queries and commits are those that SQLite gives.
-use Rattle.std.proofs.Common.{◌≡◌, ◌∙◌, ◌⊎◌, inl, inr, refl, sym, subst, List, ℕ, zero, suc, Bool, true, false, true≢false, Some, None, Option, Ok, Err, Result, OnErr, IfErr, IsTrue, cond, arith}
+use Rattle.std.proofs.Common.{◌≡◌, ◌∙◌, ◌⊎◌, inl, inr, refl, sym, subst, List, ℕ, zero, suc, Bool, true, false, true≢false, Some, None, Option, Ok, Err, Result, OnErr, IsTrue, cond, arith}
 use Rattle.std.specs.Prelude.{MatchBool}
 use Rattle.sqlite_disk.specs.Disk.{MoreFaults}
 use Rattle.sqlite_trees.specs.Tree.{Trees}
