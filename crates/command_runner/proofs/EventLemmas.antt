@@ -1,5 +1,5 @@
 -- An event in a record that was opened for it.
-use Rattle.std.proofs.Common.{◌≡◌, ◌∷◌, ◌++◌, List, [], Result, IsTrue, refl, sym, subst, inl, inr, arith}
+use Rattle.std.proofs.Common.{◌≡◌, ◌∷◌, ◌++◌, List, [], Ok, Err, Result, IfErr, IsTrue, refl, sym, subst, inl, inr, arith}
 use Rattle.sqlite.specs.Effect.{Database}
 use Rattle.sqlite.specs.Held.{Held}
 use Rattle.sqlite.specs.State.{State, HasCleanDisk}
@@ -16,7 +16,10 @@ use Rattle.director.specs.Leaves.{IsOneOf, Leaves, LeavesBy, accepted_in, tried_
 use Rattle.director.specs.meta_store.Stores.{CommitsBy, HasRows, OpensBy}
 use Rattle.director.specs.meta_store.Transactions.{Commits}
 use Rattle.director.specs.Lists.{IsOutcome}
+use Rattle.director.specs.Faults.{IsGivenFault}
+use Rattle.director.specs.Written.{WrittenEvent, came_of}
 use Rattle.director.specs.declared.faults.Fault.{Fault}
+use Rattle.director.proofs.GivenLemmas.{told_later}
 use Rattle.director.proofs.ListLemmas.{stays_open, was_clean}
 use Rattle.command_runner.specs.Events.{IsStepped}
 
@@ -40,8 +43,9 @@ pub stepped : {S : Type 0} (look : Held S → State) (before : State) (d left : 
     → IsOutcome d.schedule.content e came left.schedule.content
     → Follows d.schedule.content (look d.store) left.schedule.content (look left.store)
     → Leaves (accepted_in e came) (tried_in e came) d.schedule.content (look d.store) (look left.store)
+    → (HasCleanDisk (look left.store) → IfErr came (IsGivenFault (look d.store) (look left.store)))
     → IsStepped look before e came left.schedule.content left.store
-stepped look before d left e came opened restarted sound outcome followed leaves =
+stepped look before d left e came opened restarted sound outcome followed leaves given =
     let a = d.schedule.content in
     let earlier : HasCleanDisk (look d.store) → HasCleanDisk before = λ clean. omega (arith, restarted.crash.clean, clean) in
     let keeps : HasCleanDisk (look d.store) → (rows : Rows) → HasRows before.now rows → Keeps a (look d.store).now =
@@ -52,6 +56,7 @@ stepped look before d left e came opened restarted sound outcome followed leaves
       opened = λ clean. opened (was_clean _ _ _ _ followed clean);
       sound = sound;
       outcome = outcome;
+      error = λ clean. told_later before (look d.store) (look left.store) came restarted.crash followed.survives (was_clean _ _ _ _ followed clean) (given clean);
       was_clean = λ clean. earlier (was_clean _ _ _ _ followed clean);
       stays = stays_open _ _ before _ _ restarted.crash.counts (λ clean. (restarted.is_open clean).1) followed;
       stored = λ clean is_open rows has. followed.stored clean is_open (keeps (was_clean _ _ _ _ followed clean) rows has);
@@ -59,6 +64,11 @@ stepped look before d left e came opened restarted sound outcome followed leaves
           let first = was_clean _ _ _ _ followed clean in
           left_files (accepted_in e came) (tried_in e came) a (look d.store) (look left.store) leaves clean (keeps first rows has) (restarted.only first);
     }
+
+-- why it is not written is why it is not answered
+pub came_given : (P : Fault → Type 0) (r : Result WrittenEvent Fault) → IfErr r P → IfErr (came_of r) P
+came_given P (Ok w) h = tt
+came_given P (Err f) h = h
 
 -- the record that is given back
 pub given_back : {S : Type 0} (look : Held S → State) (before : State) (e : Event) (came : Result Answer Fault) (after : Schedule) (kept store : Held S) → store ≡ kept → IsStepped look before e came after kept

@@ -1,6 +1,6 @@
 -- What one event does to a record, and what is told of it.
 -- restates: this project's own profile
-use Rattle.std.specs.Prelude.{◌≡◌, ◌⊎◌, ◌++◌, ℕ, Bool, List, Option, Result, IsTrue}
+use Rattle.std.specs.Prelude.{◌≡◌, ◌⊎◌, ◌++◌, ℕ, Bool, List, Option, Result, IfErr, IsTrue}
 use Rattle.sqlite.specs.Effect.{Database}
 use Rattle.sqlite.specs.Held.{Held}
 use Rattle.sqlite.specs.State.{State, HasCleanDisk, Survives}
@@ -15,7 +15,7 @@ use Rattle.sched_events.specs.declared.events.Event.{Event}
 use Rattle.director.specs.Directors.{Keeps, Opens, RestartsIn, StaysOpen}
 use Rattle.director.specs.Leaves.{IsOneOf, accepted_in, tried_in}
 use Rattle.director.specs.meta_store.Stores.{CommitsBy, HasRows, IsKeptOrMigrated, Migrates, OpensBy}
-use Rattle.director.specs.Faults.{IsOpenFault, IsRefused}
+use Rattle.director.specs.Faults.{IsGivenFault, IsOpenFault, IsRefused}
 use Rattle.director.specs.Lists.{IsOutcome}
 use Rattle.director.specs.Written.{came_of}
 use Rattle.director.specs.declared.faults.Fault.{Fault}
@@ -35,6 +35,7 @@ pub record IsStepped {S : Type 0} (look : Held S → State) (before : State) (e 
   pub opened : HasCleanDisk (look store) → Opens ceilings 0 before.now first given
   pub sound : IsSoundAndSaid first
   pub outcome : IsOutcome first e came after
+  pub error : HasCleanDisk (look store) → IfErr came (IsGivenFault before (look store))
   pub was_clean : HasCleanDisk (look store) → HasCleanDisk before
   pub stays : StaysOpen before (look store)
   pub stored : HasCleanDisk (look store) → IsTrue (look store).is_open → (rows : Rows) → HasRows before.now rows → Keeps after (look store).now
@@ -45,6 +46,7 @@ pub record IsStepped {S : Type 0} (look : Held S → State) (before : State) (e 
 -- where the restart was refused one of the first two
 pub record IsUnopened {S : Type 0} (look : Held S → State) (before : State) (fault : Fault) (store : Held S) : Type 0 where
   pub cause : HasCleanDisk (look store) → IsOpenFault ceilings 0 before.now fault
+  pub given : HasCleanDisk (look store) → IsGivenFault before (look store) fault
   pub kept : HasCleanDisk (look store) → IsTrue (look store).is_open → IsKeptOrMigrated before (look store)
   pub crash : Survives before (look store) (CommitsBy (OpensBy (RestartsIn ceilings 0)) before)
   pub refused_crash : IsRefused fault → Survives before (look store) (CommitsBy Migrates before)

@@ -9,7 +9,7 @@ use Rattle.sched_model.specs.Schedule.{Schedule}
 use Rattle.director.specs.Directors.{ScheduleValue}
 use Rattle.director.specs.meta_store.Loads.{IsLoadFault, ReadsAs}
 use Rattle.director.specs.meta_store.declared.faults.StoreFault.{StoreFault}
-use Rattle.director.specs.Faults.{IsOfStore}
+use Rattle.director.specs.Faults.{IsGivenFault, IsOfStore}
 use Rattle.director.specs.declared.faults.Fault.{Fault}
 use Rattle.command_words.specs.declared.commands.Listing.{Listing}
 use Rattle.command_words.specs.declared.commands.Question.{Question}
@@ -22,11 +22,12 @@ use Rattle.script_reader.specs.answer_lines.RecordFaults.{failure_text}
 use Rattle.script_reader.specs.Statuses.{explain_status, failure_status}
 use Rattle.command_runner.specs.Writes.{IsWritten}
 
--- the schedule that a record holds, which follows the rules of schedules, whatever the disk gave, or why it is not read; the record is as it was, after a crash
+-- the schedule that a record holds, which follows the rules of schedules, whatever the disk gave, or why it is not read, with an error that SQLite gave since; the record is as it was, after a crash
 -- too
 pub record IsRead {S : Type 0} (look : Held S → State) (before after : Held S) (read : Result ScheduleValue Fault) : Type 0 where
   pub schedule : IfOk read (λ a. IsSoundAndSaid a.content × (HasCleanDisk (look after) → ReadsAs ceilings (look before).now a.content))
   pub fault : IfErr read (λ said. (fault : StoreFault) × IsOfStore fault said × (HasCleanDisk (look after) → IsLoadFault ceilings (look before).now fault))
+  pub given : HasCleanDisk (look after) → IfErr read (IsGivenFault (look before) (look after))
   pub kept : HasCleanDisk (look after) → IsTrue (look after).is_open → ((look after).now ≡ (look before).now) × ((look after).committed ≡ (look before).committed)
   pub crash : Survives (look before) (look after) (λ _. ⊥)
 

@@ -2,10 +2,12 @@
 use Rattle.std.specs.Prelude.{◌≡◌, ◌≢◌, ◌⊎◌, ℕ, pos, false, true, None, Some}
 use Rattle.sqlite.specs.declared.error.Error.{Error}
 use Rattle.sqlite.specs.Effect.{Database}
+use Rattle.sqlite.specs.State.{State}
 use Rattle.record_rows.specs.Rows.{Rows}
 use Rattle.record_rules.specs.Cells.{AreTexts}
 use Rattle.record_rules.specs.Faults.{record_fault}
 use Rattle.record_rules.specs.Reading.{schedule_of}
+use Rattle.meta_store.specs.Faults.{IsGivenStoreFault}
 use Rattle.meta_store.specs.Loads.{IsReadAs}
 use Rattle.meta_store.specs.Schedules.{is_version}
 use Rattle.meta_store.specs.Stores.{HasRows, IsNoRecord}
@@ -62,3 +64,9 @@ abbrev pub IsRefused : Fault → Type 0
 IsRefused (Refused r) = Unit {0}
 IsRefused (Store f) = ⊥
 IsRefused Memory = ⊥
+
+-- the error of the record that the fault has is one that SQLite gave since the first of two states
+abbrev pub IsGivenFault : State → State → Fault → Type 0
+IsGivenFault old new (Refused r) = Unit {0}
+IsGivenFault old new (Store f) = IsGivenStoreFault old new f
+IsGivenFault old new Memory = Unit {0}

@@ -8,7 +8,7 @@ ghost use Rattle.meta_store.specs.Transactions.{Commits, Transacts, Undone};
 ghost use Rattle.meta_store.specs.declared.faults.StoreFault.TheVariants as store_fault;
 ghost use Rattle.sched_events.specs.Promises.{KeepsPromises};
 ghost use Rattle.director.specs.Directors.{Follows, Opens, RestartsIn, StepsIn};
-ghost use Rattle.director.specs.Faults.{IsOpenFault, IsRefused};
+ghost use Rattle.director.specs.Faults.{IsGivenFault, IsOpenFault, IsRefused};
 ghost use Rattle.director.specs.Lists.{IsOutcome};
 ghost use Rattle.director.specs.Written.{came_of};
 ghost use Rattle.director.specs.declared.faults.Fault.TheVariants as fault;
@@ -73,6 +73,8 @@ impl<S: Alter> Director<S> {
         ensures refused_crash { IfErr result (λ e. IsRefused e.1
             → Survives (state S.Store store) (state S.Store e.0)
             (CommitsBy Migrates (state S.Store store))) }
+        ensures given { IfErr result (λ e. HasCleanDisk (state S.Store e.0)
+            → IsGivenFault (state S.Store store) (state S.Store e.0) e.1) }
     {
         let mut store = store;
         match restart(alloc, &mut store, lanes, limits) {
@@ -104,6 +106,8 @@ impl<S: Alter> Director<S> {
         ensures refused_crash { IfErr result (λ e. IsRefused e.1
             → Survives (state S.Store self.store) (state S.Store e.0)
             (CommitsBy Migrates (state S.Store self.store))) }
+        ensures given { IfErr result (λ e. HasCleanDisk (state S.Store e.0)
+            → IsGivenFault (state S.Store self.store) (state S.Store e.0) e.1) }
     {
         let limits = self.schedule().limits();
         Director::open(alloc, self.close(), lanes, limits)
@@ -150,6 +154,8 @@ impl<S: Alter> Director<S> {
             self.new.schedule.content (state S.Store self.new.store) }
         ensures transacts { Transacts (StepsIn event.now self.old.schedule.content)
             (state S.Store self.old.store) (state S.Store self.new.store) result }
+        ensures given { HasCleanDisk (state S.Store self.new.store) → IfErr result
+            (IsGivenFault (state S.Store self.old.store) (state S.Store self.new.store)) }
     {
         let before = Snapshot::of(&self.schedule);
         match step(alloc, &mut self.store, &mut self.schedule, event) {
@@ -171,6 +177,8 @@ impl<S: Alter> Director<S> {
             self.new.schedule.content (state S.Store self.new.store) }
         ensures transacts { Transacts (StepsIn event.now self.old.schedule.content)
             (state S.Store self.old.store) (state S.Store self.new.store) result }
+        ensures given { HasCleanDisk (state S.Store self.new.store) → IfErr result
+            (IsGivenFault (state S.Store self.old.store) (state S.Store self.new.store)) }
     {
         match self.write(alloc, event) {
             Ok(written) => Ok(written.into_answer()),

@@ -1,10 +1,11 @@
 //! A planned change, kept in the record and in memory.
 ghost use Rattle.std.specs.Prelude.{◌≡◌, IfOk, IfErr, OnOk, OnErr};
 ghost use Rattle.sqlite.specs.Held.{state};
+ghost use Rattle.sqlite.specs.State.{HasCleanDisk};
 ghost use Rattle.meta_store.specs.Schedules.{HasRoom};
 ghost use Rattle.meta_store.specs.Stores.{Writes};
 ghost use Rattle.meta_store.specs.Transactions.{Transacts};
-ghost use Rattle.director.specs.Faults.{IsFaultOfStore};
+ghost use Rattle.director.specs.Faults.{IsFaultOfStore, IsGivenFault};
 
 use crate::faults::Fault;
 use meta_store::{Change, Schedule, Store};
@@ -24,6 +25,8 @@ pub(crate) fn keep<S: Alter>(
     ensures fault { IfErr result IsFaultOfStore }
     ensures transacts { Transacts (Writes change) (state S.Store store.old) (state S.Store store.new)
         result }
+    ensures given { HasCleanDisk (state S.Store store.new)
+        → IfErr result (IsGivenFault (state S.Store store.old) (state S.Store store.new)) }
 {
     match write(store, schedule, &change) {
         Ok(()) => Ok(schedule.commit(change)),
@@ -42,6 +45,8 @@ fn write<S: Alter>(
     ensures fault { IfErr result IsFaultOfStore }
     ensures transacts { Transacts (Writes change.now) (state S.Store store.old) (state S.Store store.new)
         result }
+    ensures given { HasCleanDisk (state S.Store store.new)
+        → IfErr result (IsGivenFault (state S.Store store.old) (state S.Store store.new)) }
 {
     schedule.reserve(change)?;
     store.write(change)?;

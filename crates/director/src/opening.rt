@@ -8,7 +8,7 @@ ghost use Rattle.meta_store.specs.Transactions.{Commits, Undone};
 ghost use Rattle.meta_store.specs.declared.faults.StoreFault.TheVariants as store_fault;
 ghost use Rattle.sched_state.specs.Limits.{Bounds};
 ghost use Rattle.director.specs.Directors.{IsMigrated, Opens, RestartsIn};
-ghost use Rattle.director.specs.Faults.{IsOpenFault, IsRefused};
+ghost use Rattle.director.specs.Faults.{IsGivenFault, IsOpenFault, IsRefused};
 ghost use Rattle.director.specs.declared.faults.Fault.TheVariants as fault;
 
 use crate::faults::Fault;
@@ -40,6 +40,8 @@ pub(crate) fn restart<S: Alter>(
     ensures refused_crash { IfErr result (λ f. IsRefused f
         → Survives (state S.Store store.old) (state S.Store store.new)
         (CommitsBy Migrates (state S.Store store.old))) }
+    ensures given { HasCleanDisk (state S.Store store.new)
+        → IfErr result (IsGivenFault (state S.Store store.old) (state S.Store store.new)) }
 {
     migrate(alloc, store)?;
     let mut schedule = store.load(alloc, limits)?;
@@ -64,6 +66,8 @@ fn migrate<S: Alter>(alloc: Global, store: &mut Store<S>) -> Result<(), Fault>
     ensures fault { HasCleanDisk (state S.Store store.new)
         → IfErr result (λ e. (limits : Bounds) (lanes : ℕ)
         → IsOpenFault limits lanes (state S.Store store.old).now e) }
+    ensures given { HasCleanDisk (state S.Store store.new)
+        → IfErr result (IsGivenFault (state S.Store store.old) (state S.Store store.new)) }
 {
     if store.has_limits() {
         return Ok(());

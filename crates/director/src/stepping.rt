@@ -1,11 +1,12 @@
 //! One event, done to a schedule and to its record.
 ghost use Rattle.std.specs.Prelude.{◌≡◌, IfOk, IfErr, OnOk, OnErr};
 ghost use Rattle.sqlite.specs.Held.{state};
+ghost use Rattle.sqlite.specs.State.{HasCleanDisk};
 ghost use Rattle.meta_store.specs.Transactions.{Transacts};
 ghost use Rattle.sched_events.specs.Outcomes.{IsStepped};
 ghost use Rattle.sched_events.specs.Promises.{KeepsPromises};
 ghost use Rattle.director.specs.Directors.{StepsIn};
-ghost use Rattle.director.specs.Faults.{IsFaultOf, IsRefused};
+ghost use Rattle.director.specs.Faults.{IsFaultOf, IsGivenFault, IsRefused};
 
 use crate::faults::Fault;
 use crate::keeping::keep;
@@ -30,6 +31,8 @@ pub(crate) fn step<S: Alter>(
     ensures untouched { IfErr result (λ f. IsRefused f → store.new ≡ store.old) }
     ensures transacts { Transacts (StepsIn event.now schedule.old.content) (state S.Store store.old)
         (state S.Store store.new) result }
+    ensures given { HasCleanDisk (state S.Store store.new)
+        → IfErr result (IsGivenFault (state S.Store store.old) (state S.Store store.new)) }
 {
     a_planned_event_is_written();
     accepted_events_keep_the_promises();

@@ -1,6 +1,7 @@
 mod WorkLemmas
 pub mod CommitLemmas
 mod FaultLemmas
+pub mod GivenLemmas
 mod AskLemmas
 mod UpgradeLemmas
 pub mod MigrateLemmas

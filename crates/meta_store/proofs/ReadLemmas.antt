@@ -36,7 +36,7 @@ load_fault P unread.NotOurs e is h = inr (is, h refl)
 load_fault P unread.Memory e is h = inl (inl is)
 
 -- a fault that is handed on
-pub handed_on : {T : Type 0} (P : LoadFault → Type 0) (f : LoadFault) (r : Result T LoadFault) → P f → IsErrAnd r (λ e. e ≡ f) → IfErr r P
+pub handed_on : {T E : Type 0} (P : E → Type 0) (f : E) (r : Result T E) → P f → IsErrAnd r (λ e. e ≡ f) → IfErr r P
 handed_on P f (Ok x) h told = absurd told
 handed_on P f (Err e) h told = subst P (sym told) h
 

@@ -5,6 +5,7 @@ ghost use Rattle.sqlite.specs.State.{HasCleanDisk};
 ghost use Rattle.record_tables.specs.Ours.{is_ours};
 ghost use Rattle.record_rules.specs.Faults.{record_fault};
 ghost use Rattle.record_rules.specs.Keys.{IsByKey};
+ghost use Rattle.meta_store.specs.Faults.{IsGivenStoreFault};
 ghost use Rattle.meta_store.specs.Loads.{ReadsAs, IsReadAs, IsLoadFault, IsRuleFault, fault_of_first};
 ghost use Rattle.meta_store.specs.Loads as spec;
 ghost use Rattle.meta_store.specs.Transactions.{Looks};
@@ -31,6 +32,8 @@ impl<S: Alter> Store<S> {
             → IsErrAnd result (λ e. e ≡ fault.NotOurs) }
         ensures fault { HasCleanDisk (state S.Store self.new)
             → IfErr result (IsLoadFault limits (state S.Store self.old).now) }
+        ensures given { HasCleanDisk (state S.Store self.new)
+            → IfErr result (IsGivenStoreFault (state S.Store self.old) (state S.Store self.new)) }
     {
         let is_second = has_limits(self.conn.schema());
         let rows = self.load_rows(alloc)?;

@@ -2,6 +2,7 @@
 ghost use Rattle.std.specs.Prelude.{◌≡◌, ◌⊎◌, pos, true, false, MatchBool, MatchResult, IfOk, IfErr, OnOk, IsErrAnd};
 ghost use Rattle.sqlite.specs.Held.{state};
 ghost use Rattle.sqlite.specs.State.{HasCleanDisk};
+ghost use Rattle.record_tables.specs.Given.{IsGivenLoadFault};
 ghost use Rattle.record_tables.specs.Holds.{Stores, StoresFirst};
 ghost use Rattle.record_rules.specs.Cells.{AreTexts};
 ghost use Rattle.record_tables.specs.Loads.{is_version};
@@ -10,7 +11,7 @@ ghost use Rattle.record_tables.specs.declared.faults.LoadFault.TheVariants as un
 ghost use Rattle.meta_store.specs.Stores.{CommitsBy, CommitsFrom, IsAsBefore, IsNoRecord, Migrates, Upgrades};
 ghost use Rattle.meta_store.specs.Transactions.{Commits, Looks, Transacts, TransactsTo, Undone};
 ghost use Rattle.meta_store.specs.declared.faults.StoreFault.TheVariants as fault;
-ghost use Rattle.meta_store.specs.Faults.{IsOfSqlite};
+ghost use Rattle.meta_store.specs.Faults.{IsGivenStoreFault, IsOfSqlite};
 
 use crate::faults::{StoreFault, fault_of_load};
 use crate::stores::Store;
@@ -39,6 +40,8 @@ impl<S: Alter> Store<S> {
             → IsErrAnd result (λ e. e ≡ fault.NotOurs) }
         ensures fault { HasCleanDisk (state S.Store self.new) → IfErr result (λ e. IsOfSqlite e
             ⊎ ((e ≡ fault.NotOurs) × IsNoRecord (state S.Store self.old).now)) }
+        ensures given { HasCleanDisk (state S.Store self.new)
+            → IfErr result (IsGivenStoreFault (state S.Store self.old) (state S.Store self.new)) }
     {
         if !is_ours(self.conn.schema()) {
             return Err(StoreFault::NotOurs);
@@ -63,6 +66,8 @@ impl<S: Alter> Store<S> {
         ensures fault { HasCleanDisk (state S.Store self.new) → IfErr result (λ e. IsOfSqlite e
             ⊎ ((e ≡ fault.NotOurs) × ((rows : _) → Stores (state S.Store self.old).now rows
             → AreTexts rows → is_version (pos 2) rows.metas ≡ false))) }
+        ensures given { HasCleanDisk (state S.Store self.new)
+            → IfErr result (IsGivenStoreFault (state S.Store self.old) (state S.Store self.new)) }
     {
         match self.read_metas(alloc) {
             Ok(metas) => {
@@ -83,6 +88,8 @@ impl<S: Alter> Store<S> {
         ensures fault { HasCleanDisk (state S.Store self.new) → IfErr result (λ e.
             e ≡ unread.NotOurs → (rows : _) → ¬ Stores (state S.Store self.old).now rows) }
         ensures looks { Looks (state S.Store self.old) (state S.Store self.new) }
+        ensures given { HasCleanDisk (state S.Store self.new)
+            → IfErr result (IsGivenLoadFault (state S.Store self.old) (state S.Store self.new)) }
     {
         let _settled = self.conn.is_autocommit();
         let mut tx = self.conn.transaction();
@@ -96,6 +103,8 @@ impl<S: Alter> Store<S> {
         ensures fault { HasCleanDisk (state S.Store self.new) → IfErr result (λ e.
             e ≡ unread.NotOurs → (rows : _) → StoresFirst (state S.Store self.old).now rows
             → AreTexts rows → is_version (pos 1) rows.metas ≡ false) }
+        ensures given { HasCleanDisk (state S.Store self.new)
+            → IfErr result (IsGivenLoadFault (state S.Store self.old) (state S.Store self.new)) }
     {
         match self.ask("SELECT 1") {
             Ok(()) => self.begin_upgrade(alloc),
@@ -111,6 +120,8 @@ impl<S: Alter> Store<S> {
         ensures fault { HasCleanDisk (state S.Store self.new) → IfErr result (λ e.
             e ≡ unread.NotOurs → (rows : _) → StoresFirst (state S.Store self.old).now rows
             → AreTexts rows → is_version (pos 1) rows.metas ≡ false) }
+        ensures given { HasCleanDisk (state S.Store self.new)
+            → IfErr result (IsGivenLoadFault (state S.Store self.old) (state S.Store self.new)) }
     {
         let _settled = self.conn.is_autocommit();
         let mut tx = self.conn.transaction();

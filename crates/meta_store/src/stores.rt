@@ -2,6 +2,7 @@
 ghost use Rattle.std.specs.Prelude.{◌≡◌, ◌⊎◌, pos, true, false, OnOk, IfOk, IfErr, IsErrAnd, MatchResult};
 ghost use Rattle.sqlite.specs.Held.{state};
 ghost use Rattle.sqlite.specs.State.{HasCleanDisk};
+ghost use Rattle.record_tables.specs.Given.{IsGivenLoadFault};
 ghost use Rattle.record_tables.specs.Holds.{Stores, StoresFirst};
 ghost use Rattle.record_tables.specs.Schema.{first_schema};
 ghost use Rattle.record_rules.specs.Cells.{AreTexts};
@@ -12,7 +13,7 @@ ghost use Rattle.meta_store.specs.Stores.{Begins, CommitsBy, HasRows, IsAsBefore
 ghost use Rattle.meta_store.specs.Transactions.{Commits, Looks, Transacts, Undone};
 ghost use Rattle.meta_store.specs.Upgraded.{upgraded};
 ghost use Rattle.meta_store.specs.declared.faults.StoreFault.TheVariants as fault;
-ghost use Rattle.meta_store.specs.Faults.{IsOfSqlite};
+ghost use Rattle.meta_store.specs.Faults.{IsGivenStoreFault, IsOfSqlite};
 
 use crate::faults::{StoreFault, fault_of, fault_of_load};
 use crate::first_rows::first_rows;
@@ -70,6 +71,8 @@ impl<S: Alter> Store<S> {
             → IsErrAnd result (λ e. e.1 ≡ fault.NotOurs) }
         ensures fault { IfErr result (λ e. IsOfSqlite e.1
             ⊎ (has_record_table (state S.Store conn).now.schema ≡ true)) }
+        ensures given { IfErr result (λ e. HasCleanDisk (state S.Store e.0)
+            → IsGivenStoreFault (state S.Store conn) (state S.Store e.0) e.1) }
     {
         let _settled = conn.is_autocommit();
         if has_record_table(conn.schema()) {
@@ -109,6 +112,8 @@ impl<S: Alter> Store<S> {
         ensures fault { IfErr result IsOfSqlite }
         ensures guarded { HasCleanDisk (state S.Store self.new)
             → (state S.Store self.old).now.schema ≡ first_schema → OnOk result ⊥ }
+        ensures given { HasCleanDisk (state S.Store self.new)
+            → IfErr result (IsGivenStoreFault (state S.Store self.old) (state S.Store self.new)) }
     {
         let asked = "SELECT max_active_tasks FROM dag_limit";
         match self.transact(asked, Work::Put, change.rows()) {
@@ -131,6 +136,8 @@ impl<S: Alter> Store<S> {
             → IsErrAnd result (λ e. e ≡ fault.NotOurs) }
         ensures fault { HasCleanDisk (state S.Store self.new) → IfErr result (λ e. IsOfSqlite e
             ⊎ ((e ≡ fault.NotOurs) × IsNoRecord (state S.Store self.old).now)) }
+        ensures given { HasCleanDisk (state S.Store self.new)
+            → IfErr result (IsGivenStoreFault (state S.Store self.old) (state S.Store self.new)) }
     {
         if !is_ours(self.conn.schema()) {
             return Err(StoreFault::NotOurs);
@@ -152,6 +159,8 @@ impl<S: Alter> Store<S> {
         ensures fault { HasCleanDisk (state S.Store self.new) → IfErr result (λ e. IsOfSqlite e
             ⊎ ((e ≡ fault.NotOurs) × ((rows : _) → Stores (state S.Store self.old).now rows
             → AreTexts rows → is_version (pos 2) rows.metas ≡ false))) }
+        ensures given { HasCleanDisk (state S.Store self.new)
+            → IfErr result (IsGivenStoreFault (state S.Store self.old) (state S.Store self.new)) }
     {
         let rows = match self.read_rows(alloc) {
             Ok(rows) => rows,
@@ -176,6 +185,8 @@ impl<S: Alter> Store<S> {
         ensures fault { HasCleanDisk (state S.Store self.new) → IfErr result (λ e. IsOfSqlite e
             ⊎ ((e ≡ fault.NotOurs) × ((rows : _) → StoresFirst (state S.Store self.old).now rows
             → AreTexts rows → is_version (pos 1) rows.metas ≡ false))) }
+        ensures given { HasCleanDisk (state S.Store self.new)
+            → IfErr result (IsGivenStoreFault (state S.Store self.old) (state S.Store self.new)) }
     {
         let rows = match self.read_first(alloc) {
             Ok(rows) => rows,
@@ -199,6 +210,8 @@ impl<S: Alter> Store<S> {
             e ≡ unread.NotOurs → (rows : _) → StoresFirst (state S.Store self.old).now rows
             → ¬ AreTexts rows) }
         ensures looks { Looks (state S.Store self.old) (state S.Store self.new) }
+        ensures given { HasCleanDisk (state S.Store self.new)
+            → IfErr result (IsGivenLoadFault (state S.Store self.old) (state S.Store self.new)) }
     {
         let _settled = self.conn.is_autocommit();
         let mut tx = self.conn.transaction();
@@ -214,6 +227,8 @@ impl<S: Alter> Store<S> {
             e ≡ unread.NotOurs → (rows : _) → Stores (state S.Store self.old).now rows
             → ¬ AreTexts rows) }
         ensures looks { Looks (state S.Store self.old) (state S.Store self.new) }
+        ensures given { HasCleanDisk (state S.Store self.new)
+            → IfErr result (IsGivenLoadFault (state S.Store self.old) (state S.Store self.new)) }
     {
         let _settled = self.conn.is_autocommit();
         let mut tx = self.conn.transaction();

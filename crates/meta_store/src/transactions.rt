@@ -1,8 +1,9 @@
 //! The transactions of a record.
-ghost use Rattle.std.specs.Prelude.{◌≡◌, false, IsOk, OnOk, OnErr};
+ghost use Rattle.std.specs.Prelude.{◌≡◌, false, IsOk, OnOk, OnErr, IfErr};
 ghost use Rattle.sqlite.specs.Held.{state};
 ghost use Rattle.sqlite.specs.Listing.{understood};
 ghost use Rattle.sqlite.specs.State.{HasCleanDisk, Shows};
+ghost use Rattle.record_tables.specs.Given.{IsGiven, IsRecordText, Tells};
 ghost use Rattle.record_tables.specs.Puts.{GoesBy, Stops};
 ghost use Rattle.meta_store.specs.Stores.{CommitsFrom};
 ghost use Rattle.meta_store.specs.Transactions.{Looks, Transacts, TransactsTo, does};
@@ -28,6 +29,7 @@ fn do_work<S: Alter>(tx: &mut Transaction<'_, S>, work: Work, rows: &Rows) -> Re
         (state S.Store tx.new.conn.now)) }
     ensures err { OnErr result (Stops (state S.Store tx.old.conn.now)
         (state S.Store tx.new.conn.now)) }
+    ensures given { Tells (state S.Store tx.old.conn.now) (state S.Store tx.new.conn.now) result }
 {
     match work {
         Work::Make => {
@@ -46,6 +48,8 @@ impl<S: Alter> Store<S> {
             (state S.Store self.new) result }
         ensures known { HasCleanDisk (state S.Store self.new) → OnOk result
             (IsOk (understood (state S.Store self.old).now.schema asked.now)) }
+        ensures given { HasCleanDisk (state S.Store self.new) → IsRecordText asked.now
+            → IfErr result (IsGiven (state S.Store self.old) (state S.Store self.new)) }
     {
         self.ask(asked)?;
         self.begin(work, rows)
@@ -56,6 +60,8 @@ impl<S: Alter> Store<S> {
         ensures transacts { TransactsTo (does work rows.now)
             (CommitsFrom (does work rows.now) (state S.Store self.old).now)
             (state S.Store self.old) (state S.Store self.new) result }
+        ensures given { HasCleanDisk (state S.Store self.new)
+            → IfErr result (IsGiven (state S.Store self.old) (state S.Store self.new)) }
     {
         let _settled = self.conn.is_autocommit();
         let mut tx = self.conn.transaction();
@@ -71,6 +77,8 @@ impl<S: Alter> Store<S> {
         ensures known { HasCleanDisk (state S.Store self.new) → OnOk result
             (IsOk (understood (state S.Store self.old).now.schema text.now)) }
         ensures looks { Looks (state S.Store self.old) (state S.Store self.new) }
+        ensures given { HasCleanDisk (state S.Store self.new) → IsRecordText text.now
+            → IfErr result (IsGiven (state S.Store self.old) (state S.Store self.new)) }
     {
         let _settled = self.conn.is_autocommit();
         let _statement = self.conn.prepare(text)?;

@@ -3,6 +3,7 @@ ghost use Rattle.std.specs.Prelude.{◌≡◌, ◌≢◌, map, pos, true, false,
 ghost use Rattle.sqlite.specs.Held.{state};
 ghost use Rattle.sqlite.specs.State.{HasCleanDisk};
 ghost use Rattle.record_rows.specs.Rows.{Rows};
+ghost use Rattle.record_tables.specs.Given.{TellsLoad};
 ghost use Rattle.record_tables.specs.Holds.{AddsLimits, StoresFirst};
 ghost use Rattle.record_tables.specs.Puts.{GoesBy, Stops};
 ghost use Rattle.record_rules.specs.Cells.{AreTexts};
@@ -85,6 +86,8 @@ fn add_table<S: Alter>(tx: &mut Transaction<'_, S>) -> Result<(), LoadFault>
         (state S.Store tx.new.conn.now)) }
     ensures err { OnErr result (Stops (state S.Store tx.old.conn.now)
         (state S.Store tx.new.conn.now)) }
+    ensures given { TellsLoad (state S.Store tx.old.conn.now) (state S.Store tx.new.conn.now)
+        result }
     ensures fault { IfErr result (λ e. e ≢ fault.NotOurs) }
 {
     match add_limits(tx) {
@@ -111,6 +114,8 @@ pub(crate) fn load_old_rows<S: Alter>(
         (state S.Store tx.new.conn.now)) }
     ensures err { OnErr result (Stops (state S.Store tx.old.conn.now)
         (state S.Store tx.new.conn.now)) }
+    ensures given { TellsLoad (state S.Store tx.old.conn.now) (state S.Store tx.new.conn.now)
+        result }
 {
     add_table(tx)?;
     load_rows(alloc, tx)
@@ -132,6 +137,8 @@ fn prepare<S: Alter>(alloc: Global, tx: &mut Transaction<'_, S>) -> Result<Rows,
         (state S.Store tx.new.conn.now)) }
     ensures err { OnErr result (Stops (state S.Store tx.old.conn.now)
         (state S.Store tx.new.conn.now)) }
+    ensures given { TellsLoad (state S.Store tx.old.conn.now) (state S.Store tx.new.conn.now)
+        result }
 {
     add_table(tx)?;
     let metas: Vec<MetaRow> = load_all(alloc, tx)?;
@@ -156,6 +163,8 @@ pub(crate) fn upgrade<S: Alter>(alloc: Global, tx: &mut Transaction<'_, S>) -> R
         (state S.Store tx.new.conn.now)) }
     ensures err { OnErr result (Stops (state S.Store tx.old.conn.now)
         (state S.Store tx.new.conn.now)) }
+    ensures given { TellsLoad (state S.Store tx.old.conn.now) (state S.Store tx.new.conn.now)
+        result }
 {
     let made = prepare(alloc, tx)?;
     match put_rows(tx, &made) {

@@ -7,7 +7,7 @@ ghost use Rattle.operators.specs.Kits.{IsKit};
 ghost use Rattle.sched_state.specs.Limits.{ceilings};
 ghost use Rattle.conduct.specs.Ends.{AreKept};
 ghost use Rattle.conduct.specs.sessions.director.Directors.{RestartsIn};
-ghost use Rattle.conduct.specs.sessions.director.Faults.{IsOpenFault, IsRefused};
+ghost use Rattle.conduct.specs.sessions.director.Faults.{IsGivenFault, IsOpenFault, IsRefused};
 ghost use Rattle.conduct.specs.sessions.director.meta_store.Stores.{CommitsBy, IsKeptOrMigrated, Migrates, OpensBy};
 ghost use Rattle.workers.specs.Shows.{shows};
 ghost use Rattle.script_runner.specs.Teams.{AreKitsOf, IsTeamRun, IsWhole};
@@ -54,6 +54,8 @@ pub fn run_team<
     ensures keep { IfOk result (λ ran. AreKept options.keep ran.minutes ran.ends.items) }
     ensures fault { IfErr result (λ e. HasCleanDisk (state S.Store e.store)
         → IsOpenFault ceilings 0 (state S.Store store).now e.fault) }
+    ensures given { IfErr result (λ e. HasCleanDisk (state S.Store e.store)
+        → IsGivenFault (state S.Store store) (state S.Store e.store) e.fault) }
     ensures kept { IfErr result (λ e. HasCleanDisk (state S.Store e.store)
         → IsTrue (state S.Store e.store).is_open
         → IsKeptOrMigrated (state S.Store store) (state S.Store e.store)) }

@@ -30,6 +30,7 @@ returns-in_ok-status-in-Err-clause-done g c =
       c.in-Err.unopened.fault,
       record {
         cause = c.in-Err.ensures.fault;
+        given = c.in-Err.ensures.given;
         kept = c.in-Err.ensures.kept;
         crash = c.in-Err.ensures.crash;
         refused_crash = c.in-Err.ensures.refused_crash;
@@ -44,6 +45,7 @@ returns-in_ok-status-in-Err-clause-known g c =
         c.in-Err.unopened.fault,
         record {
           cause = c.in-Err.ensures.fault;
+          given = c.in-Err.ensures.given;
           kept = c.in-Err.ensures.kept;
           crash = c.in-Err.ensures.crash;
           refused_crash = c.in-Err.ensures.refused_crash;

@@ -4,6 +4,7 @@ use Rattle.meta_store.specs.Schedules.{has_limits}
 use Rattle.meta_store.proofs.CommitLemmas.{failed}
 use Rattle.director.proofs.ListLemmas.{survives_itself}
 use Rattle.director.proofs.OpenLemmas.{did_migrate, did_settle, migration_fails}
+use Rattle.director.proofs.GivenLemmas.{store_given}
 use Rattle.director.proofs.opening.migrate.Goals as goal
 
 pub returns-then-has_limits-clause-done : goal.returns-then-has_limits-clause-done
@@ -30,3 +31,7 @@ pub returns-clause-transacts : goal.returns-clause-transacts
 returns-clause-transacts g c =
     let lacks : has_limits c.args.store.now.schema ≡ false = search rules in
     did_settle c.in_ok-_did._did (state g.S.Store c.args.store.now) (state g.S.Store c.migrate.new.self) lacks c.in_ok-_did.ensures.which c.in_ok-_did.ensures.transacts
+
+pub returns-in_err-_did-clause-given : goal.returns-in_err-_did-clause-given
+returns-in_err-_did-clause-given g c clean =
+    store_given (state g.S.Store c.args.store.now) (state g.S.Store c.migrate.new.self) c.in_err-_did.field-0.0 c.from_residual.result (c.in_err-_did.ensures.given clean) c.from_residual.ensures.1

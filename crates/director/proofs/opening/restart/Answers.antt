@@ -5,9 +5,11 @@ use Rattle.sched_model.specs.Schedule.{Schedule}
 use Rattle.meta_store.specs.Stores.{CommitsBy, Migrates}
 use Rattle.meta_store.proofs.CommitLemmas.{failed}
 use Rattle.director.specs.Directors.{RestartsIn}
-use Rattle.director.specs.Faults.{IsOpenFault}
+use Rattle.director.specs.Faults.{IsOpenFault, IsGivenFault}
 use Rattle.director.proofs.LimitLemmas.{restarted}
 use Rattle.director.proofs.OpenLemmas.{committed_by, handed_on, if_refused, load_told, looked_after, opens_told, perhaps_migrated, restart_told, undone_by, unopened}
+use Rattle.meta_store.proofs.GivenLemmas.{fault_since}
+use Rattle.director.proofs.GivenLemmas.{given_later, store_given}
 use Rattle.director.proofs.opening.restart.Goals as goal
 
 -- ---- not migrated
@@ -75,3 +77,28 @@ returns-in-Ok-clause-opened g c =
 pub returns-in-Ok-clause-limits : goal.returns-in-Ok-clause-limits
 returns-in-Ok-clause-limits g c =
     ap (λ (x : Schedule). x.limits) c.in-Ok.ensures.accepted.after ∙ restarted c.args.lanes c.in_ok-schedule.schedule.content ∙ c.in_ok-schedule.ensures.limits
+
+-- ---- its errors are those that SQLite gave
+pub returns-in_err-migrate-clause-given : goal.returns-in_err-migrate-clause-given
+returns-in_err-migrate-clause-given g c clean =
+    handed_on (IsGivenFault (state g.S.Store c.args.store.now) (state g.S.Store c.migrate.new.store)) c.in_err-migrate.field-0.0 c.from_residual.result (c.in_err-migrate.ensures.given clean) c.from_residual.ensures.1
+
+pub returns-in_err-schedule-clause-given : goal.returns-in_err-schedule-clause-given
+returns-in_err-schedule-clause-given g c clean =
+    let old = state g.S.Store c.args.store.now in
+    let mid = state g.S.Store c.migrate.new.store in
+    let new = state g.S.Store c.load.new.self in
+    let two = c.load.ensures.looks.crash in
+    let before : HasCleanDisk mid = omega (arith, two.clean) in
+    store_given old new c.in_err-schedule.field-0.0 c.from_residual-in_err-schedule.result
+    (fault_since old mid new c.in_err-schedule.field-0.0 c.in_ok-migrate.ensures.transacts.crash two before (c.in_err-schedule.ensures.given clean)) c.from_residual-in_err-schedule.ensures.1
+
+pub returns-in-Err-clause-given : goal.returns-in-Err-clause-given
+returns-in-Err-clause-given g c clean =
+    let old = state g.S.Store c.args.store.now in
+    let mid = state g.S.Store c.migrate.new.store in
+    let read = state g.S.Store c.load.new.self in
+    let new = state g.S.Store c.step.new.store in
+    let three = c.in-Err.ensures.transacts.crash in
+    let before : HasCleanDisk read = omega (arith, three.clean) in
+    given_later old read new c.in-Err.fault (looked_after old mid read c.in_ok-migrate.ensures.transacts c.load.ensures.looks).crash three before (c.in-Err.ensures.given clean)

@@ -6,6 +6,7 @@ use Rattle.meta_store.proofs.CommitLemmas.{failed, transacts_on}
 use Rattle.director.specs.Directors.{StepsIn}
 use Rattle.director.proofs.ListLemmas.{nothing_done}
 use Rattle.director.proofs.StepLemmas.{is_stepped, is_no_refusal, keeps_promises, stands_against}
+use Rattle.director.proofs.GivenLemmas.{refusal_given}
 use Rattle.director.proofs.stepping.step.Goals as goal
 
 pub returns-clause-accepted : goal.returns-clause-accepted
@@ -35,3 +36,8 @@ pub returns-in_err-change-clause-transacts : goal.returns-in_err-change-clause-t
 returns-in_err-change-clause-transacts g c =
     let old = state g.S.Store c.args.store.now in
     failed c.from_residual.result _ _ _ c.from_residual.ensures.1 (nothing_done (CommitsBy (StepsIn c.args.event.now c.args.schedule.now.content) old) old)
+
+pub returns-in_err-change-clause-given : goal.returns-in_err-change-clause-given
+returns-in_err-change-clause-given g c clean =
+    let old = state g.S.Store c.args.store.now in
+    refusal_given old old c.in_err-change.field-0.0 c.from_residual.result c.from_residual.ensures.1

@@ -10,6 +10,8 @@ use Rattle.record_tables.proofs.StepLemmas.{stops_then}
 use Rattle.meta_store.specs.Upgraded.{second_rows}
 use Rattle.meta_store.proofs.MigrateLemmas.{adds_stay, on_err}
 use Rattle.meta_store.proofs.ReadLemmas.{handed_on, prepared, table_fault, version_after}
+use Rattle.record_tables.specs.Given.{IsGivenLoadFault}
+use Rattle.record_tables.proofs.GivenLemmas.{load_then}
 use Rattle.meta_store.proofs.upgrading.prepare.Goals as goal
 
 pub returns-in_err-metas-clause-err : goal.returns-in_err-metas-clause-err
@@ -63,3 +65,24 @@ returns-in-Ok-clause-rows g c =
     let test : is_version (pos 1) c.in_ok-metas.metas.items ≡ true = search rules in
     let is : c.in-Ok.made ≡ second_rows c.in_ok-metas.metas.items c.in_ok-dags.dags.items = search rules in
     prepared a b d e c.in_ok-add_table.ensures.ok c.in_ok-metas.ensures.ok c.in_ok-dags.ensures.ok c.in_ok-metas.metas.items c.in_ok-dags.dags.items c.in-Ok.made c.in_ok-metas.ensures.list c.in_ok-dags.ensures.list test is
+
+pub returns-in_err-add_table-clause-given : goal.returns-in_err-add_table-clause-given
+returns-in_err-add_table-clause-given g c clean inside =
+    handed_on (IsGivenLoadFault (state g.S.Store c.args.tx.now.conn.now) (state g.S.Store c.add_table.new.tx.conn.now)) c.in_err-add_table.field-0.0 c.from_residual.result (c.in_err-add_table.ensures.given clean inside) c.from_residual.ensures.1
+
+pub returns-in_err-metas-clause-given : goal.returns-in_err-metas-clause-given
+returns-in_err-metas-clause-given g c clean inside =
+    let a = state g.S.Store c.args.tx.now.conn.now in
+    let b = state g.S.Store c.add_table.new.tx.conn.now in
+    let d = state g.S.Store c.load_all.new.tx.conn.now in
+    handed_on (IsGivenLoadFault a d) c.in_err-metas.field-0.0 c.from_residual-in_err-metas.result
+    (load_then _ a b d c.in_ok-add_table.ensures.ok c.in_err-metas.ensures.err c.in_err-metas.field-0.0 c.in_err-metas.ensures.given clean inside) c.from_residual-in_err-metas.ensures.1
+
+pub returns-in_err-dags-clause-given : goal.returns-in_err-dags-clause-given
+returns-in_err-dags-clause-given g c clean inside =
+    let a = state g.S.Store c.args.tx.now.conn.now in
+    let b = state g.S.Store c.add_table.new.tx.conn.now in
+    let d = state g.S.Store c.load_all.new.tx.conn.now in
+    let e = state g.S.Store c.load_all-2.new.tx.conn.now in
+    handed_on (IsGivenLoadFault a e) c.in_err-dags.field-0.0 c.from_residual-in_err-dags.result
+    (load_then _ a d e (adds_stay a b d c.in_ok-add_table.ensures.ok c.in_ok-metas.ensures.ok) c.in_err-dags.ensures.err c.in_err-dags.field-0.0 c.in_err-dags.ensures.given clean inside) c.from_residual-in_err-dags.ensures.1

@@ -19,3 +19,6 @@ returns-clause-fault g c =
 
 pub returns-clause-refused_crash : goal.returns-clause-refused_crash
 returns-clause-refused_crash g c = rw (← c.close.ensures) c.open.ensures.refused_crash
+
+pub returns-clause-given : goal.returns-clause-given
+returns-clause-given g c = rw (← c.close.ensures) c.open.ensures.given

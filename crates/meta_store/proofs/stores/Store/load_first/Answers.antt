@@ -6,6 +6,7 @@ use Rattle.record_tables.specs.Loads.{is_version}
 use Rattle.meta_store.specs.Upgraded.{upgraded}
 use Rattle.meta_store.proofs.BackLemmas.{texts_upgraded}
 use Rattle.meta_store.proofs.ReadLemmas.{of_version}
+use Rattle.meta_store.proofs.GivenLemmas.{load_given}
 use Rattle.meta_store.proofs.stores.Store.load_first.Goals as goal
 
 pub returns-then-not-is_version-clause-fault : goal.returns-then-not-is_version-clause-fault
@@ -23,3 +24,7 @@ returns-in-Ok-upgrade_rows-clause-found g c clean =
 
 pub returns-in-Ok-upgrade_rows-clause-texts : goal.returns-in-Ok-upgrade_rows-clause-texts
 returns-in-Ok-upgrade_rows-clause-texts g c = subst AreTexts (sym c.in-Ok-upgrade_rows.ensures) (texts_upgraded c.in-Ok.rows c.in-Ok.ensures.texts)
+
+pub returns-in-Err-clause-given : goal.returns-in-Err-clause-given
+returns-in-Err-clause-given g c clean =
+    load_given (state g.S.Store c.args.self.now) (state g.S.Store c.read_first.new.self) c.in-Err.fault c.fault_of_load.result c.fault_of_load.ensures (c.in-Err.ensures.given clean)

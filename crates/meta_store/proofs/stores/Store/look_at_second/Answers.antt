@@ -3,6 +3,7 @@ use Rattle.sqlite.specs.Held.{state}
 use Rattle.record_tables.specs.Holds.{Stores}
 use Rattle.record_tables.specs.Loads.{is_version}
 use Rattle.meta_store.proofs.ReadLemmas.{load_fault, metas_of_version}
+use Rattle.meta_store.proofs.GivenLemmas.{load_given}
 use Rattle.meta_store.proofs.stores.Store.look_at_second.Goals as goal
 
 pub returns-then-is_version-clause-version : goal.returns-then-is_version-clause-version
@@ -17,3 +18,7 @@ returns-in-Ok-clause-fault g c clean =
 
 pub returns-clause-fault : goal.returns-clause-fault
 returns-clause-fault g c clean = load_fault _ c.in-Err.fault c.fault_of_load.result c.fault_of_load.ensures (λ is rows stored texts. absurd (c.in-Err.ensures.fault clean is rows stored))
+
+pub returns-clause-given : goal.returns-clause-given
+returns-clause-given g c clean =
+    load_given (state g.S.Store c.args.self.now) (state g.S.Store c.read_metas.new.self) c.in-Err.fault c.fault_of_load.result c.fault_of_load.ensures (c.in-Err.ensures.given clean)

@@ -6,6 +6,7 @@ use Rattle.sqlite.specs.Held.{state}
 use Rattle.meta_store.proofs.CommitLemmas.{dropped, looked}
 use Rattle.meta_store.proofs.MigrateLemmas.{none_read}
 use Rattle.meta_store.proofs.ReadLemmas.{told_before}
+use Rattle.meta_store.proofs.GivenLemmas.{load_dropped}
 use Rattle.meta_store.proofs.stores.Store.read_metas.Goals as goal
 
 pub returns-clause-looks : goal.returns-clause-looks
@@ -23,3 +24,7 @@ pub returns-clause-fault : goal.returns-clause-fault
 returns-clause-fault g c =
     told_before g.S.Store c.args.self.now c.transaction-tx.result.conn.now c.load_all.new.tx.conn.now c.drop-tx.new.self.0 (rw (← c.self.view_is) c.transaction-tx.ensures.begun) c.drop-tx.ensures.survives
     (λ db. IfErr c.load_all.result (λ e. e ≡ unread.NotOurs → (rows : Rows) → Stores db rows → ⊥)) (λ clean inside. none_read (state g.S.Store c.transaction-tx.result.conn.now).now c.load_all.result (c.load_all.ensures.fault clean))
+
+pub returns-clause-given : goal.returns-clause-given
+returns-clause-given g c =
+    load_dropped g.S.Store c.args.self.now c.transaction-tx.result.conn.now c.load_all.new.tx.conn.now c.drop-tx.new.self.0 (rw (← c.self.view_is) c.transaction-tx.ensures.begun) c.load_all.result c.load_all.ensures.given c.drop-tx.ensures.survives
