@@ -156,12 +156,14 @@ def asks(trial, _):
     expect(trial.ask("load", "a.toml")[0] == 0, "load again")
     expect(trial.ask("pause", "nobody")[:2] == (1, "refused 6 UnknownGraph\n"), "1 is refused")
     expect(trial.ask("paus", "a")[0] == 2 and trial.ask("load", "nowhere.toml")[0] == 4, "2 is no command, 4 no file")
+    expect(trial.ask("tick", "2199-01-01")[0] == trial.ask("drain")[0] == 2 and "2199" not in trial.said(), "the time is told by the service alone")
     expect(trial.ask("resize x 1\nresize y 1")[0] == 2 and " x " not in trial.ask("list", "pools")[1], "a command is one line")
     for name in "ab":
         trial.ask("trigger", name)
     until(10, lambda: trial.ask("list", "runs", "--failed")[1].startswith("b manual__"), "a filter of what failed")
     expect(trial.ask("list", "tasks", "a", "--failed")[1] == "ok\n" and trial.ask("list", "tasks", "a")[1].startswith("a manual__"), "a filter by graph")
-    expect(trial.ask("list", "runs", "--until", "2024-01-01")[1] == "ok\n", "a filter by date")
+    expect(trial.ask("list", "runs", "--until", "2024-01-01")[1:] == ("ok\n", ""), "a filter by date")
+    expect("no run of a graph c;" in trial.ask("list", "runs", "c")[2] and not trial.ask("list", "runs", "a")[2], "a graph without a run is told")
     expect(trial.ask("list", "runs", "a", "--since=2024-01-01")[1].count("\n") == 2, "a filter by graph and date")
     expect(trial.ask("list", "runs", "--later")[0] == trial.ask("list", "runs", "--since", "2024-02-30")[0] == 2, "no filter of this name, no such day")
     expect(not [it for it in os.listdir(trial.folder.at("answers")) if "> list" in trial.text("answers", it)], "what only looks is not kept")
@@ -255,29 +257,36 @@ def kills(trial, options):
     wanted = sorted((f"g{it}", "success") for it in range(count))
     until(60, lambda: phases() == wanted, lambda: f"each graph has one run, a success: {phases()}\n{trial.said()}")
     expect(trial.ask("list", "pools")[1].count(" 3 0 3\n") == count, "each resize is done")
-    check_clear(trial, phases()[0][0])
+    check_again(trial, phases()[0][0])
     programs.end(trial.folder)  # of tries that a kill cut off
 
 
-def check_clear(trial, name):
-    """A kill before and after a clear was done: it is done once. Leaves no service."""
+def check_again(trial, name):
+    """A kill before and after a clear, or a mark, was done: it is done once. Leaves no service."""
     date = trial.ask("list", "runs", name)[1].split("__")[1].split("+")[0] + "Z"
-    for done in (False, True):
-        before = trial.rows("SELECT sum(since) FROM instance")[0][0]
+    clear, mark = f"clear {name} {date} {date}", f"mark {name} {date} t1 skipped"
+    def becomes(*states):
+        until(20, lambda: [it.split()[3] for it in trial.ask("list", "tasks", name)[1].splitlines()[:-1]] == [*states], f"the tasks are {states}")
+    def set_back():
+        return trial.rows("SELECT sum(since) FROM instance")[0][0]
+    for number, (command, state, done) in enumerate(((clear, "success", False), (clear, "success", True), (mark, "skipped", False), (mark, "skipped", True))):
+        expect(trial.ask(*clear.split())[0] == 0, "a clear")
+        becomes("success", "success")
+        before = set_back()
         if done:
-            expect(trial.ask("clear", name, date, date)[0] == 0, "a clear")
-            until(20, lambda: trial.ask("list", "tasks", name)[1].count(" success ") == 2, "the run is done again")
+            expect(trial.ask(*command.split())[0] == 0, command)
+            becomes("success", state)
         expect(trial.end() == 0, "the end")
-        once = trial.rows("SELECT sum(since) FROM instance")[0][0]
+        once = set_back()
         # what a kill leaves between the answer of the scheduler and the note that it came
-        for file, text in ((f"0,again{done}", f"clear {name} {date} {date}\n"), (".set-back", f"{before} 0,again{done}")):
+        for file, text in ((f"0,again{number}", f"{command}\n"), (".set-back", f"{before} 0,again{number}")):
             with open(trial.folder.at("doing", file), "w") as it:
                 it.write(text)
         trial.begin()
-        until(10, lambda: os.path.exists(trial.folder.at("done", f"again{done}")), "it is done")
-        after = trial.rows("SELECT sum(since) FROM instance")[0][0]
-        expect((after > once) is not done, f"a clear that was {'' if done else 'not '}done: {before}, {once}, {after}")
-        until(20, lambda: trial.ask("list", "tasks", name)[1].count(" success ") == 2, "the run is done again")
+        until(10, lambda: os.path.exists(trial.folder.at("done", f"again{number}")), "it is done")
+        after = set_back()
+        expect((after > once) is not done, f"{command}, which was {'' if done else 'not '}done: {before}, {once}, {after}")
+        becomes("success", state)
     expect(trial.end() == 0, "the end")
 
 
@@ -374,7 +383,7 @@ def pages(trial, _):
     after = paged.check_site(site)
     expect(time.strftime("%Y-%m-%d %H:%M:%S", time.gmtime(trial.now())) in front.read_text(), "the page is that of the end")
     trial.begin("--page-each=1", environment={"PAGE": trial.beside("nowhere/page")})
-    until(20, lambda: "the page in " in trial.said() and "No such file" in trial.said(), lambda: f"a page that cannot be written is told:\n{trial.said()}")
+    until(60, lambda: "the page in " in trial.said() and "No such file" in trial.said(), lambda: f"a page that cannot be written is told:\n{trial.said()}")
     expect(trial.ask("list", "runs")[0] == 0, "the service goes on")
     night.end(trial)
     return f"{count} pages, {len(after)} at the end"

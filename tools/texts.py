@@ -8,7 +8,7 @@ HOUR = 3_600
 SCHEDULES = ["@hourly", "0 */2 * * *", "0 */3 * * *", "30 * * * *", "0,30 * * * *", "@once", "None"]
 # in words, how often one edit comes beside the others
 EDITS = {
-    "remark": 3, "argv": 2, "retries": 8, "retry_delay": 2, "priority_weight": 2, "weight_rule": 1, "trigger_rule": 4, "depends_on_past": 2, "upstream": 6, "more": 5,
+    "remark": 3, "argv": 2, "execution_timeout": 2, "retries": 8, "retry_delay": 2, "priority_weight": 2, "weight_rule": 1, "trigger_rule": 4, "depends_on_past": 2, "upstream": 6, "more": 5,
     "order": 3, "fewer": 1, "pool": 3, "pool_slots": 2, "max_active_runs": 3, "max_active_tasks": 3, "schedule": 3, "start_date": 3, "end_date": 1, "catchup": 2,
     "timetable": 1, "dag_id": 0.3,
 }
@@ -49,6 +49,9 @@ class Other:
         draw = self.draw
         if name == "argv":
             task["operator"], task["argv"] = "exit", draw.choice(["0", "1", "99", "1 0", "1 1 0", "1 99"]).split()
+            task.pop("execution_timeout", None)
+        elif name == "execution_timeout":  # of a program, which ends long before
+            task["operator"], task["argv"], task[name] = "command", ["true"], draw.choice([60, 3600, 31_536_000])
         else:
             task[name] = {
                 "retries": lambda: draw.randint(0, 3),

@@ -17,20 +17,20 @@ use Rattle.script_reader.specs.Done.{FileAnswer}
 use Rattle.script_runner.proofs.LessLemmas.{by_team_less}
 use Rattle.dagsched.specs.Commands.{IsCommandDone}
 use Rattle.dagsched.specs.Records.{has_tables, IsDoneOn}
-use Rattle.dagsched.specs.Scripts.{IsScriptDone, IsScriptOf}
+use Rattle.dagsched.specs.Scripts.{IsScriptDone, IsScriptOf, IsScriptRun}
 
 -- nothing is known of bytes that are not known
 no_bytes : (read : Option (List ℕ)) (bytes : List ℕ) → None ≡ Some bytes → read ≡ Some bytes
 no_bytes read bytes is = absurd (true≢false (sym (ap is_some is)))
 
 -- a script that was run, where less is known of its streams
-pub script_less : {S O F W : Type 0} (look : Held S → State) (o : operator.Ghosts O) (bytes : Option (List ℕ)) (gives : F → List FileAnswer → F → Type 0) (contents : W → Option (List ℕ)) (options : ScriptOptions) (sources : F) (output : W) (before after : Held S) (status : ℕ)
-    → IsScriptOf look o bytes gives contents options sources output before after status → IsScriptDone look o options before after status
-script_less look o bytes gives contents options sources output before after status (inl (later, written, run)) =
+pub script_less : {S O F W : Type 0} (look : Held S → State) (o : operator.Ghosts O) (bytes : Option (List ℕ)) (gives : F → List FileAnswer → F → Type 0) (contents : W → Option (List ℕ)) (options : ScriptOptions) (sources : F) (output : W) (before after : Held S) (status : ℕ) (later : F) (written : W)
+    → IsScriptOf look o bytes gives contents options sources output before after status later written → IsScriptRun look o options before after status
+script_less look o bytes gives contents options sources output before after status later written (inl run) =
     inl
     (by_team_less bytes None (λ given. gives sources given later) (λ _. Unit {0}) (λ _. Unit {0}) (λ _. Unit {0}) (λ shown. Appends (contents output) (contents written) shown) (λ _. Unit {0})
     (no_bytes bytes) (λ _ _. tt) (λ _ _. tt) (λ _ _. tt) look o (later ≡ sources) (Unit {0}) (λ _. tt) options.workers options.lanes (look before) after status run)
-script_less look o bytes gives contents options sources output before after status (inr unopened) = inr (inl unopened)
+script_less look o bytes gives contents options sources output before after status later written (inr (unopened, same, kept)) = inr unopened
 
 -- no tables: none of these
 none_named : (is_named : Table → Bool) (tables : List Table) → not (length tables == 0) ≡ false → list_any is_named tables ≡ false
@@ -48,19 +48,19 @@ module _ {S O : Type 0} (look : Held S → State) (o : operator.Ghosts O) where
   as_it_was before after same clean = subst (λ (h : Held S). HasCleanDisk (look h)) same clean
 
   script_clean : (options : ScriptOptions) (before after : Held S) (status : ℕ) → IsScriptDone look o options before after status → HasCleanDisk (look after) → HasCleanDisk (look before)
-  script_clean options before after status (inl run) clean = run.run.run.was_clean clean
-  script_clean options before after status (inr (inl (fault, unopened, is))) clean = omega (arith, unopened.crash.clean, clean)
-  script_clean options before after status (inr (inr held)) clean = as_it_was before after held.0 clean
+  script_clean options before after status (inl (inl run)) clean = run.run.run.was_clean clean
+  script_clean options before after status (inl (inr (fault, unopened, is))) clean = omega (arith, unopened.crash.clean, clean)
+  script_clean options before after status (inr held) clean = as_it_was before after held.0 clean
 
   pub done_clean : (c : Command) (before after : Held S) (status : ℕ) → IsCommandDone look o c before after status → HasCleanDisk (look after) → HasCleanDisk (look before)
   done_clean (says.Run options) before after status done clean = script_clean options before after status done clean
-  done_clean (says.Step e) before after status (old, new, written, said, inl (came, a, stepped, told), at) clean = stepped.was_clean clean
-  done_clean (says.Step e) before after status (old, new, written, said, inr (fault, unopened, told), at) clean = omega (arith, unopened.crash.clean, clean)
-  done_clean (says.List listing) before after status (old, new, written, said, (read, looked, told), at) clean = omega (arith, looked.crash.clean, clean)
-  done_clean (says.Explain question) before after status (old, new, written, said, (read, looked, told), at) clean = omega (arith, looked.crash.clean, clean)
-  done_clean (says.Take how source) before after status (old, new, written, said, told, at) clean = as_it_was before after told.0 clean
-  done_clean (says.Tick time) before after status (old, new, written, said, told, at) clean = as_it_was before after told.0 clean
-  done_clean says.Drain before after status (old, new, written, said, told, at) clean = as_it_was before after told.0 clean
+  done_clean (says.Step e) before after status (old, new, written, inl (came, a, stepped, told)) clean = stepped.was_clean clean
+  done_clean (says.Step e) before after status (old, new, written, inr (fault, unopened, told)) clean = omega (arith, unopened.crash.clean, clean)
+  done_clean (says.List listing) before after status (old, new, written, (read, looked, told)) clean = omega (arith, looked.crash.clean, clean)
+  done_clean (says.Explain question) before after status (old, new, written, (read, looked, told)) clean = omega (arith, looked.crash.clean, clean)
+  done_clean (says.Take how source) before after status (old, new, written, told) clean = as_it_was before after told.0 clean
+  done_clean (says.Tick time) before after status (old, new, written, told) clean = as_it_was before after told.0 clean
+  done_clean says.Drain before after status (old, new, written, told) clean = as_it_was before after told.0 clean
 
   pub on_clean : (c : Command) (conn after : Held S) (status : ℕ) → IsDoneOn look o c conn after status → HasCleanDisk (look after) → HasCleanDisk (look conn)
   on_clean c conn after status (inl (first, inl (some, same), done)) clean = as_it_was conn first same (done_clean c first after status done clean)

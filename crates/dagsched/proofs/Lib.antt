@@ -1,2 +1,3 @@
 pub mod DoneLemmas
 pub mod MemoryLemmas
+pub mod SingleLemmas

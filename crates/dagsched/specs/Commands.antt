@@ -1,6 +1,6 @@
 -- What the program does with a command on a record.
 -- restates: this project's own profile
-use Rattle.std.specs.Prelude.{◌≡◌, ◌⊎◌, ℕ, Bool, true, false, List, Option, None}
+use Rattle.std.specs.Prelude.{ℕ, Bool, true, false, List, Option, None}
 use Rattle.sqlite.specs.Held.{Held}
 use Rattle.sqlite.specs.State.{State}
 use Rattle.operators.specs.declared.operators.Operator as operator
@@ -9,10 +9,14 @@ use Rattle.command_words.specs.declared.commands.Command.TheVariants as says
 use Rattle.command_runner.specs.Commands.{IsDone}
 use Rattle.dagsched.specs.Scripts.{IsScriptDone}
 
--- a command outside of scripts, of whose output nothing is known; the status is its own, or 4 where its answer was not written out
+-- A command outside of scripts was done, and the bytes of the output became these: its answer is written out, and the status is its own; or it is not, and the
+-- status is 4.
+abbrev pub IsAnsweredOn : {S : Type 0} → (Held S → State) → Command → Option (List ℕ) → Option (List ℕ) → Held S → Held S → ℕ → Type 0
+IsAnsweredOn look c old new before after status = (told : Bool) × IsDone look before c old new after told status
+
+-- the same, where nothing is known of the output, as of the system's
 abbrev pub IsSingleDone : {S : Type 0} → (Held S → State) → Command → Held S → Held S → ℕ → Type 0
-IsSingleDone look c before after status =
-    (old : Option (List ℕ)) × (new : Option (List ℕ)) × (told : Bool) × (said : ℕ) × IsDone look before c old new after told said × ((status ≡ said) ⊎ (status ≡ 4))
+IsSingleDone look c before after status = (old : Option (List ℕ)) × (new : Option (List ℕ)) × IsAnsweredOn look c old new before after status
 
 -- a command on a record: `run` runs a script
 abbrev pub IsCommandDone : {S O : Type 0} → (Held S → State) → operator.Ghosts O → Command → Held S → Held S → ℕ → Type 0

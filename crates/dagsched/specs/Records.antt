@@ -7,7 +7,7 @@ use Rattle.sqlite_store.specs.declared.store.FileStore.{FileStore}
 use Rattle.sqlite.specs.Recovery.{Image}
 use Rattle.sqlite.specs.Schema.{Schema}
 use Rattle.sqlite.specs.Closing.{IsCopied}
-use Rattle.sqlite.specs.Files.{file_state, Finds, IsOpened}
+use Rattle.sqlite.specs.Files.{file_state, Finds, IsClosed, IsOpened}
 use Rattle.sqlite.specs.Held.{Held}
 use Rattle.sqlite.specs.State.{State, HasCleanDisk}
 use Rattle.sqlite.specs.WalReads.{AreClean}
@@ -90,9 +90,12 @@ pub record IsDoneOnFile {D O : Type 0} (g : disk.Ghosts D) (o : operator.Ghosts 
   pub settled : after.in_transaction ≡ false
 
 -- The file of a database and its log were closed, and the status is that of the command: if they gave back what was written, they hold this database, as they
--- read and after a crash, and so does the file with no log. Or they were not, and the status is at least 3.
+-- read and after a crash, and so does the file with no log. Or they were not, and the status is at least 3: then they are left so that a crash has no outcome
+-- which it had not before.
 abbrev pub IsClosedWith : {D : Type 0} {g : disk.Ghosts D} → Held (FileStore D g) → ℕ → ℕ → Type 0
-IsClosedWith {D} {g} conn said status = ((files : Files D) × (AreClean g files.log files.db → IsCopied conn files) × (status ≡ said)) ⊎ (status ≡ max said 3)
+IsClosedWith {D} {g} conn said status =
+    ((files : Files D) × (AreClean g files.log files.db → IsCopied conn files) × (status ≡ said))
+    ⊎ ((last : FileStore D g) × IsClosed conn last × (status ≡ max said 3))
 
 -- the same, and the file was closed then
 pub record IsDoneAndClosed {D O : Type 0} (g : disk.Ghosts D) (o : operator.Ghosts O) (image : Image) (c : Command) (status : ℕ) : Type 0 where

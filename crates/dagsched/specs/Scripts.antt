@@ -16,20 +16,23 @@ use Rattle.script_runner.specs.Teams.{IsRunByTeam}
 abbrev pub IsNotOpened : {S : Type 0} → (Held S → State) → Held S → Held S → ℕ → Type 0
 IsNotOpened look before after status = (fault : Fault) × IsUnopened look (look before) fault after × (status ≡ failure_status fault)
 
--- A script was run on a record with the workers and the lanes that the options name, its streams and sources being what their contracts know of them; or the
--- record was not opened, and the status is that of the cause.
-abbrev pub IsScriptOf : {S O F W : Type 0} → (Held S → State) → operator.Ghosts O → Option (List ℕ) → (F → List FileAnswer → F → Type 0) → (W → Option (List ℕ)) → ScriptOptions → F → W → Held S → Held S → ℕ → Type 0
-IsScriptOf {S} {O} {F} {W} look o bytes gives contents options sources output before after status =
-    ((later : F) × (written : W)
-    × IsRunByTeam look o bytes (λ given. gives sources given later) (λ _. Unit {0}) (λ shown. Appends (contents output) (contents written) shown) (later ≡ sources) options.workers options.lanes (look before) after status)
-    ⊎ IsNotOpened look before after status
+-- A script was run on a record with the workers and the lanes that the options name, its streams and sources being what their contracts know of them, up to
+-- these sources (later) and this output (written); or the record was not opened, the status is that of the cause, and both are as they were.
+abbrev pub IsScriptOf : {S O F W : Type 0} → (Held S → State) → operator.Ghosts O → Option (List ℕ) → (F → List FileAnswer → F → Type 0) → (W → Option (List ℕ)) → ScriptOptions → F → W → Held S → Held S → ℕ → F → W → Type 0
+IsScriptOf look o bytes gives contents options sources output before after status later written =
+    IsRunByTeam look o bytes (λ given. gives sources given later) (λ _. Unit {0}) (λ shown. Appends (contents output) (contents written) shown) (later ≡ sources) options.workers options.lanes (look before) after status
+    ⊎ (IsNotOpened look before after status × (later ≡ sources) × (written ≡ output))
 
 -- Nothing was run, since another program has its tries in the folder: the record stays.
 abbrev pub IsHeldBack : {S : Type 0} → Held S → Held S → ℕ → Type 0
 IsHeldBack before after status = (after ≡ before) × (status ≡ 4)
 
--- the same, where nothing is known of streams, sources and clock, as of the system's; or nothing was run
-abbrev pub IsScriptDone : {S O : Type 0} → (Held S → State) → operator.Ghosts O → ScriptOptions → Held S → Held S → ℕ → Type 0
-IsScriptDone look o options before after status =
+-- a script was run, where nothing is known of streams, sources and clock, as of the system's; or the record was not opened
+abbrev pub IsScriptRun : {S O : Type 0} → (Held S → State) → operator.Ghosts O → ScriptOptions → Held S → Held S → ℕ → Type 0
+IsScriptRun look o options before after status =
     IsRunByTeam look o None (λ _. Unit {0}) (λ _. Unit {0}) (λ _. Unit {0}) (Unit {0}) options.workers options.lanes (look before) after status
-    ⊎ (IsNotOpened look before after status ⊎ IsHeldBack before after status)
+    ⊎ IsNotOpened look before after status
+
+-- the same, or nothing was run
+abbrev pub IsScriptDone : {S O : Type 0} → (Held S → State) → operator.Ghosts O → ScriptOptions → Held S → Held S → ℕ → Type 0
+IsScriptDone look o options before after status = IsScriptRun look o options before after status ⊎ IsHeldBack before after status

@@ -1,6 +1,9 @@
 -- What the program does for words.
 -- restates: this project's own profile
 use Rattle.std.specs.Prelude.{◌≡◌, ◌⊎◌, ℕ, true, false, if◌then◌else◌, List, [], ◌∷◌, ◌++◌, Option, None, Some, Ok, Err, is_some, codes, bytes_eq}
+use Rattle.std.specs.IoError.{error_kind}
+use Rattle.std.specs.declared.io.Error.{Error}
+use Rattle.std.specs.declared.io.ErrorKind.TheVariants as kind
 use Rattle.sqlite_disk.specs.declared.Disk as disk
 use Rattle.sqlite.specs.Recovery.{Image}
 use Rattle.operators.specs.declared.operators.Operator as operator
@@ -40,6 +43,10 @@ module _ {M F O : Type 0} (memory : disk.Ghosts M) (file : disk.Ghosts F) (image
       ((line : CommandLine) × (line_of words ≡ Ok line) × IsLineDone line status)
       ⊎ ((fault : UsageFault) × (line_of words ≡ Err fault) × IsToldOf fault words status)
 
-  -- the program ends so: some words were done; or one of its own is not UTF-8: 2; or the system gave an error: 4
-  abbrev pub IsEnd : ℕ → Type 0
-  IsEnd status = ((words : List (List ℕ)) × AreWordsDone words status) ⊎ ((status ≡ 2) ⊎ (status ≡ 4))
+  -- the program ends so, if these are the words after its name: what they mean was done; or the system gave an error: 4
+  abbrev pub IsEnd : List (List ℕ) → ℕ → Type 0
+  IsEnd words status = AreWordsDone (words_meant words) status ⊎ (status ≡ 4)
+
+-- it ends so, if the system gave this error in place of its words: one of these is not UTF-8: 2; or 4
+abbrev pub IsEndWithoutWords : Error → ℕ → Type 0
+IsEndWithoutWords error status = ((error_kind error ≡ kind.InvalidData) × (status ≡ 2)) ⊎ (status ≡ 4)

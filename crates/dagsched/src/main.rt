@@ -11,10 +11,10 @@
 //! person.
 #![tactic(auto)]
 
-ghost use Rattle.std.specs.Prelude.{◌≡◌, ◌++◌, ◌∷◌, [], IfOk, codes, map, string_bytes};
+ghost use Rattle.std.specs.Prelude.{◌≡◌, ◌++◌, ◌∷◌, [], IfErr, IfOk, codes, map, string_bytes};
 ghost use Rattle.sqlite.specs.WalFiles.{image_at};
 ghost use Rattle.dagsched.specs.Commands.{is_of_scripts};
-ghost use Rattle.dagsched.specs.Words.{words_meant, AreWordsDone, IsEnd, IsLineDone};
+ghost use Rattle.dagsched.specs.Words.{words_meant, AreWordsDone, IsEnd, IsEndWithoutWords, IsLineDone};
 
 mod records;
 mod scripts;
@@ -38,15 +38,29 @@ use std::sync::Wait;
 use std::thread::Threads;
 
 fn main(rt: HostRuntime) -> ExitCode {
-    ExitCode::from(status(&rt, &rt))
+    let words = own_words(&rt);
+    ExitCode::from(status(&rt, &rt, words))
 }
 
-// Does what the program's words ask for, and answers its status.
-fn status<T: Threads + Wait + Sync>(threads: &T, rt: &HostRuntime) -> u8
-    ensures { IsEnd ⟦<Volatile as Disk>⟧ ⟦<File as Disk>⟧ (image_at ⟦<Unknown as Start>⟧)
-        ⟦<OwnOperator as Operator>⟧ result }
+// The words after the program's name.
+fn own_words(rt: &HostRuntime) -> io::Result<Vec<String>> {
+    let mut words = env::args(rt)?;
+    let _program = words.next();
+    Ok(words.collect::<Vec<String>>(rt.alloc())?)
+}
+
+// Does what these words ask for, which stand after the program's name, and answers its status.
+fn status<T: Threads + Wait + Sync>(
+    threads: &T,
+    rt: &HostRuntime,
+    words: io::Result<Vec<String>>,
+) -> u8
+    ensures ended { IfOk words (λ given. IsEnd ⟦<Volatile as Disk>⟧ ⟦<File as Disk>⟧
+        (image_at ⟦<Unknown as Start>⟧) ⟦<OwnOperator as Operator>⟧
+        (map string_bytes given.items) result) }
+    ensures without_words { IfErr words (λ error. IsEndWithoutWords error result) }
 {
-    match run_words(threads, rt) {
+    match run_words(threads, rt, words) {
         Ok(status) => status,
         Err(error) if error.kind() == ErrorKind::OutOfMemory => out_of_memory(rt),
         Err(_) => 4,
@@ -60,23 +74,24 @@ fn out_of_memory(rt: &HostRuntime) -> u8
     4
 }
 
-fn run_words<T: Threads + Wait + Sync>(threads: &T, rt: &HostRuntime) -> io::Result<u8>
-    ensures { IfOk result (λ status. IsEnd ⟦<Volatile as Disk>⟧ ⟦<File as Disk>⟧
-        (image_at ⟦<Unknown as Start>⟧) ⟦<OwnOperator as Operator>⟧ status) }
+fn run_words<T: Threads + Wait + Sync>(
+    threads: &T,
+    rt: &HostRuntime,
+    words: io::Result<Vec<String>>,
+) -> io::Result<u8>
+    ensures done { IfOk result (λ status. IfOk words (λ given. AreWordsDone ⟦<Volatile as Disk>⟧
+        ⟦<File as Disk>⟧ (image_at ⟦<Unknown as Start>⟧) ⟦<OwnOperator as Operator>⟧
+        (words_meant (map string_bytes given.items)) status)) }
+    ensures without_words { IfOk result (λ status. IfErr words (λ error. IsEndWithoutWords error status)) }
 {
-    match own_words(rt) {
-        Ok(words) => do_words(threads, rt, words),
+    match words {
+        Ok(words) => {
+            let meant = words_meant(rt.alloc(), words)?;
+            do_words(threads, rt, meant)
+        }
         Err(error) if error.kind() == ErrorKind::InvalidData => put_unreadable(rt),
         Err(error) => Err(error),
     }
-}
-
-// What the words after the program's name mean.
-fn own_words(rt: &HostRuntime) -> io::Result<Vec<String>> {
-    let mut words = env::args(rt)?;
-    let _program = words.next();
-    let words = words.collect::<Vec<String>>(rt.alloc())?;
-    Ok(words_meant(rt.alloc(), words)?)
 }
 
 // What words mean: those of `help COMMAND` are `COMMAND --help`.

@@ -1,11 +1,11 @@
 //! The record on which a command is done.
-ghost use Rattle.std.specs.Prelude.{◌≡◌, false, IfOk, IfSome, IsTrue, MatchResult};
+ghost use Rattle.std.specs.Prelude.{◌≡◌, false, IfOk, IfSome, IsTrue};
 ghost use Rattle.sqlite.specs.Files.{file_state, Finds, IsOpened};
 ghost use Rattle.sqlite.specs.Held.{state};
 ghost use Rattle.sqlite.specs.State.{HasCleanDisk};
 ghost use Rattle.sqlite.specs.WalFiles.{image_at};
 ghost use Rattle.script_reader.specs.Statuses.{failure_status};
-ghost use Rattle.dagsched.specs.Commands.{IsCommandDone, IsSingleDone};
+ghost use Rattle.dagsched.specs.Commands.{IsAnsweredOn, IsCommandDone, IsSingleDone};
 ghost use Rattle.dagsched.specs.Records.{has_tables, IsClosedWith, IsDoneInFile, IsDoneInFiles, IsDoneInMemory, IsDoneOn, IsDoneOnFile};
 
 use crate::scripts::{OwnOperator, run_script};
@@ -20,7 +20,7 @@ use director::{Fault, open_database};
 use fault_sentences::SentenceConsole;
 use meta_store::Store;
 use operators::Operator;
-use script_reader::failure_status;
+use script_reader::{Console, failure_status};
 use sqlite::{
     Alter, Connection, Error, ErrorCode, FileFrom, FileStore, Files, Options, Start, Unknown,
 };
@@ -277,29 +277,30 @@ fn run_single<S: Alter + Drop>(
     let alloc = rt.alloc();
     let mut output = BufWriter::new(alloc, rt.stdout())?;
     let mut console = SentenceConsole::in_memory(*rt, alloc, words);
-    let Answered { store, status, .. } = run_command(
-        alloc,
-        store,
-        command,
-        &mut output,
-        &mut console,
-    );
-    let flushed = output.flush();
+    let (store, status, flushed) = answer_on(alloc, store, command, &mut output, &mut console);
     // a sentence follows the answer
     let _ = rt.stderr().write_all(console.into_output().as_slice());
-    Ok((store, status_of(rt, status, flushed)))
+    if let Err(error) = flushed {
+        tell_unanswered(rt, &error);
+    }
+    Ok((store, status))
 }
 
-// The status of a command whose answer was written out so.
-fn status_of(rt: &HostRuntime, status: u8, flushed: io::Result<()>) -> u8
-    ensures { MatchResult flushed (λ _. result ≡ status) (λ _. result ≡ 4) }
+// Does one command outside of a script, whatever the output is, and writes out its answer; with the status comes whether it was written out.
+fn answer_on<S: Alter + Drop, W: Write, P: Console>(
+    alloc: Global,
+    store: Store<S>,
+    command: &Command,
+    output: &mut W,
+    console: &mut P,
+) -> (Store<S>, u8, io::Result<()>)
+    ensures { IsAnsweredOn (state S.Store) command.now (W.contents output.old) (W.contents output.new)
+        store result.0 result.1 }
 {
-    match flushed {
-        Ok(()) => status,
-        Err(error) => {
-            tell_unanswered(rt, &error);
-            4
-        }
+    let Answered { store, status, .. } = run_command(alloc, store, command, output, console);
+    match output.flush() {
+        Ok(()) => (store, status, Ok(())),
+        Err(error) => (store, 4, Err(error)),
     }
 }
 

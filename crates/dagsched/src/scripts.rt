@@ -1,8 +1,8 @@
 //! A script that is run on a record.
-ghost use Rattle.std.specs.Prelude.{◌≡◌, IfOk, is_some, false, true};
+ghost use Rattle.std.specs.Prelude.{◌≡◌, IfOk, MatchResult, is_some, false, true};
 ghost use Rattle.sqlite.specs.Held.{state};
 ghost use Rattle.dagsched.specs.Commands.{logs_of};
-ghost use Rattle.dagsched.specs.Scripts.{IsScriptDone, IsScriptOf};
+ghost use Rattle.dagsched.specs.Scripts.{IsHeldBack, IsScriptDone, IsScriptOf, IsScriptRun};
 
 use crate::records::put_failure;
 use crate::telling::tell;
@@ -55,14 +55,31 @@ pub fn run_script<S: Alter + Drop, T: Threads + Wait + Sync>(
 {
     let scratch = options.scratch.as_str();
     make_scratch(rt, scratch);
-    match hold(rt, scratch) {
+    let held = hold(rt, scratch);
+    run_held(threads, rt, store, options, words, held)
+}
+
+// Runs the script, unless the folder of the tries, which was asked for so, is held by another program.
+fn run_held<S: Alter + Drop, T: Threads + Wait + Sync>(
+    threads: &T,
+    rt: &HostRuntime,
+    store: Store<S>,
+    options: &ScriptOptions,
+    words: Vec<String>,
+    held: Result<Option<Files<File>>, OpenError>,
+) -> io::Result<(Store<S>, u8)>
+    ensures { IfOk result (λ r. MatchResult held
+        (λ _. IsScriptRun (state S.Store) ⟦<OwnOperator as Operator>⟧ options.now store r.0 r.1)
+        (λ _. IsHeldBack store r.0 r.1)) }
+{
+    match held {
         Ok(_held) => {
             tell_terminal(rt);
             tell_lanes(rt, options);
             run_own(threads, rt, store, options, words)
         }
         Err(_) => {
-            tell_held(rt, scratch);
+            tell_held(rt, options.scratch.as_str());
             Ok((store, 4))
         }
     }
@@ -75,12 +92,20 @@ fn run_own<S: Alter + Drop, T: Threads + Wait + Sync>(
     options: &ScriptOptions,
     words: Vec<String>,
 ) -> io::Result<(Store<S>, u8)>
-    ensures { IfOk result (λ r. IsScriptDone (state S.Store) ⟦<OwnOperator as Operator>⟧ options.now
+    ensures { IfOk result (λ r. IsScriptRun (state S.Store) ⟦<OwnOperator as Operator>⟧ options.now
         store r.0 r.1) }
 {
     let script = own_script(rt, words)?;
     let scratch = whole_path(rt, options.scratch.as_str())?;
-    run_by_team(threads, rt, store, options, scratch.as_str(), script)
+    let (store, status, _sources, _output) = run_by_team(
+        threads,
+        rt,
+        store,
+        options,
+        scratch.as_str(),
+        script,
+    )?;
+    Ok((store, status))
 }
 
 // The path of a folder from the root on, where the system says it.
@@ -114,7 +139,7 @@ fn search_path(rt: &HostRuntime) -> io::Result<Option<String>> {
     }
 }
 
-// Runs a script, whatever its streams are, with so many workers as are asked for.
+// Runs a script, whatever its streams are, with so many workers as are asked for, and gives the record, the status, the sources and the output.
 fn run_by_team<
     S: Alter + Drop,
     R: BufRead + Drop,
@@ -129,11 +154,11 @@ fn run_by_team<
     options: &ScriptOptions,
     scratch: &str,
     script: Script<R, W, F, P>,
-) -> io::Result<(Store<S>, u8)>
+) -> io::Result<(Store<S>, u8, F, W)>
     ensures known { IfOk result (λ r. IsScriptOf (state S.Store) ⟦<OwnOperator as Operator>⟧
         (R.Read.remaining script.input) F.gives W.contents options.now script.sources script.output
-        store r.0 r.1) }
-    ensures done { IfOk result (λ r. IsScriptDone (state S.Store) ⟦<OwnOperator as Operator>⟧ options.now
+        store r.0 r.1 r.2 r.3) }
+    ensures done { IfOk result (λ r. IsScriptRun (state S.Store) ⟦<OwnOperator as Operator>⟧ options.now
         store r.0 r.1) }
 {
     let alloc = rt.alloc();
@@ -152,10 +177,15 @@ fn run_by_team<
         script,
         &mut clock,
     ) {
-        Ok(ran) => Ok((ran.store, ran.status)),
+        Ok(ran) => Ok((ran.store, ran.status, ran.sources, ran.output)),
         Err(unopened) => {
             let status = put_failure(rt, &unopened.fault)?;
-            Ok((unopened.store, status))
+            let Script {
+                sources,
+                output,
+                ..
+            } = unopened.script;
+            Ok((unopened.store, status, sources, output))
         }
     }
 }

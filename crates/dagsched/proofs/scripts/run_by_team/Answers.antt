@@ -13,22 +13,19 @@ returns-in-Ok-clause-known g c =
     let team = vec_items c.in_ok-team.team in
     let made = c.in_ok-team.ensures in
     let run = rw c.get-2.ensures.value at c.in-Ok.ensures.run in
-    inl (
-      c.in-Ok.ran.sources,
-      c.in-Ok.ran.output,
-      by_team (g.R.Read.remaining c.args.script.input) _ _ _ _ (λ _. Unit {0}) _ _ (λ _ is. is) (λ _ given. given) (λ _ _. tt) (λ _ shown. shown)
-          (state g.S.Store) _ _ _ (λ both. both.0) c.args.options.now.workers c.args.options.now.lanes (state g.S.Store c.args.store) c.in-Ok.ran.store c.in-Ok.ran.status
-          (map (λ w. w.0.items) team) c.in-Ok.ran.minutes.items (vec_items c.in-Ok.ran.ends) c.in-Ok.ran.outcome c.in-Ok.ran.told
-          (length-map team (λ w. w.0.items) ∙ made.workers ∙ c.get.ensures.value) (All-map (IsWhole _) (λ w. w.0.items) team made.whole) (All-map (All (IsFresh (runs_of _) (refused_by _) (taken_by _))) (λ w. w.0.items) team made.fresh) run,
-    )
+    inl
+    (by_team (g.R.Read.remaining c.args.script.input) _ _ _ _ (λ _. Unit {0}) _ _ (λ _ is. is) (λ _ given. given) (λ _ _. tt) (λ _ shown. shown)
+    (state g.S.Store) _ _ _ (λ both. both.0) c.args.options.now.workers c.args.options.now.lanes (state g.S.Store c.args.store) c.in-Ok.ran.store c.in-Ok.ran.status
+    (map (λ w. w.0.items) team) c.in-Ok.ran.minutes.items (vec_items c.in-Ok.ran.ends) c.in-Ok.ran.outcome c.in-Ok.ran.told
+    (length-map team (λ w. w.0.items) ∙ made.workers ∙ c.get.ensures.value) (All-map (IsWhole _) (λ w. w.0.items) team made.whole) (All-map (All (IsFresh (runs_of _) (refused_by _) (taken_by _))) (λ w. w.0.items) team made.fresh) run)
 
 pub returns-in-Ok-clause-done : goal.returns-in-Ok-clause-done
 returns-in-Ok-clause-done g c =
-    script_less (state g.S.Store) _ (g.R.Read.remaining c.args.script.input) g.F.Sources.gives g.W.Write.contents c.args.options.now c.args.script.sources c.args.script.output c.args.store c.in-Ok.ran.store c.in-Ok.ran.status
+    script_less (state g.S.Store) _ (g.R.Read.remaining c.args.script.input) g.F.Sources.gives g.W.Write.contents c.args.options.now c.args.script.sources c.args.script.output c.args.store c.in-Ok.ran.store c.in-Ok.ran.status c.in-Ok.ran.sources c.in-Ok.ran.output
     (returns-in-Ok-clause-known g c)
 
-pub returns-in_ok-status-in-Err-clause-known : goal.returns-in_ok-status-in-Err-clause-known
-returns-in_ok-status-in-Err-clause-known g c =
+pub returns-in_ok-status-in-Err-clause-done : goal.returns-in_ok-status-in-Err-clause-done
+returns-in_ok-status-in-Err-clause-done g c =
     inr (
       c.in-Err.unopened.fault,
       record {
@@ -40,16 +37,19 @@ returns-in_ok-status-in-Err-clause-known g c =
       c.in_ok-status-in-Err.ensures,
     )
 
-pub returns-in_ok-status-in-Err-clause-done : goal.returns-in_ok-status-in-Err-clause-done
-returns-in_ok-status-in-Err-clause-done g c =
-    inr
-    (inl (
-      c.in-Err.unopened.fault,
-      record {
-        cause = c.in-Err.ensures.fault;
-        kept = c.in-Err.ensures.kept;
-        crash = c.in-Err.ensures.crash;
-        refused_crash = c.in-Err.ensures.refused_crash;
-      },
-      c.in_ok-status-in-Err.ensures,
-    ))
+pub returns-in_ok-status-in-Err-clause-known : goal.returns-in_ok-status-in-Err-clause-known
+returns-in_ok-status-in-Err-clause-known g c =
+    inr (
+      (
+        c.in-Err.unopened.fault,
+        record {
+          cause = c.in-Err.ensures.fault;
+          kept = c.in-Err.ensures.kept;
+          crash = c.in-Err.ensures.crash;
+          refused_crash = c.in-Err.ensures.refused_crash;
+        },
+        c.in_ok-status-in-Err.ensures,
+      ),
+      c.in-Err.ensures.untouched.2,
+      c.in-Err.ensures.untouched.1,
+    )
