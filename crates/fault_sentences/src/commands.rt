@@ -198,19 +198,21 @@ fn hint_of(line: &str, words: &[&str], values: &[&str]) -> &'static str {
     if line.contains('"') || line.contains('\'') || line.contains('\\') {
         return "there are no quotes and no escapes, and a path is one word";
     }
-    match (words, values) {
-        ([first, rest @ ..], _) if rest.contains(&"--record") => {
+    match words {
+        [first, rest @ ..] if rest.contains(&"--record") => {
             if first.starts_with("--record") {
                 "--record stands once"
             } else {
                 "--record stands first: dagsched --record PATH COMMAND"
             }
         }
-        (_, ["trigger", _, _, ..]) => {
-            "a run by hand has the record's clock as its date, which only a tick moves"
-        }
-        (_, ["mark", _, _, _]) => "STATE is skipped, and no other",
-        _ => "",
+        _ => match values {
+            ["trigger", _, _, ..] => {
+                "a run by hand has the record's clock as its date, which only a tick moves"
+            }
+            ["mark", _, _, _] => "STATE is skipped, and no other",
+            _ => "",
+        },
     }
 }
 

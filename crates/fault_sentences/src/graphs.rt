@@ -57,7 +57,7 @@ fn push_toml(
     };
     let newlines = newlines_before(source.text, span.start);
     source.push_line(sentence, Some(newlines.saturating_add(1)))?;
-    let hint = match source.text.as_bytes().get(span.start) {
+    let hint = match source.text.as_bytes().get(span.start).copied() {
         Some(b'\n' | b'\r') if error.message() == "invalid string" => UNCLOSED,
         _ => python_hint(source.text.lines().nth(newlines).unwrap_or("")),
     };

@@ -354,7 +354,7 @@ fn push_word<'a>(
     sentence: &mut String,
     name: &'a str,
     word: &'a str,
-    words: &[&str],
+    words: &[&'a str],
 ) -> Result<(), AllocError> {
     if words.contains(&word) {
         return say(
