@@ -91,7 +91,11 @@ impl Done {
         schedule: &Schedule,
         dag: &Graph,
     ) -> Result<(), AllocError> {
-        let Some(place) = self.place_in(dag) else {
+        let place = match &self.alone {
+            Some(task) => dag.place(task),
+            None => None,
+        };
+        let Some(place) = place else {
             return Ok(());
         };
         for run in schedule.runs() {
@@ -106,11 +110,6 @@ impl Done {
             }
         }
         Ok(())
-    }
-
-    // The place of the task that was set back alone.
-    fn place_in(&self, dag: &Graph) -> Option<usize> {
-        dag.place(self.alone.as_ref()?)
     }
 
     // Adds that a run that was set back waits: for one of those that are running, and perhaps each of these for it.
@@ -148,15 +147,11 @@ impl Done {
     // Whether a run of the graph before this date is running.
     fn is_held_up(&self, schedule: &Schedule, logical: Moment) -> bool {
         for run in schedule.runs() {
-            if self.is_running_before(run, logical) {
+            if run.phase == RunPhase::Running && run.graph == self.graph && run.logical < logical {
                 return true;
             }
         }
         false
-    }
-
-    fn is_running_before(&self, run: &Run, logical: Moment) -> bool {
-        run.phase == RunPhase::Running && run.graph == self.graph && run.logical < logical
     }
 
     // Adds that the runs that were made go before later ones, where they may take all lanes.
