@@ -317,11 +317,28 @@ def hung(trial, _):
     expect(trial.end() == 0, "the end")
 
 
+# hourly runs that wait
+LATE = """resize closed 0
+load inline
+dag_id = "late"
+schedule = "@hourly"
+start_date = "%s"
+task = [{ task_id = "t", operator = "noop", pool = "closed" }]
+.
+tick now
+"""
+
+
 def checks(trial, _):
     """What is wrong is told in a line, and old scripts and answers are removed."""
     expect(trial.run("check").returncode == 3 and trial.run("check", trial.path).returncode == 2, "unknown, and no service")
+    gone = trial.run("check", f"{trial.path}/gone")
+    expect(gone.returncode == 2 and gone.stdout.startswith(f"DAGSCHED CRITICAL - there is no folder {os.path.realpath(trial.path)}/gone | "), f"no folder: {gone}")
     wide = ("--disk=99.9", "--clock=60")
+    subprocess.run([trial.program, "--record", trial.folder.record, "run"], input=LATE % service.stamp(time.time() - 4 * 3600), text=True, capture_output=True, check=True)
     trial.begin()
+    until(10, lambda: re.search("CRITICAL - unfinished: late scheduled__[^ ]+ and [234] later of its runs [|].* unfinished=[345];", trial.run("check", trial.path, "--unfinished=0", *wide).stdout),
+          lambda: trial.run("check", trial.path, "--unfinished=0", *wide).stdout)
     trial.load("bad", "exit 3")
     until(10, lambda: trial.run("check", trial.path, *wide).returncode == 0, lambda: trial.run("check", trial.path, *wide).stdout)
     trial.ask("trigger", "bad")

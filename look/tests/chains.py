@@ -16,7 +16,7 @@ from record import Record, opened, text_of
 HEAD = 'dag_id = "{0}"\nschedule = "@daily"\nstart_date = "2024-03-01"\n{1}'
 TASK = '[[task]]\ntask_id = "{0}"\n{1}'
 FAILS, PASSES, PAST = 'operator = "exit"\nargv = ["1"]\n', 'operator = "noop"\n', "depends_on_past = true\n"
-MORE = f"\nMore: {LOOK.parent}/docs/EXPLAIN.md#what-to-do"
+MORE = f"\nIf this record is a copy, give such a command to the one that it was made of, to that of a service by `ask FOLDER`.\nMore: {LOOK.parent}/docs/EXPLAIN.md#what-to-do"
 # what waits for a try in flight, and how a script tells it
 IN_FLIGHT, HANDED_BACK = (re.compile(f"^((?:upstream|past) .*) (?:{it})$") for it in ("queued|running", "scheduled|up_for_retry"))
 CHAIN = """\

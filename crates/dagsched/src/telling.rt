@@ -42,7 +42,7 @@ pub fn tell_unopened(rt: &HostRuntime, path: &str, error: Error) {
     let text = match error {
         Error::SqliteFailure(ErrorCode::DatabaseBusy) => {
             format!(in rt.alloc();
-                "dagsched: {path}: another program has it open: wait until it ends, or give it this command as a line of its script"
+                "dagsched: {path}: another program has it open: wait until it ends, or give it this command as a line of its script, a service by ask"
             )
         }
         Error::SqliteFailure(ErrorCode::CannotOpen) => unopened_text(rt, path),

@@ -159,7 +159,7 @@ impl<S: Alter> Director<S> {
     {
         let before = Snapshot::of(&self.schedule);
         match step(alloc, &mut self.store, &mut self.schedule, event) {
-            Ok(answer) => Ok(Written::of(Snapshot::of(event), before, answer)),
+            Ok(answer) => Ok(Written::of(&self.store, Snapshot::of(event), before, answer)),
             Err(fault) => Err(fault),
         }
     }

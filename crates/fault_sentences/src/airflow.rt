@@ -34,26 +34,17 @@ const PAUSE: &str = "here it is the command pause DAG after the load";
 const ALARM: &str =
     "dagsched has none: a task with trigger_rule = \"one_failed\" may tell somebody";
 
-// Pairs of a word and what stands for it here.
-static WORDS: [(&str, &str); 63] = [
+const RETRIES: &str = "here it is retries, which counts the tries after the first";
+
+// Pairs of a key and what stands for it here.
+static KEYS: [(&str, &str); 51] = [
     ("schedule_interval", "here it is schedule"),
     (
         "default_args",
         "dagsched has none: its keys stand below each [[task]]",
     ),
     ("bash_command", BASH),
-    ("BashOperator", BASH),
-    ("bash", BASH),
     ("python_callable", PYTHON),
-    ("PythonOperator", PYTHON),
-    ("python", PYTHON),
-    ("EmptyOperator", "here it is noop"),
-    ("DummyOperator", "here it is noop"),
-    ("FileSensor", SENSOR),
-    ("ExternalTaskSensor", SENSOR),
-    ("cmd", BASH),
-    ("command", BASH),
-    ("script", BASH),
     ("cwd", SHELL),
     ("env", SHELL),
     ("depends_on", UPSTREAM),
@@ -115,6 +106,25 @@ static WORDS: [(&str, &str); 63] = [
     ("tags", COMMENT),
     ("doc_md", COMMENT),
     ("owner", COMMENT),
+    ("soft_fail", SENSOR),
+    ("poke_interval", SENSOR),
+    ("mode", SENSOR),
+    ("max_tries", RETRIES),
+];
+
+// Pairs of a word that is the value of a key, and what stands for it here.
+static VALUES: [(&str, &str); 16] = [
+    ("BashOperator", BASH),
+    ("bash", BASH),
+    ("PythonOperator", PYTHON),
+    ("python", PYTHON),
+    ("EmptyOperator", "here it is noop"),
+    ("DummyOperator", "here it is noop"),
+    ("FileSensor", SENSOR),
+    ("ExternalTaskSensor", SENSOR),
+    ("cmd", BASH),
+    ("command", BASH),
+    ("script", BASH),
     ("@midnight", "here it is @daily"),
     ("@annually", "here it is @yearly"),
     ("dummy", "here it is always, and the operator noop"),
@@ -128,9 +138,21 @@ static WORDS: [(&str, &str); 63] = [
     ),
 ];
 
-// What stands here for a word of Airflow that is none of a graph file.
-pub(crate) fn airflow_text(word: &str) -> Option<&'static str> {
-    for (name, said) in WORDS.as_slice() {
+// What stands here for a key of Airflow, or for a word that is a value there.
+pub(crate) fn key_text(name: &str) -> Option<&'static str> {
+    match text_in(KEYS.as_slice(), name) {
+        Some(said) => Some(said),
+        None => value_text(name),
+    }
+}
+
+// What stands here for a value of a key of Airflow.
+pub(crate) fn value_text(word: &str) -> Option<&'static str> {
+    text_in(VALUES.as_slice(), word)
+}
+
+fn text_in(words: &[(&'static str, &'static str)], word: &str) -> Option<&'static str> {
+    for (name, said) in words {
         if *name == word {
             return Some(*said);
         }

@@ -47,7 +47,7 @@ fn push_redoes(sentence: &mut String, reached: Moment) -> Result<(), AllocError>
     let start = text.strip_suffix("+00:00").unwrap_or("");
     say(
         sentence,
-        "the runs of the graph reach to {}, and a tick would make others before that: leave schedule, start_date and catchup as they were, or write start_date = \"{}Z\", for trigger and @once a second later",
+        "the runs of the graph reach to {}, and a tick would make others before that: leave schedule, start_date and catchup as they were, or write start_date = \"{}Z\", for trigger and @once a second later; from there to the next tick there is no run",
         &[Date(reached), Text(start)],
     )
 }

@@ -114,11 +114,17 @@ fn push_refused(sentence: &mut String, asked: Asked<'_>) -> Result<(), AllocErro
         return Ok(());
     }
     let words = asked.words(*sentence.allocator())?;
-    push_parts(sentence, asked, words.as_slice())
+    let values = asked.values(*sentence.allocator())?;
+    let hint = hint_of(asked.line(), words.as_slice(), values.as_slice());
+    push_parts(sentence, asked, words.as_slice(), hint)
 }
 
-fn push_parts(sentence: &mut String, asked: Asked<'_>, words: &[&str]) -> Result<(), AllocError> {
-    let hint = hint_of(asked, words);
+fn push_parts(
+    sentence: &mut String,
+    asked: Asked<'_>,
+    words: &[&str],
+    hint: &str,
+) -> Result<(), AllocError> {
     if !asked.is_in_script() {
         // there the program prints clap's whole text
         return sentence.push_str(hint);
@@ -184,9 +190,8 @@ fn push_said(sentence: &mut String, line: &str) -> Result<(), AllocError> {
     sentence.push_str(said)
 }
 
-// What in a command is read in another way than one may think, or nothing.
-fn hint_of(asked: Asked<'_>, words: &[&str]) -> &'static str {
-    let line = asked.line();
+// What in a command of these words and values is read in another way than one may think, or nothing.
+fn hint_of(line: &str, words: &[&str], values: &[&str]) -> &'static str {
     if line.contains(" #") {
         return "a comment begins in the first column, so # is a word here";
     }
@@ -201,10 +206,13 @@ fn hint_of(asked: Asked<'_>, words: &[&str]) -> &'static str {
                 "--record stands first: dagsched --record PATH COMMAND"
             }
         }
-        ["trigger", _, _, ..] => {
-            "a run by hand has the record's clock as its date, which only a tick moves"
-        }
-        _ => "",
+        _ => match values {
+            ["trigger", _, _, ..] => {
+                "a run by hand has the record's clock as its date, which only a tick moves"
+            }
+            ["mark", _, _, _] => "STATE is skipped, and no other",
+            _ => "",
+        },
     }
 }
 

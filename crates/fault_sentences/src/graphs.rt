@@ -14,6 +14,10 @@ use graph_file::{
 use std::alloc::AllocError;
 use toml::Table;
 
+// What is said of a string within which a line ends.
+const UNCLOSED: &str =
+    "; its quote is not closed on this line: several lines stand between ''' and '''";
+
 // Adds why a text is no graph file.
 pub(crate) fn push_graph(
     sentence: &mut String,
@@ -53,7 +57,10 @@ fn push_toml(
     };
     let newlines = newlines_before(source.text, span.start);
     source.push_line(sentence, Some(newlines.saturating_add(1)))?;
-    let hint = python_hint(source.text.lines().nth(newlines).unwrap_or(""));
+    let hint = match source.text.as_bytes().get(span.start).copied() {
+        Some(b'\n' | b'\r') if error.message() == "invalid string" => UNCLOSED,
+        _ => python_hint(source.text.lines().nth(newlines).unwrap_or("")),
+    };
     say(
         sentence,
         "this is no TOML: {}{}",

@@ -1,4 +1,4 @@
-//! Sentences on commands that were accepted and changed nothing.
+//! What a command does with runs, and sentences on one that was accepted and changed nothing.
 //!
 //! No contract holds this file: the sections `told` of `worked_scripts` show what it writes.
 use crate::held::Done;
@@ -25,11 +25,16 @@ pub(crate) enum Work {
     Clear,
     // Those of them alone that have failed.
     ClearFailed,
+    // A task of one of them is passed over.
+    Mark,
+    // One is made by hand.
+    Trigger,
 }
 
 impl Work {
-    pub fn is_clear(self) -> bool {
-        matches!(self, Work::Clear | Work::ClearFailed)
+    // Whether runs are made that are not there.
+    pub fn makes_runs(self) -> bool {
+        matches!(self, Work::Backfill | Work::Reset | Work::Trigger)
     }
 
     // What is to be said of the runs that are there, or of their task instances.
@@ -39,13 +44,14 @@ impl Work {
             Work::Reset => ", and each task instance of these was in the state none",
             Work::Clear => "each task instance named was in the state none",
             Work::ClearFailed => "no task instance named was failed or upstream_failed",
+            Work::Mark | Work::Trigger => "",
         }
     }
 }
 
-// What the schedule says beside a backfill or a clear that was done: why it has changed nothing, or what holds its runs back.
+// What the schedule says beside an event that was done with runs of a graph: why it has changed nothing, or what holds its runs back.
 pub(crate) fn done_rest(alloc: Global, event: &Event, answer: &Answer) -> Result<Rest, AllocError> {
-    let Some((graph, from, to, work)) = work_of(event) else {
+    let Some((graph, from, to, work)) = work_of(event, answer) else {
         return Ok(Rest::Nothing);
     };
     let made = answer.made.as_slice().len();
@@ -55,16 +61,28 @@ pub(crate) fn done_rest(alloc: Global, event: &Event, answer: &Answer) -> Result
         to,
         work,
         made,
+        alone: alone_in(alloc, event)?,
     };
-    if made == 0 && answer.cleared == 0 {
+    if made == 0 && answer.cleared == 0 && !matches!(work, Work::Mark) {
         Ok(Rest::Idle(done))
     } else {
         Ok(Rest::Done(done))
     }
 }
 
+// The task that a clear has named without what comes after it.
+fn alone_in(alloc: Global, event: &Event) -> Result<Option<Name>, AllocError> {
+    match event {
+        Event::Clear(clearing) if !clearing.downstream => match &clearing.task {
+            Some(task) => Ok(Some(task.copy(alloc)?)),
+            None => Ok(None),
+        },
+        _ => Ok(None),
+    }
+}
+
 // What an event was to do with the runs of which graph, from which date to which.
-fn work_of(event: &Event) -> Option<(&Name, Moment, Moment, Work)> {
+fn work_of<'a>(event: &'a Event, answer: &Answer) -> Option<(&'a Name, Moment, Moment, Work)> {
     match event {
         Event::Backfill {
             graph,
@@ -83,6 +101,11 @@ fn work_of(event: &Event) -> Option<(&Name, Moment, Moment, Work)> {
             };
             Some((&clearing.graph, clearing.from, clearing.to, work))
         }
+        Event::Mark { graph, logical, .. } => Some((graph, *logical, *logical, Work::Mark)),
+        Event::Trigger(graph) => {
+            let logical = answer.made.as_slice().first()?.logical;
+            Some((graph, logical, logical, Work::Trigger))
+        }
         _ => None,
     }
 }
@@ -90,7 +113,7 @@ fn work_of(event: &Event) -> Option<(&Name, Moment, Moment, Work)> {
 impl Done {
     // Adds why nothing was changed, which the schedule after it says.
     pub fn push_why(&self, sentence: &mut String, schedule: &Schedule) -> Result<(), AllocError> {
-        if self.work.is_clear() {
+        if !self.work.makes_runs() {
             return self.push_uncleared(sentence, schedule);
         }
         let Some(graph) = schedule.graph_of(&self.graph) else {

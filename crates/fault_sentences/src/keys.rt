@@ -1,7 +1,7 @@
 //! Sentences on the keys of a graph's text and their values.
 //!
 //! No contract holds this file: the sections `told` of `worked_scripts` show what it writes.
-use crate::airflow::airflow_text;
+use crate::airflow::{key_text, value_text};
 use crate::fields::push_fault;
 use crate::moments::moment_text;
 use crate::parts::Part::Text;
@@ -37,7 +37,7 @@ pub(crate) fn push_unknown(
     name: &str,
     table: &Table,
 ) -> Result<(), AllocError> {
-    if let Some(said) = airflow_text(name) {
+    if let Some(said) = key_text(name) {
         return say(
             sentence,
             "unknown key \"{}\": {}",
@@ -349,30 +349,21 @@ fn arguments_text(table: &Table) -> &'static str {
     }
 }
 
-fn is_one_of(word: &str, words: &[&str]) -> bool {
-    for other in words {
-        if *other == word {
-            return true;
-        }
-    }
-    false
-}
-
 // Adds that a word is none of these, and which was probably meant; or that it does not fit the schedule.
 fn push_word<'a>(
     sentence: &mut String,
     name: &'a str,
     word: &'a str,
-    words: &[&str],
+    words: &[&'a str],
 ) -> Result<(), AllocError> {
-    if is_one_of(word, words) {
+    if words.contains(&word) {
         return say(
             sentence,
             "{}: \"{}\" wants a schedule that has ticks, and None and @once have none",
             &[Text(name), Text(word)],
         );
     }
-    if let Some(said) = airflow_text(word) {
+    if let Some(said) = value_text(word) {
         return say(
             sentence,
             "{} \"{}\": {}",

@@ -8,10 +8,13 @@ use graph_file::TaskSpec;
 use sched_state::Run;
 use std::alloc::{AllocError, Global};
 use std::fs::OpenOptions;
-use std::io;
+use std::io::{self, ErrorKind};
 use std::rt::Files;
 
 const UNOPENED: &str = "{}: its log {} could not be opened, so its program was not started: ";
+
+const MISSING: &str =
+    "{}: its log {} is not there: it was removed, or the program was not started, since the try's folder below --scratch could not be made";
 
 /// A try of a program that failed.
 #[derive(Drop)]
@@ -76,6 +79,7 @@ impl Failure {
         let parts = [Text(self.name.as_str()), Text(log.path.as_str())];
         match fault {
             None => say(sentence, "{}: its log is {}", &parts),
+            Some(fault) if fault.kind() == ErrorKind::NotFound => say(sentence, MISSING, &parts),
             Some(fault) => {
                 say(sentence, UNOPENED, &parts)?;
                 write!(sentence, "{fault}")

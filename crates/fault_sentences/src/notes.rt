@@ -53,10 +53,8 @@ pub(crate) enum Rest {
     Tasks(String, String),
     /// Why a command changed nothing.
     Idle(Done),
-    /// What holds back the runs of a command that changed something, or what these hold back.
+    /// What a command that changed something has left, and what holds back its runs, or what these hold back.
     Done(Done),
-    /// That this graph is paused, where it is, or that a pool of it is too small.
-    Waiting(Name),
     /// What comes of the size that this pool has got.
     Pool(Name),
     /// Which of these runs begin very many.
@@ -112,20 +110,18 @@ fn push_done(sentence: &mut String, done: &Event, answer: &Answer) -> Result<Res
     match done {
         Event::Load(text) => push_taken(sentence, text.as_str(), false),
         Event::Replace(text) => push_taken(sentence, text.as_str(), true),
-        Event::Trigger(graph) => {
-            sentence.push_str(trigger_text(answer))?;
-            Ok(Rest::Waiting(graph.copy(*sentence.allocator())?))
-        }
-        Event::Mark { graph, .. } => Ok(Rest::Waiting(graph.copy(*sentence.allocator())?)),
         Event::Resize(pool, _) => Ok(Rest::Pool(pool.copy(*sentence.allocator())?)),
-        _ => done_rest(*sentence.allocator(), done, answer),
+        _ => {
+            sentence.push_str(trigger_text(done, answer))?;
+            done_rest(*sentence.allocator(), done, answer)
+        }
     }
 }
 
 // That a run by hand has the date at which the clock of a new record stands, which is probably not meant.
-fn trigger_text(answer: &Answer) -> &'static str {
-    match answer.made.as_slice().first() {
-        Some(made) if made.logical.secs() == 0 => {
+fn trigger_text(done: &Event, answer: &Answer) -> &'static str {
+    match (done, answer.made.as_slice().first()) {
+        (Event::Trigger(_), Some(made)) if made.logical.secs() == 0 => {
             "the clock of this record was never moved, so the run is of 1970: say tick now before trigger"
         }
         _ => "",
@@ -219,7 +215,6 @@ impl Rest {
             }
             Rest::Idle(idle) => idle.push_why(sentence, schedule),
             Rest::Done(done) => done.push_rest(sentence, schedule),
-            Rest::Waiting(graph) => push_waiting(sentence, schedule, graph),
             Rest::Pool(pool) => push_resized(sentence, schedule, pool),
             Rest::Begun(runs) => push_begun(sentence, schedule, runs.as_slice()),
         }
@@ -295,14 +290,6 @@ pub(crate) fn push_clock(sentence: &mut String, schedule: &Schedule) -> Result<(
     say(sentence, "; the record's clock stands at {}", &[Date(now)])
 }
 
-// Adds that the runs of a graph wait since it is paused, where it is, or the first task that needs more slots than its pool has.
-fn push_waiting(sentence: &mut String, schedule: &Schedule, id: &Name) -> Result<(), AllocError> {
-    match schedule.graph_of(id) {
-        Some(graph) if graph.paused => push_paused(sentence, id),
-        _ => push_slots(sentence, schedule, id),
-    }
-}
-
 // Adds that the runs of a graph wait since it is paused.
 pub(crate) fn push_paused(sentence: &mut String, id: &Name) -> Result<(), AllocError> {
     say_more(
@@ -321,7 +308,11 @@ fn push_try(sentence: &mut String, schedule: &Schedule, serial: u64) -> Result<(
     push_name(sentence, found.run, found.task)?;
     sentence.push_str(" is in flight")?;
     match found.started {
-        Some(moment) => say(sentence, " since {}", &[Date(moment)]),
+        Some(moment) => say(
+            sentence,
+            " since {}; in a service end FOLDER {} ends one that hangs",
+            &[Date(moment), Number(serial)],
+        ),
         None => Ok(()),
     }
 }

@@ -1,6 +1,6 @@
 //! What a run holds.
 ghost use Rattle.std.specs.Prelude.{◌≡◌, ◌++◌, [], false, replicate};
-ghost use Rattle.ruled_dispatch.specs.Lanes.{IsDirectorOf};
+ghost use Rattle.ruled_dispatch.specs.Lanes.{heard_of, sent_of, IsDirectorOf};
 ghost use Rattle.ruled_dispatch.specs.declared.items.JobOrStop.TheVariants as item;
 ghost use Rattle.sessions.specs.Executors.{AsksNothing, has_sent, IsSameExecutor};
 
@@ -37,7 +37,8 @@ pub struct Parted<S: Alter> {
 }
 
 impl<'l, S: Alter> Session<'l, S> {
-    /// A session of which nothing is stepped yet. `keep` says whether the events that it accepts are kept.
+    /// A session of which nothing is stepped yet, with a pass by which nothing was sent or heard: from here on its executor alone sends. `keep` says whether the
+    /// events that it accepts are kept.
     pub fn new(
         alloc: Global,
         director: Director<S>,
@@ -45,7 +46,8 @@ impl<'l, S: Alter> Session<'l, S> {
         pass: DirectorPass,
         keep: Keep,
     ) -> Session<'l, S>
-        requires { IsDirectorOf lanes.now pass }
+        requires pass { IsDirectorOf lanes.now pass }
+        requires unused { (sent_of pass ≡ []) × (heard_of pass ≡ []) }
         ensures director { result.stepper.director ≡ director }
         ensures minutes { (result.stepper.minutes.items ≡ []) × (result.stepper.tries ≡ 0) }
         ensures keep { result.stepper.minutes.keep ≡ keep }
