@@ -39,8 +39,7 @@ use Rattle.sched_handout.specs.Active.{count_of}
 use Rattle.sched_handout.specs.Occupied.{AreOccupied}
 use Rattle.sched_handout.specs.declared.occupied.Occupied.{Occupied}
 use Rattle.sched_core.specs.Books.{IsCounted, IsHeldWith}
-use Rattle.sched_core.specs.Inside.{IsOver, row_in}
-use Rattle.sched_core.specs.declared.changes.GraphChange.TheVariants as graphs
+use Rattle.sched_core.specs.Inside.{row_in}
 use Rattle.sched_core.specs.Views.{pool_row, pool_rows}
 use Rattle.sched_laws.proofs.RankLemmas.{less_is}
 use Rattle.sched_laws.proofs.ResizeLemmas.{resize_other}
@@ -77,34 +76,11 @@ pools_back : (named : Option Selection) (a : Schedule) → (set_back named a).po
 pools_back None a = refl
 pools_back (Some named) a = refl
 
--- what of a schedule stays where instances are set back and runs are added
-pub record IsRepaired (a b : Schedule) : Type 0 where
-  pub over : IsOver graphs.Same a b
-  pub now : b.now ≡ a.now
-  pub next : b.next ≡ a.next
-  pub pools : b.pools ≡ a.pools
-  pub tries : open_tries b ≡ open_tries a
+pub repair_open : (ns : List NamedRun) (named : Option Selection) (a : Schedule) → open_tries (add_runs ns (set_back named a)) ≡ open_tries a
+repair_open ns named a = open_added ns (set_back named a) ∙ open_back named a
 
-over_back : (named : Option Selection) (a : Schedule) → IsOver graphs.Same a (set_back named a)
-over_back None a = record { limits = refl; graphs = refl }
-over_back (Some named) a = record { limits = refl; graphs = refl }
-
-now_back : (named : Option Selection) (a : Schedule) → (set_back named a).now ≡ a.now
-now_back None a = refl
-now_back (Some named) a = refl
-
-next_back : (named : Option Selection) (a : Schedule) → (set_back named a).next ≡ a.next
-next_back None a = refl
-next_back (Some named) a = refl
-
-pub repaired : (ns : List NamedRun) (named : Option Selection) (a b : Schedule) → b ≡ add_runs ns (set_back named a) → IsRepaired a b
-repaired ns named a b is = record {
-  over = record { limits = ap (λ (s : Schedule). s.limits) is ∙ (over_back named a).limits; graphs = ap (λ (s : Schedule). s.graphs) is ∙ (over_back named a).graphs };
-  now = ap (λ (s : Schedule). s.now) is ∙ now_back named a;
-  next = ap (λ (s : Schedule). s.next) is ∙ next_back named a;
-  pools = ap (λ (s : Schedule). s.pools) is ∙ pools_back named a;
-  tries = ap (λ (s : Schedule). open_tries s) is ∙ (open_added ns (set_back named a) ∙ open_back named a);
-}
+pub repair_pools : (ns : List NamedRun) (named : Option Selection) (a : Schedule) → (add_runs ns (set_back named a)).pools ≡ a.pools
+repair_pools ns named a = pools_back named a
 
 pub report_counted : (serial : ℕ) (stage : Stage) (a : Schedule) → IsCounted a → IsCounted (report serial stage a)
 report_counted serial stage a counted name =

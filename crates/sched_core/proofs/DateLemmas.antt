@@ -32,7 +32,8 @@ use Rattle.sched_draft.proofs.SearchLemmas.{graph_id, graph_key, one_place, unfo
 use Rattle.sched_laws.proofs.DecisionLemmas.{by_bool}
 use Rattle.sched_core.proofs.OtherLemmas.{other_id}
 use Rattle.sched_core.specs.Changes.{count_of}
-use Rattle.sched_core.specs.Dates.{is_of, added_of, AreNoted, AreNotedAt, CanNoteAt, HaveRoom, HaveRoomTo, IsNoted, IsNotedOne}
+use Rattle.sched_core.specs.Dates.{is_of, added_of, AreNoted, AreNotedAt, AreNotedWith, CanNoteAt, HaveRoom, HaveRoomTo, IsNoted, IsNotedOne}
+use Rattle.sched_core.specs.declared.changes.Rest.{Rest}
 
 -- ---- how many runs a graph has after edits
 count_cons : {X : Type 0} (p : X → Bool) (x : X) (xs : List X) → count_by p (x ∷ xs) ≡ cond (p x) 1 0 + count_by p xs

@@ -1,5 +1,5 @@
 -- What is planned for a mark.
-use Rattle.std.proofs.Common.{◌≡◌, ◌∙◌, refl, sym, ap, subst, inl, inr, ℕ, List, [], ◌∷◌, Bool, true, false, not, Option, None, Some, option_map, Ok, Err}
+use Rattle.std.proofs.Common.{◌≡◌, ◌∙◌, refl, sym, ap, subst, inl, inr, ℕ, List, [], ◌∷◌, Bool, true, false, not, Option, None, Some, option_map, Result, Ok, Err}
 use Rattle.graph_file.specs.Lists.{first_some, when}
 use Rattle.sched_model.specs.Causes.{is_unknown_graph, is_unknown_task, least_in_flight}
 use Rattle.sched_model.specs.Clearing.{cleared_by}
@@ -15,7 +15,7 @@ use Rattle.sched_events.specs.declared.events.Event.TheVariants.{Mark}
 use Rattle.sched_events.specs.declared.refusals.Refusal.{Refusal}
 use Rattle.sched_events.specs.declared.refusals.Refusal.TheVariants as refusal
 use Rattle.sched_core.specs.Repairs.{IsMark, mark_refusal}
-use Rattle.sched_core.specs.Plans.{IsDraftOf}
+use Rattle.sched_core.proofs.PlanLemmas.{IsDraftOf}
 
 -- the first cause is the first fault
 causes_are : (unknown none : Bool) (flight : Option ℕ) (there : Bool)

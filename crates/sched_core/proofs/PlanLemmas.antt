@@ -44,7 +44,7 @@ use Rattle.sched_events.specs.declared.refusals.Refusal.TheVariants as refusal
 use Rattle.sched_events.proofs.AcceptLemmas.{change_kept}
 use Rattle.sched_events.proofs.StepLemmas.{added_sound, step_kept}
 use Rattle.sched_core.specs.Changes.{Planned}
-use Rattle.sched_core.specs.Plans.{IsDraftOf, IsPlanned, no_runs, run_id, told}
+use Rattle.sched_core.specs.Plans.{IsPlanned, no_runs, run_id}
 use Rattle.sched_core.specs.Inside.{StandsAt, IsTaken, IsUnfit, unfit_text}
 use Rattle.sched_core.proofs.GraphLemmas.{found_at}
 
@@ -212,6 +212,13 @@ change_held e a b ranged accepted kept is =
     record { sound = subst IsSound (sym is) c.0; said = subst (λ (s : Schedule). AllSay s.graphs) (sym is) c.1 }
 
 -- ---- by a draft
+-- the event is accepted, and the draft has what it changes of the schedule
+pub record IsDraftOf (e : Event) (a b : Schedule) : Type 0 where
+  pub ranged : IsInRange e
+  pub accepted : refused a e ≡ None
+  pub kept : IsSoundAndSaid a
+  pub is : b ≡ add_runs (named_by e a) (change_by e a)
+
 pub draft_is : {e : Event} {a b : Schedule} (c : Schedule) → IsDraftOf e a b → c ≡ b → IsDraftOf e a c
 draft_is c d is = record { ranged = d.ranged; accepted = d.accepted; kept = d.kept; is = is ∙ d.is }
 
@@ -229,6 +236,10 @@ draft_said {e} {a} {b} d =
 -- a text that is taken in
 pub load_draft : (a : Schedule) (text : List ℕ) (dag : Dag) → IsSoundAndSaid a → IsTaken a text dag → refused a (Load text) ≡ None → IsDraftOf (Load text) a (load_graph text dag a)
 load_draft a text dag kept taken accepted = record { ranged = tt; accepted = accepted; kept = kept; is = load_change a text dag taken.says }
+
+-- what an event answers, but for the tries that are handed out
+abbrev pub told : Event → Schedule → Answer
+told e a = record { made = map id_of (named_by e a); more = leaves_more_by e a; cleared = count_in (set_back_by e a) a; jobs = [] }
 
 -- the parts of one, put into an answer that tells nothing
 pub told_by : (e : Event) (a : Schedule) (q : Answer) (ids : List RunId) (more : Bool) (count : ℕ) → q ≡ no_runs → ids ≡ map id_of (named_by e a) → more ≡ leaves_more_by e a → count ≡ count_in (set_back_by e a) a

@@ -45,8 +45,7 @@ use Rattle.sched_core.specs.Inside.{IsTaken, StandsAt}
 use Rattle.sched_core.specs.Replaced.{TakeAlike, with_other_graph, IsDisturbance, OwnsRunsOf}
 use Rattle.sched_core.proofs.GraphLemmas.{found_at}
 use Rattle.sched_core.proofs.OtherLemmas.{other_at}
-use Rattle.sched_core.specs.Plans.{IsDraftOf}
-use Rattle.sched_core.proofs.PlanLemmas.{known_is, known_change, one_left}
+use Rattle.sched_core.proofs.PlanLemmas.{known_is, IsDraftOf, known_change, one_left}
 use Rattle.sched_core.proofs.TakeInLemmas.{taken_known}
 
 -- the first of what may lie in the runs of a graph

@@ -4,27 +4,22 @@ use Rattle.sched_state.specs.declared.graphs.LoadedGraph.{LoadedGraph}
 use Rattle.run_lists.specs.Edits.{AreEditsOf, edited}
 use Rattle.sched_model.specs.Schedule.{Schedule, has_runs}
 use Rattle.sched_model.specs.Changes.{with_graph, pause_graph}
-use Rattle.sched_model.specs.Handout.{hand_out}
-use Rattle.sched_model.specs.Jobs.{handed}
-use Rattle.sched_model.specs.Settle.{settle}
 use Rattle.sched_draft.specs.Books.{pools_in}
 use Rattle.sched_draft.specs.Drafts.{DraftValue}
 use Rattle.sched_draft.specs.Parts.{with_other}
 use Rattle.sched_ready.specs.Held.{AreShelvesOf, FitsShelf}
-use Rattle.sched_ready.specs.Patched.{ArePatches, patched}
+use Rattle.sched_ready.specs.Patched.{patched}
 use Rattle.sched_ready.specs.Shelves.{ShelfValue}
-use Rattle.sched_handout.specs.Occupied.{AreOccupied}
 use Rattle.sched_handout.specs.declared.occupied.Occupied.{Occupied}
 use Rattle.record_rows.specs.Rows.{Rows}
 use Rattle.record_writing.specs.record_rules.Changes.{rows_between}
 use Rattle.sched_core.specs.Books.{IsHeldWith}
-use Rattle.sched_core.specs.Inside.{IsLast, completed}
+use Rattle.sched_core.specs.Inside.{IsLast}
 use Rattle.sched_core.specs.declared.changes.Effect.{Effect}
 use Rattle.sched_core.specs.declared.changes.GraphChange.{GraphChange}
 use Rattle.sched_core.specs.declared.changes.GraphChange.TheVariants as graphs
 use Rattle.sched_state.specs.declared.runs.Run.{Run}
 use Rattle.sched_core.specs.declared.changes.Rest.{Rest}
-use Rattle.sched_core.specs.declared.planning.Settlement.{Settlement}
 
 -- what a change makes of the graphs
 abbrev pub changed : GraphChange → List LoadedGraph → List LoadedGraph
@@ -91,15 +86,6 @@ pub record IsEffect (e : Effect) (rows : Rows) (a : Schedule) : Type 0 where
   pub last : IsLast e.graphs (applied e a)
   pub edits : AreOfRuns e.rest a
   pub rows_are : rows ≡ rows_between a (applied e a)
-
--- the draft is what settling and hand-outs make of b, over the schedule a, these are its numbers, and these are its tries, what becomes of the shelves, and the rows that a lacks once the graphs are changed
-pub record IsSettlement (g : GraphChange) (a b : Schedule) (d : DraftValue) (t : Occupied) (s : Settlement) : Type 0 where
-  pub base : d.base ≡ a
-  pub is : d.content ≡ hand_out (settle b)
-  pub numbers : AreOccupied d.content t
-  pub jobs : s.jobs ≡ handed (settle b) d.content
-  pub patches : ArePatches a d.content s.patches.items
-  pub rows : s.rows ≡ rows_between a (completed g d.content)
 
 -- the change enables nothing in a schedule: a text takes in a graph without runs, or a graph is paused
 abbrev pub IsQuiet : GraphChange → Schedule → Type 0

@@ -12,10 +12,6 @@ use Rattle.sched_model.specs.Settle.{settle}
 use Rattle.sched_model.specs.States.{active_tries, in_flight, occupied}
 use Rattle.sched_draft.specs.Drafts.{DraftValue, IsOwn}
 use Rattle.sched_draft.specs.Parts.{with_other}
-use Rattle.record_writing.specs.record_rules.Changes.{rows_between}
-use Rattle.sched_handout.specs.Occupied.{AreOccupied}
-use Rattle.sched_handout.specs.declared.occupied.Occupied.{Occupied}
-use Rattle.sched_ready.specs.Held.{AreShelvesOf}
 use Rattle.sched_events.specs.Causes.{disturbed}
 use Rattle.sched_events.specs.declared.refusals.Refusal.{Refusal}
 use Rattle.sched_events.specs.declared.refusals.Refusal.TheVariants as refusal
@@ -23,7 +19,6 @@ use Rattle.sched_core.specs.Effects.{applied, IsEffect}
 use Rattle.sched_core.specs.declared.changes.Effect.{Effect}
 use Rattle.sched_core.specs.declared.changes.GraphChange.TheVariants as graphs
 use Rattle.sched_core.specs.declared.replacing.Aftermath.{Aftermath}
-use Rattle.sched_core.specs.declared.replacing.Replacement.{Replacement}
 
 -- the graph with the id of this one is this one, and its runs go on by it
 abbrev pub with_other_graph : LoadedGraph → Schedule → Schedule
@@ -51,12 +46,3 @@ pub record IsAftermath (a : Schedule) (g : LoadedGraph) (k : Aftermath) : Type 0
   pub effect : IsEffect (effect_of g k) k.rows a
   pub after : applied (effect_of g k) a ≡ hand_out (settle (with_other_graph g a))
   pub jobs : k.jobs ≡ handed a (hand_out (settle (with_other_graph g a)))
-
--- the draft is what settling and hand-outs make of it, over the schedule, these are its numbers, and these are its tries, the rows that the schedule lacks then, and its shelves
-pub record IsReplacement (a : Schedule) (g : LoadedGraph) (d : DraftValue) (t : Occupied) (r : Replacement) : Type 0 where
-  pub base : d.base ≡ a
-  pub is : d.content ≡ hand_out (settle (with_other_graph g a))
-  pub numbers : AreOccupied d.content t
-  pub jobs : r.jobs ≡ handed (settle (with_other_graph g a)) d.content
-  pub rows : r.rows ≡ rows_between a d.content
-  pub shelves : AreShelvesOf d.content.now d.content.graphs d.content.runs r.shelves.items

@@ -4,7 +4,7 @@ ghost use Rattle.sched_events.specs.Outcomes.{IsRefusal};
 ghost use Rattle.sched_events.specs.declared.events.Event.TheVariants.{Backfill};
 ghost use Rattle.sched_model.specs.Sound.{IsSound};
 ghost use Rattle.sched_state.specs.Limits.{ceilings};
-ghost use Rattle.sched_core.specs.Plans.{IsDrafted, IsPlanned};
+ghost use Rattle.sched_core.specs.Plans.{IsPlanned};
 ghost use Rattle.sched_core.specs.Repairs.{IsSetBack, reset_of};
 
 use crate::changes::{Change, GraphChange};
@@ -35,45 +35,26 @@ impl Schedule {
             (Backfill graph.now from to reset)) }
     {
         let mut draft = self.draft(alloc, None, false);
-        let answer = self.backfilled(alloc, &mut draft, graph, from, to, reset)?;
-        Ok(self.finish(alloc, draft, GraphChange::Same, answer)?)
-    }
-
-    // The draft gets what the backfill makes of the schedule, or it is refused: the answer, but for the tries that are handed out.
-    fn backfilled(
-        &self,
-        alloc: Global,
-        draft: &mut Draft<'_>,
-        graph: &Name,
-        from: Moment,
-        to: Moment,
-        reset: bool,
-    ) -> Result<Answer, Refusal>
-        requires { draft.old.content ≡ self.now.content }
-        ensures base { OnOk result (draft.new.base ≡ draft.old.base) }
-        ensures drafted { IfOk result (IsDrafted (Backfill graph.now from to reset) self.now.content draft.new.content) }
-        ensures refused { IfErr result (IsRefusal self.now.content
-            (Backfill graph.now from to reset)) }
-    {
         let room = (self.limits.runs() as usize).saturating_sub(self.runs.len());
         let dates = self.dates.as_slice();
-        let Some(named) = named_by_backfill(alloc, draft, dates, graph, from, to, room)? else {
+        let Some(named) = named_by_backfill(alloc, &draft, dates, graph, from, to, room)? else {
             return Err(Refusal::UnknownGraph);
         };
         if to < from {
             return Err(Refusal::BadSpan);
         }
-        let cleared = reset_if(alloc, draft, reset, graph, &named.present)?;
+        let cleared = reset_if(alloc, &mut draft, reset, graph, &named.present)?;
         if named.more {
             return Err(Refusal::RecordFull);
         }
         let made = ids_of(alloc, &named.runs)?;
-        add(draft, named.runs)?;
-        Ok(Answer {
+        add(&mut draft, named.runs)?;
+        let answer = Answer {
             made,
             cleared,
             ..quiet_answer(alloc)
-        })
+        };
+        Ok(self.finish(alloc, draft, GraphChange::Same, answer)?)
     }
 }
 

@@ -14,7 +14,7 @@ ghost use Rattle.sched_model.specs.States.{open_tries};
 ghost use Rattle.sched_handout.specs.Occupied.{AreOccupied};
 ghost use Rattle.sched_draft.specs.Books.{IsBookOf};
 ghost use Rattle.sched_core.specs.Books.{IsCounted};
-ghost use Rattle.sched_core.specs.Effects.{applied, with_change, IsEffect, IsQuiet, IsRestOf, IsFitted, IsSettlement};
+ghost use Rattle.sched_core.specs.Effects.{applied, with_change, IsEffect, IsQuiet, IsRestOf, IsFitted};
 ghost use Rattle.sched_core.specs.Inside.{IsOver, IsLast, LeavesDags, completed, drafted_as, over};
 
 use crate::changes::{Change, Effect, GraphChange, Rest};
@@ -29,22 +29,11 @@ use sched_creation::{add, named_by_tick};
 use sched_draft::{Draft, graph_named};
 use sched_events::{Answer, Event, Refusal, RunId};
 use sched_handout::{Occupied, hand_out};
-use sched_ready::{Patch, patches_of};
+use sched_ready::patches_of;
 use sched_settling::{settle, settle_touched};
-use sched_state::{Job, Run};
+use sched_state::Run;
 use std::alloc::{AllocError, Global};
 use std::snapshot::Snapshot;
-
-// What a draft brings that is settled and handed out, but for what it holds.
-#[derive(Drop)]
-pub(crate) struct Settlement {
-    // The tries that were handed out.
-    pub jobs: Sequence<Job>,
-    // What becomes of the shelves.
-    pub patches: Vec<Patch>,
-    // Those that the schedule lacks then.
-    pub rows: Rows,
-}
 
 impl Schedule {
     /// What the event would do, or why it is refused. The schedule is only looked at.
@@ -213,43 +202,16 @@ impl Schedule {
     {
         let mut draft = draft;
         let mut occupied = occupied;
-        let settlement = self.settle_and_hand_out(alloc, &mut draft, &mut occupied, &graphs)?;
+        self.settle_draft(alloc, &mut draft)?;
+        let jobs = hand_out(alloc, &mut draft, self.shelves.as_slice(), &mut occupied)?;
+        let rows = self.rows_changed(alloc, &draft, &graphs)?;
+        let patches = patches_of(alloc, self.shelves.as_slice(), &draft)?;
         let effect = Effect {
             graphs,
-            patches: settlement.patches,
+            patches,
             rest: Some(rest_of(draft, occupied)),
         };
-        let answer = with_jobs(answer, settlement.jobs);
-        Ok(self.change_of(effect, answer, settlement.rows))
-    }
-
-    // The draft is settled and handed out, and the numbers are those of then: what it brings.
-    fn settle_and_hand_out(
-        &self,
-        alloc: Global,
-        draft: &mut Draft<'_>,
-        occupied: &mut Occupied,
-        graphs: &GraphChange,
-    ) -> Result<Settlement, AllocError>
-        requires based { draft.old.base ≡ self.now.content }
-        requires sound { IsSound draft.old.content }
-        requires over { IsOver graphs.now self.now.content draft.old.content }
-        requires later { self.now.content.now ≤ draft.old.content.now }
-        requires last { IsLast graphs.now draft.old.content }
-        requires leaves { LeavesDags graphs.now }
-        requires kept { IsSettledAndSound (completed graphs.now (hand_out (settle draft.old.content))) }
-        requires occupied { AreOccupied draft.old.content occupied.old }
-        ensures { IfOk result (IsSettlement graphs.now self.now.content draft.old.content draft.new occupied.new) }
-    {
-        self.settle_draft(alloc, draft)?;
-        let jobs = hand_out(alloc, draft, self.shelves.as_slice(), occupied)?;
-        let rows = self.rows_changed(alloc, draft, graphs)?;
-        let patches = patches_of(alloc, self.shelves.as_slice(), draft)?;
-        Ok(Settlement {
-            jobs,
-            patches,
-            rows,
-        })
+        Ok(self.change_of(effect, Answer { jobs, ..answer }, rows))
     }
 
     // The change that has this effect and this answer, and brings these rows.
@@ -419,13 +381,6 @@ pub(crate) fn rest_of(draft: Draft<'_>, occupied: Occupied) -> Rest
         serial: draft.next_serial(),
         edits: draft.into_edits(),
     }
-}
-
-// The answer, with these tries handed out.
-fn with_jobs(answer: Answer, jobs: Sequence<Job>) -> Answer
-    ensures { result ≡ record answer { jobs = jobs } }
-{
-    Answer { jobs, ..answer }
 }
 
 // The answer of an event that makes no run, sets nothing back and hands out no try.

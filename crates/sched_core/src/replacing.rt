@@ -4,9 +4,7 @@ ghost use Rattle.record_writing.specs.record_rules.Changes.{rows_between};
 ghost use Rattle.sched_state.specs.declared.graphs.LoadedGraph as states;
 ghost use Rattle.sched_state.specs.Lists.{same};
 ghost use Rattle.sched_model.specs.Changes.{taken_in};
-ghost use Rattle.sched_handout.specs.Occupied.{AreOccupied};
 ghost use Rattle.sched_model.specs.Handout.{hand_out};
-ghost use Rattle.sched_model.specs.Jobs.{handed};
 ghost use Rattle.sched_model.specs.Lists.{rises};
 ghost use Rattle.sched_model.specs.Schedule.{run_before};
 ghost use Rattle.sched_model.specs.Settle.{settle};
@@ -18,7 +16,7 @@ ghost use Rattle.sched_events.specs.SettledAndSound.{IsSettledAndSound};
 ghost use Rattle.sched_events.specs.declared.events.Event.TheVariants.{Replace};
 ghost use Rattle.sched_core.specs.Inside.{IsTaken, StandsAt};
 ghost use Rattle.sched_core.specs.Plans.{IsPlanned};
-ghost use Rattle.sched_core.specs.Replaced.{IsAftermath, IsDisturbance, IsReplacement, OwnsRunsOf, TakeAlike, with_other_graph};
+ghost use Rattle.sched_core.specs.Replaced.{IsAftermath, IsDisturbance, OwnsRunsOf, TakeAlike, with_other_graph};
 
 use crate::changed_rows::{dags_with, limits_with};
 use crate::changes::{Change, Effect, GraphChange, Rest};
@@ -34,7 +32,7 @@ use run_planner::makes_anew;
 use sched_clearing::span_of_all;
 use sched_draft::Draft;
 use sched_events::{Answer, Refusal};
-use sched_handout::{Occupied, hand_out};
+use sched_handout::hand_out;
 use sched_ready::{Patch, Shelf, shelves_of};
 use sched_replacing::{least_moved, lost_task, reached, refit, resized_task};
 use sched_settling::settle;
@@ -51,14 +49,6 @@ pub(crate) struct Aftermath {
     pub patches: Vec<Patch>,
     pub jobs: Sequence<Job>,
     pub rows: Rows,
-}
-
-// What it brings, but for the rest: the tries that are handed out, the rows that the schedule lacks then, and the shelves.
-#[derive(Drop)]
-pub(crate) struct Replacement {
-    pub jobs: Sequence<Job>,
-    pub rows: Rows,
-    pub shelves: Vec<Shelf>,
 }
 
 impl Schedule {
@@ -151,7 +141,7 @@ impl Schedule {
         Ok(self.change_of(effect, answer, aftermath.rows))
     }
 
-    // What is left where the graph at the place is this one. The shelves are made anew.
+    // What is left where the graph at the place is this one. The shelves are made anew, before tries are handed out and after.
     fn aftermath(
         &self,
         alloc: Global,
@@ -166,39 +156,18 @@ impl Schedule {
     {
         let mut occupied = self.occupied.copy(alloc)?;
         let mut draft = self.refitted(alloc, place, graph)?;
-        let replacement = self.replace_in(alloc, &mut draft, &mut occupied, graph)?;
+        settle(alloc, &mut draft)?;
+        let before = shelves_of(alloc, &draft)?;
+        let jobs = hand_out(alloc, &mut draft, before.as_slice(), &mut occupied)?;
+        own_runs_of(alloc, &mut draft, &graph.dag.spec().dag_id)?;
+        let rows = self.rows_replaced(alloc, &draft, graph)?;
+        let shelves = shelves_of(alloc, &draft)?;
         Ok(Aftermath {
             rest: rest_of(draft, occupied),
-            shelves: replacement.shelves,
+            shelves,
             patches: Vec::new(alloc),
-            jobs: replacement.jobs,
-            rows: replacement.rows,
-        })
-    }
-
-    // The draft in which the graph with the id of this one is this one is settled and handed out, and the numbers are those of then: what it brings.
-    fn replace_in(
-        &self,
-        alloc: Global,
-        draft: &mut Draft<'_>,
-        occupied: &mut Occupied,
-        graph: &LoadedGraph,
-    ) -> Result<Replacement, AllocError>
-        requires based { draft.old.base ≡ self.now.content }
-        requires content { draft.old.content ≡ with_other_graph graph.now self.now.content }
-        requires sound { IsSound (with_other_graph graph.now self.now.content) }
-        requires kept { IsSettledAndSound (hand_out (settle (with_other_graph graph.now self.now.content))) }
-        requires taken { AreOccupied (with_other_graph graph.now self.now.content) occupied.old }
-        ensures { IfOk result (IsReplacement self.now.content graph.now draft.new occupied.new) }
-    {
-        let jobs = hand_out_anew(alloc, draft, occupied)?;
-        own_runs_of(alloc, draft, &graph.dag.spec().dag_id)?;
-        let rows = self.rows_replaced(alloc, draft, graph)?;
-        let shelves = shelves_of(alloc, draft)?;
-        Ok(Replacement {
             jobs,
             rows,
-            shelves,
         })
     }
 
@@ -236,25 +205,6 @@ impl Schedule {
         let limits = limits_with(alloc, self.graphs.as_slice(), graph)?;
         rows_of(alloc, &self.base(), draft, dags, limits)
     }
-}
-
-// The draft is settled and handed out, by shelves that are made anew: the tries.
-fn hand_out_anew(
-    alloc: Global,
-    draft: &mut Draft<'_>,
-    occupied: &mut Occupied,
-) -> Result<Sequence<Job>, AllocError>
-    requires sound { IsSound draft.old.content }
-    requires taken { AreOccupied draft.old.content occupied.old }
-    ensures base { OnOk result (draft.new.base ≡ draft.old.base) }
-    ensures draft { OnOk result (draft.new.content ≡ hand_out (settle draft.old.content)) }
-    ensures taken { OnOk result (AreOccupied draft.new.content occupied.new) }
-    ensures jobs { IfOk result (λ jobs. jobs ≡ handed (settle draft.old.content) draft.new.content) }
-{
-    settle(alloc, draft)?;
-    let before = shelves_of(alloc, draft)?;
-    let jobs = hand_out(alloc, draft, before.as_slice(), occupied)?;
-    Ok(jobs)
 }
 
 // A graph that has taken the text in, which says this. Its pause is that of the old one.

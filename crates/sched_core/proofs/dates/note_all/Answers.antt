@@ -1,4 +1,4 @@
-use Rattle.std.proofs.Common.{◌∙◌, refl}
+use Rattle.std.proofs.Common.{◌≡◌, ◌∙◌, refl}
 use Rattle.sched_core.proofs.DateLemmas.{all_begins, all_can, all_next, all_over}
 use Rattle.sched_core.proofs.dates.note_all.Goals as goal
 

@@ -1,4 +1,4 @@
-use Rattle.std.proofs.Common.{◌∙◌, refl}
+use Rattle.std.proofs.Common.{◌≡◌, ◌∙◌, refl}
 use Rattle.sched_core.proofs.DateLemmas.{room_begins, room_over, same_long}
 use Rattle.sched_core.proofs.dates.room_in.Goals as goal
 

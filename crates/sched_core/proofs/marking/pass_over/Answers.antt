@@ -1,4 +1,4 @@
-use Rattle.std.proofs.Common.{subst, sym, ℕ, List, Err}
+use Rattle.std.proofs.Common.{◌≡◌, ap, subst, sym, ℕ, List, Ok, Err}
 use Rattle.sched_model.specs.Schedule.{Schedule}
 use Rattle.sched_clearing.specs.Marking.{IsMarkedAs}
 use Rattle.sched_core.specs.Repairs.{IsMark}

@@ -1,4 +1,4 @@
-use Rattle.std.proofs.Common.{◌∙◌, ℕ, List, length, ap}
+use Rattle.std.proofs.Common.{◌∙◌, true, ℕ, List, length, ap}
 use Rattle.run_lists.specs.Positions.{stands_in}
 use Rattle.run_lists.specs.declared.positions.Standing.TheVariants.{Running}
 use Rattle.sched_model.specs.States.{active_runs}

@@ -10,8 +10,7 @@ use Rattle.sched_events.specs.declared.events.Event.TheVariants.{Replace}
 use Rattle.sched_core.specs.Changes.{Planned, ScheduleValue}
 use Rattle.sched_core.specs.Inside.{StandsAt}
 use Rattle.sched_core.specs.Replaced.{TakeAlike, with_other_graph}
-use Rattle.sched_core.specs.Plans.{IsDraftOf}
-use Rattle.sched_core.proofs.PlanLemmas.{draft_kept, draft_planned, draft_sound}
+use Rattle.sched_core.proofs.PlanLemmas.{IsDraftOf, draft_kept, draft_planned, draft_sound}
 use Rattle.sched_core.proofs.ReplacingLemmas.{replaced_alike, replaced_draft}
 use Rattle.sched_core.proofs.schedules.Schedule.changed_to.Goals.{After-with_text_of-graph}
 use Rattle.sched_core.proofs.schedules.Schedule.changed_to.Goals as goal

@@ -11,9 +11,9 @@ use Rattle.sched_events.specs.Outcomes.{IsRefusal}
 use Rattle.sched_events.specs.declared.answers.Answer.{Answer}
 use Rattle.sched_events.specs.declared.events.Event.TheVariants.{Clear}
 use Rattle.sched_core.specs.Changes.{ScheduleValue}
-use Rattle.sched_core.proofs.BookLemmas.{IsRepaired, repaired}
-use Rattle.sched_core.specs.Plans.{IsDraftOf}
-use Rattle.sched_core.proofs.PlanLemmas.{draft_sound, draft_kept, draft_planned, told_by}
+use Rattle.sched_model.specs.States.{open_tries}
+use Rattle.sched_core.proofs.BookLemmas.{repair_open, repair_pools}
+use Rattle.sched_core.proofs.PlanLemmas.{IsDraftOf, draft_sound, draft_kept, draft_planned, told_by}
 use Rattle.sched_core.proofs.RepairLemmas.{cleared_is, clear_waits, IsCleared, clear_done}
 use Rattle.sched_core.proofs.schedules.Schedule.plan_clear.Goals.{In_ok-cleared}
 use Rattle.sched_core.proofs.schedules.Schedule.plan_clear.Goals as goal
@@ -47,17 +47,11 @@ drafted c =
 pub finish-requires-clause-based : goal.finish-requires-clause-based
 finish-requires-clause-based c = c.in_ok-cleared.ensures.base ∙ ap (λ (v : DraftValue). v.base) c.draft-draft.ensures
 
--- what of the schedule stays in the draft
-stays : (c : In_ok-cleared) → IsRepaired c.args.self.now.content c.set_back.new.draft.content
-stays c =
-    let a : Schedule = c.args.self.now.content in
-    repaired [] (set_back_by (Clear c.args.clearing.now) a) a c.set_back.new.draft.content (drafted c).is
-
 pub finish-requires-clause-over : goal.finish-requires-clause-over
-finish-requires-clause-over c = (stays (goal.at.finish-requires-clause-over c).In_ok-cleared).over
-
-pub finish-requires-clause-later : goal.finish-requires-clause-later
-finish-requires-clause-later c = let e = (stays (goal.at.finish-requires-clause-later c).In_ok-cleared).now in omega (arith, e)
+finish-requires-clause-over c = record {
+  limits = ap (λ (s : Schedule). s.limits) c.in_ok-cleared.ensures.back.1 ∙ ap (λ (v : DraftValue). v.content.limits) c.draft-draft.ensures;
+  graphs = ap (λ (s : Schedule). s.graphs) c.in_ok-cleared.ensures.back.1 ∙ ap (λ (v : DraftValue). v.content.graphs) c.draft-draft.ensures;
+}
 
 pub finish-requires-clause-sound : goal.finish-requires-clause-sound
 finish-requires-clause-sound c = draft_sound (drafted (goal.at.finish-requires-clause-sound c).In_ok-cleared)
@@ -65,14 +59,15 @@ finish-requires-clause-sound c = draft_sound (drafted (goal.at.finish-requires-c
 pub finish-requires-clause-kept : goal.finish-requires-clause-kept
 finish-requires-clause-kept c = draft_kept (drafted (goal.at.finish-requires-clause-kept c).In_ok-cleared)
 
-pub finish-requires-clause-next : goal.finish-requires-clause-next
-finish-requires-clause-next c = (stays (goal.at.finish-requires-clause-next c).In_ok-cleared).next
-
 pub finish-requires-clause-pools : goal.finish-requires-clause-pools
-finish-requires-clause-pools c = (stays (goal.at.finish-requires-clause-pools c).In_ok-cleared).pools
+finish-requires-clause-pools c =
+    let a : Schedule = c.args.self.now.content in
+    ap (λ (s : Schedule). s.pools) (drafted (goal.at.finish-requires-clause-pools c).In_ok-cleared).is ∙ repair_pools [] (set_back_by (Clear c.args.clearing.now) a) a
 
 pub finish-requires-clause-open : goal.finish-requires-clause-open
-finish-requires-clause-open c = (stays (goal.at.finish-requires-clause-open c).In_ok-cleared).tries
+finish-requires-clause-open c =
+    let a : Schedule = c.args.self.now.content in
+    ap (λ (s : Schedule). open_tries s) (drafted (goal.at.finish-requires-clause-open c).In_ok-cleared).is ∙ repair_open [] (set_back_by (Clear c.args.clearing.now) a) a
 
 pub returns-clause-accepted : goal.returns-clause-accepted
 returns-clause-accepted c =

@@ -16,10 +16,10 @@ use Rattle.sched_events.specs.Causes.{refused}
 use Rattle.sched_events.specs.Outcomes.{IsRefusal}
 use Rattle.sched_core.specs.Inside.{StandsAt, IsTaken}
 use Rattle.sched_events.specs.SettledAndSound.{IsSoundAndSaid}
-use Rattle.sched_core.specs.Plans.{IsDraftOf, no_runs}
+use Rattle.sched_core.specs.Plans.{no_runs}
 use Rattle.sched_events.specs.declared.events.Event.TheVariants.{Load}
 use Rattle.sched_events.specs.declared.refusals.Refusal.TheVariants as refusal
-use Rattle.sched_core.proofs.PlanLemmas.{known_is, refused_full, accepted_new, accepted_same, refused_differs, accepted_other, again_change, draft_planned, draft_said, load_draft, unfit_load}
+use Rattle.sched_core.proofs.PlanLemmas.{known_is, refused_full, accepted_new, accepted_same, refused_differs, accepted_other, again_change, IsDraftOf, draft_planned, draft_said, load_draft, unfit_load}
 use Rattle.sched_core.proofs.schedules.Schedule.plan_load.Goals as goal
 
 pub returns-in_err-dag-clause-refused : goal.returns-in_err-dag-clause-refused

@@ -6,12 +6,12 @@ use Rattle.sched_events.specs.SettledAndSound.{IsSoundAndSaid, IsSettled}
 use Rattle.sched_events.specs.declared.events.Event.TheVariants.{Pause}
 use Rattle.sched_model.specs.Lists.{rises}
 use Rattle.sched_core.specs.Changes.{ScheduleValue, Planned}
-use Rattle.sched_core.specs.Plans.{IsDraftOf, no_runs}
+use Rattle.sched_core.specs.Plans.{no_runs}
 use Rattle.sched_core.specs.declared.changes.GraphChange.TheVariants as graphs
 use Rattle.sched_model.specs.States.{open_tries}
 use Rattle.sched_laws.proofs.OccupyingLemmas.{open_paused}
 use Rattle.sched_core.proofs.EffectLemmas.{quiet_whole}
-use Rattle.sched_core.proofs.PlanLemmas.{looked_up, pause_unknown, pause_accepted, pause_draft, change_held, draft_sound, draft_kept, draft_planned}
+use Rattle.sched_core.proofs.PlanLemmas.{looked_up, pause_unknown, pause_accepted, pause_draft, change_held, IsDraftOf, draft_sound, draft_kept, draft_planned}
 use Rattle.sched_core.proofs.schedules.Schedule.plan_pause.Goals.{After-quiet_answer}
 use Rattle.sched_core.proofs.schedules.Schedule.plan_pause.Goals as goal
 

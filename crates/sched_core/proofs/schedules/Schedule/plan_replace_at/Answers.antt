@@ -10,8 +10,8 @@ use Rattle.sched_events.specs.SettledAndSound.{IsSoundAndSaid}
 use Rattle.sched_events.specs.declared.events.Event.TheVariants.{Replace}
 use Rattle.sched_core.specs.Books.{content_inside}
 use Rattle.sched_core.specs.Changes.{ScheduleValue}
-use Rattle.sched_core.specs.Plans.{IsDraftOf, no_runs}
-use Rattle.sched_core.proofs.PlanLemmas.{change_held, draft_planned, known_is}
+use Rattle.sched_core.specs.Plans.{no_runs}
+use Rattle.sched_core.proofs.PlanLemmas.{change_held, draft_planned, known_is, IsDraftOf}
 use Rattle.sched_core.proofs.ReplacingLemmas.{disturbance_is, disturbs, quiet_draft, same_draft}
 use Rattle.sched_core.proofs.schedules.Schedule.plan_replace_at.Goals.{After-index}
 use Rattle.sched_core.proofs.schedules.Schedule.plan_replace_at.Goals as goal

@@ -13,8 +13,7 @@ use Rattle.sched_core.specs.Finding.{IsFoundAt}
 use Rattle.sched_core.specs.declared.finding.Found.{Found}
 use Rattle.sched_handout.specs.Occupied.{AreOccupied}
 use Rattle.sched_core.proofs.BookLemmas.{report_counted}
-use Rattle.sched_core.specs.Plans.{IsDraftOf}
-use Rattle.sched_core.proofs.PlanLemmas.{not_in_flight, out_of_turn, in_turn, report_draft, draft_sound, draft_kept, draft_planned}
+use Rattle.sched_core.proofs.PlanLemmas.{not_in_flight, out_of_turn, in_turn, report_draft, IsDraftOf, draft_sound, draft_kept, draft_planned}
 use Rattle.sched_core.proofs.ReportLemmas.{report_at, found_run, found_instance}
 use Rattle.sched_core.proofs.schedules.Schedule.plan_report.Goals.{In-Some, After-report_at}
 use Rattle.sched_core.proofs.schedules.Schedule.plan_report.Goals as goal

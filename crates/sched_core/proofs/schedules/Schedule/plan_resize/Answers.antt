@@ -14,8 +14,8 @@ use Rattle.sched_draft.specs.Books.{pools_in, IsBookOf}
 use Rattle.sched_core.specs.Changes.{ScheduleValue}
 use Rattle.sched_core.proofs.BookLemmas.{resized_taken}
 use Rattle.sched_core.specs.Inside.{over}
-use Rattle.sched_core.specs.Plans.{IsDraftOf, no_runs}
-use Rattle.sched_core.proofs.PlanLemmas.{draft_sound, draft_kept, draft_planned}
+use Rattle.sched_core.specs.Plans.{no_runs}
+use Rattle.sched_core.proofs.PlanLemmas.{IsDraftOf, draft_sound, draft_kept, draft_planned}
 use Rattle.sched_core.proofs.ResizeLemmas.{known_by, too_many, HasPlace, known_place, new_place, resize_accepted, memory_alone, over_is}
 use Rattle.sched_core.proofs.schedules.Schedule.plan_resize.Goals.{else-is_none-via-then-is_none+else-pools-len, else-is_none-via-else-is_none}
 use Rattle.sched_core.proofs.schedules.Schedule.plan_resize.Goals.{In_ok-name, In_ok-resize}

@@ -9,8 +9,7 @@ use Rattle.sched_core.specs.Books.{IsCounted}
 use Rattle.sched_core.specs.Changes.{ScheduleValue}
 use Rattle.sched_handout.specs.Occupied.{AreOccupied}
 use Rattle.sched_core.proofs.BookLemmas.{restart_counted, restart_occupied}
-use Rattle.sched_core.specs.Plans.{IsDraftOf}
-use Rattle.sched_core.proofs.PlanLemmas.{restart_accepted, restart_draft, draft_sound, draft_kept, draft_planned}
+use Rattle.sched_core.proofs.PlanLemmas.{restart_accepted, restart_draft, IsDraftOf, draft_sound, draft_kept, draft_planned}
 use Rattle.sched_core.proofs.schedules.Schedule.plan_restart.Goals.{After-set_lanes}
 use Rattle.sched_core.proofs.schedules.Schedule.plan_restart.Goals as goal
 

@@ -12,8 +12,8 @@ use Rattle.sched_core.specs.Changes.{ScheduleValue}
 use Rattle.sched_model.specs.States.{open_tries}
 use Rattle.sched_model.specs.Changes.{set_now}
 use Rattle.sched_laws.proofs.OccupyingLemmas.{open_added}
-use Rattle.sched_core.specs.Plans.{IsDraftOf, run_id}
-use Rattle.sched_core.proofs.PlanLemmas.{tick_accepted, tick_draft, tick_ids, tick_length, draft_is, draft_sound, draft_kept, draft_planned, told_by}
+use Rattle.sched_core.specs.Plans.{run_id}
+use Rattle.sched_core.proofs.PlanLemmas.{tick_accepted, tick_draft, tick_ids, tick_length, IsDraftOf, draft_is, draft_sound, draft_kept, draft_planned, told_by}
 use Rattle.sched_core.proofs.schedules.Schedule.plan_tick.Goals.{After-set_clock}
 use Rattle.sched_core.proofs.KeptLemmas.{draft_dates}
 use Rattle.sched_core.proofs.schedules.Schedule.plan_tick.Goals as goal

@@ -9,10 +9,10 @@ use Rattle.sched_events.specs.SettledAndSound.{IsSoundAndSaid}
 use Rattle.sched_events.specs.declared.answers.Answer.{Answer}
 use Rattle.sched_events.specs.declared.events.Event.TheVariants.{Trigger}
 use Rattle.sched_core.specs.Changes.{ScheduleValue}
-use Rattle.sched_core.specs.Plans.{IsDraftOf, run_id}
+use Rattle.sched_core.specs.Plans.{run_id}
 use Rattle.sched_model.specs.States.{open_tries}
 use Rattle.sched_laws.proofs.OccupyingLemmas.{open_added}
-use Rattle.sched_core.proofs.PlanLemmas.{draft_is, draft_sound, draft_kept, draft_planned, told_by}
+use Rattle.sched_core.proofs.PlanLemmas.{IsDraftOf, draft_is, draft_sound, draft_kept, draft_planned, told_by}
 use Rattle.sched_core.proofs.TriggerLemmas.{hand_full, trigger_draft, trigger_ids}
 use Rattle.sched_core.proofs.schedules.Schedule.plan_trigger.Goals.{In_ok-made}
 use Rattle.sched_core.proofs.KeptLemmas.{draft_dates}

@@ -7,8 +7,7 @@ use Rattle.sched_model.specs.Lists.{rises}
 use Rattle.sched_core.specs.Changes.{ScheduleValue}
 use Rattle.sched_model.specs.States.{open_tries}
 use Rattle.sched_laws.proofs.OccupyingLemmas.{open_paused}
-use Rattle.sched_core.specs.Plans.{IsDraftOf}
-use Rattle.sched_core.proofs.PlanLemmas.{looked_up, pause_unknown, pause_accepted, unpause_draft, draft_sound, draft_kept, draft_planned}
+use Rattle.sched_core.proofs.PlanLemmas.{looked_up, pause_unknown, pause_accepted, unpause_draft, IsDraftOf, draft_sound, draft_kept, draft_planned}
 use Rattle.sched_core.proofs.schedules.Schedule.plan_unpause.Goals.{After-quiet_answer}
 use Rattle.sched_core.proofs.schedules.Schedule.plan_unpause.Goals as goal
 
