@@ -71,6 +71,36 @@ def check_end_on_full_disk(trial):
     until(20, is_well, lambda: f"the task has ended well: {trial.outcomes()}\n{trial.said()}")
 
 
+def full_logs(trial, _):
+    """A disk of the logs alone that has room for bytes and for no file: check tells it before a try fails by it."""
+    logs = trial.folder.at("logs")
+    os.makedirs(logs)
+    if os.getuid() or subprocess.run(["mount", "-t", "tmpfs", "-o", "size=1m,nr_inodes=9", "none", logs], capture_output=True).returncode:
+        return "skipped: no tmpfs may be mounted here"
+    try:
+        trial.begin()
+        trial.load("short", "true", retries=9)
+        wide = ("--disk=99.9", "--clock=60")
+        until(10, lambda: trial.run("check", trial.path, *wide).returncode == 0, lambda: trial.run("check", trial.path, *wide).stdout)
+        for number in range(8):
+            trial.touch("", f"{logs}/fill{number}")
+        it = trial.run("check", trial.path, *wide)
+        expect(it.returncode == 2 and "CRITICAL - the disk of the logs is 100 % full | " in it.stdout and " logs=100.0%;" in it.stdout, f"check: {it}")
+        trial.ask("trigger", "short")
+        until(10, lambda: trial.outcomes()[:1] == ["failed"], "a try without room for its log fails")
+        for number in range(8):
+            os.unlink(f"{logs}/fill{number}")
+        until(10, lambda: trial.outcomes()[-1] == "success", "it is tried again, and there is room")
+        expect(trial.end() == 0, "the end")
+    finally:
+        if trial.serve and trial.serve.poll() is None:
+            trial.serve.kill()
+            trial.serve.wait()
+            until(10, lambda: not trial.folder.scheduler(), "the scheduler ends")
+        subprocess.run(["umount", logs], check=True)
+    return None
+
+
 def standstill(trial, _):
     """A scheduler that refuses all, though there is room on the disk, is begun anew."""
     with open(trial.folder.at("standstill.sh"), "w") as it:
@@ -146,7 +176,7 @@ def clock(trial, _):
     time.sleep(2)
     expect(time.time() - trial.now() > 100000, "the time is not told")
     it = trial.run("check", trial.path)
-    expect(it.returncode == 2 and "1800 minutes behind" in it.stdout, f"check: {it}")
+    expect(it.returncode == 2 and "30 hours behind" in it.stdout, f"check: {it}")
     trial.touch("clock-is-right")
     until(10, lambda: time.time() - trial.now() < 100, "it is told once it is confirmed")
     expect(trial.end() == 0, "the end")
@@ -192,4 +222,4 @@ def unit(*_):
     return "by systemd-analyze verify; package/try has systemd run one"
 
 
-POINTS = (full_disk, standstill, unwritable, odd_files, clock, leaping_clock, unit)
+POINTS = (full_disk, full_logs, standstill, unwritable, odd_files, clock, leaping_clock, unit)

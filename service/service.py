@@ -147,14 +147,21 @@ class Folder:
 
     def scheduler(self):
         """The process of the scheduler, or None."""
+        return self.found_scheduler()[0]
+
+    def scheduler_words(self):
+        """The words with which the scheduler was begun; none where there is none."""
+        return self.found_scheduler()[1]
+
+    def found_scheduler(self):
         try:
             with open(self.at("scheduler.pid"), "rb") as it:
                 found = int(it.read())
             with open(f"/proc/{found}/cmdline", "rb") as it:
                 words = it.read().split(b"\0")
         except (OSError, ValueError):
-            return None
-        return found if os.fsencode(self.record) in words else None
+            return None, []
+        return (found, [os.fsdecode(it) for it in words]) if os.fsencode(self.record) in words else (None, [])
 
     @contextlib.contextmanager
     def held_scheduler(self, wait):

@@ -3,7 +3,7 @@ ghost use Rattle.sqlite.specs.Held.{state};
 ghost use Rattle.command_runner.specs.Commands.{IsDone};
 
 use crate::doing::{Came, read_schedule, step_event};
-use crate::telling::{Told, tell_event, tell_failure, tell_reasons, tell_rows, told_by};
+use crate::telling::{SingleEnd, tell_event, tell_failure, tell_reasons, tell_rows, told_by};
 use command_words::{Command, UsageFault};
 use director::Store;
 use script_commands::CommandFault;
@@ -39,7 +39,7 @@ pub fn run_command<S: Alter + Drop, W: Write, P: Console>(
     ensures { IsDone (state S.Store) store command.now (W.contents output.old) (W.contents output.new) result.store result.told result.status }
 {
     let (store, told) = do_command(alloc, store, command, output, console);
-    let Told { status, is_written } = told;
+    let SingleEnd { status, is_written } = told;
     Answered {
         store,
         status,
@@ -54,7 +54,7 @@ fn do_command<S: Alter + Drop, W: Write, P: Console>(
     command: &Command,
     output: &mut W,
     console: &mut P,
-) -> (Store<S>, Told)
+) -> (Store<S>, SingleEnd)
     ensures { IsDone (state S.Store) store command.now (W.contents output.old) (W.contents output.new) result.0 result.1.is_written result.1.status }
 {
     let mut store = store;

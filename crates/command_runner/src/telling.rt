@@ -16,9 +16,9 @@ use script_reader::{
 use std::alloc::Global;
 use std::io::{self, Write};
 
-// What became of an answer: its status, and whether it is written.
+// What became of the answer to a single command: its status, and whether it is written.
 #[derive(Clone, Copy, Debug)]
-pub(crate) struct Told {
+pub(crate) struct SingleEnd {
     pub(crate) status: u8,
     pub(crate) is_written: bool,
 }
@@ -30,7 +30,7 @@ pub(crate) fn tell_event<S, W: Write, P: Console>(
     schedule: &Schedule,
     output: &mut W,
     console: &mut P,
-) -> Told
+) -> SingleEnd
     ensures { IsWritten (shown_for event.now (came_of came.now)) (status_of (came_of came.now))
         (W.contents output.old) (W.contents output.new) result.is_written result.status }
 {
@@ -52,7 +52,7 @@ pub(crate) fn tell_rows<W: Write, P: Console>(
     listing: Listing,
     output: &mut W,
     console: &mut P,
-) -> Told
+) -> SingleEnd
     ensures { AreRowsTold read.now listing (W.contents output.old) (W.contents output.new) result.is_written result.status }
 {
     match read {
@@ -71,7 +71,7 @@ pub(crate) fn tell_reasons<W: Write, P: Console>(
     question: &Question,
     output: &mut W,
     console: &mut P,
-) -> Told
+) -> SingleEnd
     ensures { AreReasonsTold read.now question.now (W.contents output.old) (W.contents output.new) result.is_written result.status }
 {
     let schedule = match read {
@@ -104,7 +104,7 @@ pub(crate) fn tell_failure<W: Write, P: Console>(
     schedule: Option<&Schedule>,
     output: &mut W,
     console: &mut P,
-) -> Told
+) -> SingleEnd
     ensures { IsWritten (failure_text fault.now) (statuses.failure_status fault.now) (W.contents output.old) (W.contents output.new) result.is_written result.status }
 {
     let put = put(output, Shown::Failure(fault));
@@ -114,15 +114,15 @@ pub(crate) fn tell_failure<W: Write, P: Console>(
 }
 
 // An answer with this status that was put so: where it is not written the status is 4.
-pub(crate) fn told_by(status: u8, put: io::Result<()>) -> Told
+pub(crate) fn told_by(status: u8, put: io::Result<()>) -> SingleEnd
     ensures { MatchResult put (λ _. result ≡ record { status = status; is_written = true }) (λ _. result ≡ record { status = 4; is_written = false }) }
 {
     match put {
-        Ok(()) => Told {
+        Ok(()) => SingleEnd {
             status,
             is_written: true,
         },
-        Err(_) => Told {
+        Err(_) => SingleEnd {
             status: 4,
             is_written: false,
         },

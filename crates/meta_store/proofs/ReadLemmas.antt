@@ -1,6 +1,7 @@
 -- What a read inside a transaction tells of the database before it.
-use Rattle.std.proofs.Common.{◌≡◌, ◌⊎◌, inl, inr, refl, sym, ap, subst, pos, true, false, Bool, List, Ok, Err, Result, IfOk, IfErr, IsErrAnd, IsTrue, arith}
+use Rattle.std.proofs.Common.{◌≡◌, ◌∙◌, ◌⊎◌, inl, inr, refl, cond, sym, ap, subst, pos, true, false, Bool, List, Ok, Err, Result, IfOk, IfErr, IsErrAnd, IsTrue, arith}
 use Rattle.std.specs.List.{AllByRecursion}
+use Rattle.sqlite.specs.declared.error.Error.{Error}
 use Rattle.sqlite.specs.Effect.{Database}
 use Rattle.sqlite.specs.Held.{Held, state}
 use Rattle.sqlite.specs.State.{State, HasCleanDisk, Survives}
@@ -8,6 +9,7 @@ use Rattle.sqlite_trees.specs.declared.store.Store as store
 use Rattle.record_rows.specs.Rows.{Rows, MetaRow, DagRow}
 use Rattle.record_rows.specs.declared.tables.Table.{Table}
 use Rattle.record_rules.specs.Cells.{AreText, AreTexts, cells_in}
+use Rattle.record_tables.specs.Errors.{is_memory}
 use Rattle.record_tables.specs.Holds.{Stores, StoresFirst, AddsLimits}
 use Rattle.record_tables.specs.Loads.{Stays, is_version}
 use Rattle.record_tables.specs.Puts.{GoesBy, Stops}
@@ -34,6 +36,14 @@ pub load_fault : (P : Type 0) (why : LoadFault) (e : StoreFault) → e ≡ fault
 load_fault P (unread.Refused error) e is h = inl (of_sqlite error e is)
 load_fault P unread.NotOurs e is h = inr (is, h refl)
 load_fault P unread.Memory e is h = inl (inl is)
+
+-- an error of a query is not that the database is no record
+pub not_ours : (error : Error) (why : LoadFault) → why ≡ cond (is_memory error) unread.Memory (unread.Refused error) → why ≡ unread.NotOurs → ⊥
+not_ours error why is told = go (is_memory error) is
+  where
+    go : (b : Bool) → why ≡ cond b unread.Memory (unread.Refused error) → ⊥
+    go true h = let no : unread.Memory ≡ unread.NotOurs = sym h ∙ told in cc
+    go false h = let no : unread.Refused error ≡ unread.NotOurs = sym h ∙ told in cc
 
 -- a fault that is handed on
 pub handed_on : {T E : Type 0} (P : E → Type 0) (f : E) (r : Result T E) → P f → IsErrAnd r (λ e. e ≡ f) → IfErr r P

@@ -7,14 +7,13 @@ use Rattle.std.proofs.lemmas.Bool.{and_parts, eqb-true}
 use Rattle.std.proofs.lemmas.Bool.Decides.{eqb_tells}
 use Rattle.std.proofs.lemmas.Fmt.{decimal_injective}
 use Rattle.std.proofs.lemmas.List.{append_cancel_left, append_cancel_right}
-use Rattle.std.proofs.lemmas.List.Folds.{list_all-append}
 use Rattle.graph_file.specs.Names.{is_name, is_name_byte}
 use Rattle.moment_core.specs.Moments.{seconds_end}
 use Rattle.moment_core.specs.Calendar.{date_of, day_of}
 use Rattle.moment_core.specs.Printing.{two_digits_of as two, text_of}
 use Rattle.moment_core.specs.Reading.{read_of}
 use Rattle.moment_core.proofs.PrintLemmas.{read_back}
-use Rattle.sched_state.specs.RunIds.{kind_text, run_id_text}
+use Rattle.sched_state.specs.RunIds.{run_id_text}
 use Rattle.sched_state.specs.declared.jobs.Job.{Job}
 use Rattle.sched_state.specs.declared.runs.RunKind.{RunKind}
 use Rattle.sched_state.specs.declared.runs.RunKind.TheVariants.{Scheduled, Manual, Backfill}

@@ -75,11 +75,29 @@ fn timed_command(
     ensures folder { IfOk result (λ c. command_dir c ≡ None) }
 {
     let mut command = Command::new(alloc, "timeout")?;
+    push_timed(alloc, &mut command, argv, folder, seconds)?;
+    Ok(command)
+}
+
+// Adds the words of `timeout` that say when it ends a program, and that program's name and its arguments.
+fn push_timed(
+    alloc: Global,
+    command: &mut Command,
+    argv: &[Argument],
+    folder: &str,
+    seconds: u32,
+) -> Result<(), AllocError>
+    ensures arguments { OnOk result (command_args command.new ≡ command_args command.old
+        ++ later_texts (timed (Some seconds) (texts_in folder.now argv.now))) }
+    ensures program { OnOk result (command_program command.new ≡ command_program command.old) }
+    ensures environment { OnOk result (SameEnv command.old command.new) }
+    ensures folder { OnOk result (SameDir command.old command.new) }
+{
     command.arg("-k")?;
     command.arg("10")?;
     command.arg(seconds.to_string(alloc)?.as_str())?;
-    push_texts(&mut command, argv, folder)?;
-    Ok(command)
+    push_texts(command, argv, folder)?;
+    Ok(())
 }
 
 // Adds a program's name and its arguments.

@@ -160,14 +160,25 @@ fn code_of<R: Files<File = File> + Processes>(
 ) -> io::Result<Option<i32>> {
     let mut command = command_of(alloc, job, folder)?;
     command.stdin(Stdio::null());
-    let status = match logs {
+    let status = status_of(rt, alloc, &mut command, job, logs)?;
+    Ok(status.code())
+}
+
+// Starts the program of a job and waits for it to end.
+fn status_of<R: Files<File = File> + Processes>(
+    rt: &R,
+    alloc: Global,
+    command: &mut Command,
+    job: &Job,
+    logs: Option<&str>,
+) -> io::Result<ExitStatus> {
+    match logs {
         Some(base) => {
             let log = open_log(rt, alloc, base, job)?;
-            logged_status(rt, &mut command, log, job.action.timeout().is_some())?
+            logged_status(rt, command, log, job.action.timeout().is_some())
         },
-        None => unheard_status(rt, &mut command)?,
-    };
-    Ok(status.code())
+        None => unheard_status(rt, command),
+    }
 }
 
 // Starts the program and waits for it to end. What it writes is lost.

@@ -1,6 +1,6 @@
 //! Laws of replacing: what another text makes of a graph that has runs. What has finished stays finished; no run, no try and no serial goes;
 //! and what is taken of the pools stays as it is.
-ghost use Rattle.std.specs.Prelude.{◌≡◌, ℕ, List, [], None, Some, IsTrue, true, false};
+ghost use Rattle.std.specs.Prelude.{◌≡◌, ℕ, List, None, Some, IsTrue, true, false};
 ghost use Rattle.std.specs.List.Sorted.{IsPermutation};
 ghost use Rattle.graph_file.specs.declared.task_specs.TaskSpec.{TaskSpec};
 ghost use Rattle.dag_check.specs.Graphs.{Dag};
@@ -10,14 +10,12 @@ ghost use Rattle.sched_model.specs.instance_machine.declared.tries.Try.{Try};
 ghost use Rattle.sched_model.specs.sched_state.Lists.{same};
 ghost use Rattle.sched_model.specs.sched_state.declared.graphs.LoadedGraph.{LoadedGraph};
 ghost use Rattle.sched_model.specs.sched_state.declared.runs.Run.{Run};
-ghost use Rattle.sched_model.specs.sched_state.declared.runs.RunPhase.{RunPhase};
-ghost use Rattle.sched_model.specs.sched_state.declared.runs.RunPhase.TheVariants as phase;
 ghost use Rattle.sched_model.specs.trigger_rules.States.{is_failed, is_finished};
 ghost use Rattle.sched_model.specs.trigger_rules.declared.states.State.{State};
 ghost use Rattle.sched_model.specs.trigger_rules.declared.states.State.TheVariants as state;
 ghost use Rattle.sched_model.specs.Causes.{is_unknown_graph, least_moved, lost_task, resized_task, tries_of};
 ghost use Rattle.sched_model.specs.Changes.{new_graph, load_graph};
-ghost use Rattle.sched_model.specs.Replacing.{fitted, kept_as, newcomer, pair_of, would_wake, refitted, replace_graph};
+ghost use Rattle.sched_model.specs.Replacing.{kept_as, would_wake, refitted, replace_graph};
 ghost use Rattle.sched_model.specs.Schedule.{Schedule, dates_of, graph_named, has_runs};
 ghost use Rattle.sched_model.specs.Sound.{IsSound, is_bounded, is_sound_graph, Says, AllSay};
 ghost use Rattle.sched_model.specs.States.{active_tries, in_flight, occupied};
@@ -60,18 +58,6 @@ pub fn each_instance_goes_on_by_its_task()
         → lost_task a dag ≡ None → IsSound a → AllSay a.graphs → Says text dag
         → state_of_task a id date task ≡ Some s → is_finished s ≡ true
         → IsStillFinished s (state_of_task (replace_graph text dag a) id date task) }
-{}
-
-/// A task that is new in a run gets an instance without tries: skipped where the run was a success, upstream_failed where it failed, and undecided in one that
-/// has not ended.
-pub fn a_new_task_begins_by_its_run()
-    ensures fitted { (ph : RunPhase) (es : List (TaskSpec × InstanceValue)) (new : TaskSpec)
-        → pair_of new.task_id es ≡ None → fitted ph es new ≡ newcomer ph }
-    ensures tries { (ph : RunPhase) → (newcomer ph).tries ≡ [] }
-    ensures success { (t : TaskSpec) → state_of t (newcomer phase.Success) ≡ state.Skipped }
-    ensures failed { (t : TaskSpec) → state_of t (newcomer phase.Failed) ≡ state.UpstreamFailed }
-    ensures running { (t : TaskSpec) → state_of t (newcomer phase.Running) ≡ state.None }
-    ensures queued { (t : TaskSpec) → state_of t (newcomer phase.Queued) ≡ state.None }
 {}
 
 /// A text that no task of the graph is lost by, and that changes the slots of no task with a try, keeps a sound schedule sound. Here, and

@@ -5,9 +5,13 @@ use Rattle.record_tables.specs.Holds.{StoresFirst}
 use Rattle.record_tables.specs.Loads.{is_version}
 use Rattle.meta_store.specs.Upgraded.{upgraded}
 use Rattle.meta_store.proofs.BackLemmas.{texts_upgraded}
-use Rattle.meta_store.proofs.ReadLemmas.{of_version}
+use Rattle.meta_store.proofs.ReadLemmas.{load_fault, of_version}
 use Rattle.meta_store.proofs.GivenLemmas.{load_given}
 use Rattle.meta_store.proofs.stores.Store.load_first.Goals as goal
+
+pub returns-in-Err-clause-fault : goal.returns-in-Err-clause-fault
+returns-in-Err-clause-fault g c clean =
+    load_fault _ c.in-Err.fault c.fault_of_load.result c.fault_of_load.ensures (λ is rows stored texts. absurd (c.in-Err.ensures.fault clean is rows stored texts))
 
 pub returns-then-not-is_version-clause-fault : goal.returns-then-not-is_version-clause-fault
 returns-then-not-is_version-clause-fault g c clean =
