@@ -5,16 +5,16 @@ use Rattle.dagsched.proofs.records.in_file_from.Goals as goal
 
 pub returns-in-Ok : goal.returns-in-Ok
 returns-in-Ok g c =
-    let left = c.on_connection-conn in
-    let did = left.ensures.done in
+    let left = c.on_connection-conn.result in
+    let did = c.on_connection-conn.ensures.done in
     inl (record {
-      after = left.conn;
-      said = left.status;
+      after = left.0;
+      said = left.1;
       on_file = record {
         found = c.in-Ok.conn;
-        opened = λ clean. c.in-Ok.ensures.found (on_clean file_state _ c.args.command.now c.in-Ok.conn left.conn left.status did clean);
+        opened = λ clean. c.in-Ok.ensures.found (on_clean file_state _ c.args.command.now c.in-Ok.conn left.0 left.1 did clean);
         done = did;
-        settled = left.ensures.settled;
+        settled = c.on_connection-conn.ensures.settled;
       };
       closed = c.close.ensures;
     })

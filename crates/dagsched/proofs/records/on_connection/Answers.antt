@@ -24,6 +24,6 @@ returns-in-Err-clause-done g c =
       told = c.from.result;
       same = c.from.ensures;
       cause = unmade_cause _ (state g.S.Store c.args.conn).now.schema none c.in-Err.ensures.fault;
-      status_is = c.put_failure.ensures;
+      status_is = c.put_failure-status.ensures;
       undone = c.in-Err.ensures.transacts;
     })
