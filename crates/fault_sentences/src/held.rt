@@ -66,20 +66,21 @@ impl Done {
         schedule: &Schedule,
         spec: &GraphSpec,
     ) -> Result<(), AllocError> {
-        match spec.schedule.interval_from(self.to) {
-            Some(next) if self.leaves_out(schedule, next) => {
-                say_more(
-                    sentence,
-                    "the run of {} is left out: TO, a day alone, is its first second",
-                    &[Date(next.start)],
-                )
-            }
-            _ => Ok(()),
+        let Some(next) = spec.schedule.interval_from(self.to) else {
+            return Ok(());
+        };
+        if !self.leaves_out(schedule, &next) {
+            return Ok(());
         }
+        say_more(
+            sentence,
+            "the run of {} is left out: TO, a day alone, is its first second",
+            &[Date(next.start)],
+        )
     }
 
     // Whether this is the interval of that run.
-    fn leaves_out(&self, schedule: &Schedule, next: Interval) -> bool {
+    fn leaves_out(&self, schedule: &Schedule, next: &Interval) -> bool {
         let to = self.to.secs();
         matches!(self.work, Work::Backfill)
             && to % DAY == 0
