@@ -176,7 +176,7 @@ def clock(trial, _):
     time.sleep(2)
     expect(time.time() - trial.now() > 100000, "the time is not told")
     it = trial.run("check", trial.path)
-    expect(it.returncode == 2 and "30 hours behind" in it.stdout, f"check: {it}")
+    expect(it.returncode == 2 and f"30 hours behind the system's: if that is right, touch {trial.folder.at('clock-is-right')} |" in it.stdout, f"check: {it}")
     trial.touch("clock-is-right")
     until(10, lambda: time.time() - trial.now() < 100, "it is told once it is confirmed")
     expect(trial.end() == 0, "the end")
