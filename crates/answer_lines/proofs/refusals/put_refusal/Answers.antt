@@ -1,4 +1,4 @@
-use Rattle.std.proofs.Common.{◌++◌, append_assoc, codes}
+use Rattle.std.proofs.Common.{◌++◌, codes}
 use Rattle.std.proofs.lemmas.Result.{on_ok_weaker}
 use Rattle.answer_lines.specs.GraphFaults.{graph_fault_text}
 use Rattle.answer_lines.specs.DagFaults.{dag_fault_text}
@@ -27,9 +27,6 @@ returns-in-RunExists g c = rw c.in-RunExists.is c.write_all-in-RunExists.ensures
 pub returns-in-NoInterval : goal.returns-in-NoInterval
 returns-in-NoInterval g c = rw c.in-NoInterval.is c.write_all-in-NoInterval.ensures.bytes
 
-pub returns-in-ClockBack : goal.returns-in-ClockBack
-returns-in-ClockBack g c = rw c.in-ClockBack.is (simp append_assoc (let h = simp append_assoc at c.writeln-in-ClockBack.ensures.bytes in h))
-
 pub returns-in-RecordFull : goal.returns-in-RecordFull
 returns-in-RecordFull g c = rw c.in-RecordFull.is c.write_all-in-RecordFull.ensures.bytes
 
@@ -40,23 +37,44 @@ returns-in_ok-put_dag_fault-in-DagFault g c =
     (appends_both _ _ _ (codes "refused 2 DagFault ") (dag_fault_text c.in-DagFault.fault) c.in_ok-write_all-in-DagFault.ensures.bytes c.in_ok-put_dag_fault-in-DagFault.ensures) h)
     c.write_all-in-DagFault-2.ensures.bytes)
 
-pub returns-in-UnknownPool : goal.returns-in-UnknownPool
-returns-in-UnknownPool g c = rw c.in-UnknownPool.is (rw c.as_str-pool.ensures.text at c.writeln.ensures.bytes)
-
 pub returns-in-UnknownTask : goal.returns-in-UnknownTask
 returns-in-UnknownTask g c = rw c.in-UnknownTask.is c.write_all-in-UnknownTask.ensures.bytes
 
 pub returns-in-BadSpan : goal.returns-in-BadSpan
 returns-in-BadSpan g c = rw c.in-BadSpan.is c.write_all-in-BadSpan.ensures.bytes
 
-pub returns-in-OtherTasks : goal.returns-in-OtherTasks
-returns-in-OtherTasks g c = rw c.in-OtherTasks.is (rw c.as_str-task.ensures.text at c.writeln-in-OtherTasks.ensures.bytes)
-
-pub returns-in-OtherSlots : goal.returns-in-OtherSlots
-returns-in-OtherSlots g c = rw c.in-OtherSlots.is (rw c.as_str-task-in-OtherSlots.ensures.text at c.writeln-in-OtherSlots.ensures.bytes)
-
-pub returns-in-Redoes : goal.returns-in-Redoes
-returns-in-Redoes g c = rw c.in-Redoes.is (simp append_assoc (let h = simp append_assoc at c.writeln-in-Redoes.ensures.bytes in h))
-
 pub returns-in-UnknownRun : goal.returns-in-UnknownRun
 returns-in-UnknownRun g c = rw c.in-UnknownRun.is c.write_all-in-UnknownRun.ensures.bytes
+
+pub returns-in-UnknownPool : goal.returns-in-UnknownPool
+returns-in-UnknownPool g c = rw c.in-UnknownPool.is c.put_named.ensures
+
+pub returns-in-ClockBack : goal.returns-in-ClockBack
+returns-in-ClockBack g c = rw c.in-ClockBack.is c.put_dated.ensures
+
+pub returns-in-InFlight : goal.returns-in-InFlight
+returns-in-InFlight g c = rw c.in-InFlight.is c.put_numbered.ensures
+
+pub returns-in-NotInFlight : goal.returns-in-NotInFlight
+returns-in-NotInFlight g c = rw c.in-NotInFlight.is c.put_numbered-in-NotInFlight.ensures
+
+pub returns-in-OutOfTurn : goal.returns-in-OutOfTurn
+returns-in-OutOfTurn g c = rw c.in-OutOfTurn.is c.put_numbered-in-OutOfTurn.ensures
+
+pub returns-in-PoolFault : goal.returns-in-PoolFault
+returns-in-PoolFault g c = rw c.in-PoolFault.is c.put_pool_fault.ensures
+
+pub returns-in-LanesTooMany : goal.returns-in-LanesTooMany
+returns-in-LanesTooMany g c = rw c.in-LanesTooMany.is c.write_all-in-LanesTooMany.ensures.bytes
+
+pub returns-in-OtherTasks : goal.returns-in-OtherTasks
+returns-in-OtherTasks g c = rw c.in-OtherTasks.is c.put_named-in-OtherTasks.ensures
+
+pub returns-in-OtherSlots : goal.returns-in-OtherSlots
+returns-in-OtherSlots g c = rw c.in-OtherSlots.is c.put_named-in-OtherSlots.ensures
+
+pub returns-in-Redoes : goal.returns-in-Redoes
+returns-in-Redoes g c = rw c.in-Redoes.is c.put_dated-in-Redoes.ensures
+
+pub returns-in-Memory : goal.returns-in-Memory
+returns-in-Memory g c = rw c.in-Memory.is c.write_all-in-Memory.ensures.bytes
