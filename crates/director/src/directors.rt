@@ -157,9 +157,10 @@ impl<S: Alter> Director<S> {
         ensures given { HasCleanDisk (state S.Store self.new.store) → IfErr result
             (IsGivenFault (state S.Store self.old.store) (state S.Store self.new.store)) }
     {
+        let old = Snapshot::of(&self.store);
         let before = Snapshot::of(&self.schedule);
         match step(alloc, &mut self.store, &mut self.schedule, event) {
-            Ok(answer) => Ok(Written::of(&self.store, Snapshot::of(event), before, answer)),
+            Ok(answer) => Ok(Written::of(old, &self.store, Snapshot::of(event), before, answer)),
             Err(fault) => Err(fault),
         }
     }
