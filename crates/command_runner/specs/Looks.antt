@@ -22,8 +22,8 @@ use Rattle.script_reader.specs.answer_lines.RecordFaults.{failure_text}
 use Rattle.script_reader.specs.Statuses.{explain_status, failure_status}
 use Rattle.command_runner.specs.Writes.{IsWritten}
 
--- the schedule that a record holds, which follows the rules of schedules, whatever the disk gave, or why it is not read, with an error that SQLite gave since; the record is as it was, after a crash
--- too
+-- the schedule that a record holds, which follows the rules of schedules, whatever the disk gave, or why it is not read, with an error that SQLite gave since;
+-- the record is as it was, after a crash too
 pub record IsRead {S : Type 0} (look : Held S → State) (before after : Held S) (read : Result ScheduleValue Fault) : Type 0 where
   pub schedule : IfOk read (λ a. IsSoundAndSaid a.content × (HasCleanDisk (look after) → ReadsAs ceilings (look before).now a.content))
   pub fault : IfErr read (λ said. (fault : StoreFault) × IsOfStore fault said × (HasCleanDisk (look after) → IsLoadFault ceilings (look before).now fault))

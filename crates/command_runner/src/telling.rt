@@ -91,7 +91,7 @@ pub(crate) fn tell_reasons<W: Write, P: Console>(
         Err(fault) => {
             let put = put(output, Shown::Unexplained(fault));
             console.put(None, None, Shown::Unexplained(fault));
-            console.tell(None);
+            console.tell(Some(schedule));
             told_by(explain_status(fault), put)
         }
     }

@@ -49,6 +49,8 @@ pub struct SentenceConsole<R: Clock + Files + Drop, W: Write + Drop> {
     written: Option<Instant>,
     // What is to be told of the command that was read last, with the number of its line.
     note: Option<(Option<u64>, Note)>,
+    // Whether it was a question outside of scripts, which has restarted nothing.
+    is_question: bool,
     // The graphs that the script has taken in.
     loads: Loads,
     // The tries whose ends are still to be told; none before the first command.
@@ -57,7 +59,7 @@ pub struct SentenceConsole<R: Clock + Files + Drop, W: Write + Drop> {
     unopened: Vec<String>,
 }
 
-impl<R: Clock + Files + Drop, W: Write + IsTerminal + Drop> SentenceConsole<R, W> {
+impl<R: Clock + Files + Alloc + Clone + Drop, W: Write + IsTerminal + Drop> SentenceConsole<R, W> {
     /// With nothing told yet. These are the program's own words, and the folders of PATH, in which programs are looked for; without these it is not said
     /// that one cannot be started.
     pub fn new(
@@ -72,14 +74,14 @@ impl<R: Clock + Files + Drop, W: Write + IsTerminal + Drop> SentenceConsole<R, W
     }
 }
 
-impl<R: Clock + Files + Drop> SentenceConsole<R, Vec<u8>> {
+impl<R: Clock + Files + Alloc + Clone + Drop> SentenceConsole<R, Vec<u8>> {
     /// The same, with what is told kept in memory, without the line on a terminal, and without a look for programs.
     pub fn in_memory(rt: R, alloc: Global, words: Vec<String>) -> SentenceConsole<R, Vec<u8>> {
         SentenceConsole::over(rt, alloc, words, None, Vec::new(alloc), false)
     }
 }
 
-impl<R: Clock + Files + Drop, W: Write + Drop> SentenceConsole<R, W> {
+impl<R: Clock + Files + Alloc + Clone + Drop, W: Write + Drop> SentenceConsole<R, W> {
     fn over(
         rt: R,
         alloc: Global,
@@ -97,6 +99,7 @@ impl<R: Clock + Files + Drop, W: Write + Drop> SentenceConsole<R, W> {
             is_terminal,
             written: None,
             note: None,
+            is_question: false,
             loads: Loads::new(alloc),
             untold: None,
             unopened: Vec::new(alloc),
@@ -205,9 +208,16 @@ impl<R: Clock + Files + Drop, W: Write + Drop> SentenceConsole<R, W> {
     fn put_note(
         &mut self,
         number: Option<u64>,
-        note: &Note,
+        note: &mut Note,
         schedule: Option<&Schedule>,
     ) -> io::Result<()> {
+        if let (Some(line), Rest::Taken(taken), Some(schedule)) = (
+            number,
+            &mut note.rest,
+            schedule,
+        ) {
+            self.loads.take(self.alloc, line, taken, schedule)?;
+        }
         let mut text = String::new(self.alloc);
         note.push(&mut text, schedule)?;
         if let Some(search) = self.search() {
@@ -348,7 +358,7 @@ fn number_at(spot: Option<Spot<'_>>) -> Option<u64> {
     Some(spot?.number)
 }
 
-impl<R: Clock + Files + Drop, W: Write + Drop> Console for SentenceConsole<R, W> {
+impl<R: Clock + Files + Alloc + Clone + Drop, W: Write + Drop> Console for SentenceConsole<R, W> {
     // A terminal that takes no line changes nothing else.
     fn waits(&mut self, schedule: &Schedule) {
         if !self.is_terminal {
@@ -387,16 +397,15 @@ impl<R: Clock + Files + Drop, W: Write + Drop> Console for SentenceConsole<R, W>
             Ok(Some(note)) => Some((number_at(spot), note)),
             _ => None,
         };
-        if let (Some(spot), Some((_, note))) = (spot, &mut self.note) {
-            let _ = self.loads.take(self.alloc, spot.number, shown, note);
-        }
+        self.is_question = spot.is_none() && matches!(shown, Shown::Unexplained(_));
     }
 
     fn tell(&mut self, schedule: Option<&Schedule>) {
         if let Some((number, note)) = self.note.take() {
-            let _ = self.put_note(number, &note, schedule);
+            let mut note = note;
+            let _ = self.put_note(number, &mut note, schedule);
         }
-        if let Some(schedule) = schedule {
+        if let (Some(schedule), false) = (schedule, self.is_question) {
             let _ = self.put_tries(schedule);
         }
     }

@@ -1,16 +1,12 @@
 //! Sentences on the texts of graphs.
 //!
 //! No contract holds this file: the sections `told` of `worked_scripts` show what it writes.
-use crate::doubts::push_doubt;
 use crate::keys::{push_key, push_schedule, push_unknown, text_of};
-use crate::notes::Rest;
 use crate::parts::Part::Text;
 use crate::parts::say;
 use crate::places::{Source, line_of_task};
 use dag_check::DagFault;
-use graph_file::{
-    GraphFault, GraphSpec, Key, Name, Place, TaskSpec, faulty_key, read_graph, unknown_name,
-};
+use graph_file::{GraphFault, Key, Name, Place, TaskSpec, faulty_key, unknown_name};
 use std::alloc::AllocError;
 use toml::Table;
 
@@ -280,27 +276,4 @@ fn push_circle(sentence: &mut String, names: &[Name]) -> Result<(), AllocError> 
         say(sentence, " {}", &[Text(name.as_str())])?;
     }
     Ok(())
-}
-
-// Adds what a text that was taken in cannot mean; what the schedule says beside it: of a pool that is too small, and that many runs are due; and of one
-// that was put in the place of another, up to which moment there are runs.
-pub(crate) fn push_taken(
-    sentence: &mut String,
-    text: &str,
-    is_change: bool,
-) -> Result<Rest, AllocError> {
-    match read_graph(*sentence.allocator(), text) {
-        Ok(spec) => push_read(sentence, &spec, is_change),
-        Err(_) => Ok(Rest::Nothing),
-    }
-}
-
-fn push_read(sentence: &mut String, spec: &GraphSpec, is_change: bool) -> Result<Rest, AllocError> {
-    push_doubt(sentence, spec)?;
-    let id = spec.dag_id.copy(*sentence.allocator())?;
-    if is_change {
-        Ok(Rest::Change(id))
-    } else {
-        Ok(Rest::Slots(id))
-    }
 }

@@ -6,6 +6,7 @@ use crate::idle::Work;
 use crate::notes::{push_paused, push_slots, size_of};
 use crate::parts::Part::{Date, Number, Text};
 use crate::parts::say_more;
+use cron_timetable::Interval;
 use dag_check::Graph;
 use graph_file::{GraphSpec, Name};
 use moment_core::Moment;
@@ -65,15 +66,8 @@ impl Done {
         schedule: &Schedule,
         spec: &GraphSpec,
     ) -> Result<(), AllocError> {
-        let (to, next) = (self.to.secs(), spec.schedule.interval_from(self.to));
-        match next {
-            Some(next)
-                if matches!(self.work, Work::Backfill)
-                    && to % DAY == 0
-                    && self.to < next.start
-                    && next.start.secs() / DAY == to / DAY
-                    && next.end <= schedule.now()
-                    && schedule.run_of(&self.graph, next.start).is_none() => {
+        match spec.schedule.interval_from(self.to) {
+            Some(next) if self.leaves_out(schedule, next) => {
                 say_more(
                     sentence,
                     "the run of {} is left out: TO, a day alone, is its first second",
@@ -82,6 +76,17 @@ impl Done {
             }
             _ => Ok(()),
         }
+    }
+
+    // Whether this is the interval of that run.
+    fn leaves_out(&self, schedule: &Schedule, next: Interval) -> bool {
+        let to = self.to.secs();
+        matches!(self.work, Work::Backfill)
+            && to % DAY == 0
+            && self.to < next.start
+            && next.start.secs() / DAY == to / DAY
+            && next.end <= schedule.now()
+            && schedule.run_of(&self.graph, next.start).is_none()
     }
 
     // Adds which task after the one that was set back alone stays as it was.

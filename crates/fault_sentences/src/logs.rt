@@ -88,7 +88,7 @@ impl Failure {
     }
 
     /// Adds why the system does not start its program, or nothing.
-    pub fn push_program<R: Files>(
+    pub fn push_program<R: Files + Alloc + Clone + Drop>(
         &self,
         sentence: &mut String,
         search: Search<'_, R>,

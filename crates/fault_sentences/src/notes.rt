@@ -2,13 +2,13 @@
 //!
 //! No contract holds this file: the sections `told` of `worked_scripts` show what it writes.
 use crate::asked::Asked;
-use crate::changes::{push_old_slots, push_reach};
+use crate::changes::push_old_slots;
 use crate::commands::push_command;
-use crate::due::{push_begun, push_due};
-use crate::graphs::push_taken;
+use crate::due::push_begun;
 use crate::held::Done;
 use crate::idle::done_rest;
 use crate::keys::nearest;
+use crate::loads::Taken;
 use crate::logs::push_name;
 use crate::parts::Part::{Date, Number, Text};
 use crate::parts::{push_words, say, say_more};
@@ -41,10 +41,8 @@ pub(crate) enum Rest {
     Clock,
     /// The task instance whose try has this serial.
     Try(u64),
-    /// The first task of this graph that needs more slots than its pool has, and that many of its runs are due.
-    Slots(Name),
-    /// The same of this graph, which has another text now, and how far its runs reach.
-    Change(Name),
+    /// What the graph of this text has and cannot mean, and what comes of it.
+    Taken(Taken),
     /// The number of slots that a task of this graph has.
     OldSlots(Name, Name),
     /// Which graph was probably meant by this word.
@@ -108,14 +106,19 @@ fn push_fault(sentence: &mut String, asked: Asked<'_>, shown: Shown<'_>) -> Resu
 // Adds the sentence beside an event that was done; what the schedule says beside it.
 fn push_done(sentence: &mut String, done: &Event, answer: &Answer) -> Result<Rest, AllocError> {
     match done {
-        Event::Load(text) => push_taken(sentence, text.as_str(), false),
-        Event::Replace(text) => push_taken(sentence, text.as_str(), true),
+        Event::Load(text) => taken_rest(*sentence.allocator(), text.as_str(), false),
+        Event::Replace(text) => taken_rest(*sentence.allocator(), text.as_str(), true),
         Event::Resize(pool, _) => Ok(Rest::Pool(pool.copy(*sentence.allocator())?)),
         _ => {
             sentence.push_str(trigger_text(done, answer))?;
             done_rest(*sentence.allocator(), done, answer)
         }
     }
+}
+
+// What the schedule says beside a text that was taken in.
+fn taken_rest(alloc: Global, text: &str, is_change: bool) -> Result<Rest, AllocError> {
+    Ok(Rest::Taken(Taken::new(alloc, text, is_change)?))
 }
 
 // That a run by hand has the date at which the clock of a new record stands, which is probably not meant.
@@ -182,12 +185,7 @@ impl Note {
     // The tasks of the graph whose text was taken in, as this schedule has them; else none.
     pub(crate) fn tasks<'a>(&self, schedule: Option<&'a Schedule>) -> &'a [TaskSpec] {
         match (&self.rest, schedule) {
-            (Rest::Slots(graph) | Rest::Change(graph), Some(schedule)) => {
-                match schedule.graph_of(graph) {
-                    Some(graph) => graph.dag.spec().tasks.as_slice(),
-                    None => &[],
-                }
-            }
+            (Rest::Taken(taken), Some(schedule)) => taken.tasks(schedule),
             _ => &[],
         }
     }
@@ -200,14 +198,7 @@ impl Rest {
             Rest::Nothing => Ok(()),
             Rest::Clock => push_clock(sentence, schedule),
             Rest::Try(serial) => push_try(sentence, schedule, *serial),
-            Rest::Slots(graph) => {
-                push_slots(sentence, schedule, graph)?;
-                push_due(sentence, schedule, graph)
-            }
-            Rest::Change(graph) => {
-                push_slots(sentence, schedule, graph)?;
-                push_reach(sentence, schedule, graph)
-            }
+            Rest::Taken(taken) => taken.push(sentence, schedule),
             Rest::OldSlots(graph, task) => push_old_slots(sentence, schedule, graph, task),
             Rest::Near(word) => push_near(sentence, schedule, word.as_str()),
             Rest::Tasks(graph, word) => {

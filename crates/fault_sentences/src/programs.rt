@@ -5,7 +5,8 @@ use crate::doubts::has_doubt;
 use crate::parts::Part::Text;
 use crate::parts::say_more;
 use graph_file::{Operator, TaskSpec};
-use std::alloc::{AllocError, Global};
+use std::alloc::{Alloc, AllocError, Global};
+use std::collections::HashSet;
 use std::io::{self, ErrorKind, Read};
 use std::os::unix::fs::PermissionsExt;
 use std::rt::Files;
@@ -13,6 +14,12 @@ use std::{fs, str};
 
 // The system looks at so many bytes of a file for the line that names its interpreter.
 const MOST_BYTES: usize = 256;
+
+// A folder that lacks so many of the programs of a load is read, so that it is not asked for each of the others.
+const MOST_MISSES: u32 = 8;
+
+// The names of a folder that has more are not read on.
+const MOST_NAMES: usize = 1_024;
 
 // What is said of a task of a graph, and of a try.
 const OF_TASK: &str = "task \"{}\": its program {} {}{}";
@@ -68,36 +75,39 @@ pub(crate) struct Search<'a, R: Files> {
     pub path: &'a str,
 }
 
-impl<R: Files> Search<'_, R> {
+impl<R: Files + Alloc + Clone + Drop> Search<'_, R> {
     /// Adds the first of these tasks whose program the system does not start, or what ends that in time, or nothing. One whose arguments were told of is
     /// passed over.
     pub fn push_task(&self, sentence: &mut String, tasks: &[TaskSpec]) -> Result<(), AllocError> {
-        let mut seen = Vec::new(*sentence.allocator());
+        let alloc = *sentence.allocator();
+        let mut seen = HashSet::new(alloc);
+        let mut folders = folders_of(alloc, self.path)?;
         for task in tasks {
-            if self.push_new(sentence, &mut seen, OF_TASK, task, program_of(task))? {
+            let (program, timer) = (program_of(task), timer_of(task));
+            if seen.insert(program)?
+                && self.push_lack(sentence, &mut folders, OF_TASK, task, program)?
+            {
                 return Ok(());
             }
-            if self.push_new(sentence, &mut seen, OF_TIMEOUT, task, timer_of(task))? {
+            if seen.insert(timer)?
+                && self.push_lack(sentence, &mut folders, OF_TIMEOUT, task, timer)?
+            {
                 return Ok(());
             }
         }
         Ok(())
     }
 
-    // Adds why the system does not start this program of a task, if it was not looked for yet: whether something is added.
-    fn push_new<'t>(
+    // Adds why the system does not start this program of a task: whether something is added.
+    fn push_lack(
         &self,
         sentence: &mut String,
-        seen: &mut Vec<&'t str>,
+        folders: &mut Vec<Folder<'_>>,
         text: &str,
         task: &TaskSpec,
-        program: &'t str,
+        program: &str,
     ) -> Result<bool, AllocError> {
-        if seen.as_slice().contains(&program) {
-            return Ok(false);
-        }
-        seen.push(program)?;
-        match self.lack_of(*sentence.allocator(), program)? {
+        match self.lack_of(*sentence.allocator(), folders, program)? {
             Some(lack) if !has_doubt(task) => {
                 self.push(sentence, text, task.task_id.as_str(), program, lack)?;
                 Ok(true)
@@ -113,7 +123,9 @@ impl<R: Files> Search<'_, R> {
         name: &str,
         program: &str,
     ) -> Result<(), AllocError> {
-        match self.lack_of(*sentence.allocator(), program)? {
+        let alloc = *sentence.allocator();
+        let mut folders = folders_of(alloc, self.path)?;
+        match self.lack_of(alloc, &mut folders, program)? {
             Some(lack) => self.push(sentence, OF_TRY, name, program, lack),
             None => Ok(()),
         }
@@ -136,18 +148,104 @@ impl<R: Files> Search<'_, R> {
     }
 
     // Why the system does not start a program, as far as that is seen.
-    fn lack_of(&self, alloc: Global, program: &str) -> Result<Option<Lack>, AllocError> {
+    fn lack_of(
+        &self,
+        alloc: Global,
+        folders: &mut Vec<Folder<'_>>,
+        program: &str,
+    ) -> Result<Option<Lack>, AllocError> {
         if program.is_empty() {
             return Ok(None);
         }
         if program.contains('/') {
             return Ok(lack_at(self.rt, program));
         }
-        match file_of(self.rt, alloc, self.path, program)? {
+        match self.file_of(alloc, folders.as_mut_slice(), program)? {
             Some(file) => Ok(lack_in(self.rt, file.as_str())),
             None => Ok(Some(Lack::Nowhere)),
         }
     }
+
+    // The first file of this name that may be run, in the folders of PATH. Where none has it by its names each is asked for it: some systems give a file
+    // by another name too.
+    fn file_of(
+        &self,
+        alloc: Global,
+        folders: &mut [Folder<'_>],
+        name: &str,
+    ) -> Result<Option<String>, AllocError> {
+        match first_file(self.rt, alloc, folders, name)? {
+            Some(file) => Ok(Some(file)),
+            None => {
+                let mut folders = folders_of(alloc, self.path)?;
+                first_file(self.rt, alloc, folders.as_mut_slice(), name)
+            }
+        }
+    }
+}
+
+// A folder of PATH, and what is known of it.
+#[derive(Drop)]
+struct Folder<'a> {
+    path: &'a str,
+    // How many programs it has lacked.
+    misses: u32,
+    // Its names, once it was read.
+    names: Option<HashSet<String>>,
+}
+
+impl Folder<'_> {
+    // Whether it may have a file of this name.
+    fn may_have(&self, name: &str) -> bool {
+        match &self.names {
+            Some(names) => names.contains(name),
+            None => true,
+        }
+    }
+
+    // Counts a program that it lacks. After some it is read, if that can be.
+    fn miss<R: Files + Alloc + Clone + Drop>(&mut self, rt: &R, alloc: Global) {
+        self.misses = self.misses.saturating_add(1);
+        if self.misses == MOST_MISSES {
+            self.names = names_in(rt, alloc, self.path);
+        }
+    }
+}
+
+// The folders of a path, of which nothing is known.
+fn folders_of(alloc: Global, path: &str) -> Result<Vec<Folder<'_>>, AllocError> {
+    let mut folders = Vec::new(alloc);
+    for path in path.split(':') {
+        folders.push(Folder {
+            path,
+            misses: 0,
+            names: None,
+        })?;
+    }
+    Ok(folders)
+}
+
+// The names in a folder, where all can be read and are not too many. One that is not there has none; the empty one is the working folder.
+fn names_in<R: Files + Alloc + Clone + Drop>(
+    rt: &R,
+    alloc: Global,
+    folder: &str,
+) -> Option<HashSet<String>> {
+    let mut names = HashSet::new(alloc);
+    let entries = match fs::read_dir(rt, if folder.is_empty() { "." } else { folder }) {
+        Ok(entries) => entries,
+        Err(error) if is_gone(error.kind()) => return Some(names),
+        Err(_) => return None,
+    };
+    for entry in entries {
+        let entry = entry.ok()?;
+        let name = String::from_str(alloc, entry.file_name()).ok()?;
+        names.insert(name).ok()?;
+        if names.len() > MOST_NAMES {
+            return None;
+        }
+    }
+    Some(names)
 }
 
 /// The program of a task, or nothing.
@@ -166,17 +264,20 @@ fn timer_of(task: &TaskSpec) -> &str {
     }
 }
 
-// The first file of this name that may be run, in the folders of a path.
-fn file_of<R: Files>(
+// The first file of this name that may be run, in folders that may have it.
+fn first_file<R: Files + Alloc + Clone + Drop>(
     rt: &R,
     alloc: Global,
-    path: &str,
+    folders: &mut [Folder<'_>],
     name: &str,
 ) -> Result<Option<String>, AllocError> {
-    for folder in path.split(':') {
-        let file = file_in(alloc, folder, name)?;
-        if may_run(rt, file.as_str()) {
-            return Ok(Some(file));
+    for folder in folders {
+        if folder.may_have(name) {
+            let file = file_in(alloc, folder.path, name)?;
+            if may_run(rt, file.as_str()) {
+                return Ok(Some(file));
+            }
+            folder.miss(rt, alloc);
         }
     }
     Ok(None)

@@ -1,4 +1,5 @@
 use Rattle.sqlite.specs.Held.{state}
+use Rattle.director.specs.Faults.{IsGivenFault}
 use Rattle.director.specs.Written.{came_of}
 use Rattle.director.proofs.LeaveLemmas.{leaves_written}
 use Rattle.command_runner.proofs.EventLemmas.{came_given, stepped}
@@ -12,7 +13,7 @@ returns-in-Ok g c =
     (let o = rw c.full.ensures at c.in-Ok.ensures.opened in o) (let s = rw c.full.ensures at c.in-Ok.ensures.transacts in s)
     (let k = rw c.schedule.ensures at c.runs.ensures.kept in k) wrote.outcome wrote.followed
     (leaves_written (state g.S.Store) first.schedule.content c.args.event.now c.write-written.result first.store c.write-written.new.self.store wrote.transacts wrote.untouched)
-    (λ clean. came_given _ c.write-written.result (wrote.given clean))
+    (λ clean. came_given (IsGivenFault (state g.S.Store first.store) (state g.S.Store c.write-written.new.self.store)) c.write-written.result (wrote.given clean))
 
 pub returns-in-Err : goal.returns-in-Err
 returns-in-Err g c = record {

@@ -10,6 +10,15 @@ use Rattle.script_runner.proofs.running.run_on.Goals as goal
 pub returns-in-Err-clause-kept : goal.returns-in-Err-clause-kept
 returns-in-Err-clause-kept g c clean is_open = inl (refl, refl)
 
+pub returns-in-Err-clause-given : goal.returns-in-Err-clause-given
+returns-in-Err-clause-given g c clean = tt
+
+pub returns-in-Err-open-clause-fault : goal.returns-in-Err-open-clause-fault
+returns-in-Err-open-clause-fault g c = let f = rw c.full.ensures at c.in-Err-open.ensures.fault in f
+
+pub returns-in-Err-open-clause-given : goal.returns-in-Err-open-clause-given
+returns-in-Err-open-clause-given g c = c.in-Err-open.ensures.given
+
 pub returns-in-Err-open-clause-kept : goal.returns-in-Err-open-clause-kept
 returns-in-Err-open-clause-kept g c = c.in-Err-open.ensures.transacts.kept
 
