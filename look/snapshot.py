@@ -165,22 +165,23 @@ def temporary_folder(place=None):
         signal.pthread_sigmask(signal.SIG_SETMASK, waiting)
 
 
-def no_copy(record, error):
+def no_copy(record, place, error):
     """Why there is no copy, by an error of the system."""
     room = error.errno in (errno.ENOSPC, errno.EDQUOT)
-    where = f": {tempfile.gettempdir()} has no room for a copy of it; TMPDIR names another folder" if room else f": {error.strerror}"
+    where = f": {place or tempfile.gettempdir()} has no room for a copy of it; TMPDIR names another folder" if room else f": {error.strerror}"
     return NoRecord(f"{record if room else error.filename or record}{where}")
 
 
 @contextlib.contextmanager
-def rows_of(path, seconds=LONGEST):
-    """The rows of a record at a path, of one moment: those of a copy, in which nobody writes, and which is made for so many seconds at most."""
+def rows_of(path, seconds=LONGEST, place=None):
+    """The rows of a record at a path, of one moment: those of a copy, in which nobody writes, and which is made for so many seconds at most, in a folder
+    of `place`, or of TMPDIR."""
     record = file_of(path)
-    sweep()
+    sweep(place)
     try:
-        with temporary_folder() as folder:
+        with temporary_folder(place) as folder:
             rows = copied(record, folder, seconds)
     except OSError as error:
-        raise no_copy(record, error) from None
+        raise no_copy(record, place, error) from None
     with contextlib.closing(rows):
         yield rows

@@ -11,6 +11,7 @@ import time
 import service
 from trial import HERE, expect, until
 
+NO_DISK = "skipped: no tmpfs may be mounted here"
 NOBODY = 65534
 AS_NOBODY = ["setpriv", f"--reuid={NOBODY}", f"--regid={NOBODY}", "--clear-groups"]
 LIBRARIES = (os.environ.get("FAKETIME_LIBRARY", ""), "/usr/lib/x86_64-linux-gnu/faketime/libfaketime.so.1")
@@ -29,17 +30,38 @@ working.STUCK = 2
 exec(open("serve").read())"""
 
 
-def full_disk(trial, _):
-    if os.getuid() or subprocess.run(["mount", "-t", "tmpfs", "-o", "size=2m", "none", trial.path], capture_output=True).returncode:
-        return "skipped: no tmpfs may be mounted here"
+@contextlib.contextmanager
+def small_disk(trial, place, options):
+    """A disk of its own at a place, on which no service is at work at the end; gives whether there is one."""
+    if os.getuid() or subprocess.run(["mount", "-t", "tmpfs", "-o", options, "none", place], capture_output=True).returncode:
+        yield False
+        return
     try:
+        yield True
+    finally:
+        if trial.serve and trial.serve.poll() is None:
+            trial.serve.kill()
+            trial.serve.wait()
+            until(10, lambda: not trial.folder.scheduler(), "the scheduler ends")
+        subprocess.run(["umount", place], check=True)
+
+
+def fill(path):
+    """Writes a file until its disk takes no more."""
+    with contextlib.suppress(OSError), open(path, "wb") as it:
+        while True:
+            it.write(b"x" * 512)
+            it.flush()
+
+
+def full_disk(trial, _):
+    with small_disk(trial, trial.path, "size=2m") as is_there:
+        if not is_there:
+            return NO_DISK
         trial.begin()
         trial.load("long", "sleep 4", retries=3)
         trial.ask("trigger", "long")
-        with contextlib.suppress(OSError), open(trial.folder.at("fill.out"), "wb") as it:
-            while True:
-                it.write(b"x" * 512)
-                it.flush()
+        fill(trial.folder.at("fill.out"))
         until(20, lambda: re.search("store 1 Refused|conduct 3 StoreThrice", trial.said()), lambda: f"it says that nothing can be written:\n{trial.said()}")
         expect(trial.run("copy", trial.path, trial.beside("full.out")).returncode == 0, "a copy to another disk")
         status, printed, _ = trial.ask("resize", "late", "2")
@@ -48,12 +70,6 @@ def full_disk(trial, _):
         done = "late 2 0 2" in trial.ask("list", "pools")[1]
         expect((status, done) in ((3, False), (4, False), (4, True), (0, True)), f"what was answered is so: {status}, {printed}, {done}")
         expect(trial.end() == 0, lambda: f"the end:\n{trial.said()}")
-    finally:
-        if trial.serve and trial.serve.poll() is None:
-            trial.serve.kill()
-            trial.serve.wait()
-            until(10, lambda: not trial.folder.scheduler(), "the scheduler ends")
-        subprocess.run(["umount", trial.path], check=True)
     return None
 
 
@@ -75,9 +91,9 @@ def full_logs(trial, _):
     """A disk of the logs alone that has room for bytes and for no file: check tells it before a try fails by it."""
     logs = trial.folder.at("logs")
     os.makedirs(logs)
-    if os.getuid() or subprocess.run(["mount", "-t", "tmpfs", "-o", "size=1m,nr_inodes=9", "none", logs], capture_output=True).returncode:
-        return "skipped: no tmpfs may be mounted here"
-    try:
+    with small_disk(trial, logs, "size=1m,nr_inodes=9") as is_there:
+        if not is_there:
+            return NO_DISK
         trial.begin()
         trial.load("short", "true", retries=9)
         wide = ("--disk=99.9", "--clock=60")
@@ -92,12 +108,27 @@ def full_logs(trial, _):
             os.unlink(f"{logs}/fill{number}")
         until(10, lambda: trial.outcomes()[-1] == "success", "it is tried again, and there is room")
         expect(trial.end() == 0, "the end")
-    finally:
-        if trial.serve and trial.serve.poll() is None:
-            trial.serve.kill()
-            trial.serve.wait()
-            until(10, lambda: not trial.folder.scheduler(), "the scheduler ends")
-        subprocess.run(["umount", logs], check=True)
+    return None
+
+
+def full_temporary(trial, _):
+    """Where TMPDIR is full, what is looked at lies in FOLDER: tries and failed runs are told all the same."""
+    place = trial.beside("temporary.out")
+    os.makedirs(place)
+    with small_disk(trial, place, "size=2m") as is_there:
+        if not is_there:
+            return NO_DISK
+        with open(trial.folder.at("tell.sh"), "w") as it:
+            it.write('#!/bin/sh\necho "$AIRFLOW_CTX_DAG_ID" >> told.out\n')
+        os.chmod(trial.folder.at("tell.sh"), 0o755)
+        trial.begin(f"--on-failure={trial.folder.at('tell.sh')}", environment={"TMPDIR": place})
+        until(10, lambda: trial.now() > 0, "the time is told")
+        fill(f"{place}/fill")
+        trial.load("bad", "exit 3")
+        trial.ask("trigger", "bad")
+        until(20, lambda: os.path.exists(trial.folder.at("told.out")), lambda: f"the failed run is told:\n{trial.said()}")
+        expect(trial.text("told.out") == "bad\n" and "ended 1 bad" in trial.said(), lambda: f"a try is told:\n{trial.said()}")
+        expect(trial.end() == 0, "the end")
     return None
 
 
@@ -176,7 +207,7 @@ def clock(trial, _):
     time.sleep(2)
     expect(time.time() - trial.now() > 100000, "the time is not told")
     it = trial.run("check", trial.path)
-    expect(it.returncode == 2 and "30 hours behind" in it.stdout, f"check: {it}")
+    expect(it.returncode == 2 and f"30 hours behind the system's: if that is right, touch {trial.folder.at('clock-is-right')} |" in it.stdout, f"check: {it}")
     trial.touch("clock-is-right")
     until(10, lambda: time.time() - trial.now() < 100, "it is told once it is confirmed")
     expect(trial.end() == 0, "the end")
@@ -222,4 +253,4 @@ def unit(*_):
     return "by systemd-analyze verify; package/try has systemd run one"
 
 
-POINTS = (full_disk, full_logs, standstill, unwritable, odd_files, clock, leaping_clock, unit)
+POINTS = (full_disk, full_logs, full_temporary, standstill, unwritable, odd_files, clock, leaping_clock, unit)

@@ -1,5 +1,7 @@
 """Says which tries were handed out and how they ended. It reads copies of the record."""
 import os
+import shutil
+import tempfile
 import time
 
 import service
@@ -9,6 +11,8 @@ from stops import Pace
 TRIES = "SELECT serial, dag_id, logical, task_id, try_number, outcome FROM attempt WHERE serial > ? OR serial IN ({}) ORDER BY serial"
 # looks take the twentieth part of the time at most, and one is given up after so many seconds
 SHARE, SECONDS = 20, 2
+# beside a copy and what SQLite makes of its log there
+ROOM = 1 << 20
 
 
 def words(it):
@@ -27,7 +31,7 @@ class Watch:
         """Looks at the record before it is used; returns its clock, and 0 where there is no record."""
         if not os.path.lexists(self.folder.record):
             return 0
-        with snapshot.rows_of(self.folder.record) as rows:
+        with self.rows() as rows:
             self.last = rows.execute("SELECT coalesce(max(serial), 0) FROM attempt").fetchone()[0]
             tries = rows.execute("SELECT serial, dag_id, logical, task_id, try_number FROM attempt WHERE outcome IS NULL").fetchall()
             self.open = {it[0]: words(it) for it in tries}
@@ -35,10 +39,16 @@ class Watch:
                 self.calls.take(rows)
             return rows.execute("SELECT now FROM meta").fetchone()[0]
 
+    def rows(self, seconds=snapshot.LONGEST):
+        """Those of a copy in TMPDIR, or in FOLDER where TMPDIR alone is full: else no failed run would be told meanwhile."""
+        needed = 2 * sum(it[1] for it in self.written() if it) + ROOM
+        places = [it for it in (tempfile.gettempdir(), self.folder.path) if shutil.disk_usage(it).free > needed]
+        return snapshot.rows_of(self.folder.record, seconds, self.folder.path if places == [self.folder.path] else None)
+
     def set_back(self):
         """How many tries clearings have set back so far; None where nobody can look."""
         try:
-            with snapshot.rows_of(self.folder.record) as rows:
+            with self.rows() as rows:
                 return rows.execute("SELECT coalesce(sum(since), 0) FROM instance").fetchone()[0]
         except service.FAULTS:
             return None
@@ -55,7 +65,7 @@ class Watch:
         if seen == self.seen:
             return None
         try:
-            with snapshot.rows_of(self.folder.record, SECONDS) as rows:
+            with self.rows(SECONDS) as rows:
                 self.say_tries(rows)
                 if self.calls:
                     self.calls.take(rows)
