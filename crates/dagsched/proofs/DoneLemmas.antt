@@ -1,5 +1,5 @@
 -- What is done on a record, from what the crates below promise.
-use Rattle.std.proofs.Common.{◌≡◌, ◌∙◌, ◌⊎◌, ◌==◌, ℕ, Bool, true, false, not, true≢false, List, [], ◌∷◌, length, Option, None, Some, is_some, refl, sym, ap, subst, inl, inr, ne_eqb, arith}
+use Rattle.std.proofs.Common.{◌≡◌, ◌∙◌, ◌⊎◌, ◌==◌, ℕ, Bool, true, false, not, true≢false, List, [], ◌∷◌, length, Option, None, Some, Err, is_some, refl, sym, ap, subst, inl, inr, ne_eqb, arith}
 use Rattle.std.specs.Io.KnownBytes.{Appends}
 use Rattle.std.specs.List.{list_any}
 use Rattle.sqlite.specs.Schema.{Schema}
@@ -9,15 +9,20 @@ use Rattle.sqlite.specs.State.{State, HasCleanDisk}
 use Rattle.meta_store.specs.Faults.{IsOfSqlite}
 use Rattle.meta_store.specs.Stores.{has_record_table}
 use Rattle.meta_store.specs.declared.faults.StoreFault.{StoreFault}
+use Rattle.meta_store.specs.declared.faults.StoreFault.TheVariants as store
+use Rattle.director.specs.declared.faults.Fault.TheVariants.{Memory}
+use Rattle.director.proofs.ListLemmas.{survives_itself}
 use Rattle.operators.specs.declared.operators.Operator as operator
 use Rattle.command_words.specs.declared.commands.Command.{Command}
 use Rattle.command_words.specs.declared.commands.Command.TheVariants as says
 use Rattle.command_words.specs.declared.commands.ScriptOptions.{ScriptOptions}
+use Rattle.command_runner.specs.Events.{IsUnopened}
+use Rattle.command_runner.specs.Looks.{IsRead}
 use Rattle.script_reader.specs.Done.{FileAnswer}
 use Rattle.script_runner.proofs.LessLemmas.{by_team_less}
-use Rattle.dagsched.specs.Commands.{IsCommandDone}
-use Rattle.dagsched.specs.Records.{has_tables, IsDoneOn}
-use Rattle.dagsched.specs.Scripts.{IsScriptDone, IsScriptOf, IsScriptRun}
+use Rattle.dagsched.specs.Commands.{IsAnsweredOn, IsCommandDone}
+use Rattle.dagsched.specs.Records.{has_tables, IsDoneOn, IsNotMade}
+use Rattle.dagsched.specs.Scripts.{IsNotOpened, IsScriptDone, IsScriptOf, IsScriptRun}
 
 -- nothing is known of bytes that are not known
 no_bytes : (read : Option (List ℕ)) (bytes : List ℕ) → None ≡ Some bytes → read ≡ Some bytes
@@ -41,6 +46,41 @@ none_named is_named (t ∷ ts) none = absurd (true≢false (sym (ap not (ne_eqb 
 pub unmade_cause : (fault : StoreFault) (schema : Schema) → has_tables schema ≡ false → IsOfSqlite fault ⊎ (has_record_table schema ≡ true) → IsOfSqlite fault
 unmade_cause fault schema none (inl of_sqlite) = of_sqlite
 unmade_cause fault schema none (inr named) = absurd (true≢false (sym named ∙ none_named _ schema.tables none))
+
+-- ---- where memory ran out before anything was done
+pub not_made : (status : ℕ) → status ≡ 4 → IsNotMade status
+not_made status is = (store.Memory, Memory, inl refl, inl (refl, refl), inr is)
+
+module _ {S : Type 0} (look : Held S → State) (before : Held S) (status : ℕ) (is : status ≡ 4) where
+  unopened : IsUnopened look (look before) Memory before
+  unopened = record {
+    cause = λ _. tt;
+    given = λ _. tt;
+    kept = λ _ _. inl (refl, refl);
+    crash = survives_itself (look before);
+    refused_crash = λ refused. absurd refused;
+  }
+
+  pub not_opened : IsNotOpened look before before status
+  not_opened = (Memory, unopened, inr is)
+
+  unread : IsRead look before before (Err Memory)
+  unread = record {
+    schedule = tt;
+    fault = (store.Memory, inl (refl, refl), λ _. tt);
+    given = λ _. tt;
+    kept = λ _ _. (refl, refl);
+    crash = survives_itself (look before);
+  }
+
+  pub not_begun : (c : Command) (output : Option (List ℕ)) → IsAnsweredOn look c output output before before status
+  not_begun (says.Step e) output = (false, inr (Memory, unopened, is))
+  not_begun (says.List listing) output = (false, (Err Memory, unread, is))
+  not_begun (says.Explain question) output = (false, (Err Memory, unread, is))
+  not_begun (says.Run options) output = (false, (refl, is))
+  not_begun (says.Take how source) output = (false, (refl, is))
+  not_begun (says.Tick time) output = (false, (refl, is))
+  not_begun says.Drain output = (false, (refl, is))
 
 -- ---- a disk that is in order after a command was so before
 module _ {S O : Type 0} (look : Held S → State) (o : operator.Ghosts O) where

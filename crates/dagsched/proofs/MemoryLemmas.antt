@@ -1,5 +1,5 @@
 -- A command on a record over files that hold nothing, and of which each byte is read as it was written.
-use Rattle.std.proofs.Common.{◌≡◌, ◌∙◌, ℕ, true≢false, List, [], length, refl, sym, ap, subst, inl, inr, arith}
+use Rattle.std.proofs.Common.{◌≡◌, ◌∙◌, ◌⊎◌, ℕ, true≢false, List, [], length, refl, sym, ap, subst, inl, inr, arith}
 use Rattle.sqlite_catalog.specs.Listing.{Lists}
 use Rattle.sqlite_catalog.proofs.ReadLemmas.{lists_once}
 use Rattle.sqlite_disk.specs.declared.Disk as disk
@@ -19,7 +19,7 @@ use Rattle.meta_store.specs.record_tables.Schema.{no_schema}
 use Rattle.director.specs.Directors.{Keeps}
 use Rattle.operators.specs.declared.operators.Operator as operator
 use Rattle.command_words.specs.declared.commands.Command.{Command}
-use Rattle.dagsched.specs.Records.{has_tables, IsDoneInFiles, IsDoneInMemory, IsDoneOn}
+use Rattle.dagsched.specs.Records.{has_tables, IsDoneInFiles, IsDoneInMemory, IsDoneOn, IsNotMade}
 
 -- no object is listed by a schema that has none
 lists_nothing : Lists [] no_schema
@@ -55,7 +55,8 @@ module _ {D : Type 0} {g : disk.Ghosts D} where
         unmade.status_is,
       )
 
-  pub in_memory : {O : Type 0} (o : operator.Ghosts O) (c : Command) (files : Files D) (status : ℕ) → ((h : Held (FileStore D g)) → HasCleanDisk (file_state h)) → (image_of g files).db ≡ [] → IsDoneInFiles g o c files status → IsDoneInMemory g o c status
-  in_memory o c files status clean none did =
+  pub in_memory : {O : Type 0} (o : operator.Ghosts O) (c : Command) (files : Files D) (status : ℕ) → ((h : Held (FileStore D g)) → HasCleanDisk (file_state h)) → (image_of g files).db ≡ [] → IsDoneInFiles g o c files status ⊎ IsNotMade status → IsDoneInMemory g o c status
+  in_memory o c files status clean none (inl did) =
       let opened = did.opened (clean did.conn) in
       done_in_memory o c did.conn did.after status clean (opened_empty files did.conn opened.0 opened.1 none) did.done
+  in_memory o c files status clean none (inr unmade) = inr unmade

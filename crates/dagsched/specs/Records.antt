@@ -25,6 +25,7 @@ use Rattle.command_words.specs.declared.commands.Command.{Command}
 use Rattle.director.specs.Crashes.{IsOpenedOn}
 use Rattle.script_reader.specs.Statuses.{failure_status}
 use Rattle.dagsched.specs.Commands.{IsCommandDone}
+use Rattle.dagsched.specs.Scripts.{UnlessFailed}
 
 -- ---- on a connection
 
@@ -48,7 +49,7 @@ pub record IsUnmade {S : Type 0} (look : Held S → State) (conn after : Held S)
   pub told : Fault
   pub same : IsOfStore fault told
   pub cause : IsOfSqlite fault
-  pub status_is : status ≡ failure_status told
+  pub status_is : UnlessFailed (failure_status told) status
   pub undone : Undone IsAsBefore (CommitsBy Begins (look conn)) (look conn) (look after)
 
 -- a command was done on the record of a connection, or there was none and none was made
@@ -74,7 +75,7 @@ pub record IsDoneOnNew {D O : Type 0} (g : disk.Ghosts D) (o : operator.Ghosts O
 
 -- no record was made, for want of memory or by an error of SQLite
 abbrev pub IsNotMade : ℕ → Type 0
-IsNotMade status = (fault : StoreFault) × (told : Fault) × IsOfSqlite fault × IsOfStore fault told × (status ≡ failure_status told)
+IsNotMade status = (fault : StoreFault) × (told : Fault) × IsOfSqlite fault × IsOfStore fault told × UnlessFailed (failure_status told) status
 
 abbrev pub IsDoneInMemory : {D O : Type 0} → disk.Ghosts D → operator.Ghosts O → Command → ℕ → Type 0
 IsDoneInMemory g o c status = IsDoneOnNew g o c status ⊎ IsNotMade status
@@ -104,6 +105,6 @@ pub record IsDoneAndClosed {D O : Type 0} (g : disk.Ghosts D) (o : operator.Ghos
   pub on_file : IsDoneOnFile g o image c after said
   pub closed : IsClosedWith after said status
 
--- or the file was not opened, and the status is 3
+-- or the file was not opened, and the status is 3; for want of memory it is 4
 abbrev pub IsDoneInFile : {D O : Type 0} → disk.Ghosts D → operator.Ghosts O → Image → Command → ℕ → Type 0
-IsDoneInFile g o image c status = IsDoneAndClosed g o image c status ⊎ (status ≡ 3)
+IsDoneInFile g o image c status = IsDoneAndClosed g o image c status ⊎ UnlessFailed 3 status

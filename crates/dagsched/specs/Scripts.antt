@@ -12,12 +12,16 @@ use Rattle.script_reader.specs.Done.{FileAnswer}
 use Rattle.script_reader.specs.Statuses.{failure_status}
 use Rattle.script_runner.specs.Teams.{IsRunByTeam}
 
+-- the status is this one, or 4 for an error of the system before all was printed
+abbrev pub UnlessFailed : ℕ → ℕ → Type 0
+UnlessFailed said status = (status ≡ said) ⊎ (status ≡ 4)
+
 -- the record was not opened, and the status is that of the cause
 abbrev pub IsNotOpened : {S : Type 0} → (Held S → State) → Held S → Held S → ℕ → Type 0
-IsNotOpened look before after status = (fault : Fault) × IsUnopened look (look before) fault after × (status ≡ failure_status fault)
+IsNotOpened look before after status = (fault : Fault) × IsUnopened look (look before) fault after × UnlessFailed (failure_status fault) status
 
 -- A script was run on a record with the workers and the lanes that the options name, its streams and sources being what their contracts know of them, up to
--- these sources (later) and this output (written); or the record was not opened, the status is that of the cause, and both are as they were.
+-- these sources (later) and this output (written); or the record was not opened, and both are as they were.
 abbrev pub IsScriptOf : {S O F W : Type 0} → (Held S → State) → operator.Ghosts O → Option (List ℕ) → (F → List FileAnswer → F → Type 0) → (W → Option (List ℕ)) → ScriptOptions → F → W → Held S → Held S → ℕ → F → W → Type 0
 IsScriptOf look o bytes gives contents options sources output before after status later written =
     IsRunByTeam look o bytes (λ given. gives sources given later) (λ _. Unit {0}) (λ shown. Appends (contents output) (contents written) shown) (later ≡ sources) options.workers options.lanes (look before) after status

@@ -14,6 +14,7 @@ use Rattle.command_words.specs.declared.commands.UsageFault.{UsageFault}
 use Rattle.command_words.specs.declared.commands.UsageFault.TheVariants as usage
 use Rattle.dagsched.specs.Commands.{is_of_scripts, logs_of}
 use Rattle.dagsched.specs.Records.{IsDoneInFile, IsDoneInMemory}
+use Rattle.dagsched.specs.Scripts.{UnlessFailed}
 
 -- what the words after the program's name mean: `help COMMAND` is `COMMAND --help`
 abbrev pub words_meant : List (List ℕ) → List (List ℕ)
@@ -22,8 +23,8 @@ words_meant (first ∷ rest) = if bytes_eq first (codes "help") then rest ++ cod
 
 -- the status of words that are no command: 0 for those that ask for help, which they get, and else 2
 abbrev pub IsToldOf : UsageFault → List (List ℕ) → ℕ → Type 0
-IsToldOf usage.Words words status = status ≡ (if asks_for_help words then 0 else 2)
-IsToldOf fault words status = status ≡ 2
+IsToldOf usage.Words words status = UnlessFailed (if asks_for_help words then 0 else 2) status
+IsToldOf fault words status = UnlessFailed 2 status
 
 module _ {M F O : Type 0} (memory : disk.Ghosts M) (file : disk.Ghosts F) (image : Image) (o : operator.Ghosts O) where
   -- on the record in the file that a path names, or on one in memory, where there is no path
@@ -34,19 +35,15 @@ module _ {M F O : Type 0} (memory : disk.Ghosts M) (file : disk.Ghosts F) (image
   -- a command line was done; or its command has its place in scripts alone: 2; or the folder of the logs that it names cannot be had: 4
   abbrev pub IsLineDone : CommandLine → ℕ → Type 0
   IsLineDone line status =
-      ((is_of_scripts line.command ≡ true) × (status ≡ 2))
+      ((is_of_scripts line.command ≡ true) × UnlessFailed 2 status)
       ⊎ (((is_some (logs_of line.command) ≡ true) × (status ≡ 4)) ⊎ ((is_of_scripts line.command ≡ false) × IsDoneAt line.record_path line.command status))
 
-  -- words were done: the command line that they say, or the fault that they have
+  -- words were done: the command line that they say, or the fault that they have; or memory ran out before they were read: 4
   abbrev pub AreWordsDone : List (List ℕ) → ℕ → Type 0
   AreWordsDone words status =
       ((line : CommandLine) × (line_of words ≡ Ok line) × IsLineDone line status)
-      ⊎ ((fault : UsageFault) × (line_of words ≡ Err fault) × IsToldOf fault words status)
+      ⊎ (((fault : UsageFault) × (line_of words ≡ Err fault) × IsToldOf fault words status) ⊎ (status ≡ 4))
 
-  -- the program ends so, if these are the words after its name: what they mean was done; or the system gave an error: 4
-  abbrev pub IsEnd : List (List ℕ) → ℕ → Type 0
-  IsEnd words status = AreWordsDone (words_meant words) status ⊎ (status ≡ 4)
-
--- it ends so, if the system gave this error in place of its words: one of these is not UTF-8: 2; or 4
+-- the program ends so, if the system gave this error in place of its words: one of these is not UTF-8: 2; or 4
 abbrev pub IsEndWithoutWords : Error → ℕ → Type 0
 IsEndWithoutWords error status = ((error_kind error ≡ kind.InvalidData) × (status ≡ 2)) ⊎ (status ≡ 4)

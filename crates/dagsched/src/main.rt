@@ -11,17 +11,19 @@
 //! person.
 #![tactic(auto)]
 
-ghost use Rattle.std.specs.Prelude.{◌≡◌, ◌++◌, ◌∷◌, [], IfErr, IfOk, codes, map, string_bytes};
+ghost use Rattle.std.specs.Prelude.{◌≡◌, ◌++◌, ◌∷◌, [], IfOk, MatchResult, codes, map, string_bytes};
 ghost use Rattle.sqlite.specs.WalFiles.{image_at};
 ghost use Rattle.dagsched.specs.Commands.{is_of_scripts};
-ghost use Rattle.dagsched.specs.Words.{words_meant, AreWordsDone, IsEnd, IsEndWithoutWords, IsLineDone};
+ghost use Rattle.dagsched.specs.Words.{words_meant, AreWordsDone, IsEndWithoutWords, IsLineDone};
 
+mod failures;
 mod records;
 mod scripts;
 mod telling;
 mod usage;
 mod volatile;
 
+use crate::failures::{out_of_memory, put_error};
 use crate::records::{in_file, in_memory};
 use crate::scripts::{OwnOperator, make_logs};
 use crate::usage::{put_fault, put_unreadable, put_usage};
@@ -55,42 +57,18 @@ fn status<T: Threads + Wait + Sync>(
     rt: &HostRuntime,
     words: io::Result<Vec<String>>,
 ) -> u8
-    ensures ended { IfOk words (λ given. IsEnd ⟦<Volatile as Disk>⟧ ⟦<File as Disk>⟧
+    ensures { MatchResult words (λ given. AreWordsDone ⟦<Volatile as Disk>⟧ ⟦<File as Disk>⟧
         (image_at ⟦<Unknown as Start>⟧) ⟦<OwnOperator as Operator>⟧
-        (map string_bytes given.items) result) }
-    ensures without_words { IfErr words (λ error. IsEndWithoutWords error result) }
-{
-    match run_words(threads, rt, words) {
-        Ok(status) => status,
-        Err(error) if error.kind() == ErrorKind::OutOfMemory => out_of_memory(rt),
-        Err(_) => 4,
-    }
-}
-
-fn out_of_memory(rt: &HostRuntime) -> u8
-    ensures { result ≡ 4 }
-{
-    let _ = println!(rt; "memory");
-    4
-}
-
-fn run_words<T: Threads + Wait + Sync>(
-    threads: &T,
-    rt: &HostRuntime,
-    words: io::Result<Vec<String>>,
-) -> io::Result<u8>
-    ensures done { IfOk result (λ status. IfOk words (λ given. AreWordsDone ⟦<Volatile as Disk>⟧
-        ⟦<File as Disk>⟧ (image_at ⟦<Unknown as Start>⟧) ⟦<OwnOperator as Operator>⟧
-        (words_meant (map string_bytes given.items)) status)) }
-    ensures without_words { IfOk result (λ status. IfErr words (λ error. IsEndWithoutWords error status)) }
+        (words_meant (map string_bytes given.items)) result)
+        (λ error. IsEndWithoutWords error result) }
 {
     match words {
-        Ok(words) => {
-            let meant = words_meant(rt.alloc(), words)?;
-            do_words(threads, rt, meant)
-        }
+        Ok(words) => match words_meant(rt.alloc(), words) {
+            Ok(meant) => do_words(threads, rt, meant),
+            Err(_) => out_of_memory(rt),
+        },
         Err(error) if error.kind() == ErrorKind::InvalidData => put_unreadable(rt),
-        Err(error) => Err(error),
+        Err(error) => put_error(rt, error),
     }
 }
 
@@ -119,14 +97,9 @@ fn help_of(alloc: Global, command: &[String]) -> Result<Vec<String>, AllocError>
 }
 
 // Does what these words ask for, which stand without the program's name.
-fn do_words<T: Threads + Wait + Sync>(
-    threads: &T,
-    rt: &HostRuntime,
-    words: Vec<String>,
-) -> io::Result<u8>
-    ensures { IfOk result (λ status. AreWordsDone ⟦<Volatile as Disk>⟧ ⟦<File as Disk>⟧
-        (image_at ⟦<Unknown as Start>⟧) ⟦<OwnOperator as Operator>⟧
-        (map string_bytes words.items) status) }
+fn do_words<T: Threads + Wait + Sync>(threads: &T, rt: &HostRuntime, words: Vec<String>) -> u8
+    ensures { AreWordsDone ⟦<Volatile as Disk>⟧ ⟦<File as Disk>⟧ (image_at ⟦<Unknown as Start>⟧)
+        ⟦<OwnOperator as Operator>⟧ (map string_bytes words.items) result }
 {
     match read_command(rt.alloc(), words.as_slice()) {
         Ok(line) => do_line(threads, rt, line, words),
@@ -140,9 +113,9 @@ fn do_line<T: Threads + Wait + Sync>(
     rt: &HostRuntime,
     line: CommandLine,
     words: Vec<String>,
-) -> io::Result<u8>
-    ensures { IfOk result (λ status. IsLineDone ⟦<Volatile as Disk>⟧ ⟦<File as Disk>⟧
-        (image_at ⟦<Unknown as Start>⟧) ⟦<OwnOperator as Operator>⟧ line status) }
+) -> u8
+    ensures { IsLineDone ⟦<Volatile as Disk>⟧ ⟦<File as Disk>⟧ (image_at ⟦<Unknown as Start>⟧)
+        ⟦<OwnOperator as Operator>⟧ line result }
 {
     let CommandLine {
         record_path,
@@ -152,8 +125,8 @@ fn do_line<T: Threads + Wait + Sync>(
         return put_usage(rt, UsageFault::NotHere, words.as_slice());
     }
     // before the record is opened, so that it stays as it is where nothing is run
-    if !make_logs(rt, &command)? {
-        return Ok(4);
+    if let Err(status) = make_logs(rt, &command) {
+        return status;
     }
     match record_path {
         Some(path) => in_file(threads, rt, path.as_str(), &command, words),

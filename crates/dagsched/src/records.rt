@@ -1,17 +1,14 @@
 //! The record on which a command is done.
-ghost use Rattle.std.specs.Prelude.{◌≡◌, false, IfOk, IfSome, IsTrue};
-ghost use Rattle.sqlite.specs.Files.{file_state, Finds, IsOpened};
+ghost use Rattle.std.specs.Prelude.{◌≡◌, ◌⊎◌, false, IsTrue};
 ghost use Rattle.sqlite.specs.Held.{state};
-ghost use Rattle.sqlite.specs.State.{HasCleanDisk};
 ghost use Rattle.sqlite.specs.WalFiles.{image_at};
-ghost use Rattle.script_reader.specs.Statuses.{failure_status};
 ghost use Rattle.dagsched.specs.Commands.{IsAnsweredOn, IsCommandDone, IsSingleDone};
-ghost use Rattle.dagsched.specs.Records.{has_tables, IsClosedWith, IsDoneInFile, IsDoneInFiles, IsDoneInMemory, IsDoneOn, IsDoneOnFile};
+ghost use Rattle.dagsched.specs.Records.{has_tables, IsClosedWith, IsDoneInFile, IsDoneInFiles, IsDoneInMemory, IsDoneOn, IsNotMade};
+ghost use Rattle.dagsched.specs.Scripts.{UnlessFailed};
 
+use crate::failures::{out_of_memory, put_error, put_failure};
 use crate::scripts::{OwnOperator, run_script};
-use crate::telling::{
-    tell_fault, tell_made, tell_migrated, tell_unanswered, tell_unkept, tell_unopened,
-};
+use crate::telling::{tell_made, tell_migrated, tell_unanswered, tell_unkept, tell_unopened};
 use crate::volatile::Volatile;
 use answer_lines::{Shown, put};
 use command_runner::{Answered, run_command};
@@ -20,14 +17,14 @@ use director::{Fault, open_database};
 use fault_sentences::SentenceConsole;
 use meta_store::Store;
 use operators::Operator;
-use script_reader::{Console, failure_status};
+use script_reader::Console;
 use sqlite::{
     Alter, Connection, Error, ErrorCode, FileFrom, FileStore, Files, Options, Start, Unknown,
 };
 use sqlite_disk::Disk;
 use std::alloc::Global;
 use std::fs;
-use std::io::{self, BufWriter, ErrorKind, Write};
+use std::io::{self, BufWriter, Write};
 use std::sync::Wait;
 use std::thread::Threads;
 
@@ -38,14 +35,14 @@ pub fn in_file<T: Threads + Wait + Sync>(
     path: &str,
     command: &Command,
     words: Vec<String>,
-) -> io::Result<u8>
-    ensures { IfOk result (λ status. IsDoneInFile ⟦<FileFrom<Unknown> as Disk>⟧
-        ⟦<OwnOperator as Operator>⟧ (image_at ⟦<Unknown as Start>⟧) command.now status) }
+) -> u8
+    ensures { IsDoneInFile ⟦<FileFrom<Unknown> as Disk>⟧ ⟦<OwnOperator as Operator>⟧
+        (image_at ⟦<Unknown as Start>⟧) command.now result }
 {
     in_file_from(threads, rt, path, Unknown, command, words)
 }
 
-// The same, whatever the file and its log hold at first, for which `start` stands: no code can read it.
+// The same, whatever the file and its log hold at first, for which `start` stands: no code can read it. Where the file is not opened, that is told.
 fn in_file_from<F: Start, T: Threads + Wait + Sync>(
     threads: &T,
     rt: &HostRuntime,
@@ -53,40 +50,18 @@ fn in_file_from<F: Start, T: Threads + Wait + Sync>(
     start: F,
     command: &Command,
     words: Vec<String>,
-) -> io::Result<u8>
-    ensures { IfOk result (λ status. IsDoneInFile ⟦<FileFrom<F> as Disk>⟧
-        ⟦<OwnOperator as Operator>⟧ (image_at F.Start) command.now status) }
-{
-    match on_path(threads, rt, path, start, command, words)? {
-        Some((conn, status)) => Ok(close(conn, status)),
-        None => Ok(3),
-    }
-}
-
-// Does the command on the record in this file, and gives its database back, with the status. Where the file is not opened, that is told, with the status 3,
-// and there is none.
-fn on_path<F: Start, T: Threads + Wait + Sync>(
-    threads: &T,
-    rt: &HostRuntime,
-    path: &str,
-    start: F,
-    command: &Command,
-    words: Vec<String>,
-) -> io::Result<Option<(Connection<FileStore<FileFrom<F>>>, u8)>>
-    ensures { IfOk result (λ done. IfSome done (λ d. IsDoneOnFile ⟦<FileFrom<F> as Disk>⟧
-        ⟦<OwnOperator as Operator>⟧ (image_at F.Start) command.now d.0 d.1)) }
+) -> u8
+    ensures { IsDoneInFile ⟦<FileFrom<F> as Disk>⟧ ⟦<OwnOperator as Operator>⟧ (image_at F.Start)
+        command.now result }
 {
     let was_there = fs::metadata(rt, path).is_ok();
     match open_database(rt, path, start) {
         Ok(conn) => {
             tell_unless(rt, path, was_there);
-            let done = on_connection(threads, rt, conn, Some(path), command, words)?;
-            Ok(Some(done))
+            let (conn, status) = on_connection(threads, rt, conn, Some(path), command, words);
+            close(conn, status)
         }
-        Err(error) => {
-            put_unopened(rt, path, error)?;
-            Ok(None)
-        }
+        Err(error) => put_unopened(rt, path, error),
     }
 }
 
@@ -110,17 +85,19 @@ fn close<D: Disk + Drop>(conn: Connection<FileStore<D>>, status: u8) -> u8
     }
 }
 
-// Prints that SQLite does not open the file, and tells why.
-fn put_unopened(rt: &HostRuntime, path: &str, error: Error) -> io::Result<()> {
-    match error {
-        Error::SqliteFailure(ErrorCode::OutOfMemory) => {
-            Err(io::Error::from(ErrorKind::OutOfMemory))
-        }
-        error => {
-            put(&mut rt.stdout(), Shown::Unopened)?;
+// Prints that SQLite does not open the file, and tells why; the status.
+fn put_unopened(rt: &HostRuntime, path: &str, error: Error) -> u8
+    ensures { UnlessFailed 3 result }
+{
+    if let Error::SqliteFailure(ErrorCode::OutOfMemory) = error {
+        return out_of_memory(rt);
+    }
+    match put(&mut rt.stdout(), Shown::Unopened) {
+        Ok(()) => {
             tell_unopened(rt, path, error);
-            Ok(())
+            3
         }
+        Err(error) => put_error(rt, error),
     }
 }
 
@@ -130,55 +107,38 @@ pub fn in_memory<T: Threads + Wait + Sync>(
     rt: &HostRuntime,
     command: &Command,
     words: Vec<String>,
-) -> io::Result<u8>
-    ensures { IfOk result (λ status. IsDoneInMemory ⟦<Volatile as Disk>⟧
-        ⟦<OwnOperator as Operator>⟧ command.now status) }
+) -> u8
+    ensures { IsDoneInMemory ⟦<Volatile as Disk>⟧ ⟦<OwnOperator as Operator>⟧ command.now result }
 {
     let alloc = rt.alloc();
-    // gone with the program
     let files = Files {
         log: Volatile::new(alloc),
         db: Volatile::new(alloc),
     };
-    let status = in_files(threads, rt, files, command, words)?;
-    tell_unkept(rt, command);
-    Ok(status)
+    in_files(threads, rt, files, command, words)
 }
 
-// Does a command on a record in these files; the status.
+// Does a command on a record in these files, which are gone with the program; the status.
 fn in_files<D: Disk + Drop, T: Threads + Wait + Sync>(
     threads: &T,
     rt: &HostRuntime,
     files: Files<D>,
     command: &Command,
     words: Vec<String>,
-) -> io::Result<u8>
+) -> u8
     requires log { IsTrue (D.Disk.is_usable files.log) }
     requires db { IsTrue (D.Disk.is_usable files.db) }
-    ensures { IfOk result (λ status. IsDoneInFiles D.Disk ⟦<OwnOperator as Operator>⟧
-        command.now files status) }
+    ensures { IsDoneInFiles D.Disk ⟦<OwnOperator as Operator>⟧ command.now files result
+        ⊎ IsNotMade result }
 {
-    let conn = new_database(rt.alloc(), files)?;
-    let (_conn, status) = on_connection(threads, rt, conn, None, command, words)?;
-    Ok(status)
-}
-
-fn new_database<D: Disk + Drop>(
-    alloc: Global,
-    files: Files<D>,
-) -> io::Result<Connection<FileStore<D>>>
-    requires log { IsTrue (D.Disk.is_usable files.log) }
-    requires db { IsTrue (D.Disk.is_usable files.db) }
-    ensures settled { IfOk result (λ conn. conn.in_transaction ≡ false) }
-    ensures found { IfOk result (λ conn. HasCleanDisk (file_state conn)
-        → IsOpened conn × Finds files conn) }
-{
-    match Connection::open_files(alloc, files, Options::new(1)) {
-        Ok(conn) => Ok(conn),
-        Err((Error::SqliteFailure(ErrorCode::OutOfMemory), _)) => {
-            Err(io::Error::from(ErrorKind::OutOfMemory))
+    match Connection::open_files(rt.alloc(), files, Options::new(1)) {
+        Ok(conn) => {
+            let (_conn, status) = on_connection(threads, rt, conn, None, command, words);
+            tell_unkept(rt, command);
+            status
         }
-        Err(_) => Err(io::Error::other("no database is made")),
+        Err((Error::SqliteFailure(ErrorCode::OutOfMemory), _)) => out_of_memory(rt),
+        Err(_) => 4,
     }
 }
 
@@ -191,11 +151,11 @@ fn on_connection<S: Alter + Drop, T: Threads + Wait + Sync>(
     path: Option<&str>,
     command: &Command,
     words: Vec<String>,
-) -> io::Result<(Connection<S>, u8)>
+) -> (Connection<S>, u8)
     requires { conn.in_transaction ≡ false }
-    ensures done { IfOk result (λ r. IsDoneOn (state S.Store) ⟦<OwnOperator as Operator>⟧
-        command.now conn r.0 r.1) }
-    ensures settled { IfOk result (λ r. r.0.in_transaction ≡ false) }
+    ensures done { IsDoneOn (state S.Store) ⟦<OwnOperator as Operator>⟧ command.now conn result.0
+        result.1 }
+    ensures settled { result.0.in_transaction ≡ false }
 {
     if has_tables(&conn) {
         return on_store(threads, rt, Store::adopt(conn), path, command, words);
@@ -203,8 +163,8 @@ fn on_connection<S: Alter + Drop, T: Threads + Wait + Sync>(
     match Store::create(rt.alloc(), conn) {
         Ok(store) => on_store(threads, rt, store, path, command, words),
         Err((conn, fault)) => {
-            let status = put_failure(rt, &Fault::from(fault))?;
-            Ok((conn, status))
+            let status = put_failure(rt, &Fault::from(fault));
+            (conn, status)
         }
     }
 }
@@ -224,15 +184,15 @@ fn on_store<S: Alter + Drop, T: Threads + Wait + Sync>(
     path: Option<&str>,
     command: &Command,
     words: Vec<String>,
-) -> io::Result<(Connection<S>, u8)>
-    ensures done { IfOk result (λ r. IsCommandDone (state S.Store) ⟦<OwnOperator as Operator>⟧
-        command.now store r.0 r.1) }
-    ensures settled { IfOk result (λ r. r.0.in_transaction ≡ false) }
+) -> (Connection<S>, u8)
+    ensures done { IsCommandDone (state S.Store) ⟦<OwnOperator as Operator>⟧ command.now store
+        result.0 result.1 }
+    ensures settled { result.0.in_transaction ≡ false }
 {
     let had_limits = store.has_limits();
-    let (store, status) = run(threads, rt, store, command, words)?;
+    let (store, status) = run(threads, rt, store, command, words);
     tell_version(rt, path, had_limits, store.has_limits());
-    Ok((store.release(), status))
+    (store.release(), status)
 }
 
 // Tells that the record in this file, if it is in one, had no limits and has some now, so that it is of version 2.
@@ -250,9 +210,9 @@ fn run<S: Alter + Drop, T: Threads + Wait + Sync>(
     store: Store<S>,
     command: &Command,
     words: Vec<String>,
-) -> io::Result<(Store<S>, u8)>
-    ensures { IfOk result (λ r. IsCommandDone (state S.Store) ⟦<OwnOperator as Operator>⟧
-        command.now store r.0 r.1) }
+) -> (Store<S>, u8)
+    ensures { IsCommandDone (state S.Store) ⟦<OwnOperator as Operator>⟧ command.now store result.0
+        result.1 }
 {
     match command {
         Command::Run(options) => run_script(threads, rt, store, options, words),
@@ -271,11 +231,14 @@ fn run_single<S: Alter + Drop>(
     store: Store<S>,
     command: &Command,
     words: Vec<String>,
-) -> io::Result<(Store<S>, u8)>
-    ensures { IfOk result (λ r. IsSingleDone (state S.Store) command.now store r.0 r.1) }
+) -> (Store<S>, u8)
+    ensures { IsSingleDone (state S.Store) command.now store result.0 result.1 }
 {
     let alloc = rt.alloc();
-    let mut output = BufWriter::new(alloc, rt.stdout())?;
+    let mut output = match BufWriter::new(alloc, rt.stdout()) {
+        Ok(output) => output,
+        Err(error) => return (store, put_error(rt, error)),
+    };
     let mut console = SentenceConsole::in_memory(*rt, alloc, words);
     let (store, status, flushed) = answer_on(alloc, store, command, &mut output, &mut console);
     // a sentence follows the answer
@@ -283,7 +246,7 @@ fn run_single<S: Alter + Drop>(
     if let Err(error) = flushed {
         tell_unanswered(rt, &error);
     }
-    Ok((store, status))
+    (store, status)
 }
 
 // Does one command outside of a script, whatever the output is, and writes out its answer; with the status comes whether it was written out.
@@ -302,13 +265,4 @@ fn answer_on<S: Alter + Drop, W: Write, P: Console>(
         Ok(()) => (store, status, Ok(())),
         Err(error) => (store, 4, Err(error)),
     }
-}
-
-/// Prints why a record is not opened, and tells it; the status.
-pub fn put_failure(rt: &HostRuntime, fault: &Fault) -> io::Result<u8>
-    ensures { IfOk result (λ status. status ≡ failure_status fault.now) }
-{
-    put(&mut rt.stdout(), Shown::Failure(fault))?;
-    tell_fault(rt, &[], Shown::Failure(fault));
-    Ok(failure_status(fault))
 }

@@ -1,10 +1,10 @@
 //! A script that is run on a record.
-ghost use Rattle.std.specs.Prelude.{◌≡◌, IfOk, MatchResult, is_some, false, true};
+ghost use Rattle.std.specs.Prelude.{◌≡◌, IfErr, MatchResult, is_some, true};
 ghost use Rattle.sqlite.specs.Held.{state};
 ghost use Rattle.dagsched.specs.Commands.{logs_of};
 ghost use Rattle.dagsched.specs.Scripts.{IsHeldBack, IsScriptDone, IsScriptOf, IsScriptRun};
 
-use crate::records::put_failure;
+use crate::failures::{out_of_memory, put_error, put_failure};
 use crate::telling::tell;
 use command_words::{Command, FilePath, ScriptOptions};
 use fault_sentences::SentenceConsole;
@@ -49,9 +49,9 @@ pub fn run_script<S: Alter + Drop, T: Threads + Wait + Sync>(
     store: Store<S>,
     options: &ScriptOptions,
     words: Vec<String>,
-) -> io::Result<(Store<S>, u8)>
-    ensures { IfOk result (λ r. IsScriptDone (state S.Store) ⟦<OwnOperator as Operator>⟧ options.now
-        store r.0 r.1) }
+) -> (Store<S>, u8)
+    ensures { IsScriptDone (state S.Store) ⟦<OwnOperator as Operator>⟧ options.now store result.0
+        result.1 }
 {
     let scratch = options.scratch.as_str();
     make_scratch(rt, scratch);
@@ -67,10 +67,10 @@ fn run_held<S: Alter + Drop, T: Threads + Wait + Sync>(
     options: &ScriptOptions,
     words: Vec<String>,
     held: Result<Option<Files<File>>, OpenError>,
-) -> io::Result<(Store<S>, u8)>
-    ensures { IfOk result (λ r. MatchResult held
-        (λ _. IsScriptRun (state S.Store) ⟦<OwnOperator as Operator>⟧ options.now store r.0 r.1)
-        (λ _. IsHeldBack store r.0 r.1)) }
+) -> (Store<S>, u8)
+    ensures { MatchResult held
+        (λ _. IsScriptRun (state S.Store) ⟦<OwnOperator as Operator>⟧ options.now store result.0 result.1)
+        (λ _. IsHeldBack store result.0 result.1) }
 {
     match held {
         Ok(_held) => {
@@ -80,7 +80,7 @@ fn run_held<S: Alter + Drop, T: Threads + Wait + Sync>(
         }
         Err(_) => {
             tell_held(rt, options.scratch.as_str());
-            Ok((store, 4))
+            (store, 4)
         }
     }
 }
@@ -91,21 +91,40 @@ fn run_own<S: Alter + Drop, T: Threads + Wait + Sync>(
     store: Store<S>,
     options: &ScriptOptions,
     words: Vec<String>,
-) -> io::Result<(Store<S>, u8)>
-    ensures { IfOk result (λ r. IsScriptRun (state S.Store) ⟦<OwnOperator as Operator>⟧ options.now
-        store r.0 r.1) }
+) -> (Store<S>, u8)
+    ensures { IsScriptRun (state S.Store) ⟦<OwnOperator as Operator>⟧ options.now store result.0
+        result.1 }
 {
-    let script = own_script(rt, words)?;
-    let scratch = whole_path(rt, options.scratch.as_str())?;
-    let (store, status, _sources, _output) = run_by_team(
-        threads,
-        rt,
-        store,
-        options,
-        scratch.as_str(),
-        script,
-    )?;
-    Ok((store, status))
+    match own_script(rt, options.scratch.as_str(), words) {
+        Ok((script, scratch)) => {
+            let (store, status, _sources, _output) = run_by_team(
+                threads,
+                rt,
+                store,
+                options,
+                scratch.as_str(),
+                script,
+            );
+            (store, status)
+        }
+        Err(error) => (store, put_error(rt, error)),
+    }
+}
+
+// The script of standard input, and the path of this folder from the root on. An error is that memory ran out.
+fn own_script(
+    rt: &HostRuntime,
+    scratch: &str,
+    words: Vec<String>,
+) -> io::Result<(OwnScript, String)> {
+    let alloc = rt.alloc();
+    let script = Script {
+        input: BufReader::new(alloc, rt.stdin())?,
+        output: BufWriter::new(alloc, rt.stdout())?,
+        sources: FileSources::new(*rt, alloc),
+        console: SentenceConsole::new(*rt, alloc, words, search_path(rt)?, rt.stderr()),
+    };
+    Ok((script, whole_path(rt, scratch)?))
 }
 
 // The path of a folder from the root on, where the system says it.
@@ -117,16 +136,6 @@ fn whole_path(rt: &HostRuntime, folder: &str) -> Result<String, AllocError> {
         Ok(path) => Ok(path.into_string()),
         Err(_) => String::from_str(rt.alloc(), folder),
     }
-}
-
-fn own_script(rt: &HostRuntime, words: Vec<String>) -> io::Result<OwnScript> {
-    let alloc = rt.alloc();
-    Ok(Script {
-        input: BufReader::new(alloc, rt.stdin())?,
-        output: BufWriter::new(alloc, rt.stdout())?,
-        sources: FileSources::new(*rt, alloc),
-        console: SentenceConsole::new(*rt, alloc, words, search_path(rt)?, rt.stderr()),
-    })
 }
 
 // The folders in which the system looks for programs; `None` where they have names that cannot be written down.
@@ -154,16 +163,18 @@ fn run_by_team<
     options: &ScriptOptions,
     scratch: &str,
     script: Script<R, W, F, P>,
-) -> io::Result<(Store<S>, u8, F, W)>
-    ensures known { IfOk result (λ r. IsScriptOf (state S.Store) ⟦<OwnOperator as Operator>⟧
-        (R.Read.remaining script.input) F.gives W.contents options.now script.sources script.output
-        store r.0 r.1 r.2 r.3) }
-    ensures done { IfOk result (λ r. IsScriptRun (state S.Store) ⟦<OwnOperator as Operator>⟧ options.now
-        store r.0 r.1) }
+) -> (Store<S>, u8, F, W)
+    ensures known { IsScriptOf (state S.Store) ⟦<OwnOperator as Operator>⟧ (R.Read.remaining script.input)
+        F.gives W.contents options.now script.sources script.output store result.0 result.1 result.2
+        result.3 }
+    ensures done { IsScriptRun (state S.Store) ⟦<OwnOperator as Operator>⟧ options.now store result.0
+        result.1 }
 {
     let alloc = rt.alloc();
     let logs = options.logs.as_ref().map(FilePath::as_str);
-    let team = operators_for(*rt, alloc, options.workers.get(), scratch, logs)?;
+    let Ok(team) = operators_for(*rt, alloc, options.workers.get(), scratch, logs) else {
+        return (store, out_of_memory(rt), script.sources, script.output);
+    };
     let mut clock = SystemClock::new(*rt);
     match run_team(
         threads,
@@ -177,42 +188,43 @@ fn run_by_team<
         script,
         &mut clock,
     ) {
-        Ok(ran) => Ok((ran.store, ran.status, ran.sources, ran.output)),
+        Ok(ran) => (ran.store, ran.status, ran.sources, ran.output),
         Err(unopened) => {
             let Unopened {
                 store,
                 fault,
                 script,
             } = unopened;
-            let status = put_failure(rt, &fault)?;
+            let status = put_failure(rt, &fault);
             let Script {
                 sources,
                 output,
                 ..
             } = script;
-            Ok((store, status, sources, output))
+            (store, status, sources, output)
         }
     }
 }
 
-/// Makes the folder of the logs, if the command names one that is not there; whether the command may go on. Where there is no such folder, or nothing
-/// can be made in it, that is told. An error is that memory ran out.
-pub fn make_logs(rt: &HostRuntime, command: &Command) -> io::Result<bool>
-    ensures { IfOk result (λ may. may ≡ false → is_some (logs_of command.now) ≡ true) }
+/// Makes the folder of the logs, if the command names one that is not there. Where there is no such folder, or nothing can be made in it, that is told,
+/// and the command does not go on: an error is its status.
+pub fn make_logs(rt: &HostRuntime, command: &Command) -> Result<(), u8>
+    ensures { IfErr result (λ status. (is_some (logs_of command.now) ≡ true) × (status ≡ 4)) }
 {
     let Command::Run(options) = command else {
-        return Ok(true);
+        return Ok(());
     };
     let Some(logs) = options.logs.as_ref().map(FilePath::as_str) else {
-        return Ok(true);
+        return Ok(());
     };
     let made = fs::create_dir_all(rt, logs);
-    match lack_of(rt, logs, made, "so no script is run")? {
-        Some(text) => {
+    match lack_of(rt, logs, made, "so no script is run") {
+        Ok(None) => Ok(()),
+        Ok(Some(text)) => {
             tell(rt, text.as_str());
-            Ok(false)
+            Err(4)
         }
-        None => Ok(true),
+        Err(error) => Err(put_error(rt, error)),
     }
 }
 

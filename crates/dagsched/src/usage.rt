@@ -1,23 +1,23 @@
 //! What is said of words that are no command.
-ghost use Rattle.std.specs.Prelude.{◌≡◌, ◌≢◌, IfOk, map, string_bytes};
+ghost use Rattle.std.specs.Prelude.{◌≡◌, ◌≢◌, ◌⊎◌, map, string_bytes};
+ghost use Rattle.dagsched.specs.Scripts.{UnlessFailed};
 ghost use Rattle.dagsched.specs.Words.{IsToldOf};
 
+use crate::failures::{out_of_memory, put_error};
 use crate::telling::{tell, tell_fault};
 use answer_lines::{Shown, put};
 use command_words::{UsageFault, help_text, refusal_text};
 use script_commands::CommandFault;
 use std::alloc::AllocError;
-use std::fs;
-use std::io::{self, ErrorKind};
+use std::{fs, io};
 
-/// Says why the words are no command, which is printed as help where they ask for it; the status. An error is that nothing could be said, or that memory
-/// ran out.
-pub fn put_fault(rt: &HostRuntime, fault: UsageFault, words: &[String]) -> io::Result<u8>
-    ensures { IfOk result (λ s. (fault ≢ UsageFault.Memory)
-        × IsToldOf fault (map string_bytes words.now) s) }
+/// Says why the words are no command, which is printed as help where they ask for it; the status.
+pub fn put_fault(rt: &HostRuntime, fault: UsageFault, words: &[String]) -> u8
+    ensures { ((fault ≢ UsageFault.Memory) × IsToldOf fault (map string_bytes words.now) result)
+        ⊎ (result ≡ 4) }
 {
     match fault {
-        UsageFault::Memory => Err(io::Error::from(ErrorKind::OutOfMemory)),
+        UsageFault::Memory => out_of_memory(rt),
         UsageFault::Words => put_refusal(rt, words),
         UsageFault::BadName
         | UsageFault::BadMoment(_)
@@ -28,32 +28,50 @@ pub fn put_fault(rt: &HostRuntime, fault: UsageFault, words: &[String]) -> io::R
 }
 
 // Prints the help where the words ask for it, and else says why clap refuses them; the status.
-fn put_refusal(rt: &HostRuntime, words: &[String]) -> io::Result<u8>
-    ensures { IfOk result (λ s. IsToldOf UsageFault.Words (map string_bytes words.now) s) }
+fn put_refusal(rt: &HostRuntime, words: &[String]) -> u8
+    ensures { IsToldOf UsageFault.Words (map string_bytes words.now) result }
 {
-    match help_text(rt.alloc(), words)? {
-        Some(text) => {
-            print!(rt; "{text}")?;
-            Ok(0)
-        }
-        None => put_usage(rt, UsageFault::Words, words),
+    match help_text(rt.alloc(), words) {
+        Ok(Some(text)) => put_help(rt, text.as_str()),
+        Ok(None) => put_usage(rt, UsageFault::Words, words),
+        Err(_) => out_of_memory(rt),
+    }
+}
+
+fn put_help(rt: &HostRuntime, text: &str) -> u8
+    ensures { UnlessFailed 0 result }
+{
+    match print!(rt; "{text}") {
+        Ok(()) => 0,
+        Err(error) => put_error(rt, error),
     }
 }
 
 /// Says on standard error that a word is not UTF-8; the status.
-pub fn put_unreadable(rt: &HostRuntime) -> io::Result<u8>
-    ensures { IfOk result (λ s. s ≡ 2) }
+pub fn put_unreadable(rt: &HostRuntime) -> u8
+    ensures { UnlessFailed 2 result }
 {
     let fault_line = CommandFault::Usage(UsageFault::Words);
-    put(&mut rt.stderr(), Shown::NoCommand(fault_line))?;
-    tell(rt, "dagsched: a word is not UTF-8");
-    Ok(2)
+    match put(&mut rt.stderr(), Shown::NoCommand(fault_line)) {
+        Ok(()) => {
+            tell(rt, "dagsched: a word is not UTF-8");
+            2
+        }
+        Err(error) => put_error(rt, error),
+    }
 }
 
 /// Says on standard error why the words are no command, and how to use the program where clap refuses them; the status.
-pub fn put_usage(rt: &HostRuntime, fault: UsageFault, words: &[String]) -> io::Result<u8>
-    ensures { IfOk result (λ s. s ≡ 2) }
+pub fn put_usage(rt: &HostRuntime, fault: UsageFault, words: &[String]) -> u8
+    ensures { UnlessFailed 2 result }
 {
+    match say_usage(rt, fault, words) {
+        Ok(()) => 2,
+        Err(error) => put_error(rt, error),
+    }
+}
+
+fn say_usage(rt: &HostRuntime, fault: UsageFault, words: &[String]) -> io::Result<()> {
     let fault_line = CommandFault::Usage(fault);
     put(&mut rt.stderr(), Shown::NoCommand(fault_line))?;
     if fault == UsageFault::Words {
@@ -61,7 +79,7 @@ pub fn put_usage(rt: &HostRuntime, fault: UsageFault, words: &[String]) -> io::R
         tell_script(rt, words);
     }
     tell_fault(rt, words, Shown::NoCommand(fault_line));
-    Ok(2)
+    Ok(())
 }
 
 // Writes clap's text, where it has one.

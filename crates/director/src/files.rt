@@ -1,7 +1,6 @@
 //! A file that is opened.
-ghost use Rattle.std.specs.Prelude.{◌≡◌, false, IfOk, IfErr, IsTrue};
+ghost use Rattle.std.specs.Prelude.{◌≡◌, false, IfOk};
 ghost use Rattle.sqlite.specs.Files.{file_state};
-ghost use Rattle.sqlite.specs.Opening.{is_open_error};
 ghost use Rattle.sqlite.specs.State.{HasCleanDisk};
 ghost use Rattle.sqlite.specs.WalFiles.{image_at};
 ghost use Rattle.director.specs.Crashes.{IsOpenedOn};
@@ -19,7 +18,6 @@ pub fn open_database<F: Start>(
     ensures settled { IfOk result (λ conn. conn.in_transaction ≡ false) }
     ensures found { IfOk result (λ conn. HasCleanDisk (file_state conn)
         → IsOpenedOn (image_at F.Start) conn) }
-    ensures named { IfErr result (λ e. IsTrue (is_open_error e)) }
 {
     match Connection::open_from(rt, path, false, start) {
         Ok(conn) => Ok(conn),

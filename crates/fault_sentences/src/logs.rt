@@ -14,7 +14,7 @@ use std::rt::Files;
 const UNOPENED: &str = "{}: its log {} could not be opened, so its program was not started: ";
 
 const MISSING: &str =
-    "{}: its log {} is not there: it was removed, or the program was not started, since the try's folder below --scratch could not be made";
+    "{}: its log {} is not there: it was removed, or the program was not started, since this log, or the try's folder below --scratch, could not be made";
 
 /// A try of a program that failed.
 #[derive(Drop)]

@@ -1,5 +1,4 @@
 use Rattle.std.proofs.Common.{◌≡◌, ◌∙◌, true, false, sym, inl, inr}
-use Rattle.std.proofs.lemmas.Result.{IfOk-weaker}
 use Rattle.sqlite.specs.Held.{state}
 use Rattle.dagsched.specs.Records.{has_tables}
 use Rattle.dagsched.proofs.DoneLemmas.{unmade_cause}
@@ -8,16 +7,16 @@ use Rattle.dagsched.proofs.records.on_connection.Goals as goal
 pub returns-then-has_tables-clause-done : goal.returns-then-has_tables-clause-done
 returns-then-has_tables-clause-done g c =
     let some : has_tables (state g.S.Store c.args.conn).now.schema ≡ true = sym c.has_tables.ensures ∙ c.if-has_tables.true in
-    IfOk-weaker c.on_store.result _ _ (λ r is. inl (c.adopt.result, inl (some, c.adopt.ensures), is)) c.on_store.ensures.done
+    inl (c.adopt.result, inl (some, c.adopt.ensures), c.on_store.ensures.done)
 
 pub returns-in-Ok-clause-done : goal.returns-in-Ok-clause-done
 returns-in-Ok-clause-done g c =
     let none : has_tables (state g.S.Store c.args.conn).now.schema ≡ false = sym c.has_tables.ensures ∙ c.if-has_tables.false in
     let made = c.in-Ok.ensures in
-    IfOk-weaker c.on_store-in-Ok.result _ _ (λ r is. inl (c.in-Ok.store, inr (none, made.transacts), is)) c.on_store-in-Ok.ensures.done
+    inl (c.in-Ok.store, inr (none, made.transacts), c.on_store-in-Ok.ensures.done)
 
-pub returns-in_ok-status-in-Err-clause-done : goal.returns-in_ok-status-in-Err-clause-done
-returns-in_ok-status-in-Err-clause-done g c =
+pub returns-in-Err-clause-done : goal.returns-in-Err-clause-done
+returns-in-Err-clause-done g c =
     let none : has_tables (state g.S.Store c.args.conn).now.schema ≡ false = sym c.has_tables.ensures ∙ c.if-has_tables.false in
     inr (record {
       none = none;
@@ -25,6 +24,6 @@ returns-in_ok-status-in-Err-clause-done g c =
       told = c.from.result;
       same = c.from.ensures;
       cause = unmade_cause _ (state g.S.Store c.args.conn).now.schema none c.in-Err.ensures.fault;
-      status_is = c.in_ok-status-in-Err.ensures;
+      status_is = c.put_failure-status.ensures;
       undone = c.in-Err.ensures.transacts;
     })
