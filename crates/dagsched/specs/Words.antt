@@ -46,4 +46,4 @@ module _ {M F O : Type 0} (memory : disk.Ghosts M) (file : disk.Ghosts F) (image
 
 -- the program ends so, if the system gave this error in place of its words: one of these is not UTF-8: 2; or 4
 abbrev pub IsEndWithoutWords : Error → ℕ → Type 0
-IsEndWithoutWords error status = ((error_kind error ≡ kind.InvalidData) × (status ≡ 2)) ⊎ (status ≡ 4)
+IsEndWithoutWords error status = ((error_kind error ≡ kind.InvalidData) × UnlessFailed 2 status) ⊎ (status ≡ 4)

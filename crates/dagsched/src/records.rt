@@ -137,8 +137,17 @@ fn in_files<D: Disk + Drop, T: Threads + Wait + Sync>(
             tell_unkept(rt, command);
             status
         }
-        Err((Error::SqliteFailure(ErrorCode::OutOfMemory), _)) => out_of_memory(rt),
-        Err(_) => 4,
+        Err((error, _)) => put_unmade(rt, error),
+    }
+}
+
+// Prints that memory ran out, if SQLite makes no database for that; the status.
+fn put_unmade(rt: &HostRuntime, error: Error) -> u8
+    ensures { result ≡ 4 }
+{
+    match error {
+        Error::SqliteFailure(ErrorCode::OutOfMemory) => out_of_memory(rt),
+        _ => 4,
     }
 }
 

@@ -1,4 +1,4 @@
-use Rattle.std.proofs.Common.{inl}
+use Rattle.std.proofs.Common.{inl, inr}
 use Rattle.sqlite.specs.Files.{file_state}
 use Rattle.dagsched.proofs.DoneLemmas.{on_clean}
 use Rattle.dagsched.proofs.records.in_file_from.Goals as goal
@@ -18,3 +18,6 @@ returns-in-Ok g c =
       };
       closed = c.close.ensures;
     })
+
+pub returns-in-Err : goal.returns-in-Err
+returns-in-Err g c = inr c.put_unopened.ensures
